@@ -1,0 +1,32 @@
+-- Worked words of the standard's instructions, so that a slip in a definition does not check.
+use Rattle.std.specs.Prelude.{◌≡◌, Err, Ok, Result, refl}
+use Rattle.bpf_insn.specs.declared.instruction.Insn.{Insn}
+use Rattle.bpf_insn.specs.declared.instruction.Insn.TheVariants.{JumpIf, LoadAbsolute, ReturnConstant}
+use Rattle.bpf_insn.specs.declared.instruction.Size.TheVariants.{Byte}
+use Rattle.bpf_insn.specs.declared.instruction.Operand.TheVariants.{K}
+use Rattle.bpf_insn.specs.declared.instruction.Test.TheVariants.{Equal}
+use Rattle.bpf_insn.specs.declared.instruction.WordFault.{WordFault}
+use Rattle.bpf_insn.specs.declared.instruction.WordFault.TheVariants.{BadOpcode, StrayField}
+use Rattle.bpf_insn.specs.Table.{table, uses_of}
+use Rattle.bpf_insn.specs.Word.{insn_of}
+
+ldb_9 : insn_of 0x0030_0000_0000_0009 ≡ Ok (LoadAbsolute Byte 9)
+unfolding insn_of uses_of table
+ldb_9 = refl
+
+jeq_17_0_1 : insn_of 0x0015_0001_0000_0011 ≡ Ok (JumpIf Equal (K 17) 0 1)
+unfolding insn_of uses_of table
+jeq_17_0_1 = refl
+
+ret_65535 : insn_of 0x0006_0000_0000_ffff ≡ Ok (ReturnConstant 65535)
+unfolding insn_of uses_of table
+ret_65535 = refl
+
+-- the extended instruction set's exit
+no_exit : insn_of 0x0095_0000_0000_0000 ≡ Err BadOpcode
+unfolding insn_of uses_of table
+no_exit = refl
+
+ldb_uses_no_jump : insn_of 0x0030_0001_0000_0009 ≡ Err StrayField
+unfolding insn_of uses_of table
+ldb_uses_no_jump = refl

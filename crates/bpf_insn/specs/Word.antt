@@ -1,0 +1,71 @@
+-- The words of instructions: from the highest bit on 16 bits of code, 8 of jt, 8 of jf and 32 of k
+-- (the fields of networking/filter.rst, "Structure"; their order in a word is this project's).
+use Rattle.std.specs.Prelude.{◌≡◌, ◌==◌, ◌+◌, ◌*◌, ◌/◌, ◌%◌, ◌^◌, ◌<◌, if◌then◌else◌, Err, IsOk, None, Ok, Option, Result, Some, ◌↔◌, ℕ}
+use Rattle.bpf_insn.specs.declared.instruction.Insn.{Insn}
+use Rattle.bpf_insn.specs.declared.instruction.Insn.TheVariants.{JumpIf, LoadAbsolute, ReturnConstant}
+use Rattle.bpf_insn.specs.declared.instruction.Size.TheVariants.{Byte}
+use Rattle.bpf_insn.specs.declared.instruction.Operand.{Operand}
+use Rattle.bpf_insn.specs.declared.instruction.Operand.TheVariants.{K}
+use Rattle.bpf_insn.specs.declared.instruction.Test.TheVariants.{Equal}
+use Rattle.bpf_insn.specs.declared.instruction.WordFault.{WordFault}
+use Rattle.bpf_insn.specs.declared.instruction.WordFault.TheVariants.{BadOpcode, StrayField}
+use Rattle.bpf_insn.specs.Table.{Uses, made, unused_sum, uses_of}
+
+-- the word of four fields
+abbrev pub word : ℕ → ℕ → ℕ → ℕ → ℕ
+word code jt jf k = code * 2 ^ 48 + jt * 2 ^ 40 + jf * 2 ^ 32 + k
+
+-- the fields of a word
+abbrev pub code_of : ℕ → ℕ
+code_of w = w / 2 ^ 48
+
+abbrev pub true_jump_of : ℕ → ℕ
+true_jump_of w = w / 2 ^ 40 % 2 ^ 8
+
+abbrev pub false_jump_of : ℕ → ℕ
+false_jump_of w = w / 2 ^ 32 % 2 ^ 8
+
+abbrev pub constant_of : ℕ → ℕ
+constant_of w = w % 2 ^ 32
+
+-- the word of a code of the table and of fields in their ranges, each 0 that the instruction does not use
+pub record IsInstructionWord (w : ℕ) : Type 0 where
+  pub code : ℕ
+  pub jt : ℕ
+  pub jf : ℕ
+  pub k : ℕ
+  pub uses : Uses
+  pub in_table : uses_of code ≡ Some uses
+  pub jt_fits : jt < 2 ^ 8
+  pub jf_fits : jf < 2 ^ 8
+  pub k_fits : k < 2 ^ 32
+  pub unused_zero : unused_sum uses jt jf k ≡ 0
+  pub is_word : w ≡ word code jt jf k
+
+-- the instruction of three fields, or why there is none
+abbrev pub fields_insn : Option Uses → ℕ → ℕ → ℕ → Result Insn WordFault
+fields_insn None jt jf k = Err BadOpcode
+fields_insn (Some uses) jt jf k = if unused_sum uses jt jf k == 0 then Ok (made uses jt jf k) else Err StrayField
+
+-- the instruction of a word, or why it is none's
+unfoldable pub insn_of : ℕ → Result Insn WordFault
+insn_of w = fields_insn (uses_of (code_of w)) (true_jump_of w) (false_jump_of w) (constant_of w)
+
+-- a number is read as an instruction exactly where it is an instruction's word
+abbrev pub ReadsInstructionWords : Type 0
+ReadsInstructionWords = (w : ℕ) → IsOk (insn_of w) ↔ IsInstructionWord w
+
+-- the word of an instruction
+abbrev pub word_of : Insn → ℕ
+word_of (LoadAbsolute Byte k) = word 0x30 0 0 k
+word_of (JumpIf Equal (K k) jt jf) = word 0x15 jt jf k
+word_of (ReturnConstant k) = word 0x06 0 0 k
+
+-- each field of an instruction is in its range
+abbrev pub OperandFits : Operand → Type 0
+OperandFits (K k) = k < 2 ^ 32
+
+abbrev pub FieldsFit : Insn → Type 0
+FieldsFit (LoadAbsolute size k) = k < 2 ^ 32
+FieldsFit (JumpIf test operand jt jf) = OperandFits operand × (jt < 2 ^ 8) × (jf < 2 ^ 8)
+FieldsFit (ReturnConstant k) = k < 2 ^ 32

@@ -1,0 +1,16 @@
+//! Instructions of classic BPF, the 64-bit words that hold them, and lists of words that are read one at a time
+//! (McCanne and Jacobson 1993; networking/filter.rst; docs/MACHINE.md).
+//!
+//! `Insn::from_word` tells which instruction a word is, or why it is none. No call takes memory.
+#![tactic(auto)]
+
+mod decoding;
+mod encoding;
+mod instruction;
+mod word_list;
+
+pub use instruction::{Insn, Operand, Size, Test, WordFault};
+pub use word_list::Words;
+
+#[cfg(test)]
+mod tests;

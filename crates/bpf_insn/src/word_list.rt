@@ -1,0 +1,39 @@
+//! Lists of words that are read one at a time.
+
+ghost use Rattle.std.specs.Prelude.{◌≡◌, ◌<◌, ℕ, List, length, slice_get};
+
+/// A list of 64-bit words, which need not lie in memory as a slice: reading one takes `&mut self`, so that an
+/// implementor can note that it was read.
+pub trait Words {
+    // What an implementor keeps beside its list: a type and a value for contracts alone.
+    ghost Rest: { Type 0 } = { Unit {0} };
+
+    ghost words: { Self → List ℕ };
+
+    ghost rest: { Self → Rest };
+
+    /// Tells the number of words.
+    fn count(&self) -> usize
+        ensures { result ≡ length (words self.now) };
+
+    /// Reads word `i`, counted from 0.
+    fn word(&mut self, i: usize) -> u64
+        requires { i < length (words self.old) }
+        ensures value { slice_get (words self.old) i ≡ Some result }
+        ensures words_kept { words self.new ≡ words self.old }
+        ensures rest_kept { rest self.new ≡ rest self.old };
+}
+
+impl<'a> Words for &'a [u64] {
+    ghost words = { λ list. list.now };
+
+    ghost rest = { λ _. tt };
+
+    fn count(&self) -> usize {
+        self.len()
+    }
+
+    fn word(&mut self, i: usize) -> u64 {
+        self[i]
+    }
+}

@@ -1,0 +1,79 @@
+//! The machine that runs accepted programs on packets (McCanne and Jacobson 1993; networking/filter.rst;
+//! docs/MACHINE.md, "The machine"). No call takes memory.
+#![tactic(auto)]
+
+ghost use Rattle.std.specs.Prelude.{◌≡◌, ◌+◌, ◌<◌, ◌≤◌, ◌^◌, Ok, Some, length, slice_get};
+ghost use Rattle.bpf_insn.specs.Word.{IsInstructionWord, insn_of};
+ghost use Rattle.bpf_verify.specs.Path.{IsAt, program_at};
+ghost use Rattle.bpf_verify.specs.Accepted.{IsAccepted};
+ghost use Rattle.bpf_machine.specs.Meaning.{JumpDropsWords, Ret, cost_of, value_of};
+
+mod packet;
+mod step;
+
+use crate::step::Next;
+use bpf_insn::{Insn, Words};
+
+/// The greatest number of bytes of a packet.
+pub const MAX_PACKET: usize = 65_535;
+
+/// How a program ended.
+#[derive(Clone, Copy, Debug, PartialEq, Eq)]
+pub struct Outcome {
+    /// The number that it returned.
+    pub value: u32,
+    /// How many instructions it met, the last one included.
+    pub steps: u32,
+}
+
+#[inline(always)]
+fn fetch<W: Words>(words: &mut W, from: usize, len: usize, pc: usize) -> Insn
+    requires within { from + len ≤ length (W.words words.old) }
+    requires fits { from + len < 2 ^ 64 }
+    requires accepted { IsAccepted (program_at (W.words words.old) from len) }
+    requires inside { pc < len }
+    ensures insn { IsAt (program_at (W.words words.old) from len) pc result }
+    ensures words_kept { W.words words.new ≡ W.words words.old }
+    ensures rest_kept { W.rest words.new ≡ W.rest words.old }
+{
+    Insn::from_instruction_word(words.word(from + pc))
+}
+
+/// Runs the program of the `len` words from place `from` on, on a packet that begins with the first byte of its IPv4
+/// header. The words are accepted ones, so the program never gets stuck and meets each of them at most once.
+///
+/// Reads each word that it meets once, and no other. Takes no memory.
+pub fn run<W: Words>(words: &mut W, from: usize, len: usize, packet: &[u8]) -> Outcome
+    requires within { from + len ≤ length (W.words words.old) }
+    requires accepted { IsAccepted (program_at (W.words words.old) from len) }
+    requires packet { length packet.now ≤ MAX_PACKET }
+    ensures value { value_of (program_at (W.words words.old) from len) packet.now ≡ Ret result.value }
+    ensures steps { result.steps ≡ cost_of (program_at (W.words words.old) from len) packet.now }
+    ensures words_kept { W.words words.new ≡ W.words words.old }
+    ensures rest_kept { W.rest words.new ≡ W.rest words.old }
+{
+    // A list that can be counted is short enough for its places to be numbers of this machine.
+    let _count = words.count();
+    let mut a = 0;
+    let mut pc = 0;
+    let mut steps = 0;
+    'running: loop {
+        let insn = fetch(words, from, len, pc);
+        steps += 1;
+        match step::step(insn, a, packet) {
+            Next::GoOn { dropped, a: loaded } => {
+                a = loaded;
+                pc = pc + 1 + dropped as usize;
+            }
+            Next::End { value } => return Outcome { value, steps },
+        }
+    }
+}
+
+/// Law: what a jump leaves means what the shorter list means. It runs nothing.
+pub fn jump_drops_words()
+    ensures { JumpDropsWords }
+{}
+
+#[cfg(test)]
+mod tests;

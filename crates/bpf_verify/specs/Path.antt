@@ -1,0 +1,74 @@
+-- Where instructions lead, and the paths of jumps through a program (networking/filter.rst, "BPF engine and instruction
+-- set"). Targets are exact sums.
+use Rattle.std.specs.Prelude.{◌≡◌, ◌+◌, ◌++◌, ◌∷◌, ◌⊎◌, Contains, List, Ok, Some, [], drop, slice_get, take, ℕ}
+use Rattle.bpf_insn.specs.declared.instruction.Insn.{Insn}
+use Rattle.bpf_insn.specs.declared.instruction.Insn.TheVariants.{JumpIf, LoadAbsolute, ReturnConstant}
+use Rattle.bpf_insn.specs.Word.{insn_of}
+
+-- the program that stands in a list of words
+abbrev pub program_at : List ℕ → ℕ → ℕ → List ℕ
+program_at words from len = take len (drop from words)
+
+-- the program has this instruction at pc
+abbrev pub IsAt : List ℕ → ℕ → Insn → Type 0
+IsAt program pc insn = (word : ℕ) × (slice_get program pc ≡ Some word) × (insn_of word ≡ Ok insn)
+
+-- the places that may come after the place pc of an instruction
+abbrev pub successors : Insn → ℕ → List ℕ
+successors (JumpIf test operand jt jf) pc = (pc + 1 + jt) ∷ (pc + 1 + jf) ∷ []
+successors (ReturnConstant k) pc = []
+successors (LoadAbsolute size k) pc = (pc + 1) ∷ []
+
+abbrev pub IsReturn : Insn → Type 0
+IsReturn (ReturnConstant k) = Unit {0}
+IsReturn (LoadAbsolute size k) = ⊥
+IsReturn (JumpIf test operand jt jf) = ⊥
+
+-- the instruction stores, or loads, this scratch cell
+abbrev pub Stores : Insn → ℕ → Type 0
+Stores (LoadAbsolute size k) cell = ⊥
+Stores (JumpIf test operand jt jf) cell = ⊥
+Stores (ReturnConstant k) cell = ⊥
+
+abbrev pub Loads : Insn → ℕ → Type 0
+Loads (LoadAbsolute size k) cell = ⊥
+Loads (JumpIf test operand jt jf) cell = ⊥
+Loads (ReturnConstant k) cell = ⊥
+
+abbrev pub StoresAt : List ℕ → ℕ → ℕ → Type 0
+StoresAt program pc cell = (insn : Insn) × IsAt program pc insn × Stores insn cell
+
+abbrev pub LoadsAt : List ℕ → ℕ → ℕ → Type 0
+LoadsAt program pc cell = (insn : Insn) × IsAt program pc insn × Loads insn cell
+
+-- the place to is a successor of the place pc
+abbrev pub StepsTo : List ℕ → ℕ → ℕ → Type 0
+StepsTo program pc to = (insn : Insn) × IsAt program pc insn × Contains (successors insn pc) to
+
+-- from pc on, each place is a successor of the one before
+abbrev pub GoesOn : List ℕ → ℕ → List ℕ → Type 0
+GoesOn program pc [] = Unit {0}
+GoesOn program pc (to ∷ places) = StepsTo program pc to × GoesOn program to places
+
+-- a path: it begins at 0, and each place is a successor of the one before
+abbrev pub IsPath : List ℕ → List ℕ → Type 0
+IsPath program [] = ⊥
+IsPath program (pc ∷ places) = (pc ≡ 0) × GoesOn program pc places
+
+-- some of the places stores the cell
+abbrev pub IsStoredOn : List ℕ → List ℕ → ℕ → Type 0
+IsStoredOn program [] cell = ⊥
+IsStoredOn program (pc ∷ places) cell = StoresAt program pc cell ⊎ IsStoredOn program places cell
+
+-- on every path that comes to a load at pc, an earlier place stores the cell
+abbrev pub IsStoredBefore : List ℕ → ℕ → Type 0
+IsStoredBefore program pc =
+    (cell : ℕ) → LoadsAt program pc cell → (earlier : List ℕ) → IsPath program (earlier ++ pc ∷ []) → IsStoredOn program earlier cell
+
+-- pc loads a cell, and some path comes to it on which no earlier place stores the cell
+abbrev pub IsUnstored : List ℕ → ℕ → Type 0
+IsUnstored program pc =
+    (cell : ℕ) × LoadsAt program pc cell × ((earlier : List ℕ) × IsPath program (earlier ++ pc ∷ []) × (¬ IsStoredOn program earlier cell))
+
+abbrev pub StoresBefore : List ℕ → Type 0
+StoresBefore program = (pc : ℕ) → IsStoredBefore program pc

@@ -1,0 +1,28 @@
+//! Why words are no program.
+
+/// Why words are no program. `pc` is the place of an instruction, counted from 0.
+#[derive(Clone, Copy, Debug, PartialEq, Eq)]
+pub enum Fault {
+    /// V1: there is no instruction.
+    Empty,
+    /// V2: there are more than `MAX_INSTRUCTIONS`.
+    TooLong,
+    /// V3: a code of no instruction.
+    BadOpcode { pc: usize },
+    /// V4: a field that the instruction does not use is not 0.
+    StrayField { pc: usize },
+    /// V5: a division by the constant 0.
+    ZeroDivisor { pc: usize },
+    /// V6: a shift by a constant of 32 or more.
+    BadShift { pc: usize },
+    /// V7: a scratch cell that the machine does not have.
+    BadCell { pc: usize },
+    /// V8: a jump target behind the last instruction.
+    JumpOutside { pc: usize },
+    /// V9: an absolute load from `ANCILLARY_FROM` on, where the kernel has its ancillary data.
+    Ancillary { pc: usize },
+    /// V10: the last instruction is no return.
+    NoReturn,
+    /// V11: a load of a scratch cell that some path reaches without a store of it.
+    UnstoredCell { pc: usize },
+}
