@@ -24,21 +24,9 @@ fn of_fields(code: u16, jt: u8, jf: u8, k: u32) -> Result<Insn, WordFault>
     ensures { result ≡ fields_insn (uses_of code) jt jf k }
 {
     match code {
-        0x30 => with_constant(
-            Insn::LoadAbsolute {
-                size: Size::Byte,
-                k,
-            },
-            jt,
-            jf,
-        ),
-        0x15 => Ok(Insn::JumpIf {
-            test: Test::Equal,
-            operand: Operand::K(k),
-            jt,
-            jf,
-        }),
-        0x06 => with_constant(Insn::ReturnConstant { k }, jt, jf),
+        0x30 => with_constant(Insn::LoadAbsolute(Size::Byte, k), jt, jf),
+        0x15 => Ok(Insn::JumpIf(Test::Equal, Operand::K(k), jt, jf)),
+        0x06 => with_constant(Insn::ReturnConstant(k), jt, jf),
         _ => Err(WordFault::BadOpcode),
     }
 }
@@ -50,17 +38,9 @@ fn with_code(code: u16, jt: u8, jf: u8, k: u32) -> Insn
     ensures { IfSome (uses_of code) (λ uses. result ≡ made uses jt jf k) }
 {
     match code {
-        0x30 => Insn::LoadAbsolute {
-            size: Size::Byte,
-            k,
-        },
-        0x15 => Insn::JumpIf {
-            test: Test::Equal,
-            operand: Operand::K(k),
-            jt,
-            jf,
-        },
-        0x06 => Insn::ReturnConstant { k },
+        0x30 => Insn::LoadAbsolute(Size::Byte, k),
+        0x15 => Insn::JumpIf(Test::Equal, Operand::K(k), jt, jf),
+        0x06 => Insn::ReturnConstant(k),
         _ => unreachable!(),
     }
 }

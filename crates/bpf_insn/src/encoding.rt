@@ -19,17 +19,9 @@ impl Insn {
         ensures fits { FieldsFit self }
     {
         match self {
-            Insn::LoadAbsolute {
-                size: Size::Byte,
-                k,
-            } => word(0x30, 0, 0, k),
-            Insn::JumpIf {
-                test: Test::Equal,
-                operand: Operand::K(k),
-                jt,
-                jf,
-            } => word(0x15, jt, jf, k),
-            Insn::ReturnConstant { k } => word(0x06, 0, 0, k),
+            Insn::LoadAbsolute(Size::Byte, k) => word(0x30, 0, 0, k),
+            Insn::JumpIf(Test::Equal, Operand::K(k), jt, jf) => word(0x15, jt, jf, k),
+            Insn::ReturnConstant(k) => word(0x06, 0, 0, k),
         }
     }
 

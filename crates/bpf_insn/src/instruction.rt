@@ -21,25 +21,15 @@ pub enum Test {
     Equal,
 }
 
-/// One instruction. `k` is its constant, and `jt` and `jf` are its jump offsets, counted from the next instruction.
+/// One instruction, with its constant `k`, and its jump offsets `jt` and `jf`, counted from the next instruction.
 #[derive(Clone, Copy, Debug, PartialEq, Eq)]
 pub enum Insn {
     /// `ldb [k]`: A becomes the number at place `k` of the packet; without that place the program ends with 0.
-    LoadAbsolute {
-        size: Size,
-        k: u32,
-    },
-    /// `jeq #k,jt,jf`: goes on `jt` instructions further where the test holds, else `jf`.
-    JumpIf {
-        test: Test,
-        operand: Operand,
-        jt: u8,
-        jf: u8,
-    },
+    LoadAbsolute(Size, u32),
+    /// `jeq #k,jt,jf`: goes on `jt` instructions further where the test holds, else `jf`. The offsets are in this order.
+    JumpIf(Test, Operand, u8, u8),
     /// `ret #k`: the program ends with `k`.
-    ReturnConstant {
-        k: u32,
-    },
+    ReturnConstant(u32),
 }
 
 /// Why a word is no instruction.

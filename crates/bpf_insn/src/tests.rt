@@ -2,24 +2,13 @@
 
 use crate::{Insn, Operand, Size, Test, WordFault, Words};
 
-const UDP: Insn = Insn::JumpIf {
-    test: Test::Equal,
-    operand: Operand::K(17),
-    jt: 0,
-    jf: 1,
-};
+const UDP: Insn = Insn::JumpIf(Test::Equal, Operand::K(17), 0, 1);
 
 // The fields as `tcpdump -dd` prints them for `ip proto 17` without its first test.
 const WORDS: [(Insn, u64); 3] = [
-    (
-        Insn::LoadAbsolute {
-            size: Size::Byte,
-            k: 9,
-        },
-        0x0030_0000_0000_0009,
-    ),
+    (Insn::LoadAbsolute(Size::Byte, 9), 0x0030_0000_0000_0009),
     (UDP, 0x0015_0001_0000_0011),
-    (Insn::ReturnConstant { k: 0x4_0000 }, 0x0006_0000_0004_0000),
+    (Insn::ReturnConstant(0x4_0000), 0x0006_0000_0004_0000),
 ];
 
 const REFUSED: [(u64, WordFault); 5] = [

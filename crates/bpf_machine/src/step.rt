@@ -31,19 +31,14 @@ pub fn step(insn: Insn, a: u32, packet: &[u8]) -> Next
     ensures { effect_of result ≡ effect insn a 0 no_cells packet.now }
 {
     match insn {
-        Insn::LoadAbsolute { size, k } => match number(packet, size, k as u64) {
+        Insn::LoadAbsolute(size, k) => match number(packet, size, k as u64) {
             Some(loaded) => Next::GoOn {
                 dropped: 0,
                 a: loaded,
             },
             None => Next::End { value: 0 },
         },
-        Insn::JumpIf {
-            test,
-            operand,
-            jt,
-            jf,
-        } => {
+        Insn::JumpIf(test, operand, jt, jf) => {
             if passes(test, a, operand) {
                 Next::GoOn {
                     dropped: jt as u32,
@@ -56,6 +51,6 @@ pub fn step(insn: Insn, a: u32, packet: &[u8]) -> Next
                 }
             }
         }
-        Insn::ReturnConstant { k } => Next::End { value: k },
+        Insn::ReturnConstant(k) => Next::End { value: k },
     }
 }

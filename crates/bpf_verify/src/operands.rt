@@ -33,14 +33,9 @@ fn check_insn(insn: Insn, pc: usize, len: usize) -> Option<Fault>
     ensures fault_place { IfSome result (IsFaultOf pc) }
 {
     match insn {
-        Insn::LoadAbsolute { size: _, k } => check_absolute(k, pc),
-        Insn::JumpIf {
-            test: _,
-            operand: _,
-            jt,
-            jf,
-        } => check_targets(pc, jt, jf, len),
-        Insn::ReturnConstant { k: _ } => None,
+        Insn::LoadAbsolute(_, k) => check_absolute(k, pc),
+        Insn::JumpIf(_, _, jt, jf) => check_targets(pc, jt, jf, len),
+        Insn::ReturnConstant(_) => None,
     }
 }
 
@@ -65,7 +60,7 @@ pub fn is_return(insn: Insn) -> bool
     ensures { IsTrue result ↔ IsReturn insn }
 {
     match insn {
-        Insn::ReturnConstant { k: _ } => true,
+        Insn::ReturnConstant(_) => true,
         _ => false,
     }
 }
