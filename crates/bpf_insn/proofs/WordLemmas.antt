@@ -1,6 +1,5 @@
 -- Words and instructions: each is read back from the other.
-use Rattle.std.proofs.Common.{◌≡◌, ◌==◌, ◌∙◌, ◌+◌, ◌*◌, ◌/◌, ◌%◌, ◌^◌, ◌<◌, Bool, Err, IfOk, IfSome, IsNone, IsOk, List, None, Ok, Option, Result, Some, [], ap, arith, bit_and, cond, false, refl, sym, true, ◌∷◌, ◌↔◌, ℕ}
-use Rattle.std.specs.List.{AllByRecursion}
+use Rattle.std.proofs.Common.{◌≡◌, ◌==◌, ◌∙◌, ◌+◌, ◌*◌, ◌/◌, ◌%◌, ◌^◌, ◌<◌, Bool, Err, IfOk, IsNone, IsOk, IsSome, List, None, Ok, Option, Result, Some, [], ap, arith, bit_and, cond, false, refl, sym, true, ◌∷◌, ◌↔◌, ℕ}
 use Rattle.std.specs.Int.{from_be_bytes, to_be_bytes, w64}
 use Rattle.std.proofs.lemmas.Bool.{eqb-true}
 use Rattle.std.proofs.lemmas.Nat.{and_mask, from_be_bytes-to_be_bytes_8}
@@ -11,8 +10,10 @@ use Rattle.bpf_insn.specs.declared.instruction.Operand.TheVariants.{K}
 use Rattle.bpf_insn.specs.declared.instruction.Test.TheVariants.{Equal}
 use Rattle.bpf_insn.specs.declared.instruction.WordFault.{WordFault}
 use Rattle.bpf_insn.specs.declared.instruction.WordFault.TheVariants.{BadOpcode, StrayField}
-use Rattle.bpf_insn.specs.Table.{Line, Uses, UsesAll, UsesConstant, made, table, unused_sum, uses_in, uses_of}
-use Rattle.bpf_insn.specs.Word.{FieldsFit, IsInstructionWord, code_of, constant_of, false_jump_of, fields_insn, insn_of, true_jump_of, word, word_of}
+use Rattle.bpf_insn.specs.declared.decoding.Decoded.{Decoded}
+use Rattle.bpf_insn.specs.Decoded.{decoded_with, tested}
+use Rattle.bpf_insn.specs.Table.{Entry, Uses, instruction_with, table, unused_sum, uses_in, uses_of}
+use Rattle.bpf_insn.specs.Word.{FieldsFit, IsInstructionWord, code_of, constant_of, false_jump_of, fields_instruction, instruction_of, true_jump_of, word, word_of}
 
 -- ---- a word and its fields
 
@@ -32,19 +33,18 @@ module _ (code jt jf k : ℕ) (jt_fits : jt < 2 ^ 8) (jf_fits : jf < 2 ^ 8) (k_f
   pub constant_of-word : constant_of (word code jt jf k) ≡ k
   constant_of-word = omega arith
 
-  pub insn_of-word : insn_of (word code jt jf k) ≡ fields_insn (uses_of code) jt jf k
-  unfolding insn_of
-  insn_of-word =
+  pub instruction_of-word : instruction_of (word code jt jf k) ≡ fields_instruction (uses_of code) jt jf k
+  unfolding instruction_of
+  instruction_of-word =
       let c = code_of-word in
       let t = true_jump_of-word in
       let f = false_jump_of-word in
       let n = constant_of-word in
       cc
 
--- the fields as the code takes them
-pub masked_fields : (w : ℕ) → fields_insn (uses_of (w / 2 ^ 48)) (bit_and (w / 2 ^ 40) 255) (bit_and (w / 2 ^ 32) 255) (bit_and w 4294967295) ≡ insn_of w
-unfolding insn_of
-masked_fields w =
+-- the fields as the decoder takes them
+pub decoded_with-masked : (w : ℕ) → decoded_with (uses_of (w / 2 ^ 48)) (bit_and (w / 2 ^ 40) 255) (bit_and (w / 2 ^ 32) 255) (bit_and w 4294967295) ≡ decoded_with (uses_of (code_of w)) (true_jump_of w) (false_jump_of w) (constant_of w)
+decoded_with-masked w =
     let t = and_mask (w / 2 ^ 40) 8 in
     let f = and_mask (w / 2 ^ 32) 8 in
     let n = and_mask w 32 in
@@ -52,62 +52,74 @@ masked_fields w =
 
 -- ---- from instructions to words and back
 
-pub insn_of-word_of : (insn : Insn) → FieldsFit insn → insn_of (word_of insn) ≡ Ok insn
+pub instruction_of-word_of : (insn : Insn) → FieldsFit insn → instruction_of (word_of insn) ≡ Ok insn
 unfolding uses_of table
-insn_of-word_of (LoadAbsolute Byte k) fits = insn_of-word 0x30 0 0 k (omega arith) (omega arith) fits
-insn_of-word_of (JumpIf Equal (K k) jt jf) fits = insn_of-word 0x15 jt jf k fits.1 fits.2 fits.0
-insn_of-word_of (ReturnConstant k) fits = insn_of-word 0x06 0 0 k (omega arith) (omega arith) fits
+instruction_of-word_of (LoadAbsolute Byte k) fits = instruction_of-word 0x30 0 0 k (omega arith) (omega arith) fits
+instruction_of-word_of (JumpIf Equal (K k) offsets) fits = instruction_of-word 0x15 offsets.jt offsets.jf k fits.1 fits.2 fits.0
+instruction_of-word_of (ReturnConstant k) fits = instruction_of-word 0x06 0 0 k (omega arith) (omega arith) fits
 
 -- ---- from words to instructions and back
 
--- what a line of the table makes has the line's code, and 0 where it uses no field
-abbrev pub Encodes : Line → Type 0
-Encodes line = (jt jf k : ℕ) → unused_sum line.1 jt jf k ≡ 0 → word_of (made line.1 jt jf k) ≡ word line.0 jt jf k
+-- the instruction of an entry has the entry's code, and 0 in the fields that it does not use
+abbrev pub Encodes : Entry → Type 0
+Encodes entry = (jt jf k : ℕ) → unused_sum entry.uses jt jf k ≡ 0 → word_of (instruction_with entry.uses jt jf k) ≡ word entry.code jt jf k
 
-no_jumps : (code jt jf k : ℕ) → jt + jf ≡ 0 → word code 0 0 k ≡ word code jt jf k
-no_jumps code jt jf k zero = omega arith
+data AllEncode : List Entry → Type 0 where
+  no_entries : AllEncode []
+  ◌▹◌ : {entry : Entry} {entries : List Entry} → Encodes entry → AllEncode entries → AllEncode (entry ∷ entries)
 
-table-encodes : AllByRecursion Encodes table
+infixr 5 ◌▹◌
+constant_encodes : (code jt jf k : ℕ) → jt + jf ≡ 0 → word code 0 0 k ≡ word code jt jf k
+constant_encodes code jt jf k zero = omega arith
+
+all_encode : (code jt jf k : ℕ) → ◌≡◌ {A = ℕ} 0 0 → word code jt jf k ≡ word code jt jf k
+all_encode code jt jf k zero = refl
+
+table-encodes : AllEncode table
 unfolding table
-table-encodes = (no_jumps 0x30, (λ jt jf k zero. refl, (no_jumps 0x06, tt)))
+table-encodes =
+    constant_encodes 0x30
+    ▹ all_encode 0x15
+    ▹ constant_encodes 0x06
+    ▹ no_entries
 
-line-step : (b : Bool) (line : Line) (code : ℕ) (rest : Option Uses) (uses : Uses) → (line.0 == code) ≡ b → Encodes line → (rest ≡ Some uses → Encodes (code, uses)) → cond b (Some line.1) rest ≡ Some uses → Encodes (code, uses)
-line-step true line code rest uses test here later found =
-    let at : line.0 ≡ code = eqb-true line.0 code test in
-    let same : line.1 ≡ uses = cc in
+entry-step : (b : Bool) (entry : Entry) (code : ℕ) (rest : Option Uses) (uses : Uses) → (entry.code == code) ≡ b → Encodes entry → (rest ≡ Some uses → Encodes (record { code = code; uses = uses })) → cond b (Some entry.uses) rest ≡ Some uses → Encodes (record { code = code; uses = uses })
+entry-step true entry code rest uses test here later found =
+    let at : entry.code ≡ code = eqb-true entry.code code test in
+    let same : entry.uses ≡ uses = cc in
     λ jt jf k zero. rw (← at, ← same) (here jt jf k (rw same zero))
-line-step false line code rest uses test here later found = later found
+entry-step false entry code rest uses test here later found = later found
 
-uses_in-encodes : (lines : List Line) (code : ℕ) (uses : Uses) → AllByRecursion Encodes lines → uses_in lines code ≡ Some uses → Encodes (code, uses)
-uses_in-encodes [] code uses all found = cc
-uses_in-encodes (line ∷ lines) code uses all found =
-    line-step (line.0 == code) line code (uses_in lines code) uses refl all.0 (uses_in-encodes lines code uses all.1) found
+uses_in-encodes : (entries : List Entry) (code : ℕ) (uses : Uses) → AllEncode entries → uses_in entries code ≡ Some uses → Encodes (record { code = code; uses = uses })
+uses_in-encodes [] code uses no_entries found = cc
+uses_in-encodes (entry ∷ entries) code uses (here ▹ later) found =
+    entry-step (entry.code == code) entry code (uses_in entries code) uses refl here (uses_in-encodes entries code uses later) found
 
-uses_of-encodes : (code : ℕ) (uses : Uses) → uses_of code ≡ Some uses → Encodes (code, uses)
+uses_of-encodes : (code : ℕ) (uses : Uses) → uses_of code ≡ Some uses → Encodes (record { code = code; uses = uses })
 unfolding uses_of
 uses_of-encodes code uses found = uses_in-encodes table code uses table-encodes found
 
--- the line that three fields made an instruction by
+-- the entry that made an instruction of three fields
 record IsMadeBy (found : Option Uses) (jt jf k : ℕ) (insn : Insn) : Type 0 where
   uses : Uses
   is_found : found ≡ Some uses
   unused_zero : unused_sum uses jt jf k ≡ 0
-  is_made : made uses jt jf k ≡ insn
+  is_made : instruction_with uses jt jf k ≡ insn
 
-made-cases : (uses : Uses) (jt jf k : ℕ) (insn : Insn) (b : Bool) → (unused_sum uses jt jf k == 0) ≡ b → cond b (Ok (made uses jt jf k)) (Err StrayField) ≡ Ok insn → (unused_sum uses jt jf k ≡ 0) × (made uses jt jf k ≡ insn)
+made-cases : (uses : Uses) (jt jf k : ℕ) (insn : Insn) (b : Bool) → (unused_sum uses jt jf k == 0) ≡ b → cond b (Ok (instruction_with uses jt jf k)) (Err StrayField) ≡ Ok insn → (unused_sum uses jt jf k ≡ 0) × (instruction_with uses jt jf k ≡ insn)
 made-cases uses jt jf k insn true zero e = (eqb-true _ 0 zero, cc)
 made-cases uses jt jf k insn false zero e = cc
 
-fields_insn-Ok : (found : Option Uses) (jt jf k : ℕ) (insn : Insn) → fields_insn found jt jf k ≡ Ok insn → IsMadeBy found jt jf k insn
-fields_insn-Ok None jt jf k insn e = cc
-fields_insn-Ok (Some uses) jt jf k insn e =
+fields_instruction-Ok : (found : Option Uses) (jt jf k : ℕ) (insn : Insn) → fields_instruction found jt jf k ≡ Ok insn → IsMadeBy found jt jf k insn
+fields_instruction-Ok None jt jf k insn e = cc
+fields_instruction-Ok (Some uses) jt jf k insn e =
     let parts = made-cases uses jt jf k insn (unused_sum uses jt jf k == 0) refl e in
     record { uses = uses; is_found = refl; unused_zero = parts.0; is_made = parts.1 }
 
-pub insn_of-sound : (w : ℕ) (insn : Insn) → insn_of w ≡ Ok insn → IsInstructionWord w × (word_of insn ≡ w)
-unfolding insn_of
-insn_of-sound w insn e =
-    let made_by = fields_insn-Ok (uses_of (code_of w)) (true_jump_of w) (false_jump_of w) (constant_of w) insn e in
+pub instruction_of-sound : (w : ℕ) (insn : Insn) → instruction_of w ≡ Ok insn → IsInstructionWord w × (word_of insn ≡ w)
+unfolding instruction_of
+instruction_of-sound w insn e =
+    let made_by = fields_instruction-Ok (uses_of (code_of w)) (true_jump_of w) (false_jump_of w) (constant_of w) insn e in
     let encodes = uses_of-encodes (code_of w) made_by.uses made_by.is_found (true_jump_of w) (false_jump_of w) (constant_of w) made_by.unused_zero in (
       record {
         code = code_of w;
@@ -125,57 +137,94 @@ insn_of-sound w insn e =
       sym (ap word_of made_by.is_made) ∙ encodes ∙ word-split w,
     )
 
-fields_insn-made : (found : Option Uses) (uses : Uses) (jt jf k : ℕ) → found ≡ Some uses → unused_sum uses jt jf k ≡ 0 → fields_insn found jt jf k ≡ Ok (made uses jt jf k)
-fields_insn-made found uses jt jf k e zero = rw (e, zero) refl
+fields_instruction-made : (found : Option Uses) (uses : Uses) (jt jf k : ℕ) → found ≡ Some uses → unused_sum uses jt jf k ≡ 0 → fields_instruction found jt jf k ≡ Ok (instruction_with uses jt jf k)
+fields_instruction-made found uses jt jf k e zero = rw (e, zero) refl
 
-pub insn_of-complete : (w : ℕ) (h : IsInstructionWord w) → insn_of w ≡ Ok (made h.uses h.jt h.jf h.k)
-insn_of-complete w h =
-    ap insn_of h.is_word
-    ∙ insn_of-word h.code h.jt h.jf h.k h.jt_fits h.jf_fits h.k_fits
-    ∙ fields_insn-made (uses_of h.code) h.uses h.jt h.jf h.k h.in_table h.unused_zero
+pub instruction_of-complete : (w : ℕ) (h : IsInstructionWord w) → instruction_of w ≡ Ok (instruction_with h.uses h.jt h.jf h.k)
+instruction_of-complete w h =
+    ap instruction_of h.is_word
+    ∙ instruction_of-word h.code h.jt h.jf h.k h.jt_fits h.jf_fits h.k_fits
+    ∙ fields_instruction-made (uses_of h.code) h.uses h.jt h.jf h.k h.in_table h.unused_zero
 
 pub uses_of-instruction_word : (w : ℕ) (h : IsInstructionWord w) → uses_of (code_of w) ≡ Some h.uses
 uses_of-instruction_word w h =
     ap (λ v. uses_of (code_of v)) h.is_word ∙ ap uses_of (code_of-word h.code h.jt h.jf h.k h.jt_fits h.jf_fits h.k_fits) ∙ h.in_table
 
--- the instruction that the masked fields of an instruction's word make
-pub insn_of-masked : (w : ℕ) (insn : Insn) → IsInstructionWord w → IfSome (uses_of (w / 2 ^ 48)) (λ uses. insn ≡ made uses (bit_and (w / 2 ^ 40) 255) (bit_and (w / 2 ^ 32) 255) (bit_and w 4294967295)) → insn_of w ≡ Ok insn
-insn_of-masked w insn h is_made =
-    let made_here = rw (uses_of-instruction_word w h) at is_made in
-    let t = and_mask (w / 2 ^ 40) 8 ∙ ap true_jump_of h.is_word ∙ true_jump_of-word h.code h.jt h.jf h.k h.jt_fits h.jf_fits h.k_fits in
-    let f = and_mask (w / 2 ^ 32) 8 ∙ ap false_jump_of h.is_word ∙ false_jump_of-word h.code h.jt h.jf h.k h.jt_fits h.jf_fits h.k_fits in
-    let n = and_mask w 32 ∙ ap constant_of h.is_word ∙ constant_of-word h.code h.jt h.jf h.k h.jt_fits h.jf_fits h.k_fits in
-    let same : made h.uses h.jt h.jf h.k ≡ insn = cc in
-    insn_of-complete w h ∙ ap (λ i. Ok i) same
-
-IsOk-sound : (w : ℕ) (r : Result Insn WordFault) → insn_of w ≡ r → IsOk r → IsInstructionWord w
-IsOk-sound w (Ok insn) e ok = (insn_of-sound w insn e).0
+IsOk-sound : (w : ℕ) (r : Result Insn WordFault) → instruction_of w ≡ r → IsOk r → IsInstructionWord w
+IsOk-sound w (Ok insn) e ok = (instruction_of-sound w insn e).0
 IsOk-sound w (Err fault) e ok = cc
 
-pub insn_of-exact : (w : ℕ) → IsOk (insn_of w) ↔ IsInstructionWord w
-insn_of-exact w = (IsOk-sound w (insn_of w) refl, λ h. rw (insn_of-complete w h) refl)
+pub instruction_of-exact : (w : ℕ) → IsOk (instruction_of w) ↔ IsInstructionWord w
+instruction_of-exact w = (IsOk-sound w (instruction_of w) refl, λ h. rw (instruction_of-complete w h) refl)
+
+-- ---- what the decoder found
+
+tested-decoded_with : (found : Option Uses) (jt jf k : ℕ) → tested (decoded_with found jt jf k) ≡ fields_instruction found jt jf k
+tested-decoded_with None jt jf k = refl
+tested-decoded_with (Some uses) jt jf k = refl
+
+abbrev pub decoded_of : ℕ → Option Decoded
+decoded_of w = decoded_with (uses_of (code_of w)) (true_jump_of w) (false_jump_of w) (constant_of w)
+
+pub tested-decoded_of : (w : ℕ) → tested (decoded_of w) ≡ instruction_of w
+unfolding instruction_of
+tested-decoded_of w = tested-decoded_with (uses_of (code_of w)) (true_jump_of w) (false_jump_of w) (constant_of w)
+
+untested : (decoded : Decoded) (b : Bool) (insn : Insn) → ◌≡◌ {A = Result Insn WordFault} (cond b (Ok decoded.insn) (Err StrayField)) (Ok insn) → decoded.insn ≡ insn
+untested decoded true insn e = cc
+untested decoded false insn e = cc
+
+-- of an instruction's word the decoder finds the instruction
+pub decoded_instruction : (w : ℕ) (decoded : Decoded) → IsInstructionWord w → decoded_of w ≡ Some decoded → instruction_of w ≡ Ok decoded.insn
+decoded_instruction w decoded h e =
+    let complete = instruction_of-complete w h in
+    let test : cond decoded.unused_zero (Ok decoded.insn) (Err StrayField) ≡ Ok (instruction_with h.uses h.jt h.jf h.k) = ap tested (sym e) ∙ tested-decoded_of w ∙ complete in
+    complete ∙ ap (λ i. Ok i) (sym (untested decoded decoded.unused_zero (instruction_with h.uses h.jt h.jf h.k) test))
 
 -- ---- the clauses of the calls, of any result that is a word's
 
-pub IfOk-back : (w : ℕ) (r : Result Insn WordFault) → r ≡ insn_of w → IfOk r (λ insn. word_of insn ≡ w)
-IfOk-back w (Ok insn) e = (insn_of-sound w insn (sym e)).1
+pub IfOk-back : (w : ℕ) (r : Result Insn WordFault) → r ≡ instruction_of w → IfOk r (λ insn. word_of insn ≡ w)
+IfOk-back w (Ok insn) e = (instruction_of-sound w insn (sym e)).1
 IfOk-back w (Err fault) e = tt
 
 pub IfOk-bytes : (w : ℕ) (bytes : List ℕ) (r : Result Insn WordFault) → to_be_bytes w64 w ≡ bytes → IfOk r (λ insn. word_of insn ≡ w) → IfOk r (λ insn. to_be_bytes w64 (word_of insn) ≡ bytes)
 IfOk-bytes w bytes (Ok insn) e back = ap (λ n. to_be_bytes w64 n) back ∙ e
 IfOk-bytes w bytes (Err fault) e back = tt
 
-pub bytes_read_back : (w : ℕ) (insn : Insn) → w < 2 ^ 64 → insn_of w ≡ Ok insn → insn_of (from_be_bytes w64 (to_be_bytes w64 w)) ≡ Ok insn
-bytes_read_back w insn fits e = ap insn_of (from_be_bytes-to_be_bytes_8 w fits) ∙ e
+pub bytes_read_back : (w : ℕ) → w < 2 ^ 64 → from_be_bytes w64 (to_be_bytes w64 w) ≡ w
+bytes_read_back w fits = from_be_bytes-to_be_bytes_8 w fits
 
-known-step : (uses : Uses) (jt jf k : ℕ) (b : Bool) → ◌≡◌ {A = Result Insn WordFault} (cond b (Ok (made uses jt jf k)) (Err StrayField)) (Err BadOpcode) → IsNone (Some uses)
+known-step : (uses : Uses) (jt jf k : ℕ) (b : Bool) → ◌≡◌ {A = Result Insn WordFault} (cond b (Ok (instruction_with uses jt jf k)) (Err StrayField)) (Err BadOpcode) → IsNone (Some uses)
 known-step uses jt jf k true e = cc
 known-step uses jt jf k false e = cc
 
-fields_insn-bad : (found : Option Uses) (jt jf k : ℕ) → (fields_insn found jt jf k ≡ Err BadOpcode) ↔ IsNone found
-fields_insn-bad None jt jf k = (λ e. refl, λ e. refl)
-fields_insn-bad (Some uses) jt jf k = (known-step uses jt jf k (unused_sum uses jt jf k == 0), λ none. cc)
+fields_instruction-bad : (found : Option Uses) (jt jf k : ℕ) → (fields_instruction found jt jf k ≡ Err BadOpcode) ↔ IsNone found
+fields_instruction-bad None jt jf k = (λ e. refl, λ e. refl)
+fields_instruction-bad (Some uses) jt jf k = (known-step uses jt jf k (unused_sum uses jt jf k == 0), λ none. cc)
 
-pub insn_of-bad : (w : ℕ) → (insn_of w ≡ Err BadOpcode) ↔ IsNone (uses_of (code_of w))
-unfolding insn_of
-insn_of-bad w = fields_insn-bad (uses_of (code_of w)) (true_jump_of w) (false_jump_of w) (constant_of w)
+pub bad_opcode : (w : ℕ) → (instruction_of w ≡ Err BadOpcode) ↔ IsNone (uses_of (code_of w))
+unfolding instruction_of
+bad_opcode w = fields_instruction-bad (uses_of (code_of w)) (true_jump_of w) (false_jump_of w) (constant_of w)
+
+known_of_stray : (found : Option Uses) (jt jf k : ℕ) → fields_instruction found jt jf k ≡ Err StrayField → IsSome found
+known_of_stray None jt jf k e = cc
+known_of_stray (Some uses) jt jf k e = refl
+
+some_not_none : (found : Option Uses) → IsSome found → ¬ IsNone found
+some_not_none None some none = cc
+some_not_none (Some uses) some none = cc
+
+stray_of_known : (w : ℕ) (r : Result Insn WordFault) → instruction_of w ≡ r → IsSome (uses_of (code_of w)) → (¬ IsInstructionWord w) → r ≡ Err StrayField
+stray_of_known w (Ok insn) e known none = absurd (none (instruction_of-sound w insn e).0)
+stray_of_known w (Err BadOpcode) e known none = absurd (some_not_none _ known ((bad_opcode w).0 e))
+stray_of_known w (Err StrayField) e known none = refl
+
+known_stray : (w : ℕ) → instruction_of w ≡ Err StrayField → IsSome (uses_of (code_of w))
+unfolding instruction_of
+known_stray w e = known_of_stray (uses_of (code_of w)) (true_jump_of w) (false_jump_of w) (constant_of w) e
+
+pub stray_field : (w : ℕ) → (instruction_of w ≡ Err StrayField) ↔ (IsSome (uses_of (code_of w)) × (¬ IsInstructionWord w))
+stray_field w = (
+  λ e. (known_stray w e, λ h. let ok = instruction_of-complete w h in cc),
+  λ h. stray_of_known w (instruction_of w) refl h.0 h.1,
+)

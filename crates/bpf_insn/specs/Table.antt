@@ -8,33 +8,38 @@ use Rattle.bpf_insn.specs.declared.instruction.Test.TheVariants.{Equal}
 
 -- which of the fields jt, jf and k an instruction uses, and the instruction that they make
 pub data Uses : Type 0 where
-  UsesConstant : (ℕ → Insn) → Uses
-  UsesAll : (ℕ → ℕ → ℕ → Insn) → Uses
+  uses_constant : (ℕ → Insn) → Uses
+  uses_all : (ℕ → ℕ → ℕ → Insn) → Uses
 
--- a code, and what its instruction uses
-abbrev pub Line : Type 0
-Line = ℕ × Uses
+-- an entry of the table
+pub record Entry : Type 0 where
+  pub code : ℕ
+  pub uses : Uses
 
-unfoldable pub table : List Line
+abbrev pub entry : ℕ → Uses → Entry
+entry code uses = record { code = code; uses = uses }
+
+unfoldable pub table : List Entry
 table =
-    (0x30, UsesConstant (λ k. LoadAbsolute Byte k))
-    ∷ (0x15, UsesAll (λ jt jf k. JumpIf Equal (K k) jt jf))
-    ∷ (0x06, UsesConstant (λ k. ReturnConstant k))
+    entry 0x30 (uses_constant (λ k. LoadAbsolute Byte k))
+    ∷ entry 0x15 (uses_all (λ jt jf k. JumpIf Equal (K k) (record { jt = jt; jf = jf })))
+    ∷ entry 0x06 (uses_constant (λ k. ReturnConstant k))
     ∷ []
 
-abbrev pub uses_in : List Line → ℕ → Option Uses
+abbrev pub uses_in : List Entry → ℕ → Option Uses
 uses_in [] code = None
-uses_in (line ∷ lines) code = if line.0 == code then Some line.1 else uses_in lines code
+uses_in (entry ∷ entries) code = if entry.code == code then Some entry.uses else uses_in entries code
 
 -- what the instruction of a code uses, none where there is no such instruction
 unfoldable pub uses_of : ℕ → Option Uses
 uses_of code = uses_in table code
 
--- the sum of the fields that are not used
+-- the sum of the fields that are not used, which have to be 0 (this project's rule)
 abbrev pub unused_sum : Uses → ℕ → ℕ → ℕ → ℕ
-unused_sum (UsesConstant insn) jt jf k = jt + jf
-unused_sum (UsesAll insn) jt jf k = 0
+unused_sum (uses_constant insn) jt jf k = jt + jf
+unused_sum (uses_all insn) jt jf k = 0
 
-abbrev pub made : Uses → ℕ → ℕ → ℕ → Insn
-made (UsesConstant insn) jt jf k = insn k
-made (UsesAll insn) jt jf k = insn jt jf k
+-- the instruction that the fields make
+abbrev pub instruction_with : Uses → ℕ → ℕ → ℕ → Insn
+instruction_with (uses_constant insn) jt jf k = insn k
+instruction_with (uses_all insn) jt jf k = insn jt jf k

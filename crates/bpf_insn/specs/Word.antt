@@ -9,7 +9,7 @@ use Rattle.bpf_insn.specs.declared.instruction.Operand.TheVariants.{K}
 use Rattle.bpf_insn.specs.declared.instruction.Test.TheVariants.{Equal}
 use Rattle.bpf_insn.specs.declared.instruction.WordFault.{WordFault}
 use Rattle.bpf_insn.specs.declared.instruction.WordFault.TheVariants.{BadOpcode, StrayField}
-use Rattle.bpf_insn.specs.Table.{Uses, made, unused_sum, uses_of}
+use Rattle.bpf_insn.specs.Table.{Uses, instruction_with, unused_sum, uses_of}
 
 -- the word of four fields
 abbrev pub word : ℕ → ℕ → ℕ → ℕ → ℕ
@@ -28,7 +28,7 @@ false_jump_of w = w / 2 ^ 32 % 2 ^ 8
 abbrev pub constant_of : ℕ → ℕ
 constant_of w = w % 2 ^ 32
 
--- the word of a code of the table and of fields in their ranges, each 0 that the instruction does not use
+-- the words of instructions: of a code of the table, and of fields in their ranges of which those that are not used are 0
 pub record IsInstructionWord (w : ℕ) : Type 0 where
   pub code : ℕ
   pub jt : ℕ
@@ -43,22 +43,22 @@ pub record IsInstructionWord (w : ℕ) : Type 0 where
   pub is_word : w ≡ word code jt jf k
 
 -- the instruction of three fields, or why there is none
-abbrev pub fields_insn : Option Uses → ℕ → ℕ → ℕ → Result Insn WordFault
-fields_insn None jt jf k = Err BadOpcode
-fields_insn (Some uses) jt jf k = if unused_sum uses jt jf k == 0 then Ok (made uses jt jf k) else Err StrayField
+abbrev pub fields_instruction : Option Uses → ℕ → ℕ → ℕ → Result Insn WordFault
+fields_instruction None jt jf k = Err BadOpcode
+fields_instruction (Some uses) jt jf k = if unused_sum uses jt jf k == 0 then Ok (instruction_with uses jt jf k) else Err StrayField
 
--- the instruction of a word, or why it is none's
-unfoldable pub insn_of : ℕ → Result Insn WordFault
-insn_of w = fields_insn (uses_of (code_of w)) (true_jump_of w) (false_jump_of w) (constant_of w)
+-- the instruction that a word is read as, or why there is none
+unfoldable pub instruction_of : ℕ → Result Insn WordFault
+instruction_of w = fields_instruction (uses_of (code_of w)) (true_jump_of w) (false_jump_of w) (constant_of w)
 
--- a number is read as an instruction exactly where it is an instruction's word
+-- of all numbers, exactly the words of instructions are read as an instruction
 abbrev pub ReadsInstructionWords : Type 0
-ReadsInstructionWords = (w : ℕ) → IsOk (insn_of w) ↔ IsInstructionWord w
+ReadsInstructionWords = (w : ℕ) → IsOk (instruction_of w) ↔ IsInstructionWord w
 
 -- the word of an instruction
 abbrev pub word_of : Insn → ℕ
 word_of (LoadAbsolute Byte k) = word 0x30 0 0 k
-word_of (JumpIf Equal (K k) jt jf) = word 0x15 jt jf k
+word_of (JumpIf Equal (K k) offsets) = word 0x15 offsets.jt offsets.jf k
 word_of (ReturnConstant k) = word 0x06 0 0 k
 
 -- each field of an instruction is in its range
@@ -67,5 +67,5 @@ OperandFits (K k) = k < 2 ^ 32
 
 abbrev pub FieldsFit : Insn → Type 0
 FieldsFit (LoadAbsolute size k) = k < 2 ^ 32
-FieldsFit (JumpIf test operand jt jf) = OperandFits operand × (jt < 2 ^ 8) × (jf < 2 ^ 8)
+FieldsFit (JumpIf test operand offsets) = OperandFits operand × (offsets.jt < 2 ^ 8) × (offsets.jf < 2 ^ 8)
 FieldsFit (ReturnConstant k) = k < 2 ^ 32

@@ -1,90 +1,115 @@
 //! From words and bytes to instructions.
 
-ghost use Rattle.std.specs.Prelude.{◌≡◌, ◌==◌, ◌+◌, ◌↔◌, if◌then◌else◌, Err, IfOk, IfSome, IsNone, IsOk, IsSome, Ok};
+ghost use Rattle.std.specs.Prelude.{◌≡◌, ◌==◌, ◌+◌, ◌↔◌, Err, IfOk, IsNone, IsOk, IsSome, Ok, Some};
 ghost use Rattle.std.specs.Int.{from_be_bytes, to_be_bytes, w64};
-ghost use Rattle.bpf_insn.specs.Table.{made, uses_of};
-ghost use Rattle.bpf_insn.specs.Word.{IsInstructionWord, ReadsInstructionWords, code_of, fields_insn, insn_of, word_of};
+ghost use Rattle.bpf_insn.specs.Table.{uses_of};
+ghost use Rattle.bpf_insn.specs.Word.{IsInstructionWord, ReadsInstructionWords, code_of, constant_of, false_jump_of, instruction_of, true_jump_of, word_of};
+ghost use Rattle.bpf_insn.specs.Decoded.{decoded_with, tested};
 
-use crate::instruction::{Insn, Operand, Size, Test, WordFault};
+use crate::instruction::{Insn, Offsets, Operand, Size, Test, WordFault};
+
+// An instruction of the table, and whether each field that it does not use is 0.
+#[derive(Clone, Copy)]
+struct Decoded {
+    insn: Insn,
+    unused_zero: bool,
+}
 
 #[inline(always)]
-fn with_constant(insn: Insn, jt: u8, jf: u8) -> Result<Insn, WordFault>
-    ensures { result ≡ (if jt + jf == 0 then Ok insn else Err WordFault.StrayField) }
+fn constant(insn: Insn, offsets: Offsets) -> Option<Decoded>
+    ensures { result ≡ Some (record { insn = insn; unused_zero = (offsets.jt + offsets.jf == 0) }) }
 {
-    if jt == 0 && jf == 0 {
-        Ok(insn)
-    } else {
-        Err(WordFault::StrayField)
-    }
+    let unused_zero = offsets.jt == 0 && offsets.jf == 0;
+    Some(Decoded { insn, unused_zero })
+}
+
+#[inline(always)]
+fn all(insn: Insn) -> Option<Decoded>
+    ensures { result ≡ Some (record { insn = insn; unused_zero = (0 == 0) }) }
+{
+    Some(Decoded {
+        insn,
+        unused_zero: true,
+    })
 }
 
 #[inline(always)]
 #[tactic(auto, unfolding(crate::specs::Table::uses_of, crate::specs::Table::table))]
-fn of_fields(code: u16, jt: u8, jf: u8, k: u32) -> Result<Insn, WordFault>
-    ensures { result ≡ fields_insn (uses_of code) jt jf k }
+fn decode_fields(code: u16, offsets: Offsets, k: u32) -> Option<Decoded>
+    ensures { result ≡ decoded_with (uses_of code) offsets.jt offsets.jf k }
 {
     match code {
-        0x30 => with_constant(Insn::LoadAbsolute(Size::Byte, k), jt, jf),
-        0x15 => Ok(Insn::JumpIf(Test::Equal, Operand::K(k), jt, jf)),
-        0x06 => with_constant(Insn::ReturnConstant(k), jt, jf),
-        _ => Err(WordFault::BadOpcode),
+        0x30 => constant(Insn::LoadAbsolute(Size::Byte, k), offsets),
+        0x15 => all(Insn::JumpIf(Test::Equal, Operand::K(k), offsets)),
+        0x06 => constant(Insn::ReturnConstant(k), offsets),
+        _ => None,
     }
 }
 
 #[inline(always)]
-#[tactic(auto, unfolding(crate::specs::Table::uses_of, crate::specs::Table::table))]
-fn with_code(code: u16, jt: u8, jf: u8, k: u32) -> Insn
-    requires { IsSome (uses_of code) }
-    ensures { IfSome (uses_of code) (λ uses. result ≡ made uses jt jf k) }
+fn decode(word: u64) -> Option<Decoded>
+    ensures { result ≡ decoded_with (uses_of (code_of word)) (true_jump_of word) (false_jump_of word) (constant_of word) }
 {
-    match code {
-        0x30 => Insn::LoadAbsolute(Size::Byte, k),
-        0x15 => Insn::JumpIf(Test::Equal, Operand::K(k), jt, jf),
-        0x06 => Insn::ReturnConstant(k),
-        _ => unreachable!(),
+    let offsets = Offsets {
+        jt: ((word >> 40) & 0xff) as u8,
+        jf: ((word >> 32) & 0xff) as u8,
+    };
+    decode_fields((word >> 48) as u16, offsets, (word & 0xffff_ffff) as u32)
+}
+
+#[inline(always)]
+fn tested(decoded: Option<Decoded>) -> Result<Insn, WordFault>
+    ensures { result ≡ tested decoded }
+{
+    match decoded {
+        None => Err(WordFault::BadOpcode),
+        Some(decoded) => {
+            if decoded.unused_zero {
+                Ok(decoded.insn)
+            } else {
+                Err(WordFault::StrayField)
+            }
+        }
     }
 }
 
 impl Insn {
-    /// Tells which instruction a word is, or why it is none: first a code of no instruction, then a field that is not
-    /// used and not 0 (docs/MACHINE.md, "Instruction words").
+    /// Tells which instruction a word is, or why it is none: first a code of no instruction, then a field that the
+    /// instruction does not use and that is not 0 (docs/MACHINE.md, "Instruction words").
     #[inline(always)]
     pub fn from_word(word: u64) -> Result<Insn, WordFault>
-        ensures insn { result ≡ insn_of word }
+        ensures instruction { result ≡ instruction_of word }
         ensures word_exact { IsOk result ↔ IsInstructionWord word }
         ensures word_round_trip { IfOk result (λ insn. word_of insn ≡ word) }
+
         ensures bad_opcode { (result ≡ Err WordFault.BadOpcode) ↔ IsNone (uses_of (code_of word)) }
+        ensures stray_field { (result ≡ Err WordFault.StrayField) ↔ (IsSome (uses_of (code_of word)) × (¬ IsInstructionWord word)) }
     {
-        let code = (word >> 48) as u16;
-        let jt = ((word >> 40) & 0xff) as u8;
-        let jf = ((word >> 32) & 0xff) as u8;
-        let k = (word & 0xffff_ffff) as u32;
-        of_fields(code, jt, jf, k)
+        tested(decode(word))
     }
 
-    /// Tells which instruction a word is that is known to be an instruction's: reads the code, and tests nothing.
+    /// Tells which instruction a word is that is known to be an instruction's. It tests no field.
     #[inline(always)]
     pub fn from_instruction_word(word: u64) -> Insn
         requires { IsInstructionWord word }
-        ensures { insn_of word ≡ Ok result }
+        ensures { instruction_of word ≡ Ok result }
     {
-        let jt = ((word >> 40) & 0xff) as u8;
-        let jf = ((word >> 32) & 0xff) as u8;
-        let k = (word & 0xffff_ffff) as u32;
-        with_code((word >> 48) as u16, jt, jf, k)
+        match decode(word) {
+            Some(decoded) => decoded.insn,
+            None => unreachable!(),
+        }
     }
 
-    /// Tells which instruction eight bytes are, as a big-endian word, or why they are none.
+    /// Tells which instruction eight bytes are, read as a big-endian word, or why they are none, as `from_word` does.
     pub fn from_bytes(bytes: [u8; 8]) -> Result<Insn, WordFault>
-        ensures insn { result ≡ insn_of (from_be_bytes w64 bytes) }
-        ensures word_exact { IsOk result ↔ IsInstructionWord (from_be_bytes w64 bytes) }
+        ensures instruction { result ≡ instruction_of (from_be_bytes w64 bytes) }
         ensures bytes_round_trip { IfOk result (λ insn. to_be_bytes w64 (word_of insn) ≡ bytes) }
     {
         Insn::from_word(u64::from_be_bytes(bytes))
     }
 }
 
-/// Law: a number is read as an instruction exactly where it is an instruction's word. It runs nothing.
+/// Law: of all numbers, exactly the words of instructions are read as an instruction. It runs nothing.
 pub fn instruction_words()
     ensures { ReadsInstructionWords }
 {}

@@ -21,13 +21,23 @@ pub enum Test {
     Equal,
 }
 
-/// One instruction, with its constant `k`, and its jump offsets `jt` and `jf`, counted from the next instruction.
+/// How many instructions a conditional jump skips, counted from the next one.
+#[derive(Clone, Copy, Debug, PartialEq, Eq)]
+pub struct Offsets {
+    /// Where the test holds.
+    pub jt: u8,
+    /// Where it does not.
+    pub jf: u8,
+}
+
+/// One instruction. The numbers are its constant, `k`.
 #[derive(Clone, Copy, Debug, PartialEq, Eq)]
 pub enum Insn {
-    /// `ldb [k]`: A becomes the number at place `k` of the packet; without that place the program ends with 0.
+    /// `ldb [k]`: A becomes the number at place `k` of the packet; where the packet has no such place, the program ends
+    /// with 0.
     LoadAbsolute(Size, u32),
-    /// `jeq #k,jt,jf`: goes on `jt` instructions further where the test holds, else `jf`. The offsets are in this order.
-    JumpIf(Test, Operand, u8, u8),
+    /// `jeq #k,jt,jf`: skips as many instructions as the test says.
+    JumpIf(Test, Operand, Offsets),
     /// `ret #k`: the program ends with `k`.
     ReturnConstant(u32),
 }

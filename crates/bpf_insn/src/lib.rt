@@ -9,7 +9,8 @@ mod encoding;
 mod instruction;
 mod word_list;
 
-pub use instruction::{Insn, Operand, Size, Test, WordFault};
+pub use decoding::instruction_words;
+pub use instruction::{Insn, Offsets, Operand, Size, Test, WordFault};
 pub use word_list::Words;
 
 #[cfg(test)]

@@ -1,8 +1,8 @@
 //! Instructions, their words and bytes.
 
-use crate::{Insn, Operand, Size, Test, WordFault, Words};
+use crate::{Insn, Offsets, Operand, Size, Test, WordFault, Words};
 
-const UDP: Insn = Insn::JumpIf(Test::Equal, Operand::K(17), 0, 1);
+const UDP: Insn = Insn::JumpIf(Test::Equal, Operand::K(17), Offsets { jt: 0, jf: 1 });
 
 // The fields as `tcpdump -dd` prints them for `ip proto 17` without its first test.
 const WORDS: [(Insn, u64); 3] = [
@@ -12,7 +12,7 @@ const WORDS: [(Insn, u64); 3] = [
 ];
 
 const REFUSED: [(u64, WordFault); 5] = [
-    // The kernel's extended instruction set has codes of 16 bits no more than the classic one.
+    // A code has 16 bits, of which no instruction uses the high eight.
     (0x0130_0000_0000_0009, WordFault::BadOpcode),
     (0x0095_0000_0000_0000, WordFault::BadOpcode),
     (0x0095_0101_0000_0001, WordFault::BadOpcode),

@@ -6,12 +6,12 @@ use Rattle.std.proofs.lemmas.List.{drop-drop}
 use Rattle.std.proofs.lemmas.Option.{get_or_from_slice_get, slice_get_within}
 use Rattle.bpf_insn.specs.declared.instruction.Insn.{Insn}
 use Rattle.bpf_insn.specs.declared.instruction.Insn.TheVariants.{JumpIf, LoadAbsolute, ReturnConstant}
-use Rattle.bpf_insn.specs.Word.{IsInstructionWord, insn_of}
-use Rattle.bpf_insn.proofs.WordLemmas.{insn_of-sound}
+use Rattle.bpf_insn.specs.Word.{IsInstructionWord, instruction_of}
+use Rattle.bpf_insn.proofs.WordLemmas.{instruction_of-sound}
 use Rattle.bpf_verify.specs.Path.{IsAt, program_at, successors}
-use Rattle.bpf_verify.specs.Accepted.{IsAccepted, insn_fault}
+use Rattle.bpf_verify.specs.Accepted.{IsAccepted, instruction_fault}
 use Rattle.bpf_verify.proofs.PlaceLemmas.{IsAt-unique, faultless_at, length-program_at, slice_get-program_at, successors_inside}
-use Rattle.bpf_machine.specs.Meaning.{Cells, Effect, Ends, GoesOn, Ret, Run, Stuck, effect, holds, loads_a, no_cells, one_more, operand_value, run_after, run_on, word_effect}
+use Rattle.bpf_machine.specs.Meaning.{Cells, Effect, MeansByFirstWord, Ret, Run, ends, goes_on, Stuck, effect, holds, after_load, no_cells, one_more, operand_value, run_after, run_on, word_effect}
 use Rattle.bpf_machine.specs.Packet.{packet_number}
 
 -- ---- what remains of a program
@@ -22,9 +22,24 @@ run_after-drop dropped [] a x cells packet = rw drop-nil refl
 run_after-drop zero (word ∷ words) a x cells packet = refl
 run_after-drop (suc dropped) (word ∷ words) a x cells packet = run_after-drop dropped words a x cells packet
 
-run_after-cons : (word : ℕ) (words : List ℕ) (a x : ℕ) (cells : Cells) (packet : List ℕ) → run_after 0 (word ∷ words) a x cells packet ≡ run_on (λ dropped a' x' cells'. run_after dropped words a' x' cells' packet) (word_effect (insn_of word) a x cells packet)
+run_after-cons : (word : ℕ) (words : List ℕ) (a x : ℕ) (cells : Cells) (packet : List ℕ) → run_after 0 (word ∷ words) a x cells packet ≡ run_on (λ dropped a' x' cells'. run_after dropped words a' x' cells' packet) (word_effect (instruction_of word) a x cells packet)
 unfolding run_after
 run_after-cons word words a x cells packet = refl
+
+pub means_by_first_word : (packet : List ℕ) → MeansByFirstWord packet
+unfolding run_after
+means_by_first_word packet =
+    record {
+      none_remains = λ a x cells. (refl, refl);
+      first_ends = λ word words a x cells ending at_end.
+          let run = run_after-cons word words a x cells packet ∙ ap (run_on (λ dropped a' x' cells'. run_after dropped words a' x' cells' packet)) at_end in
+          (ap (λ (r : Run). r.0) run, ap (λ (r : Run). r.1) run);
+      first_goes_on = λ word words a x cells dropped a' x' cells' goes.
+          let run = run_after-cons word words a x cells packet
+          ∙ ap (run_on (λ dropped a' x' cells'. run_after dropped words a' x' cells' packet)) goes
+          ∙ ap one_more (run_after-drop dropped words a' x' cells' packet) in
+          (ap (λ (r : Run). r.0) run, ap (λ (r : Run). r.1) run);
+    }
 
 drop-at : (program : List ℕ) (pc word : ℕ) → slice_get program pc ≡ Some word → drop pc program ≡ word ∷ drop (pc + 1) program
 drop-at program pc word at =
@@ -45,22 +60,22 @@ module _ (program : List ℕ) (pc : ℕ) (insn : Insn) (at : IsAt program pc ins
       ∙ run_after-cons at.0 (drop (pc + 1) program) a x cells packet
       ∙ ap (λ read. run_on (λ dropped a' x' cells'. run_after dropped (drop (pc + 1) program) a' x' cells' packet) (word_effect read a x cells packet)) at.2
 
-  pub run_from-goes_on : (dropped a' x' : ℕ) (cells' : Cells) → effect insn a x cells packet ≡ GoesOn dropped a' x' cells' → run_from program pc a x cells packet ≡ one_more (run_from program (pc + 1 + dropped) a' x' cells' packet)
+  pub run_from-goes_on : (dropped a' x' : ℕ) (cells' : Cells) → effect insn a x cells packet ≡ goes_on dropped a' x' cells' → run_from program pc a x cells packet ≡ one_more (run_from program (pc + 1 + dropped) a' x' cells' packet)
   run_from-goes_on dropped a' x' cells' goes =
       run_from-at
       ∙ ap (run_on (λ dropped a' x' cells'. run_after dropped (drop (pc + 1) program) a' x' cells' packet)) goes
       ∙ ap one_more (run_after-drop dropped (drop (pc + 1) program) a' x' cells' packet)
       ∙ ap (λ words. one_more (run_after 0 words a' x' cells' packet)) (drop-drop dropped (pc + 1) program)
 
-  pub run_from-ends : (value : ℕ) → effect insn a x cells packet ≡ Ends (Ret value) → run_from program pc a x cells packet ≡ (Ret value, 1)
-  run_from-ends value ends =
-      run_from-at ∙ ap (run_on (λ dropped a' x' cells'. run_after dropped (drop (pc + 1) program) a' x' cells' packet)) ends
+  pub run_from-ends : (value : ℕ) → effect insn a x cells packet ≡ ends (Ret value) → run_from program pc a x cells packet ≡ (Ret value, 1)
+  run_from-ends value at_end =
+      run_from-at ∙ ap (run_on (λ dropped a' x' cells'. run_after dropped (drop (pc + 1) program) a' x' cells' packet)) at_end
 
 -- ---- inside an accepted program
 
-loads_a-goes_on : (number : Option ℕ) (x : ℕ) (cells : Cells) (dropped a' x' : ℕ) (cells' : Cells) → loads_a number x cells ≡ GoesOn dropped a' x' cells' → dropped ≡ 0
-loads_a-goes_on None x cells dropped a' x' cells' e = cc
-loads_a-goes_on (Some number) x cells dropped a' x' cells' e = cc
+after_load-goes_on : (number : Option ℕ) (x : ℕ) (cells : Cells) (dropped a' x' : ℕ) (cells' : Cells) → after_load number x cells ≡ goes_on dropped a' x' cells' → dropped ≡ 0
+after_load-goes_on None x cells dropped a' x' cells' e = cc
+after_load-goes_on (Some number) x cells dropped a' x' cells' e = cc
 
 here : (y x : ℕ) (ys : List ℕ) → x ≡ y → Contains (y ∷ ys) x
 here y x ys e = (0, omega arith, sym e)
@@ -70,11 +85,11 @@ taken pc jt jf dropped true e = (0, omega arith, ap (λ n. pc + 1 + n) e)
 taken pc jt jf dropped false e = (1, omega arith, ap (λ n. pc + 1 + n) e)
 
 -- an instruction goes on at one of its successors
-goes_on-successor : (insn : Insn) (pc a x : ℕ) (cells : Cells) (packet : List ℕ) (dropped a' x' : ℕ) (cells' : Cells) → effect insn a x cells packet ≡ GoesOn dropped a' x' cells' → Contains (successors insn pc) (pc + 1 + dropped)
+goes_on-successor : (insn : Insn) (pc a x : ℕ) (cells : Cells) (packet : List ℕ) (dropped a' x' : ℕ) (cells' : Cells) → effect insn a x cells packet ≡ goes_on dropped a' x' cells' → Contains (successors insn pc) (pc + 1 + dropped)
 goes_on-successor (LoadAbsolute size k) pc a x cells packet dropped a' x' cells' e =
-    let none = loads_a-goes_on (packet_number packet size k) x cells dropped a' x' cells' e in here (pc + 1) (pc + 1 + dropped) [] (omega arith)
-goes_on-successor (JumpIf test operand jt jf) pc a x cells packet dropped a' x' cells' e =
-    taken pc jt jf dropped (holds test a (operand_value operand x)) cc
+    let none = after_load-goes_on (packet_number packet size k) x cells dropped a' x' cells' e in here (pc + 1) (pc + 1 + dropped) [] (omega arith)
+goes_on-successor (JumpIf test operand offsets) pc a x cells packet dropped a' x' cells' e =
+    taken pc offsets.jt offsets.jf dropped (holds test a (operand_value operand x)) cc
 goes_on-successor (ReturnConstant k) pc a x cells packet dropped a' x' cells' e = cc
 
 -- the word at a place is that of an instruction
@@ -83,7 +98,7 @@ instruction_word words from len pc word within inside accepted at =
     let size = length-program_at words from len within in
     let here = slice_get-program_at words from len pc within inside ∙ at in
     let known = faultless_at (program_at words from len) pc word (accepted.faultless pc (omega arith)) here in
-    (insn_of-sound word known.insn known.read).0
+    (instruction_of-sound word known.insn known.read).0
 
 -- so many words were met before
 abbrev pub after_steps : ℕ → Run → Run
@@ -104,13 +119,13 @@ running_first program packet accepted =
     record { inside = accepted.not_empty; met = omega arith; same = ap (λ (n : ℕ). (run.0, n)) (sym (add-zero run.1)) }
 
 module _ (program packet : List ℕ) (accepted : IsAccepted program) (pc steps a : ℕ) (running : IsRunning program packet pc steps a) (insn : Insn) (at : IsAt program pc insn) where
-  faultless_here : insn_fault (length program) pc insn ≡ None
+  faultless_here : instruction_fault (length program) pc insn ≡ None
   faultless_here =
       let known = faultless_at program pc at.0 (accepted.faultless pc running.inside) at.1 in
       let same : insn ≡ known.insn = IsAt-unique program pc insn known.insn at (at.0, at.1, known.read) in
       rw same known.faultless
 
-  pub running_next : (dropped a' : ℕ) → effect insn a 0 no_cells packet ≡ GoesOn dropped a' 0 no_cells → IsRunning program packet (pc + 1 + dropped) (steps + 1) a'
+  pub running_next : (dropped a' : ℕ) → effect insn a 0 no_cells packet ≡ goes_on dropped a' 0 no_cells → IsRunning program packet (pc + 1 + dropped) (steps + 1) a'
   running_next dropped a' goes =
       let met = running.met in
       record {
@@ -120,7 +135,7 @@ module _ (program packet : List ℕ) (accepted : IsAccepted program) (pc steps a
             ∙ more_steps (run_from program (pc + 1 + dropped) a' 0 no_cells packet) steps;
       }
 
-  pub running_end : (value : ℕ) → effect insn a 0 no_cells packet ≡ Ends (Ret value) → run_after 0 program 0 0 no_cells packet ≡ (Ret value, steps + 1)
-  running_end value ends =
+  pub running_end : (value : ℕ) → effect insn a 0 no_cells packet ≡ ends (Ret value) → run_after 0 program 0 0 no_cells packet ≡ (Ret value, steps + 1)
+  running_end value at_end =
       let sum : 1 + steps ≡ steps + 1 = omega arith in
-      running.same ∙ ap (after_steps steps) (run_from-ends program pc insn at a 0 no_cells packet value ends) ∙ ap (λ (n : ℕ). (Ret value, n)) sum
+      running.same ∙ ap (after_steps steps) (run_from-ends program pc insn at a 0 no_cells packet value at_end) ∙ ap (λ (n : ℕ). (Ret value, n)) sum

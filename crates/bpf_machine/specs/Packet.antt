@@ -3,10 +3,11 @@ use Rattle.std.specs.Prelude.{◌*◌, ◌+◌, ◌∷◌, if◌then◌else◌, 
 use Rattle.bpf_insn.specs.declared.instruction.Size.{Size}
 use Rattle.bpf_insn.specs.declared.instruction.Size.TheVariants.{Byte}
 
-abbrev pub bytes_of : Size → ℕ
-bytes_of Byte = 1
+-- how many bytes a load takes
+abbrev pub byte_count : Size → ℕ
+byte_count Byte = 1
 
--- the big-endian number of some bytes behind those of n
+-- the big-endian number of n and then some bytes
 abbrev pub big_endian_after : ℕ → List ℕ → ℕ
 big_endian_after n [] = n
 big_endian_after n (byte ∷ bytes) = big_endian_after (n * 256 + byte) bytes
@@ -14,4 +15,4 @@ big_endian_after n (byte ∷ bytes) = big_endian_after (n * 256 + byte) bytes
 -- the number that a packet has at a place, none where one of its bytes is missing
 abbrev pub packet_number : List ℕ → Size → ℕ → Option ℕ
 packet_number packet size place =
-    if nat_le (place + bytes_of size) (length packet) then Some (big_endian_after 0 (take (bytes_of size) (drop place packet))) else None
+    if nat_le (place + byte_count size) (length packet) then Some (big_endian_after 0 (take (byte_count size) (drop place packet))) else None

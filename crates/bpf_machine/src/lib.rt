@@ -2,16 +2,15 @@
 //! docs/MACHINE.md, "The machine"). No call takes memory.
 #![tactic(auto)]
 
-ghost use Rattle.std.specs.Prelude.{◌≡◌, ◌+◌, ◌<◌, ◌≤◌, ◌^◌, Ok, Some, length, slice_get};
-ghost use Rattle.bpf_insn.specs.Word.{IsInstructionWord, insn_of};
+ghost use Rattle.std.specs.Prelude.{◌≡◌, ◌+◌, ◌<◌, ◌≤◌, ◌^◌, List, length, ℕ};
 ghost use Rattle.bpf_verify.specs.Path.{IsAt, program_at};
 ghost use Rattle.bpf_verify.specs.Accepted.{IsAccepted};
-ghost use Rattle.bpf_machine.specs.Meaning.{JumpDropsWords, Ret, cost_of, value_of};
+ghost use Rattle.bpf_machine.specs.Meaning.{MeansByFirstWord, Ret, cost_of, ending_of};
 
+mod execute;
 mod packet;
-mod step;
 
-use crate::step::Next;
+use crate::execute::{Next, execute};
 use bpf_insn::{Insn, Words};
 
 /// The greatest number of bytes of a packet.
@@ -20,7 +19,7 @@ pub const MAX_PACKET: usize = 65_535;
 /// How a program ended.
 #[derive(Clone, Copy, Debug, PartialEq, Eq)]
 pub struct Outcome {
-    /// The number that it returned.
+    /// The number that it ended with.
     pub value: u32,
     /// How many instructions it met, the last one included.
     pub steps: u32,
@@ -39,15 +38,15 @@ fn fetch<W: Words>(words: &mut W, from: usize, len: usize, pc: usize) -> Insn
     Insn::from_instruction_word(words.word(from + pc))
 }
 
-/// Runs the program of the `len` words from place `from` on, on a packet that begins with the first byte of its IPv4
-/// header. The words are accepted ones, so the program never gets stuck and meets each of them at most once.
+/// Runs the program of the `len` words from place `from` on, on a packet.
 ///
-/// Reads each word that it meets once, and no other. Takes no memory.
+/// The words are accepted ones (`bpf_verify::verify`), so the program never gets stuck. A load past the packet's end ends
+/// it with 0. Takes no memory.
 pub fn run<W: Words>(words: &mut W, from: usize, len: usize, packet: &[u8]) -> Outcome
     requires within { from + len ≤ length (W.words words.old) }
     requires accepted { IsAccepted (program_at (W.words words.old) from len) }
     requires packet { length packet.now ≤ MAX_PACKET }
-    ensures value { value_of (program_at (W.words words.old) from len) packet.now ≡ Ret result.value }
+    ensures value { ending_of (program_at (W.words words.old) from len) packet.now ≡ Ret result.value }
     ensures steps { result.steps ≡ cost_of (program_at (W.words words.old) from len) packet.now }
     ensures words_kept { W.words words.new ≡ W.words words.old }
     ensures rest_kept { W.rest words.new ≡ W.rest words.old }
@@ -60,9 +59,9 @@ pub fn run<W: Words>(words: &mut W, from: usize, len: usize, packet: &[u8]) -> O
     'running: loop {
         let insn = fetch(words, from, len, pc);
         steps += 1;
-        match step::step(insn, a, packet) {
-            Next::GoOn { dropped, a: loaded } => {
-                a = loaded;
+        match execute(insn, a, packet) {
+            Next::GoOn { dropped, a: next_a } => {
+                a = next_a;
                 pc = pc + 1 + dropped as usize;
             }
             Next::End { value } => return Outcome { value, steps },
@@ -70,9 +69,9 @@ pub fn run<W: Words>(words: &mut W, from: usize, len: usize, packet: &[u8]) -> O
     }
 }
 
-/// Law: what a jump leaves means what the shorter list means. It runs nothing.
-pub fn jump_drops_words()
-    ensures { JumpDropsWords }
+/// Law: the meaning goes by cases on the first of the words that remain, and a jump drops words. It runs nothing.
+pub fn meaning_by_first_word()
+    ensures { (packet : List ℕ) → MeansByFirstWord packet }
 {}
 
 #[cfg(test)]

@@ -1,27 +1,26 @@
 -- What the faults say of a program.
 use Rattle.std.proofs.Common.{◌≡◌, ◌∙◌, ◌↔◌, Err, IfErr, IsOk, List, None, Ok, OnOk, Option, Result, Some, ap, arith, length, refl, subst, sym, ℕ}
 use Rattle.std.proofs.lemmas.Option.{slice_get_within}
-use Rattle.bpf_insn.specs.Word.{insn_of}
+use Rattle.bpf_insn.specs.Word.{instruction_of}
 use Rattle.bpf_verify.specs.declared.fault.Fault.{Fault}
 use Rattle.bpf_verify.specs.declared.fault.Fault.TheVariants.{Ancillary, BadCell, BadOpcode, BadShift, Empty, JumpOutside, NoReturn, StrayField, TooLong, UnstoredCell, ZeroDivisor}
 use Rattle.bpf_verify.specs.Path.{program_at}
-use Rattle.bpf_verify.specs.Accepted.{HasFault, IsAccepted, word_fault}
+use Rattle.bpf_verify.specs.Accepted.{HasFault, IsAccepted, IsFaultless, word_fault}
 use Rattle.bpf_verify.specs.Fault.{IsFirstAt, IsFirstFault}
 use Rattle.bpf_verify.proofs.PlaceLemmas.{program_at-whole}
 
 -- ---- a program with a fault is not accepted
 
-HasFault-unique : (program : List ℕ) (pc : ℕ) (a b : Option Fault) → HasFault program pc a → HasFault program pc b → a ≡ b
-HasFault-unique program pc a b here there =
-    let found : Some here.0 ≡ Some there.0 = sym here.1 ∙ there.1 in
-    let word : here.0 ≡ there.0 = cc in
-    sym here.2 ∙ ap (λ w. word_fault (length program) pc (insn_of w)) word ∙ there.2
+fault_refutes_faultless : (program : List ℕ) (pc : ℕ) (fault : Fault) → HasFault program pc fault → ¬ IsFaultless program pc
+fault_refutes_faultless program pc fault has none =
+    let found : Some has.0 ≡ Some none.0 = sym has.1 ∙ none.1 in
+    let word : has.0 ≡ none.0 = cc in
+    let same : ◌≡◌ {A = Option Fault} (Some fault) None = sym has.2 ∙ ap (λ w. word_fault (length program) pc (instruction_of w)) word ∙ none.2 in
+    cc
 
 place_refutes : (program : List ℕ) (pc : ℕ) (fault : Fault) → IsFirstAt program pc fault → ¬ IsAccepted program
 place_refutes program pc fault first accepted =
-    let inside = slice_get_within program pc first.1.0 first.1.1 in
-    let same : ◌≡◌ {A = Option Fault} None (Some fault) = HasFault-unique program pc None (Some fault) (accepted.faultless pc inside) first.1 in
-    cc
+    fault_refutes_faultless program pc fault first.1 (accepted.faultless pc (slice_get_within program pc first.1.0 first.1.1))
 
 pub fault_refutes : (program : List ℕ) (fault : Fault) → IsFirstFault program fault → ¬ IsAccepted program
 fault_refutes program Empty first accepted = let some = accepted.not_empty in absurd (omega arith)

@@ -4,13 +4,14 @@ use Rattle.std.proofs.Math.Seq.{drop-append_seam, take-append_seam, take-length}
 use Rattle.std.proofs.lemmas.List.{length-take-le}
 use Rattle.bpf_insn.specs.declared.instruction.Insn.{Insn}
 use Rattle.bpf_insn.specs.declared.instruction.WordFault.{WordFault}
-use Rattle.bpf_insn.specs.Word.{insn_of}
+use Rattle.bpf_insn.specs.Word.{instruction_of}
 use Rattle.bpf_verify.specs.Path.{IsAt, IsReturn, program_at, successors}
 use Rattle.bpf_insn.specs.declared.instruction.Insn.TheVariants.{JumpIf, LoadAbsolute, ReturnConstant}
 use Rattle.bpf_insn.specs.declared.instruction.WordFault.TheVariants.{BadOpcode, StrayField}
 use Rattle.bpf_verify.specs.declared.fault.Fault.{Fault}
 use Rattle.bpf_verify.specs.declared.fault.Fault.TheVariants.{JumpOutside}
-use Rattle.bpf_verify.specs.Accepted.{EndsInReturn, HasFault, IsAccepted, IsFaultlessBelow, insn_fault, word_fault}
+use Rattle.bpf_verify.specs.Accepted.{EndsInReturn, IsAccepted, IsFaultless, IsFaultlessBelow, instruction_fault, word_fault}
+use Rattle.bpf_verify.specs.Pass.{TellsReturn}
 use Rattle.std.proofs.lemmas.Bool.{cases_eq, ltb-true}
 use Rattle.std.proofs.lemmas.Option.{slice_get-get_or, slice_get_within}
 use Rattle.std.proofs.lemmas.Grind.{common_steps}
@@ -45,16 +46,10 @@ pub IsAt-unique : (program : List ℕ) (pc : ℕ) (a b : Insn) → IsAt program 
 IsAt-unique program pc a b here there =
     let found : Some here.0 ≡ Some there.0 = sym here.1 ∙ there.1 in
     let word : here.0 ≡ there.0 = cc in
-    let read : ◌≡◌ {A = Result Insn WordFault} (Ok a) (Ok b) = sym here.2 ∙ ap insn_of word ∙ there.2 in
+    let read : ◌≡◌ {A = Result Insn WordFault} (Ok a) (Ok b) = sym here.2 ∙ ap instruction_of word ∙ there.2 in
     cc
 
 -- ---- the pass over the places
-
--- the flag tells whether the instruction at pc is a return
-pub record TellsReturn (program : List ℕ) (pc : ℕ) (returns : Bool) : Type 0 where
-  pub insn : Insn
-  pub at : IsAt program pc insn
-  pub tells : IsTrue returns ↔ IsReturn insn
 
 -- the places below n have no fault, and the flag is that of the last of them
 pub record IsPassed (program : List ℕ) (n : ℕ) (returns : Bool) : Type 0 where
@@ -64,19 +59,18 @@ pub record IsPassed (program : List ℕ) (n : ℕ) (returns : Bool) : Type 0 whe
 pub passed_none : (program : List ℕ) (returns : Bool) → IsPassed program 0 returns
 passed_none program returns = record { faultless = λ pc below. absurd (omega arith); last = λ some. absurd (omega arith) }
 
-pub passed_more : (program : List ℕ) (n : ℕ) (before after : Bool) → IsPassed program n before → HasFault program n None → ((insn : Insn) × IsAt program n insn × (IsTrue after ↔ IsReturn insn)) → IsPassed program (n + 1) after
+pub passed_more : (program : List ℕ) (n : ℕ) (before after : Bool) → IsPassed program n before → IsFaultless program n → TellsReturn program n after → IsPassed program (n + 1) after
 passed_more program n before after passed here found =
     record {
-      faultless = below_more (λ pc. HasFault program pc None) n passed.faultless here;
+      faultless = below_more (λ pc. IsFaultless program pc) n passed.faultless here;
       last = λ some.
-          let at : n ≡ (n + 1) - 1 = omega arith in
-          subst (λ m. TellsReturn program m after) at (record { insn = found.0; at = found.1; tells = found.2 });
+          let at : n ≡ (n + 1) - 1 = omega arith in subst (λ m. TellsReturn program m after) at found;
     }
 
 pub passed_all : (program : List ℕ) (returns : Bool) → IsPassed program (length program) returns → 0 < length program → IsTrue returns ↔ EndsInReturn program
 passed_all program returns passed not_empty =
     let last = passed.last not_empty in (
-      λ yes. (last.insn, last.at, last.tells.0 yes),
+      λ yes. (last.instruction, last.at, last.tells.0 yes),
       λ ends. last.tells.1 (subst IsReturn (IsAt-unique program (length program - 1) _ _ ends.1 last.at) ends.2),
     )
 
@@ -84,23 +78,23 @@ passed_all program returns passed not_empty =
 
 pub record IsFaultlessAt (program : List ℕ) (pc word : ℕ) : Type 0 where
   pub insn : Insn
-  pub read : insn_of word ≡ Ok insn
-  pub faultless : insn_fault (length program) pc insn ≡ None
+  pub read : instruction_of word ≡ Ok insn
+  pub faultless : instruction_fault (length program) pc insn ≡ None
 
-faultless-read : (program : List ℕ) (pc word : ℕ) (read : Result Insn WordFault) → insn_of word ≡ read → word_fault (length program) pc read ≡ None → IsFaultlessAt program pc word
+faultless-read : (program : List ℕ) (pc word : ℕ) (read : Result Insn WordFault) → instruction_of word ≡ read → word_fault (length program) pc read ≡ None → IsFaultlessAt program pc word
 faultless-read program pc word (Ok insn) e none = record { insn = insn; read = e; faultless = none }
 faultless-read program pc word (Err BadOpcode) e none = cc
 faultless-read program pc word (Err StrayField) e none = cc
 
-pub faultless_at : (program : List ℕ) (pc word : ℕ) → HasFault program pc None → slice_get program pc ≡ Some word → IsFaultlessAt program pc word
+pub faultless_at : (program : List ℕ) (pc word : ℕ) → IsFaultless program pc → slice_get program pc ≡ Some word → IsFaultlessAt program pc word
 faultless_at program pc word here at =
     let found : Some here.0 ≡ Some word = sym here.1 ∙ at in
     let same : here.0 ≡ word = cc in
-    faultless-read program pc word (insn_of word) refl (subst (λ w. word_fault (length program) pc (insn_of w) ≡ None) same here.2)
+    faultless-read program pc word (instruction_of word) refl (subst (λ w. word_fault (length program) pc (instruction_of w) ≡ None) same here.2)
 
 -- ---- a faultless instruction leads to places of the program
 
-both_below : (a b n : ℕ) (fault : Fault) (left right : Bool) → nat_lt a n ≡ left → nat_lt b n ≡ right → cond (left && right) None (Some fault) ≡ None → (a < n) × (b < n)
+both_below : (a b n : ℕ) (fault : Fault) (left right : Bool) → nat_lt a n ≡ left → nat_lt b n ≡ right → cond (left && (right && true)) None (Some fault) ≡ None → (a < n) × (b < n)
 both_below a b n fault true true at_left at_right none = (ltb-true a n at_left, ltb-true b n at_right)
 both_below a b n fault true false at_left at_right none = cc
 both_below a b n fault false right at_left at_right none = cc
@@ -120,15 +114,15 @@ module _ (program : List ℕ) (accepted : IsAccepted program) (pc : ℕ) where
   ]
 
   -- each successor of an instruction is a place of the program
-  pub successors_inside : (insn : Insn) (to : ℕ) → IsAt program pc insn → insn_fault (length program) pc insn ≡ None → Contains (successors insn pc) to → to < length program
+  pub successors_inside : (insn : Insn) (to : ℕ) → IsAt program pc insn → instruction_fault (length program) pc insn ≡ None → Contains (successors insn pc) to → to < length program
   successors_inside (LoadAbsolute size k) to at none leads = elim (contains-cons (pc + 1) to [] leads) [
     | inl e ↦ rw e (next_inside (LoadAbsolute size k) at (λ returns. returns))
     | inr more ↦ absurd (omega arith)
   ]
-  successors_inside (JumpIf test operand jt jf) to at none leads =
-      let targets = both_below (pc + 1 + jt) (pc + 1 + jf) (length program) (JumpOutside pc) _ _ refl refl none in
-      elim (contains-cons (pc + 1 + jt) to ((pc + 1 + jf) ∷ []) leads) [
+  successors_inside (JumpIf test operand offsets) to at none leads =
+      let targets = both_below (pc + 1 + offsets.jt) (pc + 1 + offsets.jf) (length program) (JumpOutside pc) _ _ refl refl none in
+      elim (contains-cons (pc + 1 + offsets.jt) to ((pc + 1 + offsets.jf) ∷ []) leads) [
         | inl e ↦ rw e targets.0
-        | inr more ↦ elim (contains-cons (pc + 1 + jf) to [] more) [ inl e ↦ rw e targets.1 | inr none ↦ absurd (omega arith) ]
+        | inr more ↦ elim (contains-cons (pc + 1 + offsets.jf) to [] more) [ inl e ↦ rw e targets.1 | inr none ↦ absurd (omega arith) ]
       ]
   successors_inside (ReturnConstant k) to at none leads = absurd (omega arith)

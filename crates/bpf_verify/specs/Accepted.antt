@@ -1,49 +1,57 @@
 -- When a list of words is a program (networking/filter.rst, "BPF engine and instruction set"; docs/MACHINE.md,
 -- "Verifier").
-use Rattle.std.specs.Prelude.{◌≡◌, ◌+◌, ◌-◌, ◌<◌, ◌≤◌, ◌&&◌, if◌then◌else◌, Err, List, None, Ok, Option, Result, Some, length, nat_lt, slice_get, ℕ}
+use Rattle.std.specs.Prelude.{◌≡◌, ◌-◌, ◌<◌, ◌≤◌, if◌then◌else◌, Err, List, None, Ok, Option, Result, Some, length, nat_lt, slice_get, ℕ}
+use Rattle.std.specs.List.{list_all}
 use Rattle.bpf_insn.specs.declared.instruction.Insn.{Insn}
 use Rattle.bpf_insn.specs.declared.instruction.Insn.TheVariants.{JumpIf, LoadAbsolute, ReturnConstant}
 use Rattle.bpf_insn.specs.declared.instruction.WordFault.{WordFault}
 use Rattle.bpf_insn.specs.declared.instruction.WordFault.TheVariants as word_fault_of
-use Rattle.bpf_insn.specs.Word.{insn_of}
-use Rattle.bpf_verify.specs.declared.TheConstants.{MAX_INSTRUCTIONS}
-use Rattle.bpf_verify.specs.declared.operands.TheConstants.{ANCILLARY_FROM}
+use Rattle.bpf_insn.specs.Word.{instruction_of}
+use Rattle.bpf_verify.specs.declared.TheConstants.{ANCILLARY_FROM, MAX_INSTRUCTIONS}
 use Rattle.bpf_verify.specs.declared.fault.Fault.{Fault}
 use Rattle.bpf_verify.specs.declared.fault.Fault.TheVariants.{Ancillary, BadOpcode, JumpOutside, StrayField}
-use Rattle.bpf_verify.specs.Path.{IsAt, IsReturn, StoresBefore}
+use Rattle.bpf_verify.specs.Path.{IsAt, IsReturn, StoresBefore, successors}
 
--- an absolute load takes no place of the kernel's ancillary data
+-- from this k on, an absolute load names ancillary data or a negative offset of the kernel's
 abbrev pub absolute_fault : ℕ → ℕ → Option Fault
 absolute_fault pc k = if nat_lt k ANCILLARY_FROM then None else Some (Ancillary pc)
 
--- both targets of a conditional jump are below the length
-abbrev pub targets_fault : ℕ → ℕ → ℕ → ℕ → Option Fault
-targets_fault len pc jt jf = if nat_lt (pc + 1 + jt) len && nat_lt (pc + 1 + jf) len then None else Some (JumpOutside pc)
+-- each target of a jump is a place of the program
+abbrev pub targets_fault : ℕ → ℕ → List ℕ → Option Fault
+targets_fault len pc targets = if list_all (λ to. nat_lt to len) targets then None else Some (JumpOutside pc)
 
 -- what is wrong with an instruction at pc of a program of len instructions
-abbrev pub insn_fault : ℕ → ℕ → Insn → Option Fault
-insn_fault len pc (LoadAbsolute size k) = absolute_fault pc k
-insn_fault len pc (JumpIf test operand jt jf) = targets_fault len pc jt jf
-insn_fault len pc (ReturnConstant k) = None
+abbrev pub instruction_fault : ℕ → ℕ → Insn → Option Fault
+instruction_fault len pc (LoadAbsolute size k) = absolute_fault pc k
+instruction_fault len pc (JumpIf test operand offsets) = targets_fault len pc (successors (JumpIf test operand offsets) pc)
+instruction_fault len pc (ReturnConstant k) = None
 
 -- what is wrong with a word, by what it is read as
 abbrev pub word_fault : ℕ → ℕ → Result Insn WordFault → Option Fault
 word_fault len pc (Err word_fault_of.BadOpcode) = Some (BadOpcode pc)
 word_fault len pc (Err word_fault_of.StrayField) = Some (StrayField pc)
-word_fault len pc (Ok insn) = insn_fault len pc insn
+word_fault len pc (Ok insn) = instruction_fault len pc insn
 
--- the program has a word at pc, and this is what is wrong with it
-abbrev pub HasFault : List ℕ → ℕ → Option Fault → Type 0
+-- the program has a word at pc, and this is the fault that it has by itself
+abbrev pub HasFault : List ℕ → ℕ → Fault → Type 0
 HasFault program pc fault =
-    (word : ℕ) × (slice_get program pc ≡ Some word) × (word_fault (length program) pc (insn_of word) ≡ fault)
+    (word : ℕ) × (slice_get program pc ≡ Some word) × (word_fault (length program) pc (instruction_of word) ≡ Some fault)
 
--- nothing is wrong with the words below n
+-- the program has a word at pc, and it is an instruction's without a fault
+abbrev pub IsFaultless : List ℕ → ℕ → Type 0
+IsFaultless program pc =
+    (word : ℕ) × (slice_get program pc ≡ Some word) × (word_fault (length program) pc (instruction_of word) ≡ None)
+
+-- the words below n have no fault
 abbrev pub IsFaultlessBelow : List ℕ → ℕ → Type 0
-IsFaultlessBelow program n = (pc : ℕ) → pc < n → HasFault program pc None
+IsFaultlessBelow program n = (pc : ℕ) → pc < n → IsFaultless program pc
 
+-- the last instruction is a return
 abbrev pub EndsInReturn : List ℕ → Type 0
 EndsInReturn program = (insn : Insn) × IsAt program (length program - 1) insn × IsReturn insn
 
+-- the program never gets stuck: that its words are read without a fault means that they are words of instructions
+-- (`bpf_insn::instruction_words`)
 pub record IsAccepted (program : List ℕ) : Type 0 where
   pub not_empty : 0 < length program
   pub not_too_long : length program ≤ MAX_INSTRUCTIONS

@@ -13,9 +13,12 @@ pub record IsGoodBelow (program : List ℕ) (n : ℕ) : Type 0 where
   pub not_too_long : length program ≤ MAX_INSTRUCTIONS
   pub faultless : IsFaultlessBelow program n
 
+-- pc is the least place with a fault, and this is it
 abbrev pub IsFirstAt : List ℕ → ℕ → Fault → Type 0
-IsFirstAt program pc fault = IsGoodBelow program pc × HasFault program pc (Some fault)
+IsFirstAt program pc fault = IsGoodBelow program pc × HasFault program pc fault
 
+-- the fault of the length, else of the least place, else the missing return, else the least load of a cell that some path
+-- reaches without a store of it
 abbrev pub IsFirstFault : List ℕ → Fault → Type 0
 IsFirstFault program Empty = length program ≡ 0
 IsFirstFault program TooLong = MAX_INSTRUCTIONS < length program
@@ -29,17 +32,3 @@ IsFirstFault program (Ancillary pc) = IsFirstAt program pc (Ancillary pc)
 IsFirstFault program NoReturn = IsGoodBelow program (length program) × (¬ EndsInReturn program)
 IsFirstFault program (UnstoredCell pc) =
     IsGoodBelow program (length program) × EndsInReturn program × IsUnstored program pc × ((q : ℕ) → q < pc → IsStoredBefore program q)
-
--- a fault that one word has by itself names the word's place
-abbrev pub IsFaultOf : ℕ → Fault → Type 0
-IsFaultOf pc (BadOpcode q) = q ≡ pc
-IsFaultOf pc (StrayField q) = q ≡ pc
-IsFaultOf pc (ZeroDivisor q) = q ≡ pc
-IsFaultOf pc (BadShift q) = q ≡ pc
-IsFaultOf pc (BadCell q) = q ≡ pc
-IsFaultOf pc (JumpOutside q) = q ≡ pc
-IsFaultOf pc (Ancillary q) = q ≡ pc
-IsFaultOf pc Empty = ⊥
-IsFaultOf pc TooLong = ⊥
-IsFaultOf pc NoReturn = ⊥
-IsFaultOf pc (UnstoredCell q) = ⊥

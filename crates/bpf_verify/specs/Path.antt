@@ -3,7 +3,7 @@
 use Rattle.std.specs.Prelude.{◌≡◌, ◌+◌, ◌++◌, ◌∷◌, ◌⊎◌, Contains, List, Ok, Some, [], drop, slice_get, take, ℕ}
 use Rattle.bpf_insn.specs.declared.instruction.Insn.{Insn}
 use Rattle.bpf_insn.specs.declared.instruction.Insn.TheVariants.{JumpIf, LoadAbsolute, ReturnConstant}
-use Rattle.bpf_insn.specs.Word.{insn_of}
+use Rattle.bpf_insn.specs.Word.{instruction_of}
 
 -- the program that stands in a list of words
 abbrev pub program_at : List ℕ → ℕ → ℕ → List ℕ
@@ -11,30 +11,33 @@ program_at words from len = take len (drop from words)
 
 -- the program has this instruction at pc
 abbrev pub IsAt : List ℕ → ℕ → Insn → Type 0
-IsAt program pc insn = (word : ℕ) × (slice_get program pc ≡ Some word) × (insn_of word ≡ Ok insn)
+IsAt program pc insn = (word : ℕ) × (slice_get program pc ≡ Some word) × (instruction_of word ≡ Ok insn)
 
 -- the places that may come after the place pc of an instruction
 abbrev pub successors : Insn → ℕ → List ℕ
-successors (JumpIf test operand jt jf) pc = (pc + 1 + jt) ∷ (pc + 1 + jf) ∷ []
+successors (JumpIf test operand offsets) pc = (pc + 1 + offsets.jt) ∷ (pc + 1 + offsets.jf) ∷ []
 successors (ReturnConstant k) pc = []
 successors (LoadAbsolute size k) pc = (pc + 1) ∷ []
 
+-- the program ends with the instruction
 abbrev pub IsReturn : Insn → Type 0
 IsReturn (ReturnConstant k) = Unit {0}
 IsReturn (LoadAbsolute size k) = ⊥
-IsReturn (JumpIf test operand jt jf) = ⊥
+IsReturn (JumpIf test operand offsets) = ⊥
 
--- the instruction stores, or loads, this scratch cell
+-- the instruction stores this scratch cell
 abbrev pub Stores : Insn → ℕ → Type 0
 Stores (LoadAbsolute size k) cell = ⊥
-Stores (JumpIf test operand jt jf) cell = ⊥
+Stores (JumpIf test operand offsets) cell = ⊥
 Stores (ReturnConstant k) cell = ⊥
 
+-- the instruction loads this scratch cell
 abbrev pub Loads : Insn → ℕ → Type 0
 Loads (LoadAbsolute size k) cell = ⊥
-Loads (JumpIf test operand jt jf) cell = ⊥
+Loads (JumpIf test operand offsets) cell = ⊥
 Loads (ReturnConstant k) cell = ⊥
 
+-- the place pc stores, or loads, the cell
 abbrev pub StoresAt : List ℕ → ℕ → ℕ → Type 0
 StoresAt program pc cell = (insn : Insn) × IsAt program pc insn × Stores insn cell
 
@@ -45,17 +48,17 @@ LoadsAt program pc cell = (insn : Insn) × IsAt program pc insn × Loads insn ce
 abbrev pub StepsTo : List ℕ → ℕ → ℕ → Type 0
 StepsTo program pc to = (insn : Insn) × IsAt program pc insn × Contains (successors insn pc) to
 
--- from pc on, each place is a successor of the one before
-abbrev pub GoesOn : List ℕ → ℕ → List ℕ → Type 0
-GoesOn program pc [] = Unit {0}
-GoesOn program pc (to ∷ places) = StepsTo program pc to × GoesOn program to places
+-- a path that goes on from pc: each place is a successor of the one before
+abbrev pub IsPathFrom : List ℕ → ℕ → List ℕ → Type 0
+IsPathFrom program pc [] = Unit {0}
+IsPathFrom program pc (to ∷ places) = StepsTo program pc to × IsPathFrom program to places
 
 -- a path: it begins at 0, and each place is a successor of the one before
 abbrev pub IsPath : List ℕ → List ℕ → Type 0
 IsPath program [] = ⊥
-IsPath program (pc ∷ places) = (pc ≡ 0) × GoesOn program pc places
+IsPath program (pc ∷ places) = (pc ≡ 0) × IsPathFrom program pc places
 
--- some of the places stores the cell
+-- one of the places stores the cell
 abbrev pub IsStoredOn : List ℕ → List ℕ → ℕ → Type 0
 IsStoredOn program [] cell = ⊥
 IsStoredOn program (pc ∷ places) cell = StoresAt program pc cell ⊎ IsStoredOn program places cell
@@ -70,5 +73,6 @@ abbrev pub IsUnstored : List ℕ → ℕ → Type 0
 IsUnstored program pc =
     (cell : ℕ) × LoadsAt program pc cell × ((earlier : List ℕ) × IsPath program (earlier ++ pc ∷ []) × (¬ IsStoredOn program earlier cell))
 
+-- each cell is stored before it is loaded, on every path (this project's rule)
 abbrev pub StoresBefore : List ℕ → Type 0
 StoresBefore program = (pc : ℕ) → IsStoredBefore program pc

@@ -3,6 +3,7 @@ use Rattle.std.specs.Prelude.{◌≤◌, List, length, ℕ}
 use Rattle.bpf_verify.specs.declared.TheConstants.{MAX_INSTRUCTIONS}
 use Rattle.bpf_verify.specs.Accepted.{IsAccepted}
 
+-- a program: its words, and what a configuration counts for it
 pub record ProgramValue : Type 0 where
   pub words : List ℕ
   pub charge : ℕ

@@ -17,9 +17,9 @@ pub enum Fault {
     BadShift { pc: usize },
     /// V7: a scratch cell that the machine does not have.
     BadCell { pc: usize },
-    /// V8: a jump target behind the last instruction.
+    /// V8: a jump target past the last instruction.
     JumpOutside { pc: usize },
-    /// V9: an absolute load from `ANCILLARY_FROM` on, where the kernel has its ancillary data.
+    /// V9: an absolute load with a `k` of `ANCILLARY_FROM` or more.
     Ancillary { pc: usize },
     /// V10: the last instruction is no return.
     NoReturn,

@@ -1,19 +1,20 @@
 //! Jump targets, as exact sums.
 
-ghost use Rattle.std.specs.Prelude.{◌≡◌, ◌≤◌, ◌<◌, IfSome};
-ghost use Rattle.bpf_verify.specs.Fault.{IsFaultOf};
+ghost use Rattle.std.specs.Prelude.{◌≡◌, ◌∷◌, ◌+◌, ◌<◌, [], IfSome};
 ghost use Rattle.bpf_verify.specs.Accepted.{targets_fault};
+ghost use Rattle.bpf_verify.specs.Pass.{IsFaultAt};
 
 use crate::MAX_INSTRUCTIONS;
 use crate::fault::Fault;
+use bpf_insn::Offsets;
 
 #[inline(always)]
-pub fn check_targets(pc: usize, jt: u8, jf: u8, len: usize) -> Option<Fault>
+pub fn check_targets(pc: usize, offsets: Offsets, len: usize) -> Option<Fault>
     requires { pc < MAX_INSTRUCTIONS }
-    ensures fault { result ≡ targets_fault len pc jt jf }
-    ensures fault_place { IfSome result (IsFaultOf pc) }
+    ensures fault { result ≡ targets_fault len pc ((pc + 1 + offsets.jt) ∷ (pc + 1 + offsets.jf) ∷ []) }
+    ensures fault_place { IfSome result (IsFaultAt pc) }
 {
-    if pc + 1 + (jt as usize) < len && pc + 1 + (jf as usize) < len {
+    if pc + 1 + (offsets.jt as usize) < len && pc + 1 + (offsets.jf as usize) < len {
         None
     } else {
         Some(Fault::JumpOutside { pc })

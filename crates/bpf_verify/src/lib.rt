@@ -4,11 +4,11 @@
 //! `verify` tests words where they stand; a `Program` keeps words that passed. Only `Program` holds memory, and takes none.
 #![tactic(auto)]
 
-ghost use Rattle.std.specs.Prelude.{◌≡◌, ◌+◌, ◌<◌, ◌≤◌, ◌^◌, ◌↔◌, IfErr, IfOk, IsOk, IsTrue, None, OnOk, Some, length, slice_get};
-ghost use Rattle.bpf_insn.specs.declared.instruction.Insn.{Insn};
-ghost use Rattle.bpf_verify.specs.Path.{IsAt, IsReturn, program_at};
-ghost use Rattle.bpf_verify.specs.Accepted.{HasFault, IsAccepted};
-ghost use Rattle.bpf_verify.specs.Fault.{IsFaultOf, IsFirstFault};
+ghost use Rattle.std.specs.Prelude.{◌≡◌, ◌+◌, ◌<◌, ◌≤◌, ◌^◌, ◌↔◌, IfErr, IfOk, IsOk, OnOk, Some, length, slice_get};
+ghost use Rattle.bpf_verify.specs.Path.{program_at};
+ghost use Rattle.bpf_verify.specs.Accepted.{HasFault, IsAccepted, IsFaultless};
+ghost use Rattle.bpf_verify.specs.Fault.{IsFirstFault};
+ghost use Rattle.bpf_verify.specs.Pass.{IsFaultAt, TellsReturn};
 
 mod fault;
 mod jumps;
@@ -21,6 +21,10 @@ pub use program::Program;
 
 /// The greatest number of instructions of a program (`BPF_MAXINSNS`).
 pub const MAX_INSTRUCTIONS: usize = 4096;
+
+/// The least `k` that an absolute load may not have: from here on the kernel reads it as a negative offset, of ancillary
+/// data or of a header below the packet.
+pub const ANCILLARY_FROM: u32 = 1 << 31;
 
 #[inline(always)]
 fn word_at<W: Words>(words: &mut W, from: usize, len: usize, pc: usize) -> u64
@@ -41,10 +45,10 @@ fn check_place<W: Words>(words: &mut W, from: usize, len: usize, pc: usize) -> R
     requires fits { from + len < 2 ^ 64 }
     requires not_too_long { len ≤ MAX_INSTRUCTIONS }
     requires inside { pc < len }
-    ensures no_fault { OnOk result (HasFault (program_at (W.words words.old) from len) pc None) }
-    ensures returns { IfOk result (λ returns. (insn : Insn) × IsAt (program_at (W.words words.old) from len) pc insn × (IsTrue returns ↔ IsReturn insn)) }
-    ensures fault { IfErr result (λ fault. HasFault (program_at (W.words words.old) from len) pc (Some fault)) }
-    ensures fault_place { IfErr result (IsFaultOf pc) }
+    ensures faultless { OnOk result (IsFaultless (program_at (W.words words.old) from len) pc) }
+    ensures returns { IfOk result (TellsReturn (program_at (W.words words.old) from len) pc) }
+    ensures fault { IfErr result (HasFault (program_at (W.words words.old) from len) pc) }
+    ensures fault_place { IfErr result (IsFaultAt pc) }
     ensures words_kept { W.words words.new ≡ W.words words.old }
     ensures rest_kept { W.rest words.new ≡ W.rest words.old }
 {

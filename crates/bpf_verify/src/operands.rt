@@ -1,23 +1,20 @@
 //! The checks of one instruction by itself.
 
-ghost use Rattle.std.specs.Prelude.{◌≡◌, ◌<◌, ◌↔◌, IfSome, IsTrue, MatchResult, None, Ok, Some};
-ghost use Rattle.bpf_insn.specs.Word.{insn_of};
+ghost use Rattle.std.specs.Prelude.{◌≡◌, ◌<◌, ◌↔◌, IfErr, IfOk, IfSome, IsTrue, None, Ok, OnOk, Some};
+ghost use Rattle.bpf_insn.specs.Word.{instruction_of};
 ghost use Rattle.bpf_verify.specs.Path.{IsReturn};
-ghost use Rattle.bpf_verify.specs.Accepted.{absolute_fault, insn_fault, word_fault};
-ghost use Rattle.bpf_verify.specs.Fault.{IsFaultOf};
+ghost use Rattle.bpf_verify.specs.Accepted.{absolute_fault, instruction_fault, word_fault};
+ghost use Rattle.bpf_verify.specs.Pass.{IsFaultAt};
 
-use crate::MAX_INSTRUCTIONS;
 use crate::fault::Fault;
 use crate::jumps::check_targets;
+use crate::{ANCILLARY_FROM, MAX_INSTRUCTIONS};
 use bpf_insn::{Insn, WordFault};
-
-/// The first place of an absolute load that the kernel takes for ancillary data, as a negative offset.
-pub const ANCILLARY_FROM: u32 = 1 << 31;
 
 #[inline(always)]
 fn check_absolute(k: u32, pc: usize) -> Option<Fault>
     ensures fault { result ≡ absolute_fault pc k }
-    ensures fault_place { IfSome result (IsFaultOf pc) }
+    ensures fault_place { IfSome result (IsFaultAt pc) }
 {
     if k < ANCILLARY_FROM {
         None
@@ -27,14 +24,14 @@ fn check_absolute(k: u32, pc: usize) -> Option<Fault>
 }
 
 #[inline(always)]
-fn check_insn(insn: Insn, pc: usize, len: usize) -> Option<Fault>
+fn check_instruction(insn: Insn, pc: usize, len: usize) -> Option<Fault>
     requires { pc < MAX_INSTRUCTIONS }
-    ensures fault { result ≡ insn_fault len pc insn }
-    ensures fault_place { IfSome result (IsFaultOf pc) }
+    ensures fault { result ≡ instruction_fault len pc insn }
+    ensures fault_place { IfSome result (IsFaultAt pc) }
 {
     match insn {
         Insn::LoadAbsolute(_, k) => check_absolute(k, pc),
-        Insn::JumpIf(_, _, jt, jf) => check_targets(pc, jt, jf, len),
+        Insn::JumpIf(_, _, offsets) => check_targets(pc, offsets, len),
         Insn::ReturnConstant(_) => None,
     }
 }
@@ -42,13 +39,15 @@ fn check_insn(insn: Insn, pc: usize, len: usize) -> Option<Fault>
 #[inline(always)]
 pub fn check_word(word: u64, pc: usize, len: usize) -> Result<Insn, Fault>
     requires { pc < MAX_INSTRUCTIONS }
-    ensures insn { MatchResult result (λ insn. insn_of word ≡ Ok insn) (λ fault. word_fault len pc (insn_of word) ≡ Some fault) }
-    ensures no_fault { MatchResult result (λ insn. word_fault len pc (insn_of word) ≡ None) (λ fault. IsFaultOf pc fault) }
+    ensures instruction { IfOk result (λ insn. instruction_of word ≡ Ok insn) }
+    ensures faultless { OnOk result (word_fault len pc (instruction_of word) ≡ None) }
+    ensures fault { IfErr result (λ fault. word_fault len pc (instruction_of word) ≡ Some fault) }
+    ensures fault_place { IfErr result (IsFaultAt pc) }
 {
     match Insn::from_word(word) {
         Err(WordFault::BadOpcode) => Err(Fault::BadOpcode { pc }),
         Err(WordFault::StrayField) => Err(Fault::StrayField { pc }),
-        Ok(insn) => match check_insn(insn, pc, len) {
+        Ok(insn) => match check_instruction(insn, pc, len) {
             Some(fault) => Err(fault),
             None => Ok(insn),
         },

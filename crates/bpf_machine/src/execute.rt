@@ -8,7 +8,7 @@ use crate::MAX_PACKET;
 use crate::packet::number;
 use bpf_insn::{Insn, Operand, Test};
 
-/// What comes after an instruction.
+/// What comes after an instruction: A, and so many instructions are skipped, or the program ends.
 #[derive(Clone, Copy)]
 pub enum Next {
     GoOn { dropped: u32, a: u32 },
@@ -26,7 +26,7 @@ fn passes(test: Test, a: u32, operand: Operand) -> bool
 }
 
 #[inline(always)]
-pub fn step(insn: Insn, a: u32, packet: &[u8]) -> Next
+pub fn execute(insn: Insn, a: u32, packet: &[u8]) -> Next
     requires { length packet.now ≤ MAX_PACKET }
     ensures { effect_of result ≡ effect insn a 0 no_cells packet.now }
 {
@@ -38,17 +38,15 @@ pub fn step(insn: Insn, a: u32, packet: &[u8]) -> Next
             },
             None => Next::End { value: 0 },
         },
-        Insn::JumpIf(test, operand, jt, jf) => {
-            if passes(test, a, operand) {
-                Next::GoOn {
-                    dropped: jt as u32,
-                    a,
-                }
+        Insn::JumpIf(test, operand, offsets) => {
+            let dropped = if passes(test, a, operand) {
+                offsets.jt
             } else {
-                Next::GoOn {
-                    dropped: jf as u32,
-                    a,
-                }
+                offsets.jf
+            };
+            Next::GoOn {
+                dropped: dropped as u32,
+                a,
             }
         }
         Insn::ReturnConstant(k) => Next::End { value: k },
