@@ -1,0 +1,34 @@
+//! Why a table is not opened, and why a configuration is not published.
+
+ghost use Rattle.std.specs.Prelude.{◌≡◌};
+ghost use Rattle.read_section.specs.declared.fault.OpenFault.TheVariants.{OutOfMemory};
+
+use std::alloc::AllocError;
+
+/// Why `open` made no table.
+#[derive(Clone, Copy, Debug, PartialEq, Eq)]
+pub enum OpenFault {
+    /// O1: the configuration's charge is above `CHARGE_LIMIT`.
+    TooBig,
+    /// O2: an allocation was refused.
+    OutOfMemory,
+}
+
+impl From<AllocError> for OpenFault {
+    ghost from_gives = { λ _ fault. fault ≡ OutOfMemory };
+
+    fn from(_: AllocError) -> OpenFault {
+        OpenFault::OutOfMemory
+    }
+}
+
+/// Why `publish` published nothing.
+#[derive(Clone, Copy, Debug, PartialEq, Eq)]
+pub enum PublishFault {
+    /// B1: the configuration's charge is above `CHARGE_LIMIT`.
+    TooBig,
+    /// B3: the current version has the last number.
+    Exhausted,
+    /// B2: no row is free.
+    Busy,
+}
