@@ -1,0 +1,160 @@
+-- The two programs of `first` are accepted, stand in their rows, and end as its lines say.
+use Rattle.std.proofs.Common.{◌≡◌, ◌∙◌, ◌∷◌, ◌+◌, ◌<◌, ◌≤◌, List, Ok, Some, [], ap, arith, length, lit<, lit≤, refl, subst, suc, sym, zero, ℕ}
+use Rattle.std.specs.Prelude.{min, slice_get, slice_index}
+use Rattle.switchd.specs.declared.first_path.Line.{Line}
+use Rattle.std.proofs.lemmas.Option.{get_or_from_slice_get, slice_get_within}
+use Rattle.bpf_insn.specs.declared.instruction.Insn.{Insn}
+use Rattle.bpf_insn.specs.declared.instruction.Insn.TheVariants.{JumpIf, LoadAbsolute, ReturnConstant}
+use Rattle.bpf_insn.specs.declared.instruction.Size.TheVariants.{Byte}
+use Rattle.bpf_insn.specs.declared.instruction.Operand.TheVariants.{K}
+use Rattle.bpf_insn.specs.declared.instruction.Test.TheVariants.{Equal}
+use Rattle.bpf_insn.specs.Table.{table, uses_of}
+use Rattle.bpf_insn.specs.Word.{instruction_of}
+use Rattle.bpf_verify.specs.Path.{IsAt, Loads, LoadsAt, program_at}
+use Rattle.bpf_verify.specs.Accepted.{IsAccepted, IsFaultless}
+use Rattle.bpf_verify.specs.Program.{IsProgram}
+use Rattle.bpf_verify.proofs.PlaceLemmas.{IsAt-unique}
+use Rattle.bpf_machine.specs.Meaning.{Ending, Ret, cost_of, ending_of, run_after}
+use Rattle.read_section.specs.Config.{ConfigValue, row}
+use Rattle.read_section.specs.declared.layout.TheConstants.{ROW_WORDS}
+use Rattle.read_section.proofs.RowLemmas.{stands_in_row}
+
+-- ---- the programs
+
+abbrev pub first_program : List ℕ
+first_program = 0x0030_0000_0000_0009 ∷ 0x0015_0001_0000_0011 ∷ 0x0006_0000_0000_ffff ∷ 0x0006_0000_0000_0000 ∷ []
+
+abbrev pub second_program : List ℕ
+second_program = 0x0006_0000_0000_0000 ∷ []
+
+not_loading : (program : List ℕ) (pc cell : ℕ) (insn : Insn) → IsAt program pc insn → (Loads insn cell → ⊥) → LoadsAt program pc cell → ⊥
+not_loading program pc cell insn at none loads = none (subst (λ i. Loads i cell) (IsAt-unique program pc loads.0 insn loads.1 at) loads.2)
+
+nothing_there : (program : List ℕ) (pc cell : ℕ) → length program ≤ pc → LoadsAt program pc cell → ⊥
+nothing_there program pc cell past loads = let inside = slice_get_within program pc loads.1.0 loads.1.1 in absurd (omega arith)
+
+first_loads : (pc cell : ℕ) → LoadsAt first_program pc cell → ⊥
+unfolding instruction_of uses_of table
+first_loads zero cell loads = not_loading first_program 0 cell (LoadAbsolute Byte 9) (_, refl, refl) (λ never. never) loads
+first_loads (suc zero) cell loads = not_loading first_program 1 cell (JumpIf Equal (K 17) (record { jt = 0; jf = 1 })) (_, refl, refl) (λ never. never) loads
+first_loads (suc (suc zero)) cell loads = not_loading first_program 2 cell (ReturnConstant 65535) (_, refl, refl) (λ never. never) loads
+first_loads (suc (suc (suc zero))) cell loads = not_loading first_program 3 cell (ReturnConstant 0) (_, refl, refl) (λ never. never) loads
+first_loads (suc (suc (suc (suc pc)))) cell loads = nothing_there first_program (suc (suc (suc (suc pc)))) cell (omega arith) loads
+
+first_faultless : (pc : ℕ) → pc < 4 → IsFaultless first_program pc
+unfolding instruction_of uses_of table
+first_faultless zero inside = (_, refl, refl)
+first_faultless (suc zero) inside = (_, refl, refl)
+first_faultless (suc (suc zero)) inside = (_, refl, refl)
+first_faultless (suc (suc (suc zero))) inside = (_, refl, refl)
+first_faultless (suc (suc (suc (suc pc)))) inside = absurd (omega arith)
+
+pub first_accepted : IsAccepted first_program
+unfolding instruction_of uses_of table
+first_accepted =
+    record {
+      not_empty = lit< tt;
+      not_too_long = lit≤ tt;
+      faultless = first_faultless;
+      ends_in_return = (ReturnConstant 0, (_, refl, refl), tt);
+      stores_before = λ pc cell loads. absurd (first_loads pc cell loads);
+    }
+
+second_loads : (pc cell : ℕ) → LoadsAt second_program pc cell → ⊥
+unfolding instruction_of uses_of table
+second_loads zero cell loads = not_loading second_program 0 cell (ReturnConstant 0) (_, refl, refl) (λ never. never) loads
+second_loads (suc pc) cell loads = nothing_there second_program (suc pc) cell (omega arith) loads
+
+second_faultless : (pc : ℕ) → pc < 1 → IsFaultless second_program pc
+unfolding instruction_of uses_of table
+second_faultless zero inside = (_, refl, refl)
+second_faultless (suc pc) inside = absurd (omega arith)
+
+pub second_accepted : IsAccepted second_program
+unfolding instruction_of uses_of table
+second_accepted =
+    record {
+      not_empty = lit< tt;
+      not_too_long = lit≤ tt;
+      faultless = second_faultless;
+      ends_in_return = (ReturnConstant 0, (_, refl, refl), tt);
+      stores_before = λ pc cell loads. absurd (second_loads pc cell loads);
+    }
+
+-- ---- a row and its program
+
+-- the words are the row of a configuration, of which word 0 was read
+pub record IsRowRead (words : List ℕ) (len : ℕ) (c : ConfigValue) : Type 0 where
+  pub not_empty : 0 < length words
+  pub within : 1 + len ≤ length words
+  pub program : program_at words 1 len ≡ c.program.words
+
+pub row_not_empty : (words : List ℕ) (c : ConfigValue) → words ≡ row c → IsProgram c.program → 0 < length words
+row_not_empty words c is_row is_program = let whole = (stands_in_row c is_program).whole in rw (is_row, whole) (lit< tt)
+
+pub row_read : (words : List ℕ) (len : ℕ) (c : ConfigValue) → words ≡ row c → IsProgram c.program → slice_get words 0 ≡ Some len → IsRowRead words len c
+row_read words len c is_row is_program read =
+    let stands = stands_in_row c is_program in
+    let is_length : length c.program.words ≡ len = sym stands.length_word ∙ ap (λ ws. slice_index ws 0) (sym is_row) ∙ get_or_from_slice_get words 0 len 0 read in
+    let room = stands.has_room in
+    let whole : length words ≡ ROW_WORDS = rw is_row stands.whole in
+    record {
+      not_empty = row_not_empty words c is_row is_program;
+      within = omega arith;
+      program = rw (is_row, ← is_length) stands.program;
+    }
+
+pub accepted_there : (words : List ℕ) (len : ℕ) (c : ConfigValue) → IsRowRead words len c → IsProgram c.program → IsAccepted (program_at words 1 len)
+accepted_there words len c is_read is_program = rw is_read.program is_program.accepted
+
+-- ---- how the programs end
+
+abbrev pub sample_packet : List ℕ
+sample_packet =
+    0x45 ∷ 0x00 ∷ 0x00 ∷ 0x1d ∷ 0x00 ∷ 0x00 ∷ 0x00 ∷ 0x00 ∷ 0x40 ∷ 0x11 ∷ 0x00 ∷ 0x00 ∷ 0x0a ∷ 0x00 ∷ 0x00 ∷ 0x01
+    ∷ 0x0a ∷ 0x00 ∷ 0x00 ∷ 0x02 ∷ 0x13 ∷ 0x88 ∷ 0x00 ∷ 0x35 ∷ 0x00 ∷ 0x09 ∷ 0x00 ∷ 0x00 ∷ 0x61 ∷ []
+
+first_ending : ending_of first_program sample_packet ≡ Ret 65535
+unfolding run_after instruction_of uses_of table
+first_ending = refl
+
+first_cost : cost_of first_program sample_packet ≡ 3
+unfolding run_after instruction_of uses_of table
+first_cost = refl
+
+second_ending : ending_of second_program sample_packet ≡ Ret 0
+unfolding run_after instruction_of uses_of table
+second_ending = refl
+
+second_cost : cost_of second_program sample_packet ≡ 1
+unfolding run_after instruction_of uses_of table
+second_cost = refl
+
+first_value : (program : List ℕ) (value : ℕ) → program ≡ first_program → ending_of program sample_packet ≡ Ret value → value ≡ 65535
+first_value program value is e =
+    let same : Ret value ≡ Ret 65535 = sym e ∙ ap (λ p. ending_of p sample_packet) is ∙ first_ending in cc
+
+first_steps : (program : List ℕ) (steps : ℕ) → program ≡ first_program → steps ≡ cost_of program sample_packet → steps ≡ 3
+first_steps program steps is e = e ∙ ap (λ p. cost_of p sample_packet) is ∙ first_cost
+
+second_value : (program : List ℕ) (value : ℕ) → program ≡ second_program → ending_of program sample_packet ≡ Ret value → value ≡ 0
+second_value program value is e =
+    let same : Ret value ≡ Ret 0 = sym e ∙ ap (λ p. ending_of p sample_packet) is ∙ second_ending in cc
+
+second_steps : (program : List ℕ) (steps : ℕ) → program ≡ second_program → steps ≡ cost_of program sample_packet → steps ≡ 1
+second_steps program steps is e = e ∙ ap (λ p. cost_of p sample_packet) is ∙ second_cost
+
+-- ---- the lines
+
+line-is : (line : Line) (version value steps kept : ℕ) → line.version ≡ version → line.value ≡ value → line.steps ≡ steps → line.kept ≡ kept → line ≡ record { version = version; value = value; steps = steps; kept = kept }
+line-is line version value steps kept a b c d = rw (← a, ← b, ← c, ← d) refl
+
+pub first_line : (line : Line) (number : ℕ) (program : List ℕ) → number ≡ 0 → program ≡ first_program → line.version ≡ number → ending_of program sample_packet ≡ Ret line.value → line.steps ≡ cost_of program sample_packet → line.kept ≡ min line.value 29 → line ≡ record { version = 0; value = 65535; steps = 3; kept = 29 }
+first_line line number program first is version value steps kept =
+    let v = first_value program line.value is value in
+    line-is line 0 65535 3 29 (version ∙ first) v (first_steps program line.steps is steps) (kept ∙ ap (λ n. min n 29) v)
+
+pub second_line : (line : Line) (number : ℕ) (program : List ℕ) → number ≡ 1 → program ≡ second_program → line.version ≡ number → ending_of program sample_packet ≡ Ret line.value → line.steps ≡ cost_of program sample_packet → line.kept ≡ min line.value 29 → line ≡ record { version = 1; value = 0; steps = 1; kept = 0 }
+second_line line number program second is version value steps kept =
+    let v = second_value program line.value is value in
+    line-is line 1 0 1 0 (version ∙ second) v (second_steps program line.steps is steps) (kept ∙ ap (λ n. min n 29) v)

@@ -1,0 +1,4 @@
+mod CommandLineLemmas
+mod StandardFacts
+mod WriteLemmas
+pub mod FirstLemmas

@@ -1,0 +1,33 @@
+-- What `clap` finds in words that are written out.
+use Rattle.std.proofs.Common.{◌≡◌, ◌∷◌, [], codes, refl}
+use Rattle.clap.proofs.OnLiterals.{clap_on_literals}
+use Rattle.clap.specs.declared.error.kind.ErrorKind.TheVariants.{DisplayHelp, DisplayVersion, InvalidSubcommand, MissingSubcommand, UnknownArgument}
+use Rattle.switchd.specs.CommandLine.{faults_in}
+
+in_first : faults_in (codes "first" ∷ []) ≡ []
+unfolding clap_on_literals
+in_first = refl
+
+in_no_words : faults_in [] ≡ MissingSubcommand ∷ []
+unfolding clap_on_literals
+in_no_words = refl
+
+in_unknown_word : faults_in (codes "second" ∷ []) ≡ UnknownArgument ∷ InvalidSubcommand ∷ []
+unfolding clap_on_literals
+in_unknown_word = refl
+
+in_one_word_more : faults_in (codes "first" ∷ codes "first" ∷ []) ≡ UnknownArgument ∷ []
+unfolding clap_on_literals
+in_one_word_more = refl
+
+in_help : faults_in (codes "--help" ∷ []) ≡ DisplayHelp ∷ []
+unfolding clap_on_literals
+in_help = refl
+
+in_help_on_first : faults_in (codes "first" ∷ codes "-h" ∷ []) ≡ DisplayHelp ∷ []
+unfolding clap_on_literals
+in_help_on_first = refl
+
+in_version : faults_in (codes "--version" ∷ []) ≡ DisplayVersion ∷ []
+unfolding clap_on_literals
+in_version = refl

@@ -1,0 +1,54 @@
+//! How a run of the program ends: its exit status, and why a command failed (docs/COMMANDS.md, "Statuses").
+
+ghost use Rattle.std.specs.Prelude.{◌≡◌};
+ghost use Rattle.switchd.specs.Ending.{line_of};
+ghost use Rattle.switchd.specs.declared.ending.Failure.TheVariants.{OutOfMemory};
+
+use std::alloc::AllocError;
+use std::fmt;
+use std::io::Write;
+
+/// The exit status.
+#[derive(Clone, Copy, Debug, PartialEq, Eq)]
+pub enum Status {
+    Done = 0,
+    /// The words name no command.
+    Misused = 2,
+    Failed = 3,
+}
+
+/// Why a command failed. The words of the command are not to blame.
+#[derive(Clone, Copy, Debug, PartialEq, Eq)]
+pub enum Failure {
+    /// Results could not be written or flushed.
+    WriteFailed,
+    OutOfMemory,
+}
+
+impl Failure {
+    fn line(self) -> &'static str
+        ensures { result.now ≡ line_of self }
+    {
+        match self {
+            Failure::WriteFailed => "failed E2\n",
+            Failure::OutOfMemory => "failed E3\n",
+        }
+    }
+
+    /// Writes the line `failed CODE`. An error of `errs` changes nothing.
+    pub fn report<E: Write>(self, errs: &mut E) -> Status
+        ensures { result ≡ Status.Failed }
+    {
+        let _ = errs.write_all(self.line().as_bytes());
+        let _ = errs.flush();
+        Status::Failed
+    }
+}
+
+impl From<AllocError> for Failure {
+    ghost from_gives = { λ _ failure. failure ≡ OutOfMemory };
+
+    fn from(_error: AllocError) -> Failure {
+        Failure::OutOfMemory
+    }
+}

@@ -1,0 +1,54 @@
+//! The program `dswitch`: its arguments, its standard streams and its exit status (docs/COMMANDS.md).
+#![tactic(auto)]
+
+ghost use Rattle.std.specs.Prelude.{◌≡◌, ◌≢◌};
+ghost use Rattle.std.specs.IoError.{error_kind};
+
+mod command;
+mod ending;
+mod first_path;
+#[cfg(test)]
+mod tests;
+mod tool;
+
+use ending::{Failure, Status};
+use std::env::Env;
+use std::io::{ErrorKind, LineWriter, Write};
+use std::process::ExitCode;
+use std::{env, io};
+
+// The words after the program's name.
+fn arguments<R: Env + AllocGlobal>(rt: &R) -> io::Result<Vec<String>> {
+    Ok(env::args(rt)?.skip(1).collect(rt.alloc())?)
+}
+
+// Arguments are bytes, and words are text.
+fn refuse_arguments<E: Write>(error: &io::Error, errs: &mut E) -> Status
+    ensures no_memory { error_kind error.now ≡ ErrorKind.OutOfMemory → result ≡ Status.Failed }
+    ensures not_text { error_kind error.now ≢ ErrorKind.OutOfMemory → result ≡ Status.Misused }
+{
+    if error.kind() == ErrorKind::OutOfMemory {
+        return Failure::OutOfMemory.report(errs);
+    }
+    let _ = errs.write_all(b"error: an argument is not valid UTF-8\n");
+    Status::Misused
+}
+
+fn main(rt: HostRuntime) -> ExitCode {
+    let mut errs = rt.stderr();
+    let words = match arguments(&rt) {
+        Ok(words) => words,
+        Err(error) => return ExitCode::from(refuse_arguments(&error, &mut errs) as u8),
+    };
+    let Ok(mut out) = LineWriter::new(rt.alloc(), rt.stdout()) else {
+        return ExitCode::from(Failure::OutOfMemory.report(&mut errs) as u8);
+    };
+    let status = tool::tool(
+        rt.alloc(),
+        words.as_slice(),
+        rt.stdin(),
+        &mut out,
+        &mut errs,
+    );
+    ExitCode::from(status.unwrap())
+}
