@@ -4,10 +4,11 @@ use Rattle.std.specs.Int.{from_be_bytes, to_be_bytes, w64}
 use Rattle.std.proofs.lemmas.Bool.{eqb-true}
 use Rattle.std.proofs.lemmas.Nat.{and_mask, from_be_bytes-to_be_bytes_8}
 use Rattle.bpf_insn.specs.declared.instruction.Insn.{Insn}
-use Rattle.bpf_insn.specs.declared.instruction.Insn.TheVariants.{JumpIf, LoadAbsolute, ReturnConstant}
-use Rattle.bpf_insn.specs.declared.instruction.Size.TheVariants.{Byte}
-use Rattle.bpf_insn.specs.declared.instruction.Operand.TheVariants.{K}
-use Rattle.bpf_insn.specs.declared.instruction.Test.TheVariants.{Equal}
+use Rattle.bpf_insn.specs.declared.instruction.Insn.TheVariants.{Alu, CopyFromX, CopyToX, Jump, JumpIf, LoadAbsolute, LoadCell, LoadConstant, LoadIndexed, LoadLength, LoadXCell, LoadXConstant, LoadXHeader, LoadXLength, Negate, ReturnA, ReturnConstant, Store, StoreX}
+use Rattle.bpf_insn.specs.declared.instruction.Size.TheVariants.{Byte, Half, Word}
+use Rattle.bpf_insn.specs.declared.instruction.Operation.TheVariants.{Add, And, Div, Lsh, Mod, Mul, Or, Rsh, Sub, Xor}
+use Rattle.bpf_insn.specs.declared.instruction.Operand.TheVariants.{K, X}
+use Rattle.bpf_insn.specs.declared.instruction.Test.TheVariants.{CommonBit, Equal, Greater, GreaterOrEqual}
 use Rattle.bpf_insn.specs.declared.instruction.WordFault.{WordFault}
 use Rattle.bpf_insn.specs.declared.instruction.WordFault.TheVariants.{BadOpcode, StrayField}
 use Rattle.bpf_insn.specs.declared.decoding.Decoded.{Decoded}
@@ -54,9 +55,55 @@ decoded_with-masked w =
 
 pub instruction_of-word_of : (insn : Insn) → FieldsFit insn → instruction_of (word_of insn) ≡ Ok insn
 unfolding uses_of table
+instruction_of-word_of (LoadAbsolute Word k) fits = instruction_of-word 0x20 0 0 k (omega arith) (omega arith) fits
+instruction_of-word_of (LoadAbsolute Half k) fits = instruction_of-word 0x28 0 0 k (omega arith) (omega arith) fits
 instruction_of-word_of (LoadAbsolute Byte k) fits = instruction_of-word 0x30 0 0 k (omega arith) (omega arith) fits
+instruction_of-word_of (LoadIndexed Word k) fits = instruction_of-word 0x40 0 0 k (omega arith) (omega arith) fits
+instruction_of-word_of (LoadIndexed Half k) fits = instruction_of-word 0x48 0 0 k (omega arith) (omega arith) fits
+instruction_of-word_of (LoadIndexed Byte k) fits = instruction_of-word 0x50 0 0 k (omega arith) (omega arith) fits
+instruction_of-word_of (LoadConstant k) fits = instruction_of-word 0x00 0 0 k (omega arith) (omega arith) fits
+instruction_of-word_of (LoadCell k) fits = instruction_of-word 0x60 0 0 k (omega arith) (omega arith) fits
+instruction_of-word_of LoadLength fits = instruction_of-word 0x80 0 0 0 (omega arith) (omega arith) (omega arith)
+instruction_of-word_of (LoadXConstant k) fits = instruction_of-word 0x01 0 0 k (omega arith) (omega arith) fits
+instruction_of-word_of (LoadXCell k) fits = instruction_of-word 0x61 0 0 k (omega arith) (omega arith) fits
+instruction_of-word_of LoadXLength fits = instruction_of-word 0x81 0 0 0 (omega arith) (omega arith) (omega arith)
+instruction_of-word_of (LoadXHeader k) fits = instruction_of-word 0xb1 0 0 k (omega arith) (omega arith) fits
+instruction_of-word_of (Store k) fits = instruction_of-word 0x02 0 0 k (omega arith) (omega arith) fits
+instruction_of-word_of (StoreX k) fits = instruction_of-word 0x03 0 0 k (omega arith) (omega arith) fits
+instruction_of-word_of (Alu Add (K k)) fits = instruction_of-word 0x04 0 0 k (omega arith) (omega arith) fits
+instruction_of-word_of (Alu Add X) fits = instruction_of-word 0x0c 0 0 0 (omega arith) (omega arith) (omega arith)
+instruction_of-word_of (Alu Sub (K k)) fits = instruction_of-word 0x14 0 0 k (omega arith) (omega arith) fits
+instruction_of-word_of (Alu Sub X) fits = instruction_of-word 0x1c 0 0 0 (omega arith) (omega arith) (omega arith)
+instruction_of-word_of (Alu Mul (K k)) fits = instruction_of-word 0x24 0 0 k (omega arith) (omega arith) fits
+instruction_of-word_of (Alu Mul X) fits = instruction_of-word 0x2c 0 0 0 (omega arith) (omega arith) (omega arith)
+instruction_of-word_of (Alu Div (K k)) fits = instruction_of-word 0x34 0 0 k (omega arith) (omega arith) fits
+instruction_of-word_of (Alu Div X) fits = instruction_of-word 0x3c 0 0 0 (omega arith) (omega arith) (omega arith)
+instruction_of-word_of (Alu Or (K k)) fits = instruction_of-word 0x44 0 0 k (omega arith) (omega arith) fits
+instruction_of-word_of (Alu Or X) fits = instruction_of-word 0x4c 0 0 0 (omega arith) (omega arith) (omega arith)
+instruction_of-word_of (Alu And (K k)) fits = instruction_of-word 0x54 0 0 k (omega arith) (omega arith) fits
+instruction_of-word_of (Alu And X) fits = instruction_of-word 0x5c 0 0 0 (omega arith) (omega arith) (omega arith)
+instruction_of-word_of (Alu Lsh (K k)) fits = instruction_of-word 0x64 0 0 k (omega arith) (omega arith) fits
+instruction_of-word_of (Alu Lsh X) fits = instruction_of-word 0x6c 0 0 0 (omega arith) (omega arith) (omega arith)
+instruction_of-word_of (Alu Rsh (K k)) fits = instruction_of-word 0x74 0 0 k (omega arith) (omega arith) fits
+instruction_of-word_of (Alu Rsh X) fits = instruction_of-word 0x7c 0 0 0 (omega arith) (omega arith) (omega arith)
+instruction_of-word_of (Alu Mod (K k)) fits = instruction_of-word 0x94 0 0 k (omega arith) (omega arith) fits
+instruction_of-word_of (Alu Mod X) fits = instruction_of-word 0x9c 0 0 0 (omega arith) (omega arith) (omega arith)
+instruction_of-word_of (Alu Xor (K k)) fits = instruction_of-word 0xa4 0 0 k (omega arith) (omega arith) fits
+instruction_of-word_of (Alu Xor X) fits = instruction_of-word 0xac 0 0 0 (omega arith) (omega arith) (omega arith)
+instruction_of-word_of Negate fits = instruction_of-word 0x84 0 0 0 (omega arith) (omega arith) (omega arith)
+instruction_of-word_of CopyToX fits = instruction_of-word 0x07 0 0 0 (omega arith) (omega arith) (omega arith)
+instruction_of-word_of CopyFromX fits = instruction_of-word 0x87 0 0 0 (omega arith) (omega arith) (omega arith)
+instruction_of-word_of (Jump k) fits = instruction_of-word 0x05 0 0 k (omega arith) (omega arith) fits
 instruction_of-word_of (JumpIf Equal (K k) offsets) fits = instruction_of-word 0x15 offsets.jt offsets.jf k fits.1 fits.2 fits.0
+instruction_of-word_of (JumpIf Equal X offsets) fits = instruction_of-word 0x1d offsets.jt offsets.jf 0 fits.1 fits.2 (omega arith)
+instruction_of-word_of (JumpIf Greater (K k) offsets) fits = instruction_of-word 0x25 offsets.jt offsets.jf k fits.1 fits.2 fits.0
+instruction_of-word_of (JumpIf Greater X offsets) fits = instruction_of-word 0x2d offsets.jt offsets.jf 0 fits.1 fits.2 (omega arith)
+instruction_of-word_of (JumpIf GreaterOrEqual (K k) offsets) fits = instruction_of-word 0x35 offsets.jt offsets.jf k fits.1 fits.2 fits.0
+instruction_of-word_of (JumpIf GreaterOrEqual X offsets) fits = instruction_of-word 0x3d offsets.jt offsets.jf 0 fits.1 fits.2 (omega arith)
+instruction_of-word_of (JumpIf CommonBit (K k) offsets) fits = instruction_of-word 0x45 offsets.jt offsets.jf k fits.1 fits.2 fits.0
+instruction_of-word_of (JumpIf CommonBit X offsets) fits = instruction_of-word 0x4d offsets.jt offsets.jf 0 fits.1 fits.2 (omega arith)
 instruction_of-word_of (ReturnConstant k) fits = instruction_of-word 0x06 0 0 k (omega arith) (omega arith) fits
+instruction_of-word_of ReturnA fits = instruction_of-word 0x16 0 0 0 (omega arith) (omega arith) (omega arith)
 
 -- ---- from words to instructions and back
 
@@ -72,15 +119,67 @@ infixr 5 ◌▹◌
 constant_encodes : (code jt jf k : ℕ) → jt + jf ≡ 0 → word code 0 0 k ≡ word code jt jf k
 constant_encodes code jt jf k zero = omega arith
 
+none_encodes : (code jt jf k : ℕ) → jt + jf + k ≡ 0 → word code 0 0 0 ≡ word code jt jf k
+none_encodes code jt jf k zero = omega arith
+
+jumps_encode : (code jt jf k : ℕ) → k ≡ 0 → word code jt jf 0 ≡ word code jt jf k
+jumps_encode code jt jf k zero = omega arith
+
 all_encode : (code jt jf k : ℕ) → ◌≡◌ {A = ℕ} 0 0 → word code jt jf k ≡ word code jt jf k
 all_encode code jt jf k zero = refl
 
 table-encodes : AllEncode table
 unfolding table
 table-encodes =
-    constant_encodes 0x30
+    constant_encodes 0x20
+    ▹ constant_encodes 0x28
+    ▹ constant_encodes 0x30
+    ▹ constant_encodes 0x40
+    ▹ constant_encodes 0x48
+    ▹ constant_encodes 0x50
+    ▹ constant_encodes 0x00
+    ▹ constant_encodes 0x60
+    ▹ none_encodes 0x80
+    ▹ constant_encodes 0x01
+    ▹ constant_encodes 0x61
+    ▹ none_encodes 0x81
+    ▹ constant_encodes 0xb1
+    ▹ constant_encodes 0x02
+    ▹ constant_encodes 0x03
+    ▹ constant_encodes 0x04
+    ▹ none_encodes 0x0c
+    ▹ constant_encodes 0x14
+    ▹ none_encodes 0x1c
+    ▹ constant_encodes 0x24
+    ▹ none_encodes 0x2c
+    ▹ constant_encodes 0x34
+    ▹ none_encodes 0x3c
+    ▹ constant_encodes 0x44
+    ▹ none_encodes 0x4c
+    ▹ constant_encodes 0x54
+    ▹ none_encodes 0x5c
+    ▹ constant_encodes 0x64
+    ▹ none_encodes 0x6c
+    ▹ constant_encodes 0x74
+    ▹ none_encodes 0x7c
+    ▹ constant_encodes 0x94
+    ▹ none_encodes 0x9c
+    ▹ constant_encodes 0xa4
+    ▹ none_encodes 0xac
+    ▹ none_encodes 0x84
+    ▹ none_encodes 0x07
+    ▹ none_encodes 0x87
+    ▹ constant_encodes 0x05
     ▹ all_encode 0x15
+    ▹ jumps_encode 0x1d
+    ▹ all_encode 0x25
+    ▹ jumps_encode 0x2d
+    ▹ all_encode 0x35
+    ▹ jumps_encode 0x3d
+    ▹ all_encode 0x45
+    ▹ jumps_encode 0x4d
     ▹ constant_encodes 0x06
+    ▹ none_encodes 0x16
     ▹ no_entries
 
 entry-step : (b : Bool) (entry : Entry) (code : ℕ) (rest : Option Uses) (uses : Uses) → (entry.code == code) ≡ b → Encodes entry → (rest ≡ Some uses → Encodes (record { code = code; uses = uses })) → cond b (Some entry.uses) rest ≡ Some uses → Encodes (record { code = code; uses = uses })

@@ -6,13 +6,31 @@ ghost use Rattle.bpf_insn.specs.Table.{uses_of};
 ghost use Rattle.bpf_insn.specs.Word.{IsInstructionWord, ReadsInstructionWords, code_of, constant_of, false_jump_of, instruction_of, true_jump_of, word_of};
 ghost use Rattle.bpf_insn.specs.Decoded.{decoded_with, tested};
 
-use crate::instruction::{Insn, Offsets, Operand, Size, Test, WordFault};
+use crate::instruction::{Insn, Offsets, Operand, Operation, Size, Test, WordFault};
 
 // An instruction of the table, and whether each field that it does not use is 0.
 #[derive(Clone, Copy)]
 struct Decoded {
     insn: Insn,
     unused_zero: bool,
+}
+
+#[inline(always)]
+fn nothing(insn: Insn, offsets: Offsets, k: u32) -> Option<Decoded>
+    ensures { result ≡ Some (record { insn = insn; unused_zero = (offsets.jt + offsets.jf + k == 0) }) }
+{
+    let unused_zero = offsets.jt == 0 && offsets.jf == 0 && k == 0;
+    Some(Decoded { insn, unused_zero })
+}
+
+#[inline(always)]
+fn jumps(insn: Insn, k: u32) -> Option<Decoded>
+    ensures { result ≡ Some (record { insn = insn; unused_zero = (k == 0) }) }
+{
+    Some(Decoded {
+        insn,
+        unused_zero: k == 0,
+    })
 }
 
 #[inline(always)]
@@ -39,9 +57,55 @@ fn decode_fields(code: u16, offsets: Offsets, k: u32) -> Option<Decoded>
     ensures { result ≡ decoded_with (uses_of code) offsets.jt offsets.jf k }
 {
     match code {
+        0x20 => constant(Insn::LoadAbsolute(Size::Word, k), offsets),
+        0x28 => constant(Insn::LoadAbsolute(Size::Half, k), offsets),
         0x30 => constant(Insn::LoadAbsolute(Size::Byte, k), offsets),
+        0x40 => constant(Insn::LoadIndexed(Size::Word, k), offsets),
+        0x48 => constant(Insn::LoadIndexed(Size::Half, k), offsets),
+        0x50 => constant(Insn::LoadIndexed(Size::Byte, k), offsets),
+        0x00 => constant(Insn::LoadConstant(k), offsets),
+        0x60 => constant(Insn::LoadCell(k), offsets),
+        0x80 => nothing(Insn::LoadLength, offsets, k),
+        0x01 => constant(Insn::LoadXConstant(k), offsets),
+        0x61 => constant(Insn::LoadXCell(k), offsets),
+        0x81 => nothing(Insn::LoadXLength, offsets, k),
+        0xb1 => constant(Insn::LoadXHeader(k), offsets),
+        0x02 => constant(Insn::Store(k), offsets),
+        0x03 => constant(Insn::StoreX(k), offsets),
+        0x04 => constant(Insn::Alu(Operation::Add, Operand::K(k)), offsets),
+        0x0c => nothing(Insn::Alu(Operation::Add, Operand::X), offsets, k),
+        0x14 => constant(Insn::Alu(Operation::Sub, Operand::K(k)), offsets),
+        0x1c => nothing(Insn::Alu(Operation::Sub, Operand::X), offsets, k),
+        0x24 => constant(Insn::Alu(Operation::Mul, Operand::K(k)), offsets),
+        0x2c => nothing(Insn::Alu(Operation::Mul, Operand::X), offsets, k),
+        0x34 => constant(Insn::Alu(Operation::Div, Operand::K(k)), offsets),
+        0x3c => nothing(Insn::Alu(Operation::Div, Operand::X), offsets, k),
+        0x44 => constant(Insn::Alu(Operation::Or, Operand::K(k)), offsets),
+        0x4c => nothing(Insn::Alu(Operation::Or, Operand::X), offsets, k),
+        0x54 => constant(Insn::Alu(Operation::And, Operand::K(k)), offsets),
+        0x5c => nothing(Insn::Alu(Operation::And, Operand::X), offsets, k),
+        0x64 => constant(Insn::Alu(Operation::Lsh, Operand::K(k)), offsets),
+        0x6c => nothing(Insn::Alu(Operation::Lsh, Operand::X), offsets, k),
+        0x74 => constant(Insn::Alu(Operation::Rsh, Operand::K(k)), offsets),
+        0x7c => nothing(Insn::Alu(Operation::Rsh, Operand::X), offsets, k),
+        0x94 => constant(Insn::Alu(Operation::Mod, Operand::K(k)), offsets),
+        0x9c => nothing(Insn::Alu(Operation::Mod, Operand::X), offsets, k),
+        0xa4 => constant(Insn::Alu(Operation::Xor, Operand::K(k)), offsets),
+        0xac => nothing(Insn::Alu(Operation::Xor, Operand::X), offsets, k),
+        0x84 => nothing(Insn::Negate, offsets, k),
+        0x07 => nothing(Insn::CopyToX, offsets, k),
+        0x87 => nothing(Insn::CopyFromX, offsets, k),
+        0x05 => constant(Insn::Jump(k), offsets),
         0x15 => all(Insn::JumpIf(Test::Equal, Operand::K(k), offsets)),
+        0x1d => jumps(Insn::JumpIf(Test::Equal, Operand::X, offsets), k),
+        0x25 => all(Insn::JumpIf(Test::Greater, Operand::K(k), offsets)),
+        0x2d => jumps(Insn::JumpIf(Test::Greater, Operand::X, offsets), k),
+        0x35 => all(Insn::JumpIf(Test::GreaterOrEqual, Operand::K(k), offsets)),
+        0x3d => jumps(Insn::JumpIf(Test::GreaterOrEqual, Operand::X, offsets), k),
+        0x45 => all(Insn::JumpIf(Test::CommonBit, Operand::K(k), offsets)),
+        0x4d => jumps(Insn::JumpIf(Test::CommonBit, Operand::X, offsets), k),
         0x06 => constant(Insn::ReturnConstant(k), offsets),
+        0x16 => nothing(Insn::ReturnA, offsets, k),
         _ => None,
     }
 }

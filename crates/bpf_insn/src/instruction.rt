@@ -3,15 +3,31 @@
 /// How many bytes a load from the packet takes.
 #[derive(Clone, Copy, Debug, PartialEq, Eq)]
 pub enum Size {
+    /// Four bytes (`BPF_W`).
+    Word,
+    /// Two bytes (`BPF_H`).
+    Half,
     /// One byte (`BPF_B`).
     Byte,
 }
 
-/// The second operand of an operation or a test.
+/// What an operation makes of A and its operand. Sums, differences and products are modulo 2^32.
 #[derive(Clone, Copy, Debug, PartialEq, Eq)]
-pub enum Operand {
-    /// The instruction's constant (`BPF_K`).
-    K(u32),
+pub enum Operation {
+    Add,
+    Sub,
+    Mul,
+    /// Division; by an X of 0 the program ends with 0.
+    Div,
+    Or,
+    And,
+    /// Shift to the left; by an X of 32 or more it gives 0.
+    Lsh,
+    /// Shift to the right; by an X of 32 or more it gives 0.
+    Rsh,
+    /// Remainder; by an X of 0 the program ends with 0.
+    Mod,
+    Xor,
 }
 
 /// What a conditional jump asks of A and its operand, as unsigned numbers.
@@ -19,6 +35,21 @@ pub enum Operand {
 pub enum Test {
     /// They are equal (`BPF_JEQ`).
     Equal,
+    /// A is greater (`BPF_JGT`).
+    Greater,
+    /// A is greater, or they are equal (`BPF_JGE`).
+    GreaterOrEqual,
+    /// They have a bit in common (`BPF_JSET`).
+    CommonBit,
+}
+
+/// The second operand of an operation or a test.
+#[derive(Clone, Copy, Debug, PartialEq, Eq)]
+pub enum Operand {
+    /// The instruction's constant (`BPF_K`).
+    K(u32),
+    /// The index register (`BPF_X`).
+    X,
 }
 
 /// How many instructions a conditional jump skips, counted from the next one.
@@ -33,13 +64,46 @@ pub struct Offsets {
 /// One instruction. The numbers are its constant, `k`.
 #[derive(Clone, Copy, Debug, PartialEq, Eq)]
 pub enum Insn {
-    /// `ldb [k]`: A becomes the number at place `k` of the packet; where the packet has no such place, the program ends
-    /// with 0.
+    /// `ld [k]`, `ldh [k]`, `ldb [k]`: A becomes the big-endian number at place `k` of the packet; where the packet lacks
+    /// one of its bytes, the program ends with 0.
     LoadAbsolute(Size, u32),
-    /// `jeq #k,jt,jf`: skips as many instructions as the test says.
+    /// `ld [x+k]`, `ldh [x+k]`, `ldb [x+k]`: the same at place X + `k`, an exact sum.
+    LoadIndexed(Size, u32),
+    /// `ld #k`: A becomes `k`.
+    LoadConstant(u32),
+    /// `ld M[k]`: A becomes the number of scratch cell `k`.
+    LoadCell(u32),
+    /// `ld len`: A becomes the packet's number of bytes.
+    LoadLength,
+    /// `ldx #k`: X becomes `k`.
+    LoadXConstant(u32),
+    /// `ldx M[k]`: X becomes the number of scratch cell `k`.
+    LoadXCell(u32),
+    /// `ldx len`: X becomes the packet's number of bytes.
+    LoadXLength,
+    /// `ldx 4*([k]&0xf)`: X becomes four times the low four bits of byte `k`, the length of an IPv4 header; where the
+    /// packet lacks the byte, the program ends with 0.
+    LoadXHeader(u32),
+    /// `st M[k]`: scratch cell `k` becomes A.
+    Store(u32),
+    /// `stx M[k]`: scratch cell `k` becomes X.
+    StoreX(u32),
+    /// `add #k`, `add x` and the others: A becomes what the operation makes of it.
+    Alu(Operation, Operand),
+    /// `neg`: A becomes its negative, modulo 2^32.
+    Negate,
+    /// `tax`: X becomes A.
+    CopyToX,
+    /// `txa`: A becomes X.
+    CopyFromX,
+    /// `ja +k`: skips `k` instructions.
+    Jump(u32),
+    /// `jeq #k,jt,jf` and the others: skips as many instructions as the test says.
     JumpIf(Test, Operand, Offsets),
     /// `ret #k`: the program ends with `k`.
     ReturnConstant(u32),
+    /// `ret a`: the program ends with A.
+    ReturnA,
 }
 
 /// Why a word is no instruction.

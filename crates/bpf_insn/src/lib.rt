@@ -10,7 +10,7 @@ mod instruction;
 mod word_list;
 
 pub use decoding::instruction_words;
-pub use instruction::{Insn, Offsets, Operand, Size, Test, WordFault};
+pub use instruction::{Insn, Offsets, Operand, Operation, Size, Test, WordFault};
 pub use word_list::Words;
 
 #[cfg(test)]

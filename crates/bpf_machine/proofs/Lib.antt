@@ -1,2 +1,3 @@
 pub mod RunLemmas
-pub mod StandardFacts
+pub mod SafeLemmas
+pub mod ArrayLemmas

@@ -1,12 +1,16 @@
 -- What a program means: the machine of McCanne and Jacobson 1993, section 3, over the words that remain
 -- (networking/filter.rst, "BPF engine and instruction set"; docs/MACHINE.md, "The machine").
-use Rattle.std.specs.Prelude.{◌≡◌, ◌==◌, ◌+◌, ◌∷◌, if◌then◌else◌, Bool, Err, List, None, Ok, Option, Result, Some, [], drop, suc, zero, ℕ}
+use Rattle.std.specs.Prelude.{◌≡◌, ◌≢◌, ◌==◌, ◌+◌, ◌-◌, ◌*◌, ◌/◌, ◌%◌, ◌^◌, ◌≤◌, ◌∷◌, if◌then◌else◌, Bool, Err, List, None, Ok, Option, Result, Some, [], bit_and, bit_or, bit_xor, drop, length, nat_le, nat_lt, not, suc, zero, ℕ}
+use Rattle.bpf_verify.specs.Accepted.{IsAccepted}
 use Rattle.bpf_insn.specs.declared.instruction.Insn.{Insn}
-use Rattle.bpf_insn.specs.declared.instruction.Insn.TheVariants.{JumpIf, LoadAbsolute, ReturnConstant}
+use Rattle.bpf_insn.specs.declared.instruction.Insn.TheVariants.{Alu, CopyFromX, CopyToX, Jump, JumpIf, LoadAbsolute, LoadCell, LoadConstant, LoadIndexed, LoadLength, LoadXCell, LoadXConstant, LoadXHeader, LoadXLength, Negate, ReturnA, ReturnConstant, Store, StoreX}
 use Rattle.bpf_insn.specs.declared.instruction.Operand.{Operand}
-use Rattle.bpf_insn.specs.declared.instruction.Operand.TheVariants.{K}
+use Rattle.bpf_insn.specs.declared.instruction.Operand.TheVariants.{K, X}
+use Rattle.bpf_insn.specs.declared.instruction.Operation.{Operation}
+use Rattle.bpf_insn.specs.declared.instruction.Operation.TheVariants.{Add, And, Div, Lsh, Mod, Mul, Or, Rsh, Sub, Xor}
+use Rattle.bpf_insn.specs.declared.instruction.Size.TheVariants.{Byte}
 use Rattle.bpf_insn.specs.declared.instruction.Test.{Test}
-use Rattle.bpf_insn.specs.declared.instruction.Test.TheVariants.{Equal}
+use Rattle.bpf_insn.specs.declared.instruction.Test.TheVariants.{CommonBit, Equal, Greater, GreaterOrEqual}
 use Rattle.bpf_insn.specs.declared.instruction.WordFault.{WordFault}
 use Rattle.bpf_insn.specs.Word.{instruction_of}
 use Rattle.bpf_machine.specs.Packet.{packet_number}
@@ -18,6 +22,10 @@ Cells = ℕ → Option ℕ
 -- no cell was stored
 abbrev pub no_cells : Cells
 no_cells cell = None
+
+-- the cells once cell k was stored
+abbrev pub with_cell : Cells → ℕ → ℕ → Cells
+with_cell cells k number cell = if cell == k then Some number else cells cell
 
 -- how a run ends: it returns a value, or is stuck
 pub data Ending : Type 0 where
@@ -32,21 +40,72 @@ pub data Effect : Type 0 where
 -- the number that an operand stands for
 abbrev pub operand_value : Operand → ℕ → ℕ
 operand_value (K k) x = k
+operand_value X x = x
 
 -- whether a test of A and its operand holds
 abbrev pub holds : Test → ℕ → ℕ → Bool
 holds Equal a operand = a == operand
+holds Greater a operand = nat_lt operand a
+holds GreaterOrEqual a operand = nat_le operand a
+holds CommonBit a operand = not (bit_and a operand == 0)
 
--- A becomes a number of the packet; without it the program ends with 0
-abbrev pub after_load : Option ℕ → ℕ → Cells → Effect
-after_load None x cells = ends (Ret 0)
-after_load (Some number) x cells = goes_on 0 number x cells
+-- what an operation makes of two 32-bit numbers, none where it divides by zero
+abbrev pub computed : Operation → ℕ → ℕ → Option ℕ
+computed Add a operand = Some ((a + operand) % 2 ^ 32)
+computed Sub a operand = Some ((a + 2 ^ 32 - operand) % 2 ^ 32)
+computed Mul a operand = Some (a * operand % 2 ^ 32)
+computed Div a operand = if operand == 0 then None else Some (a / operand)
+computed Or a operand = Some (bit_or a operand)
+computed And a operand = Some (bit_and a operand)
+computed Lsh a operand = Some (if nat_lt operand 32 then a * 2 ^ operand % 2 ^ 32 else 0)
+computed Rsh a operand = Some (if nat_lt operand 32 then a / 2 ^ operand else 0)
+computed Mod a operand = if operand == 0 then None else Some (a % operand)
+computed Xor a operand = Some (bit_xor a operand)
+
+-- four times the low four bits of a byte
+abbrev pub header_length : Option ℕ → Option ℕ
+header_length None = None
+header_length (Some byte) = Some (4 * (byte % 16))
+
+-- A, or X, becomes a number; without it the program ends with 0
+abbrev pub a_or_end : Option ℕ → ℕ → Cells → Effect
+a_or_end None x cells = ends (Ret 0)
+a_or_end (Some number) x cells = goes_on 0 number x cells
+
+abbrev pub x_or_end : Option ℕ → ℕ → Cells → Effect
+x_or_end None a cells = ends (Ret 0)
+x_or_end (Some number) a cells = goes_on 0 a number cells
+
+-- A, or X, becomes the number of a cell; a cell that was not stored is stuck
+abbrev pub a_or_stuck : Option ℕ → ℕ → Cells → Effect
+a_or_stuck None x cells = ends Stuck
+a_or_stuck (Some number) x cells = goes_on 0 number x cells
+
+abbrev pub x_or_stuck : Option ℕ → ℕ → Cells → Effect
+x_or_stuck None a cells = ends Stuck
+x_or_stuck (Some number) a cells = goes_on 0 a number cells
 
 -- what an instruction does with these registers, cells and packet
 abbrev pub effect : Insn → ℕ → ℕ → Cells → List ℕ → Effect
-effect (LoadAbsolute size k) a x cells packet = after_load (packet_number packet size k) x cells
+effect (LoadAbsolute size k) a x cells packet = a_or_end (packet_number packet size k) x cells
+effect (LoadIndexed size k) a x cells packet = a_or_end (packet_number packet size (x + k)) x cells
+effect (LoadConstant k) a x cells packet = goes_on 0 k x cells
+effect (LoadCell k) a x cells packet = a_or_stuck (cells k) x cells
+effect LoadLength a x cells packet = goes_on 0 (length packet) x cells
+effect (LoadXConstant k) a x cells packet = goes_on 0 a k cells
+effect (LoadXCell k) a x cells packet = x_or_stuck (cells k) a cells
+effect LoadXLength a x cells packet = goes_on 0 a (length packet) cells
+effect (LoadXHeader k) a x cells packet = x_or_end (header_length (packet_number packet Byte k)) a cells
+effect (Store k) a x cells packet = goes_on 0 a x (with_cell cells k a)
+effect (StoreX k) a x cells packet = goes_on 0 a x (with_cell cells k x)
+effect (Alu operation operand) a x cells packet = a_or_end (computed operation a (operand_value operand x)) x cells
+effect Negate a x cells packet = goes_on 0 ((2 ^ 32 - a) % 2 ^ 32) x cells
+effect CopyToX a x cells packet = goes_on 0 a a cells
+effect CopyFromX a x cells packet = goes_on 0 x x cells
+effect (Jump k) a x cells packet = goes_on k a x cells
 effect (JumpIf test operand offsets) a x cells packet = goes_on (if holds test a (operand_value operand x) then offsets.jt else offsets.jf) a x cells
 effect (ReturnConstant k) a x cells packet = ends (Ret k)
+effect ReturnA a x cells packet = ends (Ret a)
 
 -- what a word does: one of no instruction is stuck
 abbrev pub word_effect : Result Insn WordFault → ℕ → ℕ → Cells → List ℕ → Effect
@@ -98,3 +157,8 @@ pub record MeansByFirstWord (packet : List ℕ) : Type 0 where
       → word_effect (instruction_of word) a x cells packet ≡ goes_on dropped a' x' cells'
       → (mean (word ∷ words) a x cells packet ≡ mean (drop dropped words) a' x' cells' packet)
       × (cost (word ∷ words) a x cells packet ≡ cost (drop dropped words) a' x' cells' packet + 1)
+
+-- an accepted program is never stuck, and meets at most as many words as it has
+pub record IsSound (program packet : List ℕ) : Type 0 where
+  pub never_stuck : ending_of program packet ≢ Stuck
+  pub within_length : cost_of program packet ≤ length program

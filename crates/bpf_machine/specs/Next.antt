@@ -1,8 +1,9 @@
--- The effect that the code of one instruction tells.
+-- The effect that the code of one instruction tells, with the machine that it leaves.
+use Rattle.std.specs.Prelude.{List, ℕ}
 use Rattle.bpf_machine.specs.declared.execute.Next.{Next}
-use Rattle.bpf_machine.specs.declared.execute.Next.TheVariants.{End, GoOn}
-use Rattle.bpf_machine.specs.Meaning.{Effect, Ret, ends, goes_on, no_cells}
+use Rattle.bpf_machine.specs.declared.execute.Next.TheVariants.{End, Skip}
+use Rattle.bpf_machine.specs.ArrayMachine.{ArrayEffect, ends, goes_on}
 
-abbrev pub effect_of : Next → Effect
-effect_of (GoOn dropped a) = goes_on dropped a 0 no_cells
-effect_of (End value) = ends (Ret value)
+abbrev pub effect_of : Next → ℕ → ℕ → List ℕ → ArrayEffect
+effect_of (Skip dropped) a x cells = goes_on dropped a x cells
+effect_of (End value) a x cells = ends value

@@ -1,10 +1,12 @@
 -- Numbers from a packet's bytes, big-endian (networking/filter.rst, "BPF engine and instruction set").
 use Rattle.std.specs.Prelude.{◌*◌, ◌+◌, ◌∷◌, if◌then◌else◌, List, None, Option, Some, [], drop, length, nat_le, take, ℕ}
 use Rattle.bpf_insn.specs.declared.instruction.Size.{Size}
-use Rattle.bpf_insn.specs.declared.instruction.Size.TheVariants.{Byte}
+use Rattle.bpf_insn.specs.declared.instruction.Size.TheVariants.{Byte, Half, Word}
 
 -- how many bytes a load takes
 abbrev pub byte_count : Size → ℕ
+byte_count Word = 4
+byte_count Half = 2
 byte_count Byte = 1
 
 -- the big-endian number of n and then some bytes

@@ -1,54 +1,104 @@
 //! What one instruction does.
 
 ghost use Rattle.std.specs.Prelude.{◌≡◌, ◌≤◌, length};
-ghost use Rattle.bpf_machine.specs.Meaning.{effect, holds, no_cells, operand_value};
+ghost use Rattle.bpf_verify.specs.Pass.{HasCell};
+ghost use Rattle.bpf_machine.specs.ArrayMachine.{a_or_end, array_effect, x_or_end};
 ghost use Rattle.bpf_machine.specs.Next.{effect_of};
 
 use crate::MAX_PACKET;
-use crate::packet::number;
-use bpf_insn::{Insn, Operand, Test};
+use crate::arithmetic::{compute, negative, operand_value, passes};
+use crate::packet::{header_length, number};
+use bpf_insn::Insn;
 
-/// What comes after an instruction: A, and so many instructions are skipped, or the program ends.
+/// The number of scratch cells, as a length.
+pub const CELL_COUNT: usize = bpf_verify::CELLS as usize;
+
+/// What comes after an instruction: so many instructions are skipped, or the program ends.
 #[derive(Clone, Copy)]
 pub enum Next {
-    GoOn { dropped: u32, a: u32 },
-    End { value: u32 },
+    Skip(u32),
+    End(u32),
+}
+
+/// The registers A and X, and scratch memory: of a cell that was not stored, any number.
+#[derive(Drop)]
+pub struct Machine {
+    pub a: u32,
+    pub x: u32,
+    pub cells: [u32; CELL_COUNT],
 }
 
 #[inline(always)]
-fn passes(test: Test, a: u32, operand: Operand) -> bool
-    ensures { result ≡ holds test a (operand_value operand 0) }
+fn load_a(machine: &mut Machine, loaded: Option<u32>) -> Next
+    ensures effect { effect_of result machine.new.a machine.new.x machine.new.cells ≡ a_or_end loaded machine.old.x machine.old.cells }
+    ensures cells { length machine.new.cells ≡ CELL_COUNT }
 {
-    let Operand::K(k) = operand;
-    match test {
-        Test::Equal => a == k,
+    match loaded {
+        Some(number) => {
+            machine.a = number;
+            Next::Skip(0)
+        }
+        None => Next::End(0),
     }
 }
 
 #[inline(always)]
-pub fn execute(insn: Insn, a: u32, packet: &[u8]) -> Next
-    requires { length packet.now ≤ MAX_PACKET }
-    ensures { effect_of result ≡ effect insn a 0 no_cells packet.now }
+fn load_x(machine: &mut Machine, loaded: Option<u32>) -> Next
+    ensures effect { effect_of result machine.new.a machine.new.x machine.new.cells ≡ x_or_end loaded machine.old.a machine.old.cells }
+    ensures cells { length machine.new.cells ≡ CELL_COUNT }
+{
+    match loaded {
+        Some(number) => {
+            machine.x = number;
+            Next::Skip(0)
+        }
+        None => Next::End(0),
+    }
+}
+
+#[inline(always)]
+pub fn execute(machine: &mut Machine, insn: Insn, packet: &[u8]) -> Next
+    requires packet { length packet.now ≤ MAX_PACKET }
+    requires cell { HasCell insn }
+    ensures effect { effect_of result machine.new.a machine.new.x machine.new.cells ≡ array_effect insn machine.old.a machine.old.x machine.old.cells packet.now }
+    ensures cells { length machine.new.cells ≡ CELL_COUNT }
 {
     match insn {
-        Insn::LoadAbsolute(size, k) => match number(packet, size, k as u64) {
-            Some(loaded) => Next::GoOn {
-                dropped: 0,
-                a: loaded,
-            },
-            None => Next::End { value: 0 },
-        },
+        Insn::LoadAbsolute(size, k) => load_a(machine, number(packet, size, k as u64)),
+        Insn::LoadIndexed(size, k) => {
+            load_a(machine, number(packet, size, machine.x as u64 + k as u64))
+        }
+        Insn::LoadConstant(k) => load_a(machine, Some(k)),
+        Insn::LoadCell(k) => load_a(machine, Some(machine.cells[k as usize])),
+        Insn::LoadLength => load_a(machine, Some(packet.len() as u32)),
+        Insn::LoadXConstant(k) => load_x(machine, Some(k)),
+        Insn::LoadXCell(k) => load_x(machine, Some(machine.cells[k as usize])),
+        Insn::LoadXLength => load_x(machine, Some(packet.len() as u32)),
+        Insn::LoadXHeader(k) => load_x(machine, header_length(packet, k as u64)),
+        Insn::Store(k) => {
+            machine.cells[k as usize] = machine.a;
+            Next::Skip(0)
+        }
+        Insn::StoreX(k) => {
+            machine.cells[k as usize] = machine.x;
+            Next::Skip(0)
+        }
+        Insn::Alu(operation, operand) => {
+            let computed = compute(operation, machine.a, operand_value(operand, machine.x));
+            load_a(machine, computed)
+        }
+        Insn::Negate => load_a(machine, Some(negative(machine.a))),
+        Insn::CopyToX => load_x(machine, Some(machine.a)),
+        Insn::CopyFromX => load_a(machine, Some(machine.x)),
+        Insn::Jump(k) => Next::Skip(k),
         Insn::JumpIf(test, operand, offsets) => {
-            let dropped = if passes(test, a, operand) {
-                offsets.jt
+            if passes(test, machine.a, operand_value(operand, machine.x)) {
+                Next::Skip(offsets.jt as u32)
             } else {
-                offsets.jf
-            };
-            Next::GoOn {
-                dropped: dropped as u32,
-                a,
+                Next::Skip(offsets.jf as u32)
             }
         }
-        Insn::ReturnConstant(k) => Next::End { value: k },
+        Insn::ReturnConstant(k) => Next::End(k),
+        Insn::ReturnA => Next::End(machine.a),
     }
 }

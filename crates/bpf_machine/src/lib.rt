@@ -5,12 +5,14 @@
 ghost use Rattle.std.specs.Prelude.{◌≡◌, ◌+◌, ◌<◌, ◌≤◌, ◌^◌, List, length, ℕ};
 ghost use Rattle.bpf_verify.specs.Path.{IsAt, program_at};
 ghost use Rattle.bpf_verify.specs.Accepted.{IsAccepted};
-ghost use Rattle.bpf_machine.specs.Meaning.{MeansByFirstWord, Ret, cost_of, ending_of};
+ghost use Rattle.bpf_machine.specs.Meaning.{IsSound, MeansByFirstWord, Ret, cost_of, ending_of};
+ghost use Rattle.bpf_verify.specs.Pass.{HasCell};
 
+mod arithmetic;
 mod execute;
 mod packet;
 
-use crate::execute::{Next, execute};
+use crate::execute::{CELL_COUNT, Machine, Next, execute};
 use bpf_insn::{Insn, Words};
 
 /// The greatest number of bytes of a packet.
@@ -31,7 +33,8 @@ fn fetch<W: Words>(words: &mut W, from: usize, len: usize, pc: usize) -> Insn
     requires fits { from + len < 2 ^ 64 }
     requires accepted { IsAccepted (program_at (W.words words.old) from len) }
     requires inside { pc < len }
-    ensures insn { IsAt (program_at (W.words words.old) from len) pc result }
+    ensures instruction { IsAt (program_at (W.words words.old) from len) pc result }
+    ensures cell { HasCell result }
     ensures words_kept { W.words words.new ≡ W.words words.old }
     ensures rest_kept { W.rest words.new ≡ W.rest words.old }
 {
@@ -53,18 +56,19 @@ pub fn run<W: Words>(words: &mut W, from: usize, len: usize, packet: &[u8]) -> O
 {
     // A list that can be counted is short enough for its places to be numbers of this machine.
     let _count = words.count();
-    let mut a = 0;
+    let mut machine = Machine {
+        a: 0,
+        x: 0,
+        cells: [0; CELL_COUNT],
+    };
     let mut pc = 0;
     let mut steps = 0;
     'running: loop {
         let insn = fetch(words, from, len, pc);
         steps += 1;
-        match execute(insn, a, packet) {
-            Next::GoOn { dropped, a: next_a } => {
-                a = next_a;
-                pc = pc + 1 + dropped as usize;
-            }
-            Next::End { value } => return Outcome { value, steps },
+        match execute(&mut machine, insn, packet) {
+            Next::Skip(dropped) => pc = pc + 1 + dropped as usize,
+            Next::End(value) => return Outcome { value, steps },
         }
     }
 }
@@ -72,6 +76,11 @@ pub fn run<W: Words>(words: &mut W, from: usize, len: usize, packet: &[u8]) -> O
 /// Law: the meaning goes by cases on the first of the words that remain, and a jump drops words. It runs nothing.
 pub fn meaning_by_first_word()
     ensures { (packet : List ℕ) → MeansByFirstWord packet }
+{}
+
+/// Law: an accepted program is never stuck, and meets at most as many words as it has, whatever the packet. It runs nothing.
+pub fn sound()
+    ensures { (program packet : List ℕ) → IsAccepted program → IsSound program packet }
 {}
 
 #[cfg(test)]

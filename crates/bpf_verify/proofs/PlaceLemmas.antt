@@ -1,23 +1,22 @@
--- Places of a program: what stands there, and how far the pass over them has come.
-use Rattle.std.proofs.Common.{◌≡◌, ◌∙◌, ◌++◌, ◌+◌, ◌-◌, ◌<◌, ◌≤◌, ◌↔◌, Bool, IsTrue, List, None, Ok, Result, Some, ap, arith, below_more, drop, length, length-drop, subst, sym, take, ℕ}
+-- Places of a program: what stands there, and where it leads.
+use Rattle.std.proofs.Common.{◌≡◌, ◌∙◌, ◌++◌, ◌+◌, ◌-◌, ◌<◌, ◌≤◌, Bool, List, None, Ok, Result, Some, ap, arith, drop, length, length-drop, subst, sym, take, ℕ}
 use Rattle.std.proofs.Math.Seq.{drop-append_seam, take-append_seam, take-length}
 use Rattle.std.proofs.lemmas.List.{length-take-le}
 use Rattle.bpf_insn.specs.declared.instruction.Insn.{Insn}
 use Rattle.bpf_insn.specs.declared.instruction.WordFault.{WordFault}
 use Rattle.bpf_insn.specs.Word.{instruction_of}
 use Rattle.bpf_verify.specs.Path.{IsAt, IsReturn, program_at, successors}
-use Rattle.bpf_insn.specs.declared.instruction.Insn.TheVariants.{JumpIf, LoadAbsolute, ReturnConstant}
+use Rattle.bpf_insn.specs.declared.instruction.Insn.TheVariants.{Jump, JumpIf, ReturnA, ReturnConstant}
 use Rattle.bpf_insn.specs.declared.instruction.WordFault.TheVariants.{BadOpcode, StrayField}
 use Rattle.bpf_verify.specs.declared.fault.Fault.{Fault}
-use Rattle.bpf_verify.specs.declared.fault.Fault.TheVariants.{JumpOutside}
-use Rattle.bpf_verify.specs.Accepted.{EndsInReturn, IsAccepted, IsFaultless, IsFaultlessBelow, instruction_fault, word_fault}
-use Rattle.bpf_verify.specs.Pass.{TellsReturn}
+use Rattle.bpf_verify.specs.Accepted.{IsAccepted, IsFaultless, instruction_fault, word_fault}
+use Rattle.std.specs.List.{AllByRecursion, list_all}
 use Rattle.std.proofs.lemmas.Bool.{cases_eq, ltb-true}
 use Rattle.std.proofs.lemmas.Option.{slice_get-get_or, slice_get_within}
 use Rattle.std.proofs.lemmas.Grind.{common_steps}
 use Rattle.std.proofs.Common.{get_or}
 use Rattle.std.specs.Prelude.{◌&&◌, Contains, nat_lt, slice_get}
-use Rattle.std.proofs.Common.{◌⊎◌, Err, [], ◌∷◌, cond, false, inl, inr, refl, suc, true, zero, Option}
+use Rattle.std.proofs.Common.{◌⊎◌, Err, [], ◌∷◌, cond, false, inl, inr, refl, suc, true, zero}
 
 -- ---- a program in a longer list
 
@@ -49,31 +48,6 @@ IsAt-unique program pc a b here there =
     let read : ◌≡◌ {A = Result Insn WordFault} (Ok a) (Ok b) = sym here.2 ∙ ap instruction_of word ∙ there.2 in
     cc
 
--- ---- the pass over the places
-
--- the places below n have no fault, and the flag is that of the last of them
-pub record IsPassed (program : List ℕ) (n : ℕ) (returns : Bool) : Type 0 where
-  pub faultless : IsFaultlessBelow program n
-  pub last : 0 < n → TellsReturn program (n - 1) returns
-
-pub passed_none : (program : List ℕ) (returns : Bool) → IsPassed program 0 returns
-passed_none program returns = record { faultless = λ pc below. absurd (omega arith); last = λ some. absurd (omega arith) }
-
-pub passed_more : (program : List ℕ) (n : ℕ) (before after : Bool) → IsPassed program n before → IsFaultless program n → TellsReturn program n after → IsPassed program (n + 1) after
-passed_more program n before after passed here found =
-    record {
-      faultless = below_more (λ pc. IsFaultless program pc) n passed.faultless here;
-      last = λ some.
-          let at : n ≡ (n + 1) - 1 = omega arith in subst (λ m. TellsReturn program m after) at found;
-    }
-
-pub passed_all : (program : List ℕ) (returns : Bool) → IsPassed program (length program) returns → 0 < length program → IsTrue returns ↔ EndsInReturn program
-passed_all program returns passed not_empty =
-    let last = passed.last not_empty in (
-      λ yes. (last.instruction, last.at, last.tells.0 yes),
-      λ ends. last.tells.1 (subst IsReturn (IsAt-unique program (length program - 1) _ _ ends.1 last.at) ends.2),
-    )
-
 -- ---- a word without a fault is an instruction without one
 
 pub record IsFaultlessAt (program : List ℕ) (pc word : ℕ) : Type 0 where
@@ -92,16 +66,55 @@ faultless_at program pc word here at =
     let same : here.0 ≡ word = cc in
     faultless-read program pc word (instruction_of word) refl (subst (λ w. word_fault (length program) pc (instruction_of w) ≡ None) same here.2)
 
--- ---- a faultless instruction leads to places of the program
+-- ---- where an instruction leads
 
-both_below : (a b n : ℕ) (fault : Fault) (left right : Bool) → nat_lt a n ≡ left → nat_lt b n ≡ right → cond (left && (right && true)) None (Some fault) ≡ None → (a < n) × (b < n)
-both_below a b n fault true true at_left at_right none = (ltb-true a n at_left, ltb-true b n at_right)
-both_below a b n fault true false at_left at_right none = cc
-both_below a b n fault false right at_left at_right none = cc
-
-contains-cons : (y x : ℕ) (ys : List ℕ) → Contains (y ∷ ys) x → (x ≡ y) ⊎ Contains ys x
+pub contains-cons : (y x : ℕ) (ys : List ℕ) → Contains (y ∷ ys) x → (x ≡ y) ⊎ Contains ys x
 contains-cons y x ys (zero, inside, at) = inl (sym at)
 contains-cons y x ys (suc k, inside, at) = inr (k, omega arith, at)
+
+pub all_contained : (P : ℕ → Type 0) (xs : List ℕ) (x : ℕ) → AllByRecursion P xs → Contains xs x → P x
+all_contained P [] x all within = let inside = within.1 in absurd (omega arith)
+all_contained P (y ∷ ys) x all within = elim (contains-cons y x ys within) [
+  | inl e ↦ subst P (sym e) all.0
+  | inr more ↦ all_contained P ys x all.1 more
+]
+
+successors_further : (insn : Insn) (pc : ℕ) → AllByRecursion (λ to. pc < to) (successors insn pc)
+successors_further (Jump k) pc = (omega arith, tt)
+successors_further (JumpIf test operand offsets) pc = (omega arith, (omega arith, tt))
+successors_further (ReturnConstant k) pc = tt
+successors_further ReturnA pc = tt
+successors_further _ pc = (omega arith, tt)
+
+-- each successor of an instruction lies further on
+pub successors_forward : (insn : Insn) (pc to : ℕ) → Contains (successors insn pc) to → pc < to
+successors_forward insn pc to leads = all_contained (λ q. pc < q) (successors insn pc) to (successors_further insn pc) leads
+
+-- ---- a faultless instruction leads to places of the program
+
+pub true_from_none : (test : Bool) (fault : Fault) → cond test None (Some fault) ≡ None → test ≡ true
+true_from_none true fault none = refl
+true_from_none false fault none = cc
+
+both_true : (left right : Bool) → (left && right) ≡ true → (left ≡ true) × (right ≡ true)
+both_true true true both = (refl, refl)
+both_true true false both = cc
+both_true false right both = cc
+
+targets_below : (len n : ℕ) (targets : List ℕ) → len ≤ n → list_all (λ to. nat_lt to len) targets ≡ true → AllByRecursion (λ to. to < n) targets
+targets_below len n [] fits all = tt
+targets_below len n (to ∷ targets) fits all =
+    let both = both_true (nat_lt to len) _ all in
+    let below = ltb-true to len both.0 in
+    (omega arith, targets_below len n targets fits both.1)
+
+pub successors_below : (len n pc : ℕ) (insn : Insn) → instruction_fault len pc insn ≡ None → len ≤ n → ((¬ IsReturn insn) → pc + 1 < n) → AllByRecursion (λ to. to < n) (successors insn pc)
+successors_below len n pc (Jump k) none fits next = targets_below len n (successors (Jump k) pc) fits (true_from_none _ _ none)
+successors_below len n pc (JumpIf test operand offsets) none fits next =
+    targets_below len n (successors (JumpIf test operand offsets) pc) fits (true_from_none _ _ none)
+successors_below len n pc (ReturnConstant k) none fits next = tt
+successors_below len n pc ReturnA none fits next = tt
+successors_below len n pc _ none fits next = (next (λ returns. returns), tt)
 
 module _ (program : List ℕ) (accepted : IsAccepted program) (pc : ℕ) where
   next_inside : (insn : Insn) → IsAt program pc insn → (¬ IsReturn insn) → pc + 1 < length program
@@ -115,14 +128,6 @@ module _ (program : List ℕ) (accepted : IsAccepted program) (pc : ℕ) where
 
   -- each successor of an instruction is a place of the program
   pub successors_inside : (insn : Insn) (to : ℕ) → IsAt program pc insn → instruction_fault (length program) pc insn ≡ None → Contains (successors insn pc) to → to < length program
-  successors_inside (LoadAbsolute size k) to at none leads = elim (contains-cons (pc + 1) to [] leads) [
-    | inl e ↦ rw e (next_inside (LoadAbsolute size k) at (λ returns. returns))
-    | inr more ↦ absurd (omega arith)
-  ]
-  successors_inside (JumpIf test operand offsets) to at none leads =
-      let targets = both_below (pc + 1 + offsets.jt) (pc + 1 + offsets.jf) (length program) (JumpOutside pc) _ _ refl refl none in
-      elim (contains-cons (pc + 1 + offsets.jt) to ((pc + 1 + offsets.jf) ∷ []) leads) [
-        | inl e ↦ rw e targets.0
-        | inr more ↦ elim (contains-cons (pc + 1 + offsets.jf) to [] more) [ inl e ↦ rw e targets.1 | inr none ↦ absurd (omega arith) ]
-      ]
-  successors_inside (ReturnConstant k) to at none leads = absurd (omega arith)
+  successors_inside insn to at none leads =
+      all_contained (λ q. q < length program) (successors insn pc) to
+      (successors_below (length program) (length program) pc insn none (omega arith) (next_inside insn at)) leads

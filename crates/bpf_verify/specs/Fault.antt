@@ -1,6 +1,6 @@
 -- Which fault of a list of words is the first: of its length, else of the least place, else the missing return, else the
 -- least load of a cell that is not stored before.
-use Rattle.std.specs.Prelude.{◌≡◌, ◌<◌, ◌≤◌, List, Some, length, ℕ}
+use Rattle.std.specs.Prelude.{◌≡◌, ◌<◌, ◌≤◌, List, length, ℕ}
 use Rattle.bpf_verify.specs.declared.TheConstants.{MAX_INSTRUCTIONS}
 use Rattle.bpf_verify.specs.declared.fault.Fault.{Fault}
 use Rattle.bpf_verify.specs.declared.fault.Fault.TheVariants.{Ancillary, BadCell, BadOpcode, BadShift, Empty, JumpOutside, NoReturn, StrayField, TooLong, UnstoredCell, ZeroDivisor}

@@ -2,7 +2,7 @@
 -- set"). Targets are exact sums.
 use Rattle.std.specs.Prelude.{◌≡◌, ◌+◌, ◌++◌, ◌∷◌, ◌⊎◌, Contains, List, Ok, Some, [], drop, slice_get, take, ℕ}
 use Rattle.bpf_insn.specs.declared.instruction.Insn.{Insn}
-use Rattle.bpf_insn.specs.declared.instruction.Insn.TheVariants.{JumpIf, LoadAbsolute, ReturnConstant}
+use Rattle.bpf_insn.specs.declared.instruction.Insn.TheVariants.{Jump, JumpIf, LoadCell, LoadXCell, ReturnA, ReturnConstant, Store, StoreX}
 use Rattle.bpf_insn.specs.Word.{instruction_of}
 
 -- the program that stands in a list of words
@@ -15,27 +15,29 @@ IsAt program pc insn = (word : ℕ) × (slice_get program pc ≡ Some word) × (
 
 -- the places that may come after the place pc of an instruction
 abbrev pub successors : Insn → ℕ → List ℕ
+successors (Jump k) pc = (pc + 1 + k) ∷ []
 successors (JumpIf test operand offsets) pc = (pc + 1 + offsets.jt) ∷ (pc + 1 + offsets.jf) ∷ []
 successors (ReturnConstant k) pc = []
-successors (LoadAbsolute size k) pc = (pc + 1) ∷ []
+successors ReturnA pc = []
+successors _ pc = (pc + 1) ∷ []
 
 -- the program ends with the instruction
 abbrev pub IsReturn : Insn → Type 0
 IsReturn (ReturnConstant k) = Unit {0}
-IsReturn (LoadAbsolute size k) = ⊥
-IsReturn (JumpIf test operand offsets) = ⊥
+IsReturn ReturnA = Unit {0}
+IsReturn _ = ⊥
 
 -- the instruction stores this scratch cell
 abbrev pub Stores : Insn → ℕ → Type 0
-Stores (LoadAbsolute size k) cell = ⊥
-Stores (JumpIf test operand offsets) cell = ⊥
-Stores (ReturnConstant k) cell = ⊥
+Stores (Store k) cell = k ≡ cell
+Stores (StoreX k) cell = k ≡ cell
+Stores _ cell = ⊥
 
 -- the instruction loads this scratch cell
 abbrev pub Loads : Insn → ℕ → Type 0
-Loads (LoadAbsolute size k) cell = ⊥
-Loads (JumpIf test operand offsets) cell = ⊥
-Loads (ReturnConstant k) cell = ⊥
+Loads (LoadCell k) cell = k ≡ cell
+Loads (LoadXCell k) cell = k ≡ cell
+Loads _ cell = ⊥
 
 -- the place pc stores, or loads, the cell
 abbrev pub StoresAt : List ℕ → ℕ → ℕ → Type 0

@@ -9,6 +9,19 @@ use crate::fault::Fault;
 use bpf_insn::Offsets;
 
 #[inline(always)]
+pub fn check_target(pc: usize, k: u32, len: usize) -> Option<Fault>
+    requires { pc < MAX_INSTRUCTIONS }
+    ensures fault { result ≡ targets_fault len pc ((pc + 1 + k) ∷ []) }
+    ensures fault_place { IfSome result (IsFaultAt pc) }
+{
+    if pc + 1 + (k as usize) < len {
+        None
+    } else {
+        Some(Fault::JumpOutside { pc })
+    }
+}
+
+#[inline(always)]
 pub fn check_targets(pc: usize, offsets: Offsets, len: usize) -> Option<Fault>
     requires { pc < MAX_INSTRUCTIONS }
     ensures fault { result ≡ targets_fault len pc ((pc + 1 + offsets.jt) ∷ (pc + 1 + offsets.jf) ∷ []) }

@@ -6,25 +6,36 @@
 
 ghost use Rattle.std.specs.Prelude.{◌≡◌, ◌+◌, ◌<◌, ◌≤◌, ◌^◌, ◌↔◌, IfErr, IfOk, IsOk, OnOk, Some, length, slice_get};
 ghost use Rattle.bpf_verify.specs.Path.{program_at};
-ghost use Rattle.bpf_verify.specs.Accepted.{HasFault, IsAccepted, IsFaultless};
+ghost use Rattle.bpf_verify.specs.Accepted.{HasFault, IsAccepted};
 ghost use Rattle.bpf_verify.specs.Fault.{IsFirstFault};
-ghost use Rattle.bpf_verify.specs.Pass.{IsFaultAt, TellsReturn};
+ghost use Rattle.bpf_verify.specs.Pass.{IsFaultAt, IsFaultlessInsn};
 
+mod cells;
 mod fault;
 mod jumps;
 mod operands;
 mod program;
 
-use bpf_insn::Words;
+use bpf_insn::{Insn, Words};
 pub use fault::Fault;
 pub use program::Program;
 
 /// The greatest number of instructions of a program (`BPF_MAXINSNS`).
 pub const MAX_INSTRUCTIONS: usize = 4096;
 
+/// The number of cells of scratch memory (`BPF_MEMWORDS`).
+pub const CELLS: u32 = 16;
+
 /// The least `k` that an absolute load may not have: from here on the kernel reads it as a negative offset, of ancillary
 /// data or of a header below the packet.
 pub const ANCILLARY_FROM: u32 = 1 << 31;
+
+// Sets of cells for a long program take longer to make than a short program takes to check.
+const SHORT: usize = 64;
+
+const SHORT_SETS: usize = SHORT + 1;
+
+const MAX_SETS: usize = MAX_INSTRUCTIONS + 1;
 
 #[inline(always)]
 fn word_at<W: Words>(words: &mut W, from: usize, len: usize, pc: usize) -> u64
@@ -38,42 +49,54 @@ fn word_at<W: Words>(words: &mut W, from: usize, len: usize, pc: usize) -> u64
     words.word(from + pc)
 }
 
-// `Ok` says whether the instruction is a return.
 #[inline(always)]
-fn check_place<W: Words>(words: &mut W, from: usize, len: usize, pc: usize) -> Result<bool, Fault>
+fn check_place<W: Words>(words: &mut W, from: usize, len: usize, pc: usize) -> Result<Insn, Fault>
     requires within { from + len ≤ length (W.words words.old) }
     requires fits { from + len < 2 ^ 64 }
     requires not_too_long { len ≤ MAX_INSTRUCTIONS }
     requires inside { pc < len }
-    ensures faultless { OnOk result (IsFaultless (program_at (W.words words.old) from len) pc) }
-    ensures returns { IfOk result (TellsReturn (program_at (W.words words.old) from len) pc) }
+    ensures faultless { IfOk result (IsFaultlessInsn (program_at (W.words words.old) from len) pc) }
     ensures fault { IfErr result (HasFault (program_at (W.words words.old) from len) pc) }
     ensures fault_place { IfErr result (IsFaultAt pc) }
     ensures words_kept { W.words words.new ≡ W.words words.old }
     ensures rest_kept { W.rest words.new ≡ W.rest words.old }
 {
-    let insn = operands::check_word(word_at(words, from, len, pc), pc, len)?;
-    Ok(operands::is_return(insn))
+    operands::check_word(word_at(words, from, len, pc), pc, len)
 }
 
-fn check_places<W: Words>(words: &mut W, from: usize, len: usize) -> Result<(), Fault>
+// `N` is greater than the length: a set more, for the place after the last one.
+fn check_places<W: Words, const N: usize>(
+    words: &mut W,
+    from: usize,
+    len: usize,
+) -> Result<(), Fault>
     requires within { from + len ≤ length (W.words words.old) }
     requires fits { from + len < 2 ^ 64 }
     requires not_empty { 0 < len }
     requires not_too_long { len ≤ MAX_INSTRUCTIONS }
+    requires a_set_more { len < N }
+    requires sets_limited { N ≤ MAX_INSTRUCTIONS + 1 }
     ensures accepted { OnOk result (IsAccepted (program_at (W.words words.old) from len)) }
     ensures first_fault { IfErr result (IsFirstFault (program_at (W.words words.old) from len)) }
     ensures words_kept { W.words words.new ≡ W.words words.old }
     ensures rest_kept { W.rest words.new ≡ W.rest words.old }
 {
+    let mut stored = cells::before_the_pass::<N>();
+    let mut unstored = None;
     let mut returns = false;
     for pc in 0..len {
-        returns = check_place(words, from, len, pc)?;
+        let insn = check_place(words, from, len, pc)?;
+        let before = stored[pc];
+        unstored = cells::first_unstored(unstored, insn, before, pc);
+        cells::join_successors(&mut stored, insn, before, pc);
+        returns = operands::is_return(insn);
     }
-    if returns {
-        Ok(())
-    } else {
-        Err(Fault::NoReturn)
+    if !returns {
+        return Err(Fault::NoReturn);
+    }
+    match unstored {
+        Some(pc) => Err(Fault::UnstoredCell { pc }),
+        None => Ok(()),
     }
 }
 
@@ -91,7 +114,11 @@ fn check_program<W: Words>(words: &mut W, from: usize, len: usize) -> Result<(),
     if len > MAX_INSTRUCTIONS {
         return Err(Fault::TooLong);
     }
-    check_places(words, from, len)
+    if len <= SHORT {
+        check_places::<W, SHORT_SETS>(words, from, len)
+    } else {
+        check_places::<W, MAX_SETS>(words, from, len)
+    }
 }
 
 /// Tests whether the `len` words from place `from` on are a program that never gets stuck: the checks of the kernel's
