@@ -1,11 +1,9 @@
 -- Worked words of the standard's instructions, so that a slip in a definition does not check.
-use Rattle.std.specs.Prelude.{◌≡◌, Err, Ok, Result, refl}
-use Rattle.bpf_insn.specs.declared.instruction.Insn.{Insn}
+use Rattle.std.specs.Prelude.{◌≡◌, Err, Ok, refl}
 use Rattle.bpf_insn.specs.declared.instruction.Insn.TheVariants.{JumpIf, LoadAbsolute, ReturnConstant}
 use Rattle.bpf_insn.specs.declared.instruction.Size.TheVariants.{Byte}
 use Rattle.bpf_insn.specs.declared.instruction.Operand.TheVariants.{K}
 use Rattle.bpf_insn.specs.declared.instruction.Test.TheVariants.{Equal}
-use Rattle.bpf_insn.specs.declared.instruction.WordFault.{WordFault}
 use Rattle.bpf_insn.specs.declared.instruction.WordFault.TheVariants.{BadOpcode, StrayField}
 use Rattle.bpf_insn.specs.Table.{table, uses_of}
 use Rattle.bpf_insn.specs.Word.{instruction_of}

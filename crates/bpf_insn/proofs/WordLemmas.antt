@@ -1,5 +1,5 @@
 -- Words and instructions: each is read back from the other.
-use Rattle.std.proofs.Common.{◌≡◌, ◌==◌, ◌∙◌, ◌+◌, ◌*◌, ◌/◌, ◌%◌, ◌^◌, ◌<◌, Bool, Err, IfOk, IsNone, IsOk, IsSome, List, None, Ok, Option, Result, Some, [], ap, arith, bit_and, cond, false, refl, sym, true, ◌∷◌, ◌↔◌, ℕ}
+use Rattle.std.proofs.Common.{◌≡◌, ◌==◌, ◌∙◌, ◌+◌, ◌/◌, ◌^◌, ◌<◌, Bool, Err, IfOk, IsNone, IsOk, IsSome, List, None, Ok, Option, Result, Some, [], ap, arith, bit_and, cond, false, refl, sym, true, ◌∷◌, ◌↔◌, ℕ}
 use Rattle.std.specs.Int.{from_be_bytes, to_be_bytes, w64}
 use Rattle.std.proofs.lemmas.Bool.{eqb-true}
 use Rattle.std.proofs.lemmas.Nat.{and_mask, from_be_bytes-to_be_bytes_8}

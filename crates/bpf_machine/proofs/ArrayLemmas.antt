@@ -9,7 +9,7 @@ use Rattle.bpf_machine.specs.declared.execute.TheConstants.{CELL_COUNT}
 use Rattle.bpf_verify.specs.Path.{IsAt}
 use Rattle.bpf_verify.specs.Accepted.{IsAccepted}
 use Rattle.bpf_verify.specs.Pass.{HasCell}
-use Rattle.bpf_machine.specs.Meaning.{Cells, Effect, Ending, Ret, Run, Stuck, a_or_end, a_or_stuck, computed, effect, ends, goes_on, header_length, no_cells, one_more, operand_value, run_after, with_cell, x_or_end, x_or_stuck}
+use Rattle.bpf_machine.specs.Meaning.{Cells, Effect, Ret, Run, Stuck, a_or_end, a_or_stuck, computed, effect, ends, goes_on, header_length, no_cells, one_more, operand_value, run_after, with_cell, x_or_end, x_or_stuck}
 use Rattle.bpf_machine.specs.ArrayMachine.{ArrayEffect, array_effect}
 use Rattle.bpf_machine.specs.ArrayMachine as array
 use Rattle.bpf_machine.specs.Packet.{packet_number}

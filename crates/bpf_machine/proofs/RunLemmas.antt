@@ -1,5 +1,5 @@
 -- Runs word by word, and from a place of a program on.
-use Rattle.std.proofs.Common.{◌≡◌, ◌∙◌, ◌∷◌, ◌+◌, List, Ok, Some, [], ap, arith, drop, get_or, refl, suc, zero, ℕ}
+use Rattle.std.proofs.Common.{◌≡◌, ◌∙◌, ◌∷◌, ◌+◌, List, Some, [], ap, arith, drop, get_or, refl, suc, zero, ℕ}
 use Rattle.std.specs.Prelude.{slice_get}
 use Rattle.std.proofs.Math.Seq.{drop-cons, drop-nil}
 use Rattle.std.proofs.lemmas.List.{drop-drop}

@@ -1,5 +1,5 @@
 -- A run of an accepted program stays safe: it comes along a path, and each cell that the path stored has a value.
-use Rattle.std.proofs.Common.{◌≡◌, ◌∙◌, ◌⊎◌, ◌∷◌, ◌++◌, ◌+◌, ◌-◌, ◌<◌, ◌≤◌, Bool, IsSome, List, None, Ok, Option, Some, [], ap, arith, cond, eqb, false, inl, inr, length, refl, subst, suc, sym, true, zero, ℕ}
+use Rattle.std.proofs.Common.{◌≡◌, ◌∙◌, ◌⊎◌, ◌∷◌, ◌++◌, ◌+◌, ◌-◌, ◌<◌, ◌≤◌, Bool, IsSome, List, None, Option, Some, [], ap, arith, cond, eqb, false, inl, inr, length, refl, subst, suc, sym, true, zero, ℕ}
 use Rattle.std.specs.Prelude.{Contains, slice_get}
 use Rattle.std.proofs.lemmas.Bool.{eq-eqb}
 use Rattle.bpf_insn.specs.declared.instruction.Insn.{Insn}
@@ -7,13 +7,13 @@ use Rattle.bpf_insn.specs.declared.instruction.Insn.TheVariants.{Alu, CopyFromX,
 use Rattle.bpf_insn.specs.declared.instruction.Size.TheVariants.{Byte}
 use Rattle.bpf_insn.specs.Word.{IsInstructionWord}
 use Rattle.bpf_insn.proofs.WordLemmas.{instruction_of-sound}
-use Rattle.bpf_verify.specs.Path.{IsAt, IsPath, IsPathFrom, IsStoredOn, Loads, StepsTo, Stores, StoresAt, program_at, successors}
+use Rattle.bpf_verify.specs.Path.{IsAt, IsPath, IsStoredOn, Loads, Stores, StoresAt, program_at, successors}
 use Rattle.bpf_verify.specs.Accepted.{IsAccepted, instruction_fault}
 use Rattle.bpf_verify.specs.Pass.{HasCell}
 use Rattle.bpf_verify.proofs.CellLemmas.{has_cell}
 use Rattle.bpf_verify.proofs.PathLemmas.{IsPath-append}
 use Rattle.bpf_verify.proofs.PlaceLemmas.{IsAt-unique, faultless_at, length-program_at, slice_get-program_at, successors_inside}
-use Rattle.bpf_machine.specs.Meaning.{Cells, Effect, Ending, IsSound, Ret, Run, Stuck, a_or_end, a_or_stuck, computed, effect, ends, goes_on, header_length, holds, no_cells, one_more, operand_value, run_after, with_cell, x_or_end, x_or_stuck}
+use Rattle.bpf_machine.specs.Meaning.{Cells, Effect, IsSound, Ret, Run, Stuck, a_or_end, a_or_stuck, computed, effect, ends, goes_on, header_length, holds, no_cells, one_more, operand_value, with_cell, x_or_end, x_or_stuck}
 use Rattle.bpf_machine.specs.Packet.{packet_number}
 use Rattle.bpf_machine.proofs.RunLemmas.{run_from, run_from-ends, run_from-goes_on}
 

@@ -1,7 +1,6 @@
 -- What a program means: the machine of McCanne and Jacobson 1993, section 3, over the words that remain
 -- (networking/filter.rst, "BPF engine and instruction set"; docs/MACHINE.md, "The machine").
 use Rattle.std.specs.Prelude.{◌≡◌, ◌≢◌, ◌==◌, ◌+◌, ◌-◌, ◌*◌, ◌/◌, ◌%◌, ◌^◌, ◌≤◌, ◌∷◌, if◌then◌else◌, Bool, Err, List, None, Ok, Option, Result, Some, [], bit_and, bit_or, bit_xor, drop, length, nat_le, nat_lt, not, suc, zero, ℕ}
-use Rattle.bpf_verify.specs.Accepted.{IsAccepted}
 use Rattle.bpf_insn.specs.declared.instruction.Insn.{Insn}
 use Rattle.bpf_insn.specs.declared.instruction.Insn.TheVariants.{Alu, CopyFromX, CopyToX, Jump, JumpIf, LoadAbsolute, LoadCell, LoadConstant, LoadIndexed, LoadLength, LoadXCell, LoadXConstant, LoadXHeader, LoadXLength, Negate, ReturnA, ReturnConstant, Store, StoreX}
 use Rattle.bpf_insn.specs.declared.instruction.Operand.{Operand}

@@ -1,22 +1,20 @@
 -- Places of a program: what stands there, and where it leads.
-use Rattle.std.proofs.Common.{◌≡◌, ◌∙◌, ◌++◌, ◌+◌, ◌-◌, ◌<◌, ◌≤◌, Bool, List, None, Ok, Result, Some, ap, arith, drop, length, length-drop, subst, sym, take, ℕ}
-use Rattle.std.proofs.Math.Seq.{drop-append_seam, take-append_seam, take-length}
-use Rattle.std.proofs.lemmas.List.{length-take-le}
-use Rattle.bpf_insn.specs.declared.instruction.Insn.{Insn}
-use Rattle.bpf_insn.specs.declared.instruction.WordFault.{WordFault}
-use Rattle.bpf_insn.specs.Word.{instruction_of}
-use Rattle.bpf_verify.specs.Path.{IsAt, IsReturn, program_at, successors}
-use Rattle.bpf_insn.specs.declared.instruction.Insn.TheVariants.{Jump, JumpIf, ReturnA, ReturnConstant}
-use Rattle.bpf_insn.specs.declared.instruction.WordFault.TheVariants.{BadOpcode, StrayField}
-use Rattle.bpf_verify.specs.declared.fault.Fault.{Fault}
-use Rattle.bpf_verify.specs.Accepted.{IsAccepted, IsFaultless, instruction_fault, word_fault}
-use Rattle.std.specs.List.{AllByRecursion, list_all}
-use Rattle.std.proofs.lemmas.Bool.{cases_eq, ltb-true}
-use Rattle.std.proofs.lemmas.Option.{slice_get-get_or, slice_get_within}
-use Rattle.std.proofs.lemmas.Grind.{common_steps}
-use Rattle.std.proofs.Common.{get_or}
+use Rattle.std.proofs.Common.{◌++◌, ◌+◌, ◌-◌, ◌<◌, ◌∙◌, ◌∷◌, ◌≡◌, ◌≤◌, ◌⊎◌, Bool, Err, List, None, Ok, Result, Some, [], ap, arith, cond, drop, false, get_or, inl, inr, length, length-drop, refl, subst, suc, sym, take, true, zero, ℕ}
 use Rattle.std.specs.Prelude.{◌&&◌, Contains, nat_lt, slice_get}
-use Rattle.std.proofs.Common.{◌⊎◌, Err, [], ◌∷◌, cond, false, inl, inr, refl, suc, true, zero}
+use Rattle.std.specs.List.{AllByRecursion, list_all}
+use Rattle.std.proofs.Math.Seq.{drop-append_seam, take-append_seam, take-length}
+use Rattle.std.proofs.lemmas.Bool.{cases_eq, ltb-true}
+use Rattle.std.proofs.lemmas.Grind.{common_steps}
+use Rattle.std.proofs.lemmas.List.{length-take-le}
+use Rattle.std.proofs.lemmas.Option.{slice_get-get_or, slice_get_within}
+use Rattle.bpf_insn.specs.Word.{instruction_of}
+use Rattle.bpf_insn.specs.declared.instruction.Insn.{Insn}
+use Rattle.bpf_insn.specs.declared.instruction.Insn.TheVariants.{Jump, JumpIf, ReturnA, ReturnConstant}
+use Rattle.bpf_insn.specs.declared.instruction.WordFault.{WordFault}
+use Rattle.bpf_insn.specs.declared.instruction.WordFault.TheVariants.{BadOpcode, StrayField}
+use Rattle.bpf_verify.specs.Accepted.{IsAccepted, IsFaultless, instruction_fault, word_fault}
+use Rattle.bpf_verify.specs.Path.{IsAt, IsReturn, program_at, successors}
+use Rattle.bpf_verify.specs.declared.fault.Fault.{Fault}
 
 -- ---- a program in a longer list
 

@@ -5,8 +5,11 @@ use std::alloc::Global;
 use std::test::Fail;
 
 const RETURN: u64 = 0x0006_0000_0000_0000;
+
 const RETURN_A: u64 = 0x0016_0000_0000_0000;
+
 const LOAD_CELL: u64 = 0x0060_0000_0000_0000;
+
 const STORE: u64 = 0x0002_0000_0000_0000;
 
 // networking/filter.rst, "port 22" as tcpdump -dd prints it.
@@ -162,7 +165,10 @@ const REFUSED: [(&[u64], Fault); 26] = [
         ],
         Fault::UnstoredCell { pc: 1 },
     ),
-    (&[0x0061_0000_0000_0000, RETURN], Fault::UnstoredCell { pc: 0 }),
+    (
+        &[0x0061_0000_0000_0000, RETURN],
+        Fault::UnstoredCell { pc: 0 },
+    ),
     // A store behind the load, which no jump comes back from.
     (&[LOAD_CELL, STORE, RETURN], Fault::UnstoredCell { pc: 0 }),
 ];
@@ -190,9 +196,16 @@ fn faults_at_the_least_place(rt: HostRuntime) {
     assert_eq!(rt; field, Err(Fault::StrayField { pc: 0 }));
     let load = verdict(&[0x0020_0000_8000_0000, 0x0016_0000_0000_0000]);
     assert_eq!(rt; load, Err(Fault::Ancillary { pc: 0 }));
-    let jump = verdict(&[0x0005_0000_0000_0005, 0x0064_0000_0000_0028, 0x0000_0000_0000_0001]);
+    let jump = verdict(&[
+        0x0005_0000_0000_0005,
+        0x0064_0000_0000_0028,
+        0x0000_0000_0000_0001,
+    ]);
     assert_eq!(rt; jump, Err(Fault::JumpOutside { pc: 0 }));
-    assert_eq!(rt; verdict(&[0x00b1_0000_8000_0000, 0x0016_0000_0000_0000]), Ok(()));
+    assert_eq!(rt;
+        verdict(&[0x00b1_0000_8000_0000, 0x0016_0000_0000_0000]),
+        Ok(())
+    );
 }
 
 #[test]
@@ -221,7 +234,12 @@ fn empty_and_unended_programs(rt: HostRuntime) {
 
 #[test]
 fn inside_a_longer_list(rt: HostRuntime) {
-    let mut words: &[u64] = &[0x0008_0000_0000_0000, 0x0030_0000_0000_0009, RETURN, 0x0008_0000_0000_0000];
+    let mut words: &[u64] = &[
+        0x0008_0000_0000_0000,
+        0x0030_0000_0000_0009,
+        RETURN,
+        0x0008_0000_0000_0000,
+    ];
     assert_eq!(rt; verify(&mut words, 1, 2), Ok(()));
     assert_eq!(rt; verify(&mut words, 1, 3), Err(Fault::BadOpcode { pc: 2 }));
     assert_eq!(rt; verify(&mut words, 4, 0), Err(Fault::Empty));
@@ -245,7 +263,10 @@ fn short_and_long_programs(rt: HostRuntime) -> Result<(), Fail> {
         let stored = store_and_load(rt.alloc(), 0, count)?;
         assert_eq!(rt; verdict(&stored), Ok(()));
         let skipped = store_and_load(rt.alloc(), 0x0015_0001_0000_0000, count)?;
-        assert_eq!(rt; verdict(&skipped), Err(Fault::UnstoredCell { pc: count - 2 }));
+        assert_eq!(rt;
+            verdict(&skipped),
+            Err(Fault::UnstoredCell { pc: count - 2 })
+        );
     }
     Ok(())
 }
