@@ -245,28 +245,24 @@ fn inside_a_longer_list(rt: HostRuntime) {
     assert_eq!(rt; verify(&mut words, 4, 0), Err(Fault::Empty));
 }
 
-// jeq #0,0,1 or ld #0; st M[0]; ld #0 ..; ld M[0]; ret a
-fn store_and_load(alloc: Global, first: u64, count: usize) -> Result<Vec<u64>, Fail>
-    requires { 4 ≤ count }
-{
-    let mut words = vec![in alloc; 0; count]?;
-    words[0] = first;
-    words[1] = STORE;
-    words[count - 2] = LOAD_CELL;
-    words[count - 1] = RETURN_A;
+// The first word; st M[0]; as many ld #0; ld M[0]; ret a
+fn store_and_load(alloc: Global, first: u64, between: usize) -> Result<Vec<u64>, Fail> {
+    let mut words = vec![in alloc; 0; between]?;
+    words.insert(0, STORE)?;
+    words.insert(0, first)?;
+    words.push(LOAD_CELL)?;
+    words.push(RETURN_A)?;
     Ok(words)
 }
 
 #[test]
 fn short_and_long_programs(rt: HostRuntime) -> Result<(), Fail> {
-    for count in [64, 65, MAX_INSTRUCTIONS] {
-        let stored = store_and_load(rt.alloc(), 0, count)?;
+    // Programs of 64, 65 and 4096 instructions.
+    for (between, load) in [(60, 62), (61, 63), (4092, 4094)] {
+        let stored = store_and_load(rt.alloc(), 0, between)?;
         assert_eq!(rt; verdict(&stored), Ok(()));
-        let skipped = store_and_load(rt.alloc(), 0x0015_0001_0000_0000, count)?;
-        assert_eq!(rt;
-            verdict(&skipped),
-            Err(Fault::UnstoredCell { pc: count - 2 })
-        );
+        let around = store_and_load(rt.alloc(), 0x0015_0001_0000_0000, between)?;
+        assert_eq!(rt; verdict(&around), Err(Fault::UnstoredCell { pc: load }));
     }
     Ok(())
 }
