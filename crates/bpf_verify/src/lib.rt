@@ -27,7 +27,7 @@ pub const MAX_INSTRUCTIONS: usize = 4096;
 pub const CELLS: u32 = 16;
 
 /// The least `k` that an absolute load may not have: from here on the kernel reads it as a negative offset, of ancillary
-/// data or of a header below the packet.
+/// data or of a place relative to the link or network header.
 pub const ANCILLARY_FROM: u32 = 1 << 31;
 
 // Sets of cells for a long program take longer to make than a short program takes to check.

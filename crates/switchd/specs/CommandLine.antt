@@ -1,6 +1,7 @@
 -- The program's command line, as the contracts of `clap` see it.
-use Rattle.std.specs.Prelude.{◌⊎◌, [], List, codes, true}
+use Rattle.std.specs.Prelude.{◌≢◌, ◌⊎◌, [], List, codes, true}
 use Rattle.clap.specs.Words.{App, IsAmong, Kinds, Shape, Text, fault_of, new_app, with_subcommand}
+use Rattle.clap.specs.declared.error.kind.ErrorKind.{ErrorKind}
 use Rattle.clap.specs.declared.error.kind.ErrorKind.TheVariants.{DisplayHelp, DisplayVersion}
 
 abbrev bare : Shape
@@ -20,3 +21,7 @@ faults_in = fault_of command_line
 -- the help or the version is asked for
 abbrev pub AsksForText : Kinds → Type 0
 AsksForText kinds = IsAmong DisplayHelp kinds ⊎ IsAmong DisplayVersion kinds
+
+-- there is a fault beside requests for the help or the version
+abbrev pub HasMisuse : Kinds → Type 0
+HasMisuse kinds = (kind : ErrorKind) × IsAmong kind kinds × (kind ≢ DisplayHelp) × (kind ≢ DisplayVersion)

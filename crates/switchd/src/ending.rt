@@ -12,7 +12,7 @@ use std::io::Write;
 #[derive(Clone, Copy, Debug, PartialEq, Eq)]
 pub enum Status {
     Done = 0,
-    /// The words name no command.
+    /// The words are at fault.
     Misused = 2,
     Failed = 3,
 }

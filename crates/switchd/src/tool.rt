@@ -3,7 +3,7 @@
 ghost use Rattle.std.specs.Prelude.{◌≡◌, ◌≢◌, ◌⊎◌, [], IsSome, IfSome, Ok, Err, Some, map, string_bytes};
 ghost use Rattle.std.specs.Io.KnownBytes.{Appends};
 ghost use Rattle.clap.specs.Words.{kind_of};
-ghost use Rattle.switchd.specs.CommandLine.{AsksForText, faults_in};
+ghost use Rattle.switchd.specs.CommandLine.{AsksForText, HasMisuse, faults_in};
 ghost use Rattle.switchd.specs.Ending.{IsStatus, code_of};
 ghost use Rattle.switchd.specs.FirstPath.{first_text};
 
@@ -31,18 +31,34 @@ pub fn tool<R: Read + Drop, W: Write, E: Write>(
     ensures first_written { result ≡ Some (code_of Status.Done) → faults_in (map string_bytes words.now) ≡ []
         → Appends (W.contents out.old) (W.contents out.new) first_text }
 
-    ensures misused { result ≡ Some (code_of Status.Misused) → faults_in (map string_bytes words.now) ≢ [] }
+    ensures misused { result ≡ Some (code_of Status.Misused) → HasMisuse (faults_in (map string_bytes words.now)) }
     ensures nothing_written { result ≡ Some (code_of Status.Misused) → out.new ≡ out.old }
 {
-    let ended = match read_words(alloc, words) {
-        Ok(Subcommand::First) => run_first(alloc, out),
-        Err(fault) => answer(&fault, out, errs),
-    };
-    let status = match ended {
+    let status = match run_words(alloc, words, out, errs) {
         Ok(status) => status,
         Err(failure) => failure.report(errs),
     };
     Some(status as u8)
+}
+
+fn run_words<W: Write, E: Write>(
+    alloc: Global,
+    words: &[String],
+    out: &mut W,
+    errs: &mut E,
+) -> Result<Status, Failure>
+    ensures done { result ≡ Ok Status.Done
+        → (faults_in (map string_bytes words.now) ≡ []) ⊎ AsksForText (faults_in (map string_bytes words.now)) }
+    ensures first_written { result ≡ Ok Status.Done → faults_in (map string_bytes words.now) ≡ []
+        → Appends (W.contents out.old) (W.contents out.new) first_text }
+
+    ensures misused { result ≡ Ok Status.Misused → HasMisuse (faults_in (map string_bytes words.now)) }
+    ensures nothing_written { result ≡ Ok Status.Misused → out.new ≡ out.old }
+{
+    match read_words(alloc, words) {
+        Ok(Subcommand::First) => run_first(alloc, out),
+        Err(fault) => answer(&fault, out, errs),
+    }
 }
 
 // Help and the version are results.
@@ -53,7 +69,9 @@ fn answer<W: Write, E: Write>(
 ) -> Result<Status, Failure>
     ensures done { result ≡ Ok Status.Done
         → (kind_of fault.now ≡ ErrorKind.DisplayHelp) ⊎ (kind_of fault.now ≡ ErrorKind.DisplayVersion) }
-    ensures misused { result ≡ Ok Status.Misused → out.new ≡ out.old }
+    ensures misused { result ≡ Ok Status.Misused
+        → (kind_of fault.now ≢ ErrorKind.DisplayHelp) × (kind_of fault.now ≢ ErrorKind.DisplayVersion) }
+    ensures nothing_written { result ≡ Ok Status.Misused → out.new ≡ out.old }
     ensures no_memory { kind_of fault.now ≡ ErrorKind.OutOfMemory → result ≡ Err Failure.OutOfMemory }
 {
     if fault.kind() == ErrorKind::OutOfMemory {
