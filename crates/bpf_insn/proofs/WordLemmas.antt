@@ -43,13 +43,9 @@ module _ (code jt jf k : ℕ) (jt_fits : jt < 2 ^ 8) (jf_fits : jf < 2 ^ 8) (k_f
       let n = constant_of-word in
       cc
 
--- the fields as the decoder takes them
-pub decoded_with-masked : (w : ℕ) → decoded_with (uses_of (w / 2 ^ 48)) (bit_and (w / 2 ^ 40) 255) (bit_and (w / 2 ^ 32) 255) (bit_and w 4294967295) ≡ decoded_with (uses_of (code_of w)) (true_jump_of w) (false_jump_of w) (constant_of w)
-decoded_with-masked w =
-    let t = and_mask (w / 2 ^ 40) 8 in
-    let f = and_mask (w / 2 ^ 32) 8 in
-    let n = and_mask w 32 in
-    cc
+-- the constant as the decoder takes it
+pub decoded_with-masked : (w : ℕ) → decoded_with (uses_of (w / 2 ^ 48)) (true_jump_of w) (false_jump_of w) (bit_and w 4294967295) ≡ decoded_with (uses_of (code_of w)) (true_jump_of w) (false_jump_of w) (constant_of w)
+decoded_with-masked w = let n = and_mask w 32 in cc
 
 -- ---- from instructions to words and back
 

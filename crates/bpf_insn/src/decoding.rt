@@ -2,6 +2,7 @@
 
 ghost use Rattle.std.specs.Prelude.{◌≡◌, ◌==◌, ◌+◌, ◌↔◌, Err, IfOk, IsNone, IsOk, IsSome, Ok, Some};
 ghost use Rattle.std.specs.Int.{from_be_bytes, to_be_bytes, w64};
+ghost use Rattle.bpf_insn.specs.declared.instruction.Insn.TheVariants.{JumpIf};
 ghost use Rattle.bpf_insn.specs.Table.{uses_of};
 ghost use Rattle.bpf_insn.specs.Word.{IsInstructionWord, ReadsInstructionWords, code_of, constant_of, false_jump_of, instruction_of, true_jump_of, word_of};
 ghost use Rattle.bpf_insn.specs.Decoded.{decoded_with, tested};
@@ -16,10 +17,45 @@ struct Decoded {
 }
 
 #[inline(always)]
-fn nothing(insn: Insn, offsets: Offsets, k: u32) -> Option<Decoded>
-    ensures { result ≡ Some (record { insn = insn; unused_zero = (offsets.jt + offsets.jf + k == 0) }) }
+fn true_jump(word: u64) -> u8
+    ensures { result ≡ true_jump_of word }
 {
-    let unused_zero = offsets.jt == 0 && offsets.jf == 0 && k == 0;
+    ((word >> 40) & 0xff) as u8
+}
+
+#[inline(always)]
+fn false_jump(word: u64) -> u8
+    ensures { result ≡ false_jump_of word }
+{
+    ((word >> 32) & 0xff) as u8
+}
+
+#[inline(always)]
+fn no_offsets(word: u64) -> bool
+    ensures { result ≡ (true_jump_of word + false_jump_of word == 0) }
+{
+    (word >> 32) & 0xffff == 0
+}
+
+#[inline(always)]
+fn jump_if(test: Test, operand: Operand, word: u64) -> Insn
+    ensures { result ≡ JumpIf test operand (record { jt = true_jump_of word; jf = false_jump_of word }) }
+{
+    Insn::JumpIf(
+        test,
+        operand,
+        Offsets {
+            jt: true_jump(word),
+            jf: false_jump(word),
+        },
+    )
+}
+
+#[inline(always)]
+fn nothing(insn: Insn, word: u64, k: u32) -> Option<Decoded>
+    ensures { result ≡ Some (record { insn = insn; unused_zero = (true_jump_of word + false_jump_of word + k == 0) }) }
+{
+    let unused_zero = no_offsets(word) && k == 0;
     Some(Decoded { insn, unused_zero })
 }
 
@@ -34,11 +70,13 @@ fn jumps(insn: Insn, k: u32) -> Option<Decoded>
 }
 
 #[inline(always)]
-fn constant(insn: Insn, offsets: Offsets) -> Option<Decoded>
-    ensures { result ≡ Some (record { insn = insn; unused_zero = (offsets.jt + offsets.jf == 0) }) }
+fn constant(insn: Insn, word: u64) -> Option<Decoded>
+    ensures { result ≡ Some (record { insn = insn; unused_zero = (true_jump_of word + false_jump_of word == 0) }) }
 {
-    let unused_zero = offsets.jt == 0 && offsets.jf == 0;
-    Some(Decoded { insn, unused_zero })
+    Some(Decoded {
+        insn,
+        unused_zero: no_offsets(word),
+    })
 }
 
 #[inline(always)]
@@ -53,59 +91,59 @@ fn all(insn: Insn) -> Option<Decoded>
 
 #[inline(always)]
 #[tactic(auto, unfolding(crate::specs::Table::uses_of, crate::specs::Table::table))]
-fn decode_fields(code: u16, offsets: Offsets, k: u32) -> Option<Decoded>
-    ensures { result ≡ decoded_with (uses_of code) offsets.jt offsets.jf k }
+fn decode_fields(code: u16, word: u64, k: u32) -> Option<Decoded>
+    ensures { result ≡ decoded_with (uses_of code) (true_jump_of word) (false_jump_of word) k }
 {
     match code {
-        0x20 => constant(Insn::LoadAbsolute(Size::Word, k), offsets),
-        0x28 => constant(Insn::LoadAbsolute(Size::Half, k), offsets),
-        0x30 => constant(Insn::LoadAbsolute(Size::Byte, k), offsets),
-        0x40 => constant(Insn::LoadIndexed(Size::Word, k), offsets),
-        0x48 => constant(Insn::LoadIndexed(Size::Half, k), offsets),
-        0x50 => constant(Insn::LoadIndexed(Size::Byte, k), offsets),
-        0x00 => constant(Insn::LoadConstant(k), offsets),
-        0x60 => constant(Insn::LoadCell(k), offsets),
-        0x80 => nothing(Insn::LoadLength, offsets, k),
-        0x01 => constant(Insn::LoadXConstant(k), offsets),
-        0x61 => constant(Insn::LoadXCell(k), offsets),
-        0x81 => nothing(Insn::LoadXLength, offsets, k),
-        0xb1 => constant(Insn::LoadXHeader(k), offsets),
-        0x02 => constant(Insn::Store(k), offsets),
-        0x03 => constant(Insn::StoreX(k), offsets),
-        0x04 => constant(Insn::Alu(Operation::Add, Operand::K(k)), offsets),
-        0x0c => nothing(Insn::Alu(Operation::Add, Operand::X), offsets, k),
-        0x14 => constant(Insn::Alu(Operation::Sub, Operand::K(k)), offsets),
-        0x1c => nothing(Insn::Alu(Operation::Sub, Operand::X), offsets, k),
-        0x24 => constant(Insn::Alu(Operation::Mul, Operand::K(k)), offsets),
-        0x2c => nothing(Insn::Alu(Operation::Mul, Operand::X), offsets, k),
-        0x34 => constant(Insn::Alu(Operation::Div, Operand::K(k)), offsets),
-        0x3c => nothing(Insn::Alu(Operation::Div, Operand::X), offsets, k),
-        0x44 => constant(Insn::Alu(Operation::Or, Operand::K(k)), offsets),
-        0x4c => nothing(Insn::Alu(Operation::Or, Operand::X), offsets, k),
-        0x54 => constant(Insn::Alu(Operation::And, Operand::K(k)), offsets),
-        0x5c => nothing(Insn::Alu(Operation::And, Operand::X), offsets, k),
-        0x64 => constant(Insn::Alu(Operation::Lsh, Operand::K(k)), offsets),
-        0x6c => nothing(Insn::Alu(Operation::Lsh, Operand::X), offsets, k),
-        0x74 => constant(Insn::Alu(Operation::Rsh, Operand::K(k)), offsets),
-        0x7c => nothing(Insn::Alu(Operation::Rsh, Operand::X), offsets, k),
-        0x94 => constant(Insn::Alu(Operation::Mod, Operand::K(k)), offsets),
-        0x9c => nothing(Insn::Alu(Operation::Mod, Operand::X), offsets, k),
-        0xa4 => constant(Insn::Alu(Operation::Xor, Operand::K(k)), offsets),
-        0xac => nothing(Insn::Alu(Operation::Xor, Operand::X), offsets, k),
-        0x84 => nothing(Insn::Negate, offsets, k),
-        0x07 => nothing(Insn::CopyToX, offsets, k),
-        0x87 => nothing(Insn::CopyFromX, offsets, k),
-        0x05 => constant(Insn::Jump(k), offsets),
-        0x15 => all(Insn::JumpIf(Test::Equal, Operand::K(k), offsets)),
-        0x1d => jumps(Insn::JumpIf(Test::Equal, Operand::X, offsets), k),
-        0x25 => all(Insn::JumpIf(Test::Greater, Operand::K(k), offsets)),
-        0x2d => jumps(Insn::JumpIf(Test::Greater, Operand::X, offsets), k),
-        0x35 => all(Insn::JumpIf(Test::GreaterOrEqual, Operand::K(k), offsets)),
-        0x3d => jumps(Insn::JumpIf(Test::GreaterOrEqual, Operand::X, offsets), k),
-        0x45 => all(Insn::JumpIf(Test::CommonBit, Operand::K(k), offsets)),
-        0x4d => jumps(Insn::JumpIf(Test::CommonBit, Operand::X, offsets), k),
-        0x06 => constant(Insn::ReturnConstant(k), offsets),
-        0x16 => nothing(Insn::ReturnA, offsets, k),
+        0x20 => constant(Insn::LoadAbsolute(Size::Word, k), word),
+        0x28 => constant(Insn::LoadAbsolute(Size::Half, k), word),
+        0x30 => constant(Insn::LoadAbsolute(Size::Byte, k), word),
+        0x40 => constant(Insn::LoadIndexed(Size::Word, k), word),
+        0x48 => constant(Insn::LoadIndexed(Size::Half, k), word),
+        0x50 => constant(Insn::LoadIndexed(Size::Byte, k), word),
+        0x00 => constant(Insn::LoadConstant(k), word),
+        0x60 => constant(Insn::LoadCell(k), word),
+        0x80 => nothing(Insn::LoadLength, word, k),
+        0x01 => constant(Insn::LoadXConstant(k), word),
+        0x61 => constant(Insn::LoadXCell(k), word),
+        0x81 => nothing(Insn::LoadXLength, word, k),
+        0xb1 => constant(Insn::LoadXHeader(k), word),
+        0x02 => constant(Insn::Store(k), word),
+        0x03 => constant(Insn::StoreX(k), word),
+        0x04 => constant(Insn::Alu(Operation::Add, Operand::K(k)), word),
+        0x0c => nothing(Insn::Alu(Operation::Add, Operand::X), word, k),
+        0x14 => constant(Insn::Alu(Operation::Sub, Operand::K(k)), word),
+        0x1c => nothing(Insn::Alu(Operation::Sub, Operand::X), word, k),
+        0x24 => constant(Insn::Alu(Operation::Mul, Operand::K(k)), word),
+        0x2c => nothing(Insn::Alu(Operation::Mul, Operand::X), word, k),
+        0x34 => constant(Insn::Alu(Operation::Div, Operand::K(k)), word),
+        0x3c => nothing(Insn::Alu(Operation::Div, Operand::X), word, k),
+        0x44 => constant(Insn::Alu(Operation::Or, Operand::K(k)), word),
+        0x4c => nothing(Insn::Alu(Operation::Or, Operand::X), word, k),
+        0x54 => constant(Insn::Alu(Operation::And, Operand::K(k)), word),
+        0x5c => nothing(Insn::Alu(Operation::And, Operand::X), word, k),
+        0x64 => constant(Insn::Alu(Operation::Lsh, Operand::K(k)), word),
+        0x6c => nothing(Insn::Alu(Operation::Lsh, Operand::X), word, k),
+        0x74 => constant(Insn::Alu(Operation::Rsh, Operand::K(k)), word),
+        0x7c => nothing(Insn::Alu(Operation::Rsh, Operand::X), word, k),
+        0x94 => constant(Insn::Alu(Operation::Mod, Operand::K(k)), word),
+        0x9c => nothing(Insn::Alu(Operation::Mod, Operand::X), word, k),
+        0xa4 => constant(Insn::Alu(Operation::Xor, Operand::K(k)), word),
+        0xac => nothing(Insn::Alu(Operation::Xor, Operand::X), word, k),
+        0x84 => nothing(Insn::Negate, word, k),
+        0x07 => nothing(Insn::CopyToX, word, k),
+        0x87 => nothing(Insn::CopyFromX, word, k),
+        0x05 => constant(Insn::Jump(k), word),
+        0x15 => all(jump_if(Test::Equal, Operand::K(k), word)),
+        0x1d => jumps(jump_if(Test::Equal, Operand::X, word), k),
+        0x25 => all(jump_if(Test::Greater, Operand::K(k), word)),
+        0x2d => jumps(jump_if(Test::Greater, Operand::X, word), k),
+        0x35 => all(jump_if(Test::GreaterOrEqual, Operand::K(k), word)),
+        0x3d => jumps(jump_if(Test::GreaterOrEqual, Operand::X, word), k),
+        0x45 => all(jump_if(Test::CommonBit, Operand::K(k), word)),
+        0x4d => jumps(jump_if(Test::CommonBit, Operand::X, word), k),
+        0x06 => constant(Insn::ReturnConstant(k), word),
+        0x16 => nothing(Insn::ReturnA, word, k),
         _ => None,
     }
 }
@@ -114,11 +152,7 @@ fn decode_fields(code: u16, offsets: Offsets, k: u32) -> Option<Decoded>
 fn decode(word: u64) -> Option<Decoded>
     ensures { result ≡ decoded_with (uses_of (code_of word)) (true_jump_of word) (false_jump_of word) (constant_of word) }
 {
-    let offsets = Offsets {
-        jt: ((word >> 40) & 0xff) as u8,
-        jf: ((word >> 32) & 0xff) as u8,
-    };
-    decode_fields((word >> 48) as u16, offsets, (word & 0xffff_ffff) as u32)
+    decode_fields((word >> 48) as u16, word, (word & 0xffff_ffff) as u32)
 }
 
 #[inline(always)]

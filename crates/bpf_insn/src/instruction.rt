@@ -55,10 +55,11 @@ pub enum Operand {
 /// How many instructions a conditional jump skips, counted from the next one.
 #[derive(Clone, Copy, Debug, PartialEq, Eq)]
 pub struct Offsets {
-    /// Where the test holds.
-    pub jt: u8,
-    /// Where it does not.
+    // In the order of their bytes in a word, so that one shift takes both out.
+    /// Where the test does not hold.
     pub jf: u8,
+    /// Where it holds.
+    pub jt: u8,
 }
 
 /// One instruction. The numbers are its constant, `k`.

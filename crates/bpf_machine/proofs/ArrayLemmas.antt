@@ -1,5 +1,5 @@
 -- The code's machine beside the meaning: the array has the value of each cell that was stored.
-use Rattle.std.proofs.Common.{◌≡◌, ◌∙◌, ◌+◌, ◌<◌, ◌≤◌, Bool, List, None, Option, Some, add-zero, ap, arith, cond, eqb, false, get_or, get_or-set_other, get_or-set_same, inl, inr, length, refl, set, sym, true, ℕ}
+use Rattle.std.proofs.Common.{◌≡◌, ◌∙◌, ◌+◌, ◌-◌, ◌<◌, ◌≤◌, Bool, List, None, Option, Some, add-zero, ap, arith, cond, eqb, false, get_or, get_or-set_other, get_or-set_same, inl, inr, length, refl, set, subst, sym, true, ℕ}
 use Rattle.std.specs.Prelude.{slice_index}
 use Rattle.std.proofs.lemmas.Bool.{cases_eq, eq-eqb, eqb-true}
 use Rattle.bpf_insn.specs.declared.instruction.Insn.{Insn}
@@ -102,13 +102,13 @@ after_steps steps run = (run.0, run.1 + steps)
 more_steps : (run : Run) (steps : ℕ) → after_steps steps (one_more run) ≡ after_steps (steps + 1) run
 more_steps run steps = let sum : run.1 + 1 + steps ≡ run.1 + (steps + 1) = omega arith in ap (λ (n : ℕ). (run.0, n)) sum
 
--- what remains from pc on means what the whole means, and the words met before are no more than the places before
-pub record IsRunning (program packet : List ℕ) (pc steps a x : ℕ) (numbers : List ℕ) : Type 0 where
+-- what remains from pc on means what the whole means, and of the places before it those that no jump passed over were met
+pub record IsRunning (program packet : List ℕ) (pc passed_over a x : ℕ) (numbers : List ℕ) : Type 0 where
   pub cells : Cells
   pub hold : Holds cells numbers
   pub safe : IsSafe program pc cells
-  pub met : steps ≤ pc
-  pub same : run_after 0 program 0 0 no_cells packet ≡ after_steps steps (run_from program pc a x cells packet)
+  pub before : passed_over ≤ pc
+  pub same : run_after 0 program 0 0 no_cells packet ≡ after_steps (pc - passed_over) (run_from program pc a x cells packet)
 
 pub running_first : (program packet numbers : List ℕ) → IsAccepted program → IsRunning program packet 0 0 0 0 numbers
 running_first program packet numbers accepted =
@@ -117,34 +117,42 @@ running_first program packet numbers accepted =
       cells = no_cells;
       hold = none_holds numbers;
       safe = safe_first program accepted;
-      met = omega arith;
+      before = omega arith;
       same = ap (λ (n : ℕ). (run.0, n)) (sym (add-zero run.1));
     }
 
-module _ (program packet : List ℕ) (accepted : IsAccepted program) (pc steps a x : ℕ) (numbers : List ℕ) (running : IsRunning program packet pc steps a x numbers) (size : length numbers ≡ CELL_COUNT) (insn : Insn) (at : IsAt program pc insn) (cell : HasCell insn) where
-  next_of : (does : Effect) → effect insn a x running.cells packet ≡ does → (dropped a' x' : ℕ) (numbers' : List ℕ) → Agrees does (array.goes_on dropped a' x' numbers') → IsRunning program packet (pc + 1 + dropped) (steps + 1) a' x' numbers'
+module _ (program packet : List ℕ) (accepted : IsAccepted program) (pc passed_over a x : ℕ) (numbers : List ℕ) (running : IsRunning program packet pc passed_over a x numbers) (size : length numbers ≡ CELL_COUNT) (insn : Insn) (at : IsAt program pc insn) (cell : HasCell insn) where
+  next_of : (does : Effect) → effect insn a x running.cells packet ≡ does → (dropped a' x' : ℕ) (numbers' : List ℕ) → Agrees does (array.goes_on dropped a' x' numbers') → IsRunning program packet (pc + 1 + dropped) (passed_over + dropped) a' x' numbers'
   next_of does e dropped a' x' numbers' (both_go_on {cells = cells'} hold) =
-      let met = running.met in
+      let before = running.before in
+      let rest = run_from program (pc + 1 + dropped) a' x' cells' packet in
+      let steps : pc - passed_over + 1 ≡ pc + 1 + dropped - (passed_over + dropped) = omega arith in
       record {
         cells = cells';
         hold = hold;
         safe = safe_next program accepted pc a x running.cells packet running.safe insn at dropped a' x' cells' e;
-        met = omega arith;
-        same = running.same ∙ ap (after_steps steps) (run_from-goes_on program pc insn at a x running.cells packet dropped a' x' cells' e)
-            ∙ more_steps (run_from program (pc + 1 + dropped) a' x' cells' packet) steps;
+        before = omega arith;
+        same = running.same ∙ ap (after_steps (pc - passed_over)) (run_from-goes_on program pc insn at a x running.cells packet dropped a' x' cells' e)
+            ∙ more_steps rest (pc - passed_over) ∙ ap (λ (n : ℕ). after_steps n rest) steps;
       }
   next_of does e dropped a' x' numbers' stuck = absurd (safe_not_stuck program accepted pc a x running.cells packet running.safe insn at e)
 
-  end_of : (does : Effect) → effect insn a x running.cells packet ≡ does → (value : ℕ) → Agrees does (array.ends value) → run_after 0 program 0 0 no_cells packet ≡ (Ret value, steps + 1)
+  end_of : (does : Effect) → effect insn a x running.cells packet ≡ does → (value : ℕ) → Agrees does (array.ends value) → run_after 0 program 0 0 no_cells packet ≡ (Ret value, pc + 1 - passed_over)
   end_of does e value both_end =
-      let sum : 1 + steps ≡ steps + 1 = omega arith in
-      running.same ∙ ap (after_steps steps) (run_from-ends program pc insn at a x running.cells packet (Ret value) e) ∙ ap (λ (n : ℕ). (Ret value, n)) sum
+      let before = running.before in
+      let sum : 1 + (pc - passed_over) ≡ pc + 1 - passed_over = omega arith in
+      running.same ∙ ap (after_steps (pc - passed_over)) (run_from-ends program pc insn at a x running.cells packet (Ret value) e) ∙ ap (λ (n : ℕ). (Ret value, n)) sum
   end_of does e value stuck = absurd (safe_not_stuck program accepted pc a x running.cells packet running.safe insn at e)
 
-  pub running_next : (dropped a' x' : ℕ) (numbers' : List ℕ) → array_effect insn a x numbers packet ≡ array.goes_on dropped a' x' numbers' → IsRunning program packet (pc + 1 + dropped) (steps + 1) a' x' numbers'
-  running_next dropped a' x' numbers' e =
+  pub running_skip : (dropped a' x' : ℕ) (numbers' : List ℕ) → array_effect insn a x numbers packet ≡ array.goes_on dropped a' x' numbers' → IsRunning program packet (pc + 1 + dropped) (passed_over + dropped) a' x' numbers'
+  running_skip dropped a' x' numbers' e =
       next_of (effect insn a x running.cells packet) refl dropped a' x' numbers' (rw (← e) (effects_agree a x running.cells numbers packet running.hold size insn cell))
 
-  pub running_end : (value : ℕ) → array_effect insn a x numbers packet ≡ array.ends value → run_after 0 program 0 0 no_cells packet ≡ (Ret value, steps + 1)
+  pub running_go_on : (a' x' : ℕ) (numbers' : List ℕ) → array_effect insn a x numbers packet ≡ array.goes_on 0 a' x' numbers' → IsRunning program packet (pc + 1) passed_over a' x' numbers'
+  running_go_on a' x' numbers' e =
+      subst (λ (n : ℕ). IsRunning program packet n passed_over a' x' numbers') (add-zero (pc + 1))
+      (subst (λ (n : ℕ). IsRunning program packet (pc + 1 + 0) n a' x' numbers') (add-zero passed_over) (running_skip 0 a' x' numbers' e))
+
+  pub running_end : (value : ℕ) → array_effect insn a x numbers packet ≡ array.ends value → run_after 0 program 0 0 no_cells packet ≡ (Ret value, pc + 1 - passed_over)
   running_end value e =
       end_of (effect insn a x running.cells packet) refl value (rw (← e) (effects_agree a x running.cells numbers packet running.hold size insn cell))

@@ -1,9 +1,9 @@
 //! Operations and tests on 32-bit numbers.
 
 ghost use Rattle.std.specs.Prelude.{◌≡◌, ◌-◌, ◌*◌, ◌/◌, ◌%◌, ◌^◌, if◌then◌else◌, nat_lt};
-ghost use Rattle.bpf_machine.specs.Meaning.{computed, holds, operand_value};
+ghost use Rattle.bpf_machine.specs.Meaning.{computed, operand_value};
 
-use bpf_insn::{Operand, Operation, Test};
+use bpf_insn::{Operand, Operation};
 
 #[inline(always)]
 pub fn operand_value(operand: Operand, x: u32) -> u32
@@ -52,17 +52,5 @@ pub fn compute(operation: Operation, a: u32, operand: u32) -> Option<u32>
         Operation::Rsh => Some(shifted_right(a, operand)),
         Operation::Mod => a.checked_rem(operand),
         Operation::Xor => Some(a ^ operand),
-    }
-}
-
-#[inline(always)]
-pub fn passes(test: Test, a: u32, operand: u32) -> bool
-    ensures { result ≡ holds test a operand }
-{
-    match test {
-        Test::Equal => a == operand,
-        Test::Greater => a > operand,
-        Test::GreaterOrEqual => a >= operand,
-        Test::CommonBit => a & operand != 0,
     }
 }

@@ -1,21 +1,23 @@
 //! What one instruction does.
 
-ghost use Rattle.std.specs.Prelude.{◌≡◌, ◌≤◌, length};
+ghost use Rattle.std.specs.Prelude.{◌≡◌, ◌≤◌, if◌then◌else◌, length};
+ghost use Rattle.bpf_machine.specs.declared.execute.Next.TheVariants.{Skip};
 ghost use Rattle.bpf_verify.specs.Pass.{HasCell};
 ghost use Rattle.bpf_machine.specs.ArrayMachine.{a_or_end, array_effect, x_or_end};
 ghost use Rattle.bpf_machine.specs.Next.{effect_of};
 
 use crate::MAX_PACKET;
-use crate::arithmetic::{compute, negative, operand_value, passes};
+use crate::arithmetic::{compute, negative, operand_value};
 use crate::packet::{header_length, number};
-use bpf_insn::Insn;
+use bpf_insn::{Insn, Offsets, Test};
 
 /// The number of scratch cells, as a length.
 pub const CELL_COUNT: usize = bpf_verify::CELLS as usize;
 
-/// What comes after an instruction: so many instructions are skipped, or the program ends.
+/// What comes after an instruction: the next one, the one behind so many more, or the program's end.
 #[derive(Clone, Copy)]
 pub enum Next {
+    GoOn,
     Skip(u32),
     End(u32),
 }
@@ -36,7 +38,7 @@ fn load_a(machine: &mut Machine, loaded: Option<u32>) -> Next
     match loaded {
         Some(number) => {
             machine.a = number;
-            Next::Skip(0)
+            Next::GoOn
         }
         None => Next::End(0),
     }
@@ -50,9 +52,20 @@ fn load_x(machine: &mut Machine, loaded: Option<u32>) -> Next
     match loaded {
         Some(number) => {
             machine.x = number;
-            Next::Skip(0)
+            Next::GoOn
         }
         None => Next::End(0),
+    }
+}
+
+#[inline(always)]
+fn skip(passed: bool, jt: u8, jf: u8) -> Next
+    ensures { result ≡ Skip (if passed then jt else jf) }
+{
+    if passed {
+        Next::Skip(jt as u32)
+    } else {
+        Next::Skip(jf as u32)
     }
 }
 
@@ -77,11 +90,11 @@ pub fn execute(machine: &mut Machine, insn: Insn, packet: &[u8]) -> Next
         Insn::LoadXHeader(k) => load_x(machine, header_length(packet, k as u64)),
         Insn::Store(k) => {
             machine.cells[k as usize] = machine.a;
-            Next::Skip(0)
+            Next::GoOn
         }
         Insn::StoreX(k) => {
             machine.cells[k as usize] = machine.x;
-            Next::Skip(0)
+            Next::GoOn
         }
         Insn::Alu(operation, operand) => {
             let computed = compute(operation, machine.a, operand_value(operand, machine.x));
@@ -91,11 +104,13 @@ pub fn execute(machine: &mut Machine, insn: Insn, packet: &[u8]) -> Next
         Insn::CopyToX => load_x(machine, Some(machine.a)),
         Insn::CopyFromX => load_a(machine, Some(machine.x)),
         Insn::Jump(k) => Next::Skip(k),
-        Insn::JumpIf(test, operand, offsets) => {
-            if passes(test, machine.a, operand_value(operand, machine.x)) {
-                Next::Skip(offsets.jt as u32)
-            } else {
-                Next::Skip(offsets.jf as u32)
+        Insn::JumpIf(test, operand, Offsets { jt, jf }) => {
+            let compared = operand_value(operand, machine.x);
+            match test {
+                Test::Equal => skip(machine.a == compared, jt, jf),
+                Test::Greater => skip(machine.a > compared, jt, jf),
+                Test::GreaterOrEqual => skip(machine.a >= compared, jt, jf),
+                Test::CommonBit => skip(machine.a & compared != 0, jt, jf),
             }
         }
         Insn::ReturnConstant(k) => Next::End(k),

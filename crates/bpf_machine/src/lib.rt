@@ -62,13 +62,21 @@ pub fn run<W: Words>(words: &mut W, from: usize, len: usize, packet: &[u8]) -> O
         cells: [0; CELL_COUNT],
     };
     let mut pc = 0;
-    let mut steps = 0;
+    // How many instructions the jumps have passed over: the others before pc were met.
+    let mut passed_over = 0;
     'running: loop {
         let insn = fetch(words, from, len, pc);
-        steps += 1;
+        pc += 1;
         match execute(&mut machine, insn, packet) {
-            Next::Skip(dropped) => pc = pc + 1 + dropped as usize,
-            Next::End(value) => return Outcome { value, steps },
+            Next::GoOn => {}
+            Next::Skip(count) => {
+                pc += count as usize;
+                passed_over += count as usize;
+            }
+            Next::End(value) => {
+                let steps = (pc - passed_over) as u32;
+                return Outcome { value, steps };
+            }
         }
     }
 }
