@@ -1,0 +1,4 @@
+pub mod FieldLemmas
+pub mod FlowLemmas
+pub mod FragmentLemmas
+pub mod StandardFacts
