@@ -1,0 +1,10 @@
+pub mod Prefix
+pub mod Tree
+pub mod View
+pub mod Measure
+pub mod Outcome
+pub mod Arithmetic
+pub mod Primitive
+pub mod Truth
+pub mod Text
+pub use Rattle.ipv4_fields.specs.Field

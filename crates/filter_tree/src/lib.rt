@@ -1,0 +1,31 @@
+//! Filter expressions as trees (pcap-filter(7); docs/EXPRESSIONS.md), for every allocator: what they mean on a packet,
+//! their measures, their copies and how they are printed.
+//!
+//! These calls go down a tree by recursion, one call a level: whoever makes a tree bounds its depth. Contracts see a tree
+//! without its allocator.
+#![tactic(auto)]
+
+mod accessed;
+mod arithmetic;
+mod copies;
+mod expression;
+mod header;
+mod meaning;
+mod measures;
+mod prefix;
+mod primitive;
+mod printing;
+mod truth;
+mod value;
+
+pub use arithmetic::{Arith, Operator, Protocol, Size};
+pub use expression::{Expr, Relation};
+pub use prefix::Prefix;
+pub use primitive::{Direction, Primitive, Transport};
+pub use truth::Truth;
+
+/// The answer of a call that was refused memory.
+pub use std::alloc::AllocError as OutOfMemory;
+
+#[cfg(test)]
+mod tests;

@@ -1,0 +1,232 @@
+//! How an expression is printed (docs/EXPRESSIONS.md, "How an expression is printed").
+
+ghost use Rattle.std.specs.Prelude.{◌≡◌, ◌++◌, IfOk, OnOk, string_bytes};
+ghost use Rattle.std.specs.Fmt.{decimal};
+ghost use Rattle.filter_tree.specs.Text.{beside, printed, printed_address, printed_arith, printed_direction, printed_operator, printed_primitive, printed_protocol, printed_relation, printed_size, printed_transport};
+ghost use Rattle.filter_tree.specs.Tree.{IsArithInRange, IsInRange, IsPrimitiveInRange};
+ghost use Rattle.filter_tree.specs.View.{arith_tree_of, tree_of};
+
+use crate::OutOfMemory;
+use crate::arithmetic::{Arith, Operator, Protocol, Size};
+use crate::expression::{Expr, Relation};
+use crate::primitive::{Direction, Primitive, Transport};
+use std::alloc::Allocator;
+
+impl<A: Allocator> Expr<A> {
+    /// Prints the expression as a text in memory of `alloc`: `and`, `or` and each operation in parentheses, one space
+    /// between tokens but none beside `/`, in a range and inside an accessor.
+    pub fn print<B: Allocator>(&self, alloc: B) -> Result<String<B>, OutOfMemory>
+        ensures printed { IfOk result (λ text. string_bytes text ≡ printed (tree_of self.now)) }
+        ensures in_range { IfOk result (λ _. IsInRange (tree_of self.now)) }
+    {
+        let mut text = String::new(alloc);
+        print_expr(&mut text, self)?;
+        Ok(text)
+    }
+}
+
+fn operator_text(operator: Operator) -> &'static str
+    ensures { result.now ≡ printed_operator operator }
+{
+    match operator {
+        Operator::Or => "|",
+        Operator::ExclusiveOr => "^",
+        Operator::And => "&",
+        Operator::ShiftLeft => "<<",
+        Operator::ShiftRight => ">>",
+        Operator::Add => "+",
+        Operator::Subtract => "-",
+        Operator::Multiply => "*",
+        Operator::Divide => "/",
+        Operator::Modulo => "%",
+    }
+}
+
+fn relation_text(relation: Relation) -> &'static str
+    ensures { result.now ≡ printed_relation relation }
+{
+    match relation {
+        Relation::Greater => ">",
+        Relation::Less => "<",
+        Relation::GreaterOrEqual => ">=",
+        Relation::LessOrEqual => "<=",
+        Relation::Equal => "=",
+        Relation::NotEqual => "!=",
+    }
+}
+
+fn protocol_text(protocol: Protocol) -> &'static str
+    ensures { result.now ≡ printed_protocol protocol }
+{
+    match protocol {
+        Protocol::Ip => "ip",
+        Protocol::Tcp => "tcp",
+        Protocol::Udp => "udp",
+        Protocol::Icmp => "icmp",
+    }
+}
+
+fn direction_text(direction: Direction) -> &'static str
+    ensures { result.now ≡ printed_direction direction }
+{
+    match direction {
+        Direction::Source => "src ",
+        Direction::Destination => "dst ",
+        Direction::Either => "",
+        Direction::Both => "src and dst ",
+    }
+}
+
+fn transport_text(transport: Transport) -> &'static str
+    ensures { result.now ≡ printed_transport transport }
+{
+    match transport {
+        Transport::Tcp => "tcp ",
+        Transport::Udp => "udp ",
+        Transport::Unnamed => "",
+    }
+}
+
+fn size_text(size: Size) -> &'static str
+    ensures { result.now ≡ printed_size size }
+{
+    match size {
+        Size::One => "1",
+        Size::Two => "2",
+        Size::Four => "4",
+    }
+}
+
+fn print_number<B: Allocator>(text: &mut String<B>, n: u32) -> Result<(), OutOfMemory>
+    ensures { OnOk result (string_bytes text.new ≡ string_bytes text.old ++ decimal n) }
+{
+    write!(text, "{n}")
+}
+
+fn print_address<B: Allocator>(text: &mut String<B>, address: u32) -> Result<(), OutOfMemory>
+    ensures { OnOk result (string_bytes text.new ≡ string_bytes text.old ++ printed_address address) }
+{
+    let (a, b, c, d) = (
+        address >> 24,
+        (address >> 16) % 256,
+        (address >> 8) % 256,
+        address % 256,
+    );
+    write!(text, "{a}.{b}.{c}.{d}")
+}
+
+fn print_primitive<B: Allocator>(
+    text: &mut String<B>,
+    primitive: Primitive,
+) -> Result<(), OutOfMemory>
+    ensures printed { OnOk result (string_bytes text.new ≡ string_bytes text.old ++ printed_primitive primitive) }
+    ensures in_range { OnOk result (IsPrimitiveInRange primitive) }
+{
+    match primitive {
+        Primitive::Ip => text.push_str("ip"),
+        Primitive::Proto(n) => write!(text, "ip proto {n}"),
+        Primitive::Host(direction, address) => {
+            text.push_str(direction_text(direction))?;
+            text.push_str("host ")?;
+            print_address(text, address)
+        }
+        Primitive::Net(direction, prefix) => {
+            text.push_str(direction_text(direction))?;
+            text.push_str("net ")?;
+            print_address(text, prefix.address())?;
+            text.push_str("/")?;
+            print_number(text, prefix.length())
+        }
+        Primitive::Port(transport, direction, n) => {
+            text.push_str(transport_text(transport))?;
+            text.push_str(direction_text(direction))?;
+            write!(text, "port {n}")
+        }
+        Primitive::PortRange(transport, direction, n, m) => {
+            text.push_str(transport_text(transport))?;
+            text.push_str(direction_text(direction))?;
+            write!(text, "portrange {n}-{m}")
+        }
+        Primitive::AtMost(n) => write!(text, "less {n}"),
+        Primitive::AtLeast(n) => write!(text, "greater {n}"),
+    }
+}
+
+fn print_arith<A: Allocator, B: Allocator>(
+    text: &mut String<B>,
+    gap: &str,
+    arith: &Arith<A>,
+) -> Result<(), OutOfMemory>
+    ensures printed { OnOk result (string_bytes text.new ≡ string_bytes text.old ++ printed_arith gap.now (arith_tree_of arith.now)) }
+    ensures in_range { OnOk result (IsArithInRange (arith_tree_of arith.now)) }
+{
+    match arith {
+        Arith::Number(n) => print_number(text, *n),
+        Arith::Length => text.push_str("len"),
+        Arith::Accessor(protocol, index, size) => {
+            text.push_str(protocol_text(*protocol))?;
+            text.push_str("[")?;
+            print_arith(text, "", index)?;
+            text.push_str(":")?;
+            text.push_str(size_text(*size))?;
+            text.push_str("]")
+        }
+        Arith::Operation(left, operator, right) => {
+            text.push_str("(")?;
+            text.push_str(gap)?;
+            print_arith(text, gap, left)?;
+            text.push_str(beside(*operator, gap))?;
+            text.push_str(operator_text(*operator))?;
+            text.push_str(beside(*operator, gap))?;
+            print_arith(text, gap, right)?;
+            text.push_str(gap)?;
+            text.push_str(")")
+        }
+    }
+}
+
+fn beside(operator: Operator, gap: &str) -> &str
+    ensures { result.now ≡ beside operator gap.now }
+{
+    match operator {
+        Operator::Divide => "",
+        _ => gap,
+    }
+}
+
+fn print_expr<A: Allocator, B: Allocator>(
+    text: &mut String<B>,
+    expr: &Expr<A>,
+) -> Result<(), OutOfMemory>
+    ensures printed { OnOk result (string_bytes text.new ≡ string_bytes text.old ++ printed (tree_of expr.now)) }
+    ensures in_range { OnOk result (IsInRange (tree_of expr.now)) }
+{
+    match expr {
+        Expr::Primitive(primitive) => print_primitive(text, *primitive),
+        Expr::Relation(left, relation, right) => {
+            print_arith(text, " ", left)?;
+            text.push_str(" ")?;
+            text.push_str(relation_text(*relation))?;
+            text.push_str(" ")?;
+            print_arith(text, " ", right)
+        }
+        Expr::Not(inner) => {
+            text.push_str("not ")?;
+            print_expr(text, inner)
+        }
+        Expr::And(left, right) => {
+            text.push_str("( ")?;
+            print_expr(text, left)?;
+            text.push_str(" and ")?;
+            print_expr(text, right)?;
+            text.push_str(" )")
+        }
+        Expr::Or(left, right) => {
+            text.push_str("( ")?;
+            print_expr(text, left)?;
+            text.push_str(" or ")?;
+            print_expr(text, right)?;
+            text.push_str(" )")
+        }
+    }
+}
