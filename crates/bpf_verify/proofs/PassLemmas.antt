@@ -5,7 +5,7 @@ use Rattle.bpf_insn.specs.declared.instruction.Insn.{Insn}
 use Rattle.bpf_verify.specs.declared.TheConstants.{MAX_INSTRUCTIONS}
 use Rattle.bpf_verify.specs.Path.{IsAt, IsReturn, successors}
 use Rattle.bpf_verify.specs.Accepted.{IsAccepted, IsFaultless, IsFaultlessBelow}
-use Rattle.bpf_verify.specs.Pass.{IsFaultlessInsn, NotesLoad, cells_after, joined_at}
+use Rattle.bpf_verify.specs.Pass.{IsFaultlessInstruction, NotesLoad, cells_after, joined_at}
 use Rattle.bpf_verify.proofs.CellLemmas.{has_cell}
 use Rattle.bpf_verify.proofs.PlaceLemmas.{successors_below}
 use Rattle.bpf_verify.proofs.StoredLemmas.{IsFirstUnstored, TellsPaths, first_unstored_next, tells_next, tells_none}
@@ -34,7 +34,7 @@ passed_none program stored returns first others =
     }
 
 module _ (program : List ℕ) (n : ℕ) (stored : List ℕ) (unstored noted : Option ℕ) (before after : Bool) (insn : Insn) where
-  pub passed_more : IsPassed program n stored unstored before → n < length program → length program < length stored → IsFaultlessInsn program n insn → NotesLoad unstored insn (get_or stored n 0) n noted → (IsTrue after ↔ IsReturn insn) → IsPassed program (n + 1) (joined_at (cells_after insn (get_or stored n 0)) stored (successors insn n)) noted after
+  pub passed_more : IsPassed program n stored unstored before → n < length program → length program < length stored → IsFaultlessInstruction program n insn → NotesLoad unstored insn (get_or stored n 0) n noted → (IsTrue after ↔ IsReturn insn) → IsPassed program (n + 1) (joined_at (cells_after insn (get_or stored n 0)) stored (successors insn n)) noted after
   passed_more passed below a_set_more here notes tells_after =
       let inside : n < length stored = omega arith in
       let within = successors_below (length program) (length stored) n insn here.1 (omega arith) (λ goes. omega arith) in

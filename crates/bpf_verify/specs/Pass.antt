@@ -11,8 +11,8 @@ use Rattle.bpf_verify.specs.Path.{IsAt}
 use Rattle.bpf_verify.specs.Accepted.{instruction_fault}
 
 -- the program has this instruction at pc, and it has no fault
-abbrev pub IsFaultlessInsn : List ℕ → ℕ → Insn → Type 0
-IsFaultlessInsn program pc insn = IsAt program pc insn × (instruction_fault (length program) pc insn ≡ None)
+abbrev pub IsFaultlessInstruction : List ℕ → ℕ → Insn → Type 0
+IsFaultlessInstruction program pc insn = IsAt program pc insn × (instruction_fault (length program) pc insn ≡ None)
 
 -- the fault is one that a word has by itself, and names the place pc
 abbrev pub IsFaultAt : ℕ → Fault → Type 0

@@ -1,14 +1,14 @@
 //! The verifier: which lists of words are classic BPF programs that never get stuck (networking/filter.rst, "BPF engine
 //! and instruction set"; docs/MACHINE.md, "Verifier").
 //!
-//! `verify` tests words where they stand; a `Program` keeps words that passed. Only `Program` holds memory, and takes none.
+//! `verify` tests words where they stand; a `Program` keeps words that passed. Only a `Program` holds memory, and only its `clone_in` takes any.
 #![tactic(auto)]
 
 ghost use Rattle.std.specs.Prelude.{◌≡◌, ◌+◌, ◌<◌, ◌≤◌, ◌^◌, ◌↔◌, IfErr, IfOk, IsOk, OnOk, Some, length, slice_get};
 ghost use Rattle.bpf_verify.specs.Path.{program_at};
 ghost use Rattle.bpf_verify.specs.Accepted.{HasFault, IsAccepted};
 ghost use Rattle.bpf_verify.specs.Fault.{IsFirstFault};
-ghost use Rattle.bpf_verify.specs.Pass.{IsFaultAt, IsFaultlessInsn};
+ghost use Rattle.bpf_verify.specs.Pass.{IsFaultAt, IsFaultlessInstruction};
 
 mod cells;
 mod fault;
@@ -18,7 +18,7 @@ mod program;
 
 use bpf_insn::{Insn, Words};
 pub use fault::Fault;
-pub use program::Program;
+pub use program::{OutOfMemory, Program};
 
 /// The greatest number of instructions of a program (`BPF_MAXINSNS`).
 pub const MAX_INSTRUCTIONS: usize = 4096;
@@ -55,7 +55,7 @@ fn check_place<W: Words>(words: &mut W, from: usize, len: usize, pc: usize) -> R
     requires fits { from + len < 2 ^ 64 }
     requires not_too_long { len ≤ MAX_INSTRUCTIONS }
     requires inside { pc < len }
-    ensures faultless { IfOk result (IsFaultlessInsn (program_at (W.words words.old) from len) pc) }
+    ensures faultless { IfOk result (IsFaultlessInstruction (program_at (W.words words.old) from len) pc) }
     ensures fault { IfErr result (HasFault (program_at (W.words words.old) from len) pc) }
     ensures fault_place { IfErr result (IsFaultAt pc) }
     ensures words_kept { W.words words.new ≡ W.words words.old }

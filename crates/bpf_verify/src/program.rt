@@ -1,12 +1,14 @@
 //! Programs: words that the verifier accepted.
 
-ghost use Rattle.std.specs.Prelude.{◌≡◌, ◌↔◌, IfErr, IfOk, IsOk, length};
+ghost use Rattle.std.specs.Prelude.{◌≡◌, ◌≤◌, ◌↔◌, IfErr, IfOk, IsOk, length};
 ghost use Rattle.bpf_verify.specs.Accepted.{IsAccepted};
 ghost use Rattle.bpf_verify.specs.Fault.{IsFirstFault};
 ghost use Rattle.bpf_verify.specs.Program.{IsProgram};
+ghost use Rattle.bpf_verify.specs.declared.TheConstants.{MAX_INSTRUCTIONS};
 
 use crate::fault::Fault;
 use crate::verify;
+pub use std::alloc::AllocError as OutOfMemory;
 use std::alloc::Allocator;
 use std::marker::Model;
 
@@ -46,6 +48,28 @@ impl<A: Allocator> Program<A> {
             }),
             Err(fault) => Err((fault, words)),
         }
+    }
+
+    /// Makes a program of words that are known to be accepted, with a charge of its own. Takes no memory.
+    pub fn charged(words: Vec<u64, A>, charge: u32) -> Program<A>
+        requires accepted { IsAccepted words.items }
+        requires covers { length words.items ≤ charge }
+        requires limited { charge ≤ MAX_INSTRUCTIONS }
+        ensures words_taken { result.words ≡ words.items }
+        ensures charge_taken { result.charge ≡ charge }
+    {
+        Program { words, charge }
+    }
+
+    /// Makes the same program in another allocator's memory: the same words and the same charge.
+    pub fn clone_in<B: Allocator>(&self, alloc: B) -> Result<Program<B>, OutOfMemory>
+        ensures same_program { IfOk result (λ clone. clone ≡ self.now) }
+        ensures program { IsProgram self.now }
+    {
+        Ok(Program {
+            words: Vec::from_slice(alloc, &self.words)?,
+            charge: self.charge,
+        })
     }
 
     /// Lends the words.

@@ -1,6 +1,7 @@
 //! Accepted and refused lists of words.
 
 use crate::{Fault, MAX_INSTRUCTIONS, Program, verify};
+use linked_list_allocator::LocalHeap;
 use std::alloc::Global;
 use std::test::Fail;
 
@@ -283,5 +284,46 @@ fn longest_program(rt: HostRuntime) -> Result<(), Fail> {
     };
     assert_eq!(rt; fault, Fault::TooLong);
     assert_eq!(rt; words.len(), 4097);
+    Ok(())
+}
+
+// The longest program that a charge of 100 covers with one to spare.
+fn charged(alloc: Global) -> Result<Program<Global>, Fail> {
+    let Ok(plain) = Program::new(returns(alloc, 99)?) else {
+        return Err(Fail::from("99 returns are accepted"));
+    };
+    let words = Vec::from_slice(alloc, plain.words())?;
+    if words.len() > 100 {
+        return Err(Fail::from("99 words stay 99 words"));
+    }
+    Ok(Program::charged(words, 100))
+}
+
+#[test]
+fn clone_keeps_words_and_charge(rt: HostRuntime) -> Result<(), Fail> {
+    let program = charged(rt.alloc())?;
+    assert_eq!(rt; program.charge(), 100);
+    let clone = program.clone_in(rt.alloc())?;
+    assert_eq!(rt; clone.charge(), 100);
+    assert_eq!(rt; clone.words(), program.words());
+    Ok(())
+}
+
+#[test]
+fn clone_under_each_refused_growth(rt: HostRuntime) -> Result<(), Fail> {
+    let program = charged(rt.alloc())?;
+    // A clone takes memory once, 792 bytes of it.
+    for (size, fits) in [(64, false), (784, false), (1024, true)] {
+        let heap = LocalHeap::new(rt.alloc(), size)?;
+        match program.clone_in(&heap) {
+            Ok(clone) => {
+                assert!(rt; fits, "a heap of {size} bytes");
+                assert_eq!(rt; clone.charge(), 100);
+                assert_eq!(rt; clone.words(), program.words());
+            }
+            Err(_) => assert!(rt; !fits, "a heap of {size} bytes"),
+        }
+    }
+    assert_eq!(rt; program.charge(), 100);
     Ok(())
 }
