@@ -1,0 +1,53 @@
+-- The charge of a configuration, one group more, and of a group, one member more.
+use Rattle.std.proofs.Common.{◌++◌, ◌+◌, ◌<◌, ◌∙◌, ◌∷◌, ◌≡◌, List, None, Some, [], ap, append-nil, append_assoc, arith, get_or, length, refl, sym, take, ℕ}
+use Rattle.std.specs.Prelude.{Option}
+use Rattle.std.specs.List.{cons_option, filter_map, sum_by}
+use Rattle.std.specs.Option.{option_to_list}
+use Rattle.std.proofs.lemmas.Grind.{flat_map-append}
+use Rattle.std.proofs.lemmas.List.{length-take-le, take_more}
+use Rattle.std.proofs.lemmas.List.Elements.{filter_map-append}
+use Rattle.std.proofs.lemmas.List.Sums.{sum_by-append, sum_by_more}
+use Rattle.bpf_verify.specs.Program.{ProgramValue}
+use Rattle.member_group.specs.declared.TheConstants.{MEMBER_WORDS}
+use Rattle.member_group.specs.declared.member.Member.{Member}
+use Rattle.member_group.specs.Charge.{charge_of, charge_of_group, members_of, programs_of, programs_of_group}
+use Rattle.member_group.specs.Group.{GroupOf}
+
+one_or_none : {X : Type 0} (o : Option X) → cons_option o [] ≡ option_to_list o
+one_or_none None = refl
+one_or_none (Some x) = refl
+
+-- a group with the first n of its members
+abbrev pub first_members : ℕ → GroupOf ProgramValue → GroupOf ProgramValue
+first_members n group = record { key = group.key; selector = group.selector; members = take n group.members }
+
+pub charge_of_group-more : (group : GroupOf ProgramValue) (i : ℕ) (d : Member ProgramValue) → i < length group.members → charge_of_group (first_members (i + 1) group) ≡ charge_of_group (first_members i group) + (MEMBER_WORDS + sum_by (λ program. program.charge) (option_to_list (get_or group.members i d).filter))
+charge_of_group-more group i d inside =
+    let members = group.members in
+    let member = get_or members i d in
+    let before = length-take-le i members (omega arith) in
+    let behind = length-take-le (i + 1) members (omega arith) in
+    let filters : filter_map (λ (m : Member ProgramValue). m.filter) (take (i + 1) members) ≡ filter_map (λ (m : Member ProgramValue). m.filter) (take i members) ++ option_to_list member.filter =
+    ap (filter_map (λ (m : Member ProgramValue). m.filter)) (take_more members i d inside)
+    ∙ filter_map-append (λ (m : Member ProgramValue). m.filter) (take i members) (member ∷ [])
+    ∙ ap (λ last. filter_map (λ (m : Member ProgramValue). m.filter) (take i members) ++ last) (one_or_none member.filter) in
+    let programs : programs_of_group (first_members (i + 1) group) ≡ programs_of_group (first_members i group) ++ option_to_list member.filter =
+    ap (λ rest. option_to_list group.selector ++ rest) filters ∙ sym (append_assoc (option_to_list group.selector) (filter_map (λ (m : Member ProgramValue). m.filter) (take i members)) (option_to_list member.filter)) in
+    let charges = ap (sum_by (λ (program : ProgramValue). program.charge)) programs ∙ sum_by-append (λ (program : ProgramValue). program.charge) (programs_of_group (first_members i group)) (option_to_list member.filter) in
+    omega arith
+
+pub members_of-more : (config : List (GroupOf ProgramValue)) (i : ℕ) (d : GroupOf ProgramValue) → i < length config → members_of (take (i + 1) config) ≡ members_of (take i config) + length (get_or config i d).members
+members_of-more config i d inside = sum_by_more (λ (group : GroupOf ProgramValue). length group.members) config i d inside
+
+pub charge_of-more : (config : List (GroupOf ProgramValue)) (i : ℕ) (d : GroupOf ProgramValue) → i < length config → charge_of (take (i + 1) config) ≡ charge_of (take i config) + charge_of_group (get_or config i d)
+charge_of-more config i d inside =
+    let group = get_or config i d in
+    let before = length-take-le i config (omega arith) in
+    let behind = length-take-le (i + 1) config (omega arith) in
+    let members = members_of-more config i d inside in
+    let programs : programs_of (take (i + 1) config) ≡ programs_of (take i config) ++ programs_of_group group =
+    ap programs_of (take_more config i d inside)
+    ∙ flat_map-append programs_of_group (take i config) (group ∷ [])
+    ∙ ap (λ last. programs_of (take i config) ++ last) (append-nil (programs_of_group group)) in
+    let charges = ap (sum_by (λ (program : ProgramValue). program.charge)) programs ∙ sum_by-append (λ (program : ProgramValue). program.charge) (programs_of (take i config)) (programs_of_group group) in
+    omega arith

@@ -1,0 +1,8 @@
+pub mod ListLemmas
+pub mod PlaceLemmas
+pub mod GroupLemmas
+pub mod AnswerLemmas
+pub mod ConfigLemmas
+pub mod ChargeLemmas
+pub mod StandardFacts
+pub mod MapLemmas

@@ -1,0 +1,10 @@
+pub mod Group
+pub mod Place
+pub mod Charge
+pub mod Command
+pub mod Refusal
+pub mod Map
+pub use Rattle.bpf_verify.specs.Path
+pub use Rattle.bpf_verify.specs.Accepted
+pub use Rattle.bpf_verify.specs.Program
+pub use Rattle.ipv4_fields.specs.Endpoint

@@ -1,0 +1,247 @@
+//! Groups, and what the commands change in one of them.
+
+ghost use Rattle.std.specs.Prelude.{◌≡◌, ◌<◌, ◌≤◌, ◌^◌, IfOk, None, Some, [], length};
+ghost use Rattle.std.specs.List.{sum_by};
+ghost use Rattle.std.specs.Option.{option_map, option_to_list};
+ghost use Rattle.bpf_verify.specs.declared.TheConstants.{MAX_INSTRUCTIONS};
+ghost use Rattle.member_group.specs.Charge.{charge_of_group};
+ghost use Rattle.member_group.specs.Command.{joined, left, with_filter, with_selector};
+ghost use Rattle.member_group.specs.Group.{IsGroup};
+ghost use Rattle.member_group.specs.Place.{last_in_gap, with_filter_at};
+ghost use Rattle.member_group.specs.Refusal.{IsAnswer, clear_filter_causes, clear_selector_causes, first_of, join_causes, leave_causes, set_filter_causes};
+
+use crate::member::{
+    Member, append_members, append_with_filter, append_with_last_in_gap, copy_program,
+};
+use crate::place::place_of_member;
+use crate::refusal::Refusal;
+use crate::{GROUP_WORDS, MEMBER_LIMIT, MEMBER_WORDS};
+use bpf_verify::{OutOfMemory, Program};
+use ipv4_fields::Endpoint;
+use std::alloc::Allocator;
+use std::marker::Model;
+
+/// A group: its key, its selector or none, and its members in the order of their indexes.
+#[derive(Drop)]
+pub struct Group<A: Allocator> {
+    key: Endpoint,
+    selector: Option<Program<A>>,
+    members: Vec<Member<Program<A>>, A>,
+}
+
+impl<A: Allocator> Model for Group<A> {
+    ghost use Rattle.bpf_verify.specs.Program.{ProgramValue};
+    ghost use Rattle.member_group.specs.Group.{GroupOf};
+
+    ghost Value = { GroupOf ProgramValue };
+
+    ghost view = { λ g. record { key = g.key; selector = g.selector; members = g.members.items } };
+}
+
+impl<A: Allocator> Group<A> {
+    /// Tells the key.
+    pub fn key(&self) -> Endpoint
+        ensures key { result ≡ self.now.key }
+    {
+        self.key
+    }
+
+    /// Lends the selector.
+    pub fn selector(&self) -> Option<&Program<A>>
+        ensures selector { option_map (λ program. program.now) result ≡ self.now.selector }
+    {
+        self.selector.as_ref()
+    }
+
+    /// Lends the members, in the order of their indexes.
+    pub fn members(&self) -> &[Member<Program<A>>]
+        ensures members { result.now ≡ self.now.members }
+    {
+        self.members.as_slice()
+    }
+}
+
+fn charge_of_program<A: Allocator>(program: &Option<Program<A>>) -> u64
+    ensures charge { result ≡ sum_by (λ one. one.charge) (option_to_list program.now) }
+    ensures bounded { result ≤ MAX_INSTRUCTIONS }
+{
+    match program {
+        Some(program) => u64::from(program.charge()),
+        None => 0,
+    }
+}
+
+impl<A: Allocator> Group<A> {
+    pub(crate) fn charge(&self) -> u64
+        requires group { IsGroup self.now }
+        ensures charge { result ≡ charge_of_group self.now }
+        ensures bounded { result < 2 ^ 32 }
+    {
+        let mut charge = GROUP_WORDS as u64 + charge_of_program(&self.selector);
+        for member in self.members() {
+            charge += MEMBER_WORDS as u64 + charge_of_program(&member.filter);
+        }
+        charge
+    }
+}
+
+// What the commands make of a group. Each is a copy, with the programs that it keeps.
+impl<A: Allocator + Clone> Group<A> {
+    pub(crate) fn new(key: Endpoint, alloc: A) -> Group<A>
+        ensures empty { result ≡ record { key = key; selector = None; members = [] } }
+    {
+        Group {
+            key,
+            selector: None,
+            members: Vec::new(alloc),
+        }
+    }
+
+    fn room_for_members(&self, count: usize) -> Result<Vec<Member<Program<A>>, A>, OutOfMemory>
+        ensures empty { IfOk result (λ members. members.items ≡ []) }
+    {
+        Vec::with_capacity(self.members.allocator().clone()?, count)
+    }
+
+    // This group's key and selector, with other members.
+    fn with_members(&self, members: Vec<Member<Program<A>>, A>) -> Result<Group<A>, OutOfMemory>
+        ensures changed { IfOk result (λ group. group ≡ record { key = self.now.key; selector = self.now.selector; members = members.items }) }
+    {
+        Ok(Group {
+            key: self.key,
+            selector: copy_program(&self.selector, members.allocator())?,
+            members,
+        })
+    }
+
+    // This group's key and members, with another selector, or none.
+    fn with_selector(&self, selector: Option<Program<A>>) -> Result<Group<A>, OutOfMemory>
+        ensures changed { IfOk result (λ group. group ≡ with_selector selector self.now) }
+    {
+        let mut members = self.room_for_members(self.members.len())?;
+        append_members(&mut members, &self.members)?;
+        Ok(Group {
+            key: self.key,
+            selector,
+            members,
+        })
+    }
+
+    pub(crate) fn copy(&self) -> Result<Group<A>, OutOfMemory>
+        ensures copied { IfOk result (λ copy. copy ≡ self.now) }
+    {
+        self.with_selector(copy_program(&self.selector, self.members.allocator())?)
+    }
+
+    fn with_member(&self, id: u32, to: Endpoint) -> Result<Group<A>, OutOfMemory>
+        requires room { length self.now.members < MEMBER_LIMIT }
+        ensures changed { IfOk result (λ group. group ≡ joined id to self.now) }
+    {
+        let mut members = self.room_for_members(self.members.len() + 1)?;
+        append_members(&mut members, &self.members)?;
+        members.push(Member {
+            id,
+            to,
+            filter: None,
+        })?;
+        self.with_members(members)
+    }
+
+    // The last member stands in the gap of the member at a place.
+    fn without_member(&self, at: usize) -> Result<Group<A>, OutOfMemory>
+        requires inside { at < length self.now.members }
+        ensures changed { IfOk result (λ group. group ≡ record { key = self.now.key; selector = self.now.selector; members = last_in_gap at self.now.members }) }
+    {
+        let mut members = self.room_for_members(self.members.len() - 1)?;
+        append_with_last_in_gap(&mut members, &self.members, at)?;
+        self.with_members(members)
+    }
+
+    // Another filter, or none, for the member at a place.
+    fn with_filter(&self, at: usize, filter: Option<Program<A>>) -> Result<Group<A>, OutOfMemory>
+        requires inside { at < length self.now.members }
+        ensures changed { IfOk result (λ group. group ≡ record { key = self.now.key; selector = self.now.selector; members = with_filter_at at filter self.now.members }) }
+    {
+        let mut members = self.room_for_members(self.members.len())?;
+        append_with_filter(&mut members, &self.members, at, filter)?;
+        self.with_members(members)
+    }
+
+    pub(crate) fn join(&self, id: u32, to: Endpoint) -> Result<Group<A>, Refusal>
+        requires group { IsGroup self.now }
+        ensures answer { IsAnswer (first_of (join_causes id self.now)) (joined id to self.now) result }
+        ensures group { IfOk result IsGroup }
+    {
+        if let Some(_taken) = place_of_member(self.members(), id) {
+            return Err(Refusal::MemberExists);
+        }
+        if self.members().len() >= MEMBER_LIMIT {
+            return Err(Refusal::GroupFull);
+        }
+        Ok(self.with_member(id, to)?)
+    }
+
+    pub(crate) fn leave(&self, id: u32) -> Result<Group<A>, Refusal>
+        requires group { IsGroup self.now }
+        ensures answer { IsAnswer (first_of (leave_causes id self.now)) (left id self.now) result }
+        ensures group { IfOk result IsGroup }
+    {
+        let Some(at) = place_of_member(self.members(), id) else {
+            return Err(Refusal::NoMember);
+        };
+        Ok(self.without_member(at)?)
+    }
+
+    pub(crate) fn set_selector<B: Allocator>(
+        &self,
+        program: &Program<B>,
+    ) -> Result<Group<A>, Refusal>
+        requires group { IsGroup self.now }
+        ensures answer { IsAnswer None (with_selector (Some program.now) self.now) result }
+        ensures group { IfOk result IsGroup }
+    {
+        let selector = program.clone_in(self.members.allocator().clone()?)?;
+        Ok(self.with_selector(Some(selector))?)
+    }
+
+    pub(crate) fn clear_selector(&self) -> Result<Group<A>, Refusal>
+        requires group { IsGroup self.now }
+        ensures answer { IsAnswer (first_of (clear_selector_causes self.now)) (with_selector None self.now) result }
+        ensures group { IfOk result IsGroup }
+    {
+        if self.selector.is_none() {
+            return Err(Refusal::NoProgram);
+        }
+        Ok(self.with_selector(None)?)
+    }
+
+    pub(crate) fn set_filter<B: Allocator>(
+        &self,
+        id: u32,
+        program: &Program<B>,
+    ) -> Result<Group<A>, Refusal>
+        requires group { IsGroup self.now }
+        ensures answer { IsAnswer (first_of (set_filter_causes id self.now)) (with_filter id (Some program.now) self.now) result }
+        ensures group { IfOk result IsGroup }
+    {
+        let Some(at) = place_of_member(self.members(), id) else {
+            return Err(Refusal::NoMember);
+        };
+        let filter = program.clone_in(self.members.allocator().clone()?)?;
+        Ok(self.with_filter(at, Some(filter))?)
+    }
+
+    pub(crate) fn clear_filter(&self, id: u32) -> Result<Group<A>, Refusal>
+        requires group { IsGroup self.now }
+        ensures answer { IsAnswer (first_of (clear_filter_causes id self.now)) (with_filter id None self.now) result }
+        ensures group { IfOk result IsGroup }
+    {
+        let Some(at) = place_of_member(self.members(), id) else {
+            return Err(Refusal::NoMember);
+        };
+        if self.members()[at].filter.is_none() {
+            return Err(Refusal::NoProgram);
+        }
+        Ok(self.with_filter(at, None)?)
+    }
+}

@@ -1,0 +1,35 @@
+//! The configuration of the switch: groups of members, named by a destination address and port, with their selector and
+//! filter programs, and the commands that change it (socket(7); docs/SWITCH.md, "Groups, members, commands and refusals").
+//!
+//! A `Config` never changes: `Config::apply` makes the next one of it. Only `apply` takes memory.
+#![tactic(auto)]
+
+mod command;
+mod config;
+mod group;
+mod member;
+mod place;
+mod refusal;
+#[cfg(test)]
+mod tests;
+
+pub use command::Command;
+pub use config::{Config, configurations_are_maps};
+pub use group::Group;
+pub use member::Member;
+pub use refusal::Refusal;
+
+/// The greatest number of groups of a configuration.
+pub const GROUP_LIMIT: usize = 64;
+
+/// The greatest number of members of a group.
+pub const MEMBER_LIMIT: usize = 64;
+
+/// What a configuration counts for itself, in words of its image.
+pub const HEAD_WORDS: usize = 2;
+
+/// What a configuration counts for a group, beside its members and programs.
+pub const GROUP_WORDS: usize = 4;
+
+/// What a configuration counts for a member, beside its filter.
+pub const MEMBER_WORDS: usize = 3;

@@ -1,0 +1,44 @@
+//! Why a command is refused.
+
+ghost use Rattle.std.specs.Prelude.{◌≡◌};
+ghost use Rattle.member_group.specs.declared.refusal.Refusal.TheVariants.{OutOfMemory};
+
+use std::alloc::{AllocError, AllocFailed};
+
+/// Why a command is refused. A variant says what is wrong with the command; of several causes, docs/SWITCH.md tells the
+/// order for each command.
+#[derive(Clone, Copy, Debug, PartialEq, Eq)]
+pub enum Refusal {
+    /// There is no group with the key.
+    NoGroup,
+    /// There is a group with the key already.
+    GroupExists,
+    /// The group has no member with the number.
+    NoMember,
+    /// The group has a member with the number already.
+    MemberExists,
+    /// There are `GROUP_LIMIT` groups already.
+    TooManyGroups,
+    /// The group has `MEMBER_LIMIT` members already.
+    GroupFull,
+    /// There is no program to clear.
+    NoProgram,
+    /// The memory of the new configuration was refused.
+    OutOfMemory,
+}
+
+impl From<AllocError> for Refusal {
+    ghost from_gives = { λ _ refusal. refusal ≡ OutOfMemory };
+
+    fn from(_error: AllocError) -> Refusal {
+        Refusal::OutOfMemory
+    }
+}
+
+impl<T: Drop> From<AllocFailed<T>> for Refusal {
+    ghost from_gives = { λ _ refusal. refusal ≡ OutOfMemory };
+
+    fn from(_error: AllocFailed<T>) -> Refusal {
+        Refusal::OutOfMemory
+    }
+}
