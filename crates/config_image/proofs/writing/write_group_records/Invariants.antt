@@ -1,0 +1,13 @@
+use Rattle.std.proofs.Common.{◌+◌, ◌*◌, ◌≤◌, drop}
+use Rattle.bpf_verify.specs.declared.TheConstants.{MAX_INSTRUCTIONS}
+use Rattle.member_group.specs.declared.TheConstants.{MEMBER_LIMIT, MEMBER_WORDS}
+use Rattle.config_image.specs.Image.{group_records}
+use Rattle.config_image.proofs.WritingLemmas.{IsWriting}
+use Rattle.config_image.proofs.writing.write_group_records.Given as goal
+
+abbrev pub invariant-loop-group : goal.invariant-loop-group
+invariant-loop-group g l =
+    IsWriting (g.S.WordSink.taken l.fn.sink) (g.S.WordSink.room l.fn.sink) (g.S.WordSink.taken l.sink) (g.S.WordSink.room l.sink)
+    (group_records l.members l.place (drop l.group-index l.groups)) (group_records l.fn.members_at l.fn.programs_at l.groups)
+    × (l.members ≤ l.fn.members_at + l.group-index * (MEMBER_WORDS * MEMBER_LIMIT))
+    × (l.place ≤ l.fn.programs_at + l.group-index * ((1 + MEMBER_LIMIT) * MAX_INSTRUCTIONS))

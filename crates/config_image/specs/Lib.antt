@@ -1,0 +1,9 @@
+pub mod Image
+pub mod Lookup
+pub use Rattle.bpf_insn.specs.Word
+pub use Rattle.bpf_verify.specs.Path
+pub use Rattle.bpf_verify.specs.Accepted
+pub use Rattle.bpf_verify.specs.Program
+pub use Rattle.ipv4_fields.specs.Endpoint
+pub use Rattle.member_group.specs.Group
+pub use Rattle.member_group.specs.Charge

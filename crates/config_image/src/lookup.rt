@@ -1,0 +1,156 @@
+//! What is found again in words that begin with an image, read one at a time.
+
+ghost use Rattle.std.specs.Prelude.{◌≡◌, ◌+◌, ◌*◌, ◌<◌, ◌^◌, IfSome, IsNone, List, None, ℕ};
+ghost use Rattle.ipv4_fields.specs.Endpoint.{IsEndpoint, endpoint_number};
+ghost use Rattle.member_group.specs.declared.member.Member.{Member};
+ghost use Rattle.bpf_verify.specs.Program.{ProgramValue};
+ghost use Rattle.config_image.specs.Image.{Group};
+ghost use Rattle.config_image.specs.Lookup.{BeginsWithImage, HasGroup, HasMember, IsGroupFound, IsMemberFound, IsProgramFound, members_at};
+
+use crate::word::number;
+use bpf_insn::Words;
+use ipv4_fields::Endpoint;
+use member_group::{GROUP_LIMIT, GROUP_WORDS, HEAD_WORDS, MEMBER_WORDS};
+
+/// A group that was found by its key.
+#[derive(Clone, Copy, Debug, PartialEq, Eq)]
+pub struct FoundGroup {
+    /// Its index, counted from 0.
+    pub index: usize,
+    /// How many members it has.
+    pub members: usize,
+}
+
+/// A member that was found by its indexes.
+#[derive(Clone, Copy, Debug, PartialEq, Eq)]
+pub struct MemberEntry {
+    /// Its number.
+    pub id: u32,
+    /// Where its packets are sent.
+    pub to: Endpoint,
+}
+
+/// Where the words of a program stand.
+#[derive(Clone, Copy, Debug, PartialEq, Eq)]
+pub struct ProgramPlace {
+    /// The place of the first word, counted from 0.
+    pub from: usize,
+    /// How many words it has, at least 1.
+    pub len: usize,
+}
+
+// A word that holds an endpoint.
+fn endpoint(word: u64) -> Endpoint
+    requires { word < 2 ^ 48 }
+    ensures number { endpoint_number result ≡ word }
+    ensures fits { IsEndpoint result }
+{
+    Endpoint {
+        address: (word >> 16) as u32,
+        port: (word & 0xffff) as u16,
+    }
+}
+
+// What a reference names.
+fn place(reference: u64) -> Option<ProgramPlace>
+    ensures none { reference ≡ 0 → result ≡ None }
+    ensures some { IfSome result (λ place. (reference ≡ place.from * 65536 + place.len) × (place.len < 65536)) }
+    ensures found { IsNone result → reference ≡ 0 }
+{
+    if reference == 0 {
+        None
+    } else {
+        Some(ProgramPlace {
+            from: (reference >> 16) as usize,
+            len: (reference & 0xffff) as usize,
+        })
+    }
+}
+
+// Where the record of a group begins.
+fn record(group: usize) -> usize
+    requires { group < GROUP_LIMIT }
+    ensures { result ≡ HEAD_WORDS + GROUP_WORDS * group }
+{
+    HEAD_WORDS + GROUP_WORDS * group
+}
+
+// Where the member records of a group begin.
+fn members_place<W: Words>(words: &mut W, group: usize) -> usize
+    requires { (config : List Group) × (at : Group) × BeginsWithImage (W.words words.old) config × HasGroup config group at }
+    ensures place { (config : List Group) (at : Group) → BeginsWithImage (W.words words.old) config → HasGroup config group at → result ≡ members_at config group }
+    ensures words_kept { W.words words.new ≡ W.words words.old }
+    ensures rest_kept { W.rest words.new ≡ W.rest words.old }
+{
+    words.word(record(group) + 1) as usize
+}
+
+/// Finds the group of a key in words that begin with an image, by halving over the sorted keys: of 64 it reads at most
+/// seven. Takes no memory.
+pub fn find_group<W: Words>(words: &mut W, key: Endpoint) -> Option<FoundGroup>
+    requires { (config : List Group) × BeginsWithImage (W.words words.old) config }
+    ensures group_found { (config : List Group) → BeginsWithImage (W.words words.old) config → IsGroupFound key config result }
+    ensures words_kept { W.words words.new ≡ W.words words.old }
+    ensures rest_kept { W.rest words.new ≡ W.rest words.old }
+{
+    let number = number(key);
+    let mut low = 0;
+    let mut high = words.word(1) as usize;
+    'halving: while low < high {
+        let middle = low + (high - low) / 2;
+        let other = words.word(record(middle));
+        if other == number {
+            let members = words.word(record(middle) + 2) as usize;
+            return Some(FoundGroup {
+                index: middle,
+                members,
+            });
+        }
+        if other < number {
+            low = middle + 1;
+        } else {
+            high = middle;
+        }
+    }
+    None
+}
+
+/// Tells which member a group has at an index, in words that begin with an image.
+///
+/// `group` and `index` are counted from 0. Reads three words. Takes no memory.
+pub fn member_at<W: Words>(words: &mut W, group: usize, index: usize) -> MemberEntry
+    requires { (config : List Group) × (member : Member ProgramValue) × BeginsWithImage (W.words words.old) config × HasMember config group index member }
+    ensures member_found { (config : List Group) (member : Member ProgramValue) → BeginsWithImage (W.words words.old) config → HasMember config group index member → IsMemberFound member result }
+    ensures words_kept { W.words words.new ≡ W.words words.old }
+    ensures rest_kept { W.rest words.new ≡ W.rest words.old }
+{
+    let entry = members_place(words, group) + MEMBER_WORDS * index;
+    let id = words.word(entry) as u32;
+    let to = endpoint(words.word(entry + 1));
+    MemberEntry { id, to }
+}
+
+/// Tells where the words of a group's selector stand, in words that begin with an image.
+///
+/// `group` is counted from 0. Reads one word. Takes no memory.
+pub fn selector_of<W: Words>(words: &mut W, group: usize) -> Option<ProgramPlace>
+    requires { (config : List Group) × (at : Group) × BeginsWithImage (W.words words.old) config × HasGroup config group at }
+    ensures selector_found { (config : List Group) (at : Group) → BeginsWithImage (W.words words.old) config → HasGroup config group at → IsProgramFound (W.words words.old) at.selector result }
+    ensures words_kept { W.words words.new ≡ W.words words.old }
+    ensures rest_kept { W.rest words.new ≡ W.rest words.old }
+{
+    place(words.word(record(group) + 3))
+}
+
+/// Tells where the words of a member's filter stand, in words that begin with an image.
+///
+/// `group` and `index` are counted from 0. Reads two words. Takes no memory.
+pub fn filter_of<W: Words>(words: &mut W, group: usize, index: usize) -> Option<ProgramPlace>
+    requires { (config : List Group) × (member : Member ProgramValue) × BeginsWithImage (W.words words.old) config × HasMember config group index member }
+    ensures filter_found { (config : List Group) (member : Member ProgramValue) → BeginsWithImage (W.words words.old) config → HasMember config group index member → IsProgramFound (W.words words.old) member.filter result }
+    ensures words_kept { W.words words.new ≡ W.words words.old }
+    ensures rest_kept { W.rest words.new ≡ W.rest words.old }
+{
+    let entry = members_place(words, group) + MEMBER_WORDS * index;
+    place(words.word(entry + 2))
+}

@@ -1,0 +1,81 @@
+//! How many words an image has.
+
+ghost use Rattle.std.specs.Prelude.{◌≡◌, ◌+◌, ◌*◌, ◌≤◌, length};
+ghost use Rattle.std.specs.List.{All};
+ghost use Rattle.std.specs.Option.{option_map};
+ghost use Rattle.member_group.specs.Charge.{charge_of, members_of};
+ghost use Rattle.member_group.specs.Group.{IsConfig, IsGroup};
+ghost use Rattle.config_image.specs.Image.{filter_words, group_program_words, image, words_of};
+
+use bpf_verify::{MAX_INSTRUCTIONS, Program};
+use member_group::{
+    Config, GROUP_LIMIT, GROUP_WORDS, Group, HEAD_WORDS, MEMBER_LIMIT, MEMBER_WORDS, Member,
+};
+use std::alloc::Allocator;
+
+// The words of a program, none where there is no program.
+pub(crate) fn words<A: Allocator>(program: Option<&Program<A>>) -> &[u64]
+    ensures words { result.now ≡ words_of (option_map (λ lent. lent.now) program.entry) }
+    ensures limited { length result.now ≤ MAX_INSTRUCTIONS }
+{
+    match program {
+        Some(program) => program.words(),
+        None => &[],
+    }
+}
+
+fn filters_len<A: Allocator>(members: &[Member<Program<A>>]) -> usize
+    requires { length members.now ≤ MEMBER_LIMIT }
+    ensures words { result ≡ length (filter_words members.now) }
+    ensures limited { result ≤ MEMBER_LIMIT * MAX_INSTRUCTIONS }
+{
+    let mut len = 0;
+    for member in members {
+        len += words(member.filter.as_ref()).len();
+    }
+    len
+}
+
+// How many words the programs of a group have.
+pub(crate) fn programs_len<A: Allocator>(group: &Group<A>) -> usize
+    requires { IsGroup group.now }
+    ensures words { result ≡ length (group_program_words group.now) }
+    ensures limited { result ≤ (1 + MEMBER_LIMIT) * MAX_INSTRUCTIONS }
+{
+    words(group.selector()).len() + filters_len(group.members())
+}
+
+// How many members the groups have in all.
+pub(crate) fn members_in<A: Allocator>(groups: &[Group<A>]) -> usize
+    requires few { length groups.now ≤ GROUP_LIMIT }
+    requires groups { All IsGroup groups.now }
+    ensures members { result ≡ members_of groups.now }
+    ensures limited { result ≤ GROUP_LIMIT * MEMBER_LIMIT }
+{
+    let mut members = 0;
+    for group in groups {
+        members += group.members().len();
+    }
+    members
+}
+
+// How many words the image of groups has.
+pub(crate) fn words_in<A: Allocator>(groups: &[Group<A>]) -> usize
+    requires { IsConfig groups.now }
+    ensures length { result ≡ length (image groups.now) }
+{
+    let mut len = HEAD_WORDS + GROUP_WORDS * groups.len();
+    for group in groups {
+        len += MEMBER_WORDS * group.members().len() + programs_len(group);
+    }
+    len
+}
+
+/// Tells how many words the image of a configuration has: at most its charge.
+#[tactic(auto, using(crate::proofs::LengthLemmas::within_charge))]
+pub fn image_len<A: Allocator>(config: &Config<A>) -> usize
+    ensures length_exact { result ≡ length (image config.now) }
+    ensures within_charge { result ≤ charge_of config.now }
+{
+    words_in(config.groups())
+}
