@@ -1,0 +1,13 @@
+pub mod StandardFacts
+pub mod ListLemmas
+pub mod LogLemmas
+pub mod Rule
+pub mod WorkerSteps
+pub mod OperatorSteps
+pub mod TraceLemmas
+pub mod ShapeLemmas
+pub mod MirrorLemmas
+pub mod RowLemmas
+pub mod DecisionLemmas
+pub mod FollowLemmas
+pub mod WorldLemmas

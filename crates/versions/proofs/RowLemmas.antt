@@ -1,0 +1,40 @@
+-- The words of a configuration's row: its image, and then zeros.
+use Rattle.std.proofs.Common.{◌≡◌, ℕ, ◌+◌, ◌-◌, ◌<◌, ◌≤◌, List, Some, ◌++◌, ◌∷◌, [], ap, append_assoc, arith, get_or, length, length-append, replicate, slice_get, slice_index, sym, take, ◌∙◌}
+use Rattle.std.proofs.lemmas.List.{take_all, take_more, get_or-append_right, get_or-replicate, get_or-take, get_or_append_left, length-replicate, length-take-le}
+use Rattle.std.proofs.lemmas.Option.{get_or_from_slice_get, slice_get_within}
+use Rattle.config_image.specs.declared.TheConstants.{ROW_WORDS}
+use Rattle.config_image.specs.Image.{Group, image, row}
+
+padded_front : (n : ℕ) (l : List ℕ) (i x : ℕ) → i < n → slice_get l i ≡ Some x → x ≡ get_or (take n (l ++ replicate n 0)) i 0
+padded_front n l i x low at = sym (get_or-take n (l ++ replicate n 0) i 0 low ∙ (get_or_append_left l (replicate n 0) 0 i (slice_get_within l i x at) ∙ get_or_from_slice_get l i x 0 at))
+
+padded_behind : (n : ℕ) (l : List ℕ) (i : ℕ) → i < n → length l ≤ i → 0 ≡ get_or (take n (l ++ replicate n 0)) i 0
+padded_behind n l i low up = sym (get_or-take n (l ++ replicate n 0) i 0 low ∙ (get_or-append_right l (replicate n 0) (length l) i 0 Rattle.std.proofs.Common.refl up ∙ get_or-replicate n (i - length l) 0 0 (omega arith)))
+
+pub length-padded : (n : ℕ) (l : List ℕ) → length (take n (l ++ replicate n 0)) ≡ n
+length-padded n l = length-take-le n (l ++ replicate n 0) (omega (arith, length-append l (replicate n 0), length-replicate {A = ℕ} n 0))
+
+pub row_of_image : (config : List Group) (i x : ℕ) → i < ROW_WORDS → slice_get (image config) i ≡ Some x → x ≡ slice_index (row config) i
+unfolding row
+row_of_image config i x low at = padded_front ROW_WORDS (image config) i x low at
+
+pub row_behind_image : (config : List Group) (i len : ℕ) → i < ROW_WORDS → len ≡ length (image config) → len ≤ i → 0 ≡ slice_index (row config) i
+unfolding row
+row_behind_image config i len low is up = padded_behind ROW_WORDS (image config) i low (omega arith)
+
+pub length-row : (config : List Group) → length (row config) ≡ ROW_WORDS
+unfolding row
+length-row config = length-padded ROW_WORDS (image config)
+
+-- a list that begins with n zeros and the first words of a row, with the next word of the row
+pub next_of_row : (n i x : ℕ) (items items' words : List ℕ) → items ≡ replicate n 0 ++ take i words → items' ≡ items ++ x ∷ [] → x ≡ get_or words i 0 → i < length words → items' ≡ replicate n 0 ++ take (i + 1) words
+next_of_row n i x items items' words front more is low =
+    more ∙ (ap (λ l. l ++ x ∷ []) front ∙ (append_assoc (replicate n 0) (take i words) (x ∷ []) ∙ ap (λ l. replicate n 0 ++ l) (ap (λ (k : ℕ). take i words ++ k ∷ []) is ∙ sym (take_more words i 0 low))))
+
+-- the same with the whole row, then filled up with zeros
+pub whole_row : (n i all len : ℕ) (items items' words : List ℕ) → items ≡ replicate n 0 ++ take i words → length words ≤ i → len ≡ length items → n + length words ≤ all
+    → items' ≡ take all items ++ replicate (all - len) 0 → items' ≡ (replicate n 0 ++ words) ++ replicate (all - (n + length words)) 0
+whole_row n i all len items items' words front up is fits filled =
+    let full : items ≡ replicate n 0 ++ words = front ∙ ap (λ l. replicate n 0 ++ l) (take_all i words up) in
+    let long : length items ≡ n + length words = ap length full ∙ (length-append (replicate n 0) words ∙ ap (λ (k : ℕ). k + length words) (length-replicate {A = ℕ} n 0)) in
+    filled ∙ (ap (λ l. l ++ replicate (all - len) 0) (take_all all items (omega arith) ∙ full) ∙ ap (λ (k : ℕ). (replicate n 0 ++ words) ++ replicate k 0) (ap (λ (k : ℕ). all - k) (is ∙ long)))

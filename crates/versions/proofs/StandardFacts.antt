@@ -1,0 +1,87 @@
+-- Worked examples: a table of two workers and two rows of two words, where a configuration is the list of its words.
+use Rattle.std.proofs.Common.{◌≡◌, ◌∷◌, ℕ, List, [], arith, inl, length, refl, ⊎_elim}
+use Rattle.versions.specs.declared.step.Entry.{Entry}
+use Rattle.versions.specs.declared.step.Event.{Event}
+use Rattle.versions.specs.declared.step.Event.TheVariants.{Proposed, Stepped}
+use Rattle.versions.specs.declared.step.Step.TheVariants.{Announce, Fill, Leave, Peek, Pin, Publish, Scan}
+use Rattle.versions.specs.declared.view.Stage.TheVariants.{Inside, Outside}
+use Rattle.versions.specs.Layout.{Shape, current_word, row_begin}
+use Rattle.versions.specs.Step.{entry, place_of}
+use Rattle.versions.specs.View.{last_seen, read_word_after, stage_after, up_to}
+use Rattle.versions.specs.Free.{IsScannedClear, number_after}
+use Rattle.versions.specs.State.{State, start_of, state_after}
+
+abbrev small : Shape (List ℕ)
+small = record { workers = 2; rows = 2; row_words = 2; last_number = 100; max_charge = 2; charge = length; row = λ config. config }
+
+-- worker 1 enters at version 0; version 1 is proposed, filled into row 1 and published; the newest event comes first
+abbrev entered : List (Event (List ℕ))
+entered = Stepped (Pin 1) 0 ∷ Stepped (Announce 1) 1 ∷ Stepped (Peek 1) 0 ∷ []
+
+abbrev published_beside : List (Event (List ℕ))
+published_beside = Stepped (Publish 1) 3 ∷ Stepped (Fill 6 9) 9 ∷ Stepped (Fill 5 8) 8 ∷ Proposed (8 ∷ 9 ∷ []) ∷ entered
+
+abbrev after : List (Event (List ℕ)) → State (List ℕ)
+after trace = state_after small (start_of small (6 ∷ 7 ∷ []) (6 ∷ 7 ∷ 0 ∷ 0 ∷ [])) trace
+
+-- version 5 in row 1, and the second row
+current_of_version : current_word small 5 1 ≡ 11
+current_of_version = refl
+
+second_row : row_begin small 1 ≡ 5
+second_row = refl
+
+-- the words at the start, and after the publication: `current`, two read words, two rows
+words_at_start : (after []).words ≡ 0 ∷ 0 ∷ 0 ∷ 6 ∷ 7 ∷ 0 ∷ 0 ∷ []
+words_at_start = refl
+
+words_after : (after published_beside).words ≡ 3 ∷ 0 ∷ 1 ∷ 6 ∷ 7 ∷ 8 ∷ 9 ∷ []
+words_after = refl
+
+published_after : (after published_beside).operator.published ≡ (6 ∷ 7 ∷ []) ∷ (8 ∷ 9 ∷ []) ∷ []
+published_after = refl
+
+rows_after : (after published_beside).operator.version_rows ≡ 0 ∷ 1 ∷ []
+rows_after = refl
+
+-- the places of steps: `current`, a worker's own read word
+place_of_pin : place_of (Pin 7) ≡ 0
+place_of_pin = refl
+
+place_of_leave : place_of (Leave 7) ≡ 8
+place_of_leave = refl
+
+-- eight rows: a peek of version 3 in row 3, its announce, and a pin of version 90 in row 2
+abbrev stalled : List Entry
+stalled = entry (Pin 0) 722 ∷ entry (Announce 0) 4 ∷ entry (Peek 0) 27 ∷ []
+
+stage_of_stalled : stage_after 8 stalled ≡ Inside 4 90 2
+stage_of_stalled = refl
+
+seen_by_stalled : last_seen 8 stalled ≡ 90
+seen_by_stalled = refl
+
+read_word_of_stalled : read_word_after stalled ≡ 4
+read_word_of_stalled = refl
+
+-- a peek inside tells a newer version, and the section stays as it is
+peek_inside : stage_after 8 (entry (Peek 0) 731 ∷ stalled) ≡ Inside 4 90 2
+peek_inside = refl
+
+-- after a leave an announce needs a peek of its own
+leave_forgets : stage_after 8 (entry (Leave 0) 0 ∷ entry (Peek 0) 731 ∷ stalled) ≡ Outside
+leave_forgets = refl
+
+-- versions 0 to 2 of four
+front_of_versions : up_to {C = ℕ} 2 (10 ∷ 11 ∷ 12 ∷ 13 ∷ []) ≡ 10 ∷ 11 ∷ 12 ∷ []
+front_of_versions = refl
+
+-- a scan after the publication clears version 0, one before it does not
+number_of_two : number_after (entry (Publish 1) 17 ∷ entry (Scan 1) 0 ∷ entry (Publish 1) 9 ∷ []) ≡ 2
+number_of_two = refl
+
+scan_before_publication : IsScannedClear 0 0 (entry (Publish 1) 9 ∷ entry (Scan 1) 0 ∷ []) → ⊥
+scan_before_publication h = ⊎_elim (λ t. let replaced = t.1 in omega arith) (λ none. none) h
+
+scan_after_publication : IsScannedClear 0 0 (entry (Scan 1) 0 ∷ entry (Publish 1) 9 ∷ [])
+scan_after_publication = inl (refl, omega arith, inl refl)

@@ -1,0 +1,8 @@
+use Rattle.std.proofs.Common.{None, subst, sym}
+use Rattle.versions.specs.World.{IsWorld}
+use Rattle.versions.proofs.WorldLemmas.{IsWorld-opened, light}
+use Rattle.versions.proofs.world.World.new.Goals as goal
+
+pub invariant_of-result : goal.invariant_of-result
+invariant_of-result g c = subst (λ events. IsWorld c.args.config events c.in_ok-words.words.items c.at_start.result None) (sym c.new-events.ensures.items)
+    (IsWorld-opened c.args.config c.in_ok-words.words.items c.at_start.result (light c.args.config c.charge.result c.charge.ensures.charge_exact c.if-charge-gt-MAX_CHARGE.false) c.in_ok-words.ensures.words c.at_start.ensures)

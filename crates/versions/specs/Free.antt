@@ -1,0 +1,51 @@
+-- When a replaced version is free, and when a row is: the end of a grace period (Desnoyers et al. 2012; docs/TABLE.md, "When
+-- a version is free"). Freedom is told by the operator's own log alone. The log has the newest entry first.
+use Rattle.std.specs.Prelude.{◌≡◌, ◌+◌, ◌<◌, ◌≤◌, ◌⊎◌, ◌∷◌, List, [], suc, ℕ}
+use mathlib.Core.Option.{some}
+use lib.ListN.{get_elem?}
+use Rattle.versions.specs.declared.step.Step.{Step}
+use Rattle.versions.specs.declared.step.Step.TheVariants.{Publish, Scan}
+use Rattle.versions.specs.declared.step.Entry.{Entry}
+use Rattle.versions.specs.declared.view.OperatorView.{OperatorView}
+use Rattle.versions.specs.Layout.{Shape}
+
+abbrev pub number_by : Step → ℕ → ℕ
+number_by (Publish r) before = suc before
+number_by _ before = before
+
+-- the number of the current version after a log of the operator: how often it published
+abbrev pub number_after : List Entry → ℕ
+number_after [] = 0
+number_after (newest ∷ older) = number_by newest.step (number_after older)
+
+-- version m is replaced from the publication of the next one on
+abbrev pub IsReplaced : ℕ → List Entry → Type 0
+IsReplaced m log = m < number_after log
+
+-- a read word that holds back no version up to m: its worker is outside, or its next pin, or its last, comes after an announce
+-- of a later version than m
+abbrev pub IsClear : ℕ → ℕ → Type 0
+IsClear m x = (x ≡ 0) ⊎ (m + 2 ≤ x)
+
+-- this step, made where the log was `older`, scans worker w clear for m after m was replaced, or an older step did
+abbrev pub ClearsBy : ℕ → ℕ → List Entry → Step → ℕ → Type 0 → Type 0
+ClearsBy w m older (Scan place) x before = ((place ≡ 1 + w) × IsReplaced m older × IsClear m x) ⊎ before
+ClearsBy w m older _ x before = before
+
+-- since version m was replaced, the read word of worker w was once scanned clear for m
+abbrev pub IsScannedClear : ℕ → ℕ → List Entry → Type 0
+IsScannedClear w m [] = ⊥
+IsScannedClear w m (newest ∷ older) = ClearsBy w m older newest.step newest.word (IsScannedClear w m older)
+
+-- version m is the last one that was published in row r
+abbrev pub IsLastIn : ℕ → ℕ → List ℕ → Type 0
+IsLastIn r m version_rows = (get_elem? version_rows m ≡ some r) × ((later : ℕ) → m < later → get_elem? version_rows later ≡ some r → ⊥)
+
+module _ {C : Type 0} (shape : Shape C) where
+  -- a replaced version is free where since then the read word of each worker was once scanned clear for it
+  abbrev pub IsFree : ℕ → List Entry → Type 0
+  IsFree m log = IsReplaced m log × ((w : ℕ) → w < shape.workers → IsScannedClear w m log)
+
+  -- a row is free where it was never used, or its last version is free
+  abbrev pub IsFreeRow : OperatorView C → ℕ → Type 0
+  IsFreeRow view r = (r < shape.rows) × ((m : ℕ) → IsLastIn r m view.version_rows → IsFree m view.log)

@@ -1,0 +1,77 @@
+-- Which steps are legal (docs/TABLE.md, "The eight steps").
+use Rattle.std.specs.Prelude.{◌≡◌, ◌+◌, ◌<◌, ◌≤◌, ◌^◌, ◌∷◌, List, Some, [], slice_index, ℕ}
+use mathlib.Core.Option.{some}
+use lib.ListN.{get_elem?}
+use Rattle.versions.specs.declared.step.Step.{Step}
+use Rattle.versions.specs.declared.step.Step.TheVariants.{Announce, Fetch, Fill, Leave, Peek, Pin, Publish, Scan}
+use Rattle.versions.specs.declared.step.Entry.{Entry}
+use Rattle.versions.specs.declared.step.Event.{Event}
+use Rattle.versions.specs.declared.step.Event.TheVariants.{Proposed, Stepped}
+use Rattle.versions.specs.declared.view.Stage.{Stage}
+use Rattle.versions.specs.declared.view.Stage.TheVariants.{Announced, Inside, Peeked}
+use Rattle.versions.specs.declared.view.WorkerView.{WorkerView}
+use Rattle.versions.specs.Layout.{HoldsRow, IsInRow, Shape, current_word}
+use Rattle.versions.specs.Step.{IsStepOf}
+use Rattle.versions.specs.View.{stage_after}
+use Rattle.versions.specs.Free.{IsFreeRow, number_after}
+use Rattle.versions.specs.State.{State, state_after}
+
+-- peeks come outside, and inside after the pin; nothing comes between an announce and its pin
+abbrev pub MayPeek : Stage → Type 0
+MayPeek (Announced read_word) = ⊥
+MayPeek _ = Unit {0}
+
+module _ {C : Type 0} where
+  -- a load of the word at a place gives x
+  abbrev pub Loads : State C → ℕ → ℕ → Type 0
+  Loads state place x = x ≡ slice_index state.words place
+
+module _ {C : Type 0} (shape : Shape C) where
+  -- the order of a worker's steps: peek, announce of the last peek's version plus 1, pin, fetches in the row of the held
+  -- version, leave. Each announce has a peek of its own, since a leave forgets the last one
+  abbrev pub IsInOrder : Stage → Step → ℕ → Type 0
+  IsInOrder stage (Peek w) x = MayPeek stage
+  IsInOrder stage (Announce w) x = (n : ℕ) × (stage ≡ Peeked n) × (x ≡ n + 1)
+  IsInOrder stage (Pin w) x = (read_word : ℕ) × (stage ≡ Announced read_word)
+  IsInOrder stage (Fetch w place) x = (read_word : ℕ) × (n : ℕ) × (r : ℕ) × (stage ≡ Inside read_word n r) × IsInRow shape r place
+  IsInOrder stage (Leave w) x = (read_word : ℕ) × (n : ℕ) × (r : ℕ) × (stage ≡ Inside read_word n r) × (x ≡ 0)
+  IsInOrder stage _ x = ⊥
+
+  -- a log of worker w alone, in the order of a worker's steps
+  abbrev pub IsLogOf : ℕ → List Entry → Type 0
+  IsLogOf w [] = Unit {0}
+  IsLogOf w (newest ∷ older) =
+      IsLogOf w older × IsStepOf w newest.step × IsInOrder (stage_after shape.rows older) newest.step newest.word
+
+  -- there is a worker w, and the step is next in its order
+  abbrev pub IsNextOf : State C → ℕ → Step → ℕ → Type 0
+  IsNextOf state w step x = (view : WorkerView C) × (get_elem? state.workers w ≡ some view) × IsInOrder view.stage step x
+
+  -- the operator publishes its last proposal, from a free row that holds that configuration's row, while numbers last
+  pub record CanPublish (state : State C) (r : ℕ) : Type 0 where
+    pub free : IsFreeRow shape state.operator r
+    pub config : C
+    pub proposed : state.operator.proposal ≡ Some config
+    pub holds : HoldsRow shape state.words r config
+    pub number : number_after state.operator.log < shape.last_number
+
+  -- the step is legal, and loads or stores x
+  abbrev pub IsLegalStep : State C → Step → ℕ → Type 0
+  IsLegalStep state (Peek w) x = IsNextOf state w (Peek w) x × Loads state 0 x
+  IsLegalStep state (Announce w) x = IsNextOf state w (Announce w) x
+  IsLegalStep state (Pin w) x = IsNextOf state w (Pin w) x × Loads state 0 x
+  IsLegalStep state (Fetch w place) x = IsNextOf state w (Fetch w place) x × Loads state place x
+  IsLegalStep state (Leave w) x = IsNextOf state w (Leave w) x
+  IsLegalStep state (Fill place word) x = (r : ℕ) × IsFreeRow shape state.operator r × IsInRow shape r place × (word < 2 ^ 64) × (x ≡ word)
+  IsLegalStep state (Publish r) x = CanPublish state r × (x ≡ current_word shape (number_after state.operator.log + 1) r)
+  IsLegalStep state (Scan place) x = (w : ℕ) × (w < shape.workers) × (place ≡ 1 + w) × Loads state place x
+
+  -- a proposal is not charged too much
+  abbrev pub IsLegalEvent : State C → Event C → Type 0
+  IsLegalEvent state (Stepped step x) = IsLegalStep state step x
+  IsLegalEvent state (Proposed config) = shape.charge config ≤ shape.max_charge
+
+  -- each event is legal where it comes
+  abbrev pub IsLegal : State C → List (Event C) → Type 0
+  IsLegal start [] = Unit {0}
+  IsLegal start (newest ∷ older) = IsLegal start older × IsLegalEvent (state_after shape start older) newest

@@ -1,0 +1,11 @@
+pub mod Layout
+pub mod Step
+pub mod View
+pub mod Free
+pub mod State
+pub mod Legal
+pub mod Reclaimed
+pub mod Safety
+pub mod Table
+pub mod Mirror
+pub mod World

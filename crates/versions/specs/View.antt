@@ -1,0 +1,122 @@
+-- What each actor knows, and how each of its own steps changes that. Logs have the newest entry first: the log after a step
+-- is that step's entry in front of the log before it.
+use Rattle.std.specs.Prelude.{◌≡◌, ◌+◌, ◌++◌, ◌-◌, ◌/◌, ◌%◌, ◌∷◌, List, None, Option, Some, [], slice_set, suc, take, ℕ}
+use Rattle.versions.specs.declared.step.Step.{Step}
+use Rattle.versions.specs.declared.step.Step.TheVariants.{Announce, Fetch, Fill, Leave, Peek, Pin, Publish, Scan}
+use Rattle.versions.specs.declared.step.Entry.{Entry}
+use Rattle.versions.specs.declared.view.Stage.{Stage}
+use Rattle.versions.specs.declared.view.Stage.TheVariants.{Announced, Inside, Outside, Peeked}
+use Rattle.versions.specs.declared.view.WorkerView.{WorkerView}
+use Rattle.versions.specs.declared.view.OperatorView.{OperatorView}
+use Rattle.versions.specs.Step.{entry}
+
+-- what a worker's read word is: what it announced, and 0 outside
+abbrev pub read_word_of : Stage → ℕ
+read_word_of Outside = 0
+read_word_of (Peeked n) = 0
+read_word_of (Announced k) = k
+read_word_of (Inside k n r) = k
+
+-- a peek inside a section changes nothing of the section
+abbrev pub stage_after_peek : Stage → ℕ → Stage
+stage_after_peek (Inside k n r) version = Inside k n r
+stage_after_peek _ version = Peeked version
+
+-- from its pin on, a worker holds the version that the pin gave
+abbrev pub stage_after_pin : Stage → ℕ → ℕ → Stage
+stage_after_pin stage version r = Inside (read_word_of stage) version r
+
+-- `current` is the version's number times the number of rows, plus the version's row
+abbrev pub next_stage : ℕ → Stage → Step → ℕ → Stage
+next_stage rows stage (Peek w) x = stage_after_peek stage (x / rows)
+next_stage rows stage (Announce w) x = Announced x
+next_stage rows stage (Pin w) x = stage_after_pin stage (x / rows) (x % rows)
+next_stage rows stage (Leave w) x = Outside
+next_stage rows stage _ x = stage
+
+-- where a worker is after its log
+abbrev pub stage_after : ℕ → List Entry → Stage
+stage_after rows [] = Outside
+stage_after rows (newest ∷ older) = next_stage rows (stage_after rows older) newest.step newest.word
+
+abbrev pub read_word_by : Step → ℕ → ℕ → ℕ
+read_word_by (Announce w) x before = x
+read_word_by (Leave w) x before = 0
+read_word_by _ x before = before
+
+-- the read word after a worker's log: what its last announce or leave stored, and 0 at first
+abbrev pub read_word_after : List Entry → ℕ
+read_word_after [] = 0
+read_word_after (newest ∷ older) = read_word_by newest.step newest.word (read_word_after older)
+
+abbrev pub version_by : ℕ → Step → ℕ → ℕ → ℕ
+version_by rows (Peek w) x before = x / rows
+version_by rows (Pin w) x before = x / rows
+version_by rows _ x before = before
+
+-- the version that a worker's last load of `current` gave, and 0 at first
+abbrev pub last_seen : ℕ → List Entry → ℕ
+last_seen rows [] = 0
+last_seen rows (newest ∷ older) = version_by rows newest.step newest.word (last_seen rows older)
+
+-- a log that begins with an older log, and goes on
+abbrev pub BeginsWithLog : List Entry → List Entry → Type 0
+BeginsWithLog log older = (newer : List Entry) × (log ≡ newer ++ older)
+
+module _ {C : Type 0} where
+  -- the list begins with the other
+  abbrev pub BeginsWith : List C → List C → Type 0
+  BeginsWith list front = (rest : List C) × (list ≡ front ++ rest)
+
+  -- a worker is told of versions: its seen list begins with them
+  abbrev pub IsTold : List C → WorkerView C → Type 0
+  IsTold versions view = BeginsWith view.seen versions
+
+  -- the published versions up to a number
+  abbrev pub up_to : ℕ → List C → List C
+  up_to n published = take (suc n) published
+
+  -- a worker outside, that made no step, where the first configuration is version 0
+  abbrev pub new_worker : C → ℕ → WorkerView C
+  new_worker config w = record { number = w; stage = Outside; log = []; seen = config ∷ [] }
+
+  -- what a worker knows after each of its steps; `seen` is its seen list after a load of `current`
+  abbrev pub after_peek : ℕ → ℕ → List C → WorkerView C → WorkerView C
+  after_peek rows x seen view =
+      record view { stage = stage_after_peek view.stage (x / rows); log = entry (Peek view.number) x ∷ view.log; seen = seen }
+
+  abbrev pub after_announce : ℕ → WorkerView C → WorkerView C
+  after_announce x view = record view { stage = Announced x; log = entry (Announce view.number) x ∷ view.log }
+
+  abbrev pub after_pin : ℕ → ℕ → List C → WorkerView C → WorkerView C
+  after_pin rows x seen view =
+      record view { stage = stage_after_pin view.stage (x / rows) (x % rows); log = entry (Pin view.number) x ∷ view.log; seen = seen }
+
+  abbrev pub after_fetch : ℕ → ℕ → WorkerView C → WorkerView C
+  after_fetch place x view = record view { log = entry (Fetch view.number place) x ∷ view.log }
+
+  abbrev pub after_leave : WorkerView C → WorkerView C
+  after_leave view = record view { stage = Outside; log = entry (Leave view.number) 0 ∷ view.log }
+
+  abbrev pub listed : Option C → List C
+  listed None = []
+  listed (Some config) = config ∷ []
+
+  -- what the operator knows after each of its steps; the rows begin at the place `rows_begin`
+  abbrev pub after_fill : ℕ → ℕ → ℕ → OperatorView C → OperatorView C
+  after_fill rows_begin place x view =
+      record view { log = entry (Fill place x) x ∷ view.log; row_words = slice_set view.row_words (place - rows_begin) x }
+
+  -- the proposal is the next version, and is used up
+  abbrev pub after_publish : ℕ → ℕ → OperatorView C → OperatorView C
+  after_publish r x view =
+      record view { log = entry (Publish r) x ∷ view.log; published = view.published ++ listed view.proposal; version_rows = view.version_rows ++ r ∷ []; proposal = None }
+
+  -- a scan of worker w, whose log is this by then
+  abbrev pub after_scan : ℕ → ℕ → List Entry → OperatorView C → OperatorView C
+  after_scan w x log view =
+      record view { log = entry (Scan (1 + w)) x ∷ view.log; scanned_logs = slice_set view.scanned_logs w log }
+
+  -- a proposal takes the place of an earlier one
+  abbrev pub after_proposal : C → OperatorView C → OperatorView C
+  after_proposal config view = record view { proposal = Some config }

@@ -1,0 +1,28 @@
+//! What tells that versions and rows are free: scans, counted by worker.
+ghost use Rattle.std.specs.Prelude.{◌≡◌, ◌<◌, ◌≤◌, length, slice_index, ℕ, ◌↔◌};
+ghost use Rattle.versions.specs.Free.{IsClear};
+
+pub(crate) fn least(numbers: &[u64]) -> u64
+    requires { 0 < length numbers.now }
+    ensures below { (w : ℕ) → w < length numbers.now → result ≤ slice_index numbers.now w }
+    ensures there { (w : ℕ) × (w < length numbers.now) × (slice_index numbers.now w ≡ result) }
+{
+    let mut found = numbers[0];
+    for number in numbers {
+        if *number < found {
+            found = *number;
+        }
+    }
+    found
+}
+
+// How many versions a scan that gives this word shows clear, where the current version has this number: those below the
+// result.
+pub(crate) fn clear_below(number: u64, word: u64) -> u64
+    ensures { (m : ℕ) → (m < result) ↔ ((m < number) × IsClear m word) }
+{
+    if word == 0 {
+        return number;
+    }
+    number.min(word - 1)
+}

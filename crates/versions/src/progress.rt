@@ -1,0 +1,267 @@
+//! How far the actors of a world are, kept in a few numbers: it decides which steps are legal.
+
+ghost use Rattle.std.specs.Prelude.{◌≡◌, ◌+◌, ◌<◌, IsTrue, MatchOption, length, slice_get};
+ghost use Rattle.std.specs.Option.{option_map};
+ghost use Rattle.versions.specs.declared.step.Step.TheVariants.{Announce, Fetch, Fill, Leave, Peek, Pin, Publish, Scan};
+ghost use Rattle.versions.specs.View as view;
+ghost use Rattle.versions.specs.Mirror.{BeginsAtStart, Decides, DecidesProposed, DecidesPublish, DecidesRow, Follows, IsCleared, IsFollowed, counted, moved};
+
+use crate::freedom::{clear_below, least};
+use crate::layout::{LAST_NUMBER, ROWS, TABLE_WORDS, WORKERS, holds_row, is_in_row, row_of_place};
+use crate::step::Step;
+use crate::view::Stage;
+use member_group::Config;
+use std::alloc::Allocator;
+
+/// Where each worker is, and what the operator's log tells of numbers and free rows.
+#[derive(Drop)]
+pub(crate) struct Progress {
+    pub(crate) stages: [Stage; WORKERS],
+    // The number of the current version.
+    pub(crate) number: u64,
+    // For each row one more than the number of its last version, 0 where it was never used.
+    pub(crate) last: [u64; ROWS],
+    // For each worker: the versions below this number were scanned clear of it since they were replaced.
+    pub(crate) cleared: [u64; WORKERS],
+}
+
+fn after_peek(stage: Stage, version: u64) -> Stage
+    ensures { result ≡ view.stage_after_peek stage version }
+{
+    match stage {
+        Stage::Inside { .. } => stage,
+        _ => Stage::Peeked { version },
+    }
+}
+
+fn read_word(stage: Stage) -> u64
+    ensures { result ≡ view.read_word_of stage }
+{
+    match stage {
+        Stage::Announced { read_word } => read_word,
+        Stage::Inside { read_word, .. } => read_word,
+        _ => 0,
+    }
+}
+
+// Where a worker is after a step of its own.
+fn next_stage(stage: Stage, step: Step, word: u64) -> Stage
+    ensures { result ≡ view.next_stage ROWS stage step word }
+{
+    match step {
+        Step::Peek { .. } => after_peek(stage, word / ROWS as u64),
+        Step::Announce { .. } => Stage::Announced { read_word: word },
+        Step::Pin { .. } => Stage::Inside {
+            read_word: read_word(stage),
+            version: word / ROWS as u64,
+            row: (word % ROWS as u64) as usize,
+        },
+        Step::Leave { .. } => Stage::Outside,
+        _ => stage,
+    }
+}
+
+fn announced(version: u64) -> Option<u64>
+    ensures { MatchOption result (LAST_NUMBER < version) (λ word. word ≡ version + 1) }
+{
+    if version > LAST_NUMBER {
+        return None;
+    }
+    Some(version + 1)
+}
+
+// Which word a step loads or stores, `None` where no word makes it legal.
+impl Progress {
+    fn stage(&self, worker: usize) -> Option<Stage>
+        ensures { result ≡ slice_get self.now.stages worker }
+    {
+        self.stages.get(worker).copied()
+    }
+
+    fn peek_word(&self, words: &[u64], worker: usize) -> Option<u64>
+        requires { length words.now ≡ TABLE_WORDS }
+        ensures { Decides words.now self.now (Peek worker) result }
+    {
+        match self.stage(worker)? {
+            Stage::Announced { .. } => None,
+            _ => Some(words[0]),
+        }
+    }
+
+    fn announce_word(&self, words: &[u64], worker: usize) -> Option<u64>
+        ensures { Decides words.now self.now (Announce worker) result }
+    {
+        match self.stage(worker)? {
+            Stage::Peeked { version } => announced(version),
+            _ => None,
+        }
+    }
+
+    fn pin_word(&self, words: &[u64], worker: usize) -> Option<u64>
+        requires { length words.now ≡ TABLE_WORDS }
+        ensures { Decides words.now self.now (Pin worker) result }
+    {
+        match self.stage(worker)? {
+            Stage::Announced { .. } => Some(words[0]),
+            _ => None,
+        }
+    }
+
+    fn fetch_word(&self, words: &[u64], worker: usize, place: usize) -> Option<u64>
+        requires { length words.now ≡ TABLE_WORDS }
+        ensures { Decides words.now self.now (Fetch worker place) result }
+    {
+        let Stage::Inside { row, .. } = self.stage(worker)? else {
+            return None;
+        };
+        if !is_in_row(row, place) || place >= TABLE_WORDS {
+            return None;
+        }
+        Some(words[place])
+    }
+
+    fn leave_word(&self, words: &[u64], worker: usize) -> Option<u64>
+        ensures { Decides words.now self.now (Leave worker) result }
+    {
+        match self.stage(worker)? {
+            Stage::Inside { .. } => Some(0),
+            _ => None,
+        }
+    }
+
+    fn is_free(&self, row: usize) -> bool
+        ensures decided { DecidesRow self.now row result }
+        ensures a_row { IsTrue result → row < ROWS }
+    {
+        row < ROWS && self.last[row] <= least(&self.cleared)
+    }
+
+    fn fill_word(&self, words: &[u64], place: usize, word: u64) -> Option<u64>
+        ensures { Decides words.now self.now (Fill place word) result }
+    {
+        let Some(row) = row_of_place(place) else {
+            return None;
+        };
+        if !self.is_free(row) {
+            return None;
+        }
+        Some(word)
+    }
+
+    fn publish_word<A: Allocator>(
+        &self,
+        words: &[u64],
+        row: usize,
+        proposal: Option<&Config<A>>,
+    ) -> Option<u64>
+        requires { length words.now ≡ TABLE_WORDS }
+        ensures { DecidesPublish words.now self.now (option_map (λ config. config.now) proposal.entry) row result }
+    {
+        let Some(config) = proposal else {
+            return None;
+        };
+        if !self.is_free(row) || self.number >= LAST_NUMBER || !holds_row(words, row, config) {
+            return None;
+        }
+        Some((self.number + 1) * ROWS as u64 + row as u64)
+    }
+
+    fn scan_word(&self, words: &[u64], place: usize) -> Option<u64>
+        requires { length words.now ≡ TABLE_WORDS }
+        ensures { Decides words.now self.now (Scan place) result }
+    {
+        if place == 0 || place > WORKERS {
+            return None;
+        }
+        Some(words[place])
+    }
+
+    pub(crate) fn word_of<A: Allocator>(
+        &self,
+        words: &[u64],
+        proposal: Option<&Config<A>>,
+        step: Step,
+    ) -> Option<u64>
+        requires { length words.now ≡ TABLE_WORDS }
+        ensures { DecidesProposed words.now self.now (option_map (λ config. config.now) proposal.entry) step result }
+    {
+        match step {
+            Step::Peek { worker } => self.peek_word(words, worker),
+            Step::Announce { worker } => self.announce_word(words, worker),
+            Step::Pin { worker } => self.pin_word(words, worker),
+            Step::Fetch { worker, place } => self.fetch_word(words, worker, place),
+            Step::Leave { worker } => self.leave_word(words, worker),
+            Step::Fill { place, word } => self.fill_word(words, place, word),
+            Step::Publish { row } => self.publish_word(words, row, proposal),
+            Step::Scan { place } => self.scan_word(words, place),
+        }
+    }
+}
+
+// What a legal step changes.
+impl Progress {
+    pub(crate) fn at_start() -> Progress
+        ensures { BeginsAtStart result }
+    {
+        let mut last = [0; ROWS];
+        last[0] = 1;
+        Progress {
+            stages: [Stage::Outside; WORKERS],
+            number: 0,
+            last,
+            cleared: [0; WORKERS],
+        }
+    }
+
+    fn move_worker(&mut self, worker: usize, step: Step, word: u64)
+        requires { worker < WORKERS }
+        ensures { self.new ≡ moved worker step word self.old }
+    {
+        self.stages[worker] = next_stage(self.stages[worker], step, word);
+    }
+
+    fn count_version(&mut self, row: usize)
+        requires row { row < ROWS }
+        requires number { self.old.number < LAST_NUMBER }
+        ensures { self.new ≡ counted row self.old }
+    {
+        self.number += 1;
+        self.last[row] = self.number + 1;
+    }
+
+    fn clear(&mut self, worker: usize, word: u64)
+        requires { worker < WORKERS }
+        ensures { length self.old.cleared ≡ WORKERS → IsCleared worker word self.old self.new }
+    {
+        let below = clear_below(self.number, word);
+        if below > self.cleared[worker] {
+            self.cleared[worker] = below;
+        }
+    }
+
+    pub(crate) fn take(&mut self, words: &mut [u64], step: Step, word: u64)
+        requires table { length words.old ≡ TABLE_WORDS }
+        requires legal { IsFollowed words.old self.old step word }
+        ensures { Follows words.old self.old words.new self.new step word }
+    {
+        match step {
+            Step::Peek { worker } => self.move_worker(worker, step, word),
+            Step::Announce { worker } => {
+                words[1 + worker] = word;
+                self.move_worker(worker, step, word);
+            }
+            Step::Pin { worker } => self.move_worker(worker, step, word),
+            Step::Fetch { worker, .. } => self.move_worker(worker, step, word),
+            Step::Leave { worker } => {
+                words[1 + worker] = word;
+                self.move_worker(worker, step, word);
+            }
+            Step::Fill { place, .. } => words[place] = word,
+            Step::Publish { row } => {
+                words[0] = word;
+                self.count_version(row);
+            }
+            Step::Scan { place } => self.clear(place - 1, word),
+        }
+    }
+}

@@ -1,0 +1,41 @@
+//! The single steps on the words of the table, and the events of a trace (docs/TABLE.md, "The eight steps").
+
+/// One load or one store of one word of the table, by one actor and without a lock.
+///
+/// Workers and rows count from 0. A `place` is that of a word in the whole table: 0 is `current`, 1 + w the read word of
+/// worker w, and row r begins at 17 + 8192 * r.
+#[derive(Clone, Copy, Debug)]
+pub enum Step {
+    /// The worker loads `current`.
+    Peek { worker: usize },
+    /// The worker stores the version of its last peek plus 1 in its own read word.
+    Announce { worker: usize },
+    /// The worker loads `current`, and holds the version that it gives.
+    Pin { worker: usize },
+    /// The worker loads a word of the row of the version that it holds.
+    Fetch { worker: usize, place: usize },
+    /// The worker stores 0 in its own read word, and holds nothing.
+    Leave { worker: usize },
+    /// The operator stores a word in a free row.
+    Fill { place: usize, word: u64 },
+    /// The operator stores `current`: what stands in the row is the next version.
+    Publish { row: usize },
+    /// The operator loads a read word.
+    Scan { place: usize },
+}
+
+/// What a log keeps of a step: the step, and the word that it loaded or stored.
+#[derive(Clone, Copy, Debug)]
+pub struct Entry {
+    pub step: Step,
+    pub word: u64,
+}
+
+/// An event of a trace over configurations `C`.
+#[derive(Drop)]
+pub enum Event<C> {
+    /// A step, with the word that it loads or stores.
+    Stepped { step: Step, word: u64 },
+    /// The operator's own choice of the configuration that it will publish.
+    Proposed { config: C },
+}

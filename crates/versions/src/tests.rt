@@ -1,0 +1,494 @@
+//! Lists of steps: a worker that stalls before it announces, steps in no order beside a slow reference, and refused growths.
+
+ghost use Rattle.std.specs.Prelude.{◌<◌};
+
+use crate::Step::{self, Announce, Fetch, Fill, Leave, Peek, Pin, Publish, Scan};
+use crate::{ROWS, StepFault, TABLE_WORDS, WORKERS, World};
+use linked_list_allocator::LocalHeap;
+use member_group::Config;
+use std::alloc::{Allocator, Global};
+use std::test::Fail;
+
+// Where the rows begin: 17 + 8192 * row.
+const ROW_BEGINS: [usize; 8] = [17, 8209, 16401, 24593, 32785, 40977, 49169, 57361];
+
+// The image of the configuration without groups: its length, and the number of groups.
+const EMPTY_IMAGE: [u64; 2] = [2, 0];
+
+fn begin_of(row: usize) -> usize {
+    ROW_BEGINS.get(row).copied().unwrap_or(TABLE_WORDS)
+}
+
+// Publishes the empty configuration from the least free row, and answers the word stored; 0 where no row is free.
+fn publish(alloc: Global, world: &mut World) -> Result<u64, Fail> {
+    for row in 0..ROWS {
+        let place = begin_of(row);
+        if world.step(Fill { place, word: 2 }).is_ok() {
+            world.propose(Config::new(alloc))?;
+            return Ok(world.step(Publish { row })?);
+        }
+    }
+    Ok(0)
+}
+
+fn scan_all<A: Allocator>(world: &mut World<A>) -> Result<u64, Fail> {
+    let mut greatest = 0;
+    for place in 1..WORKERS + 1 {
+        greatest = world.step(Scan { place })?.max(greatest);
+    }
+    Ok(greatest)
+}
+
+fn free_rows(world: &mut World) -> usize {
+    let mut count = 0;
+    for row in 0..ROWS {
+        let place = begin_of(row);
+        if world.step(Fill { place, word: 2 }).is_ok() {
+            count = row.min(count) + 1;
+        }
+    }
+    count
+}
+
+#[test]
+fn stalled_worker_holds_back_more(rt: HostRuntime) -> Result<(), Fail> {
+    let mut world = World::new(Config::new(rt.alloc()))?;
+    for number in 1..4u64 {
+        assert_eq!(rt; publish(rt.alloc(), &mut world)? / 8, number);
+    }
+    assert_eq!(rt; world.step(Peek { worker: 0 })?, 27);
+    for number in 4..91u64 {
+        let mut word = publish(rt.alloc(), &mut world)?;
+        if word == 0 {
+            assert_eq!(rt; scan_all(&mut world)?, 0);
+            word = publish(rt.alloc(), &mut world)?;
+        }
+        assert_eq!(rt; word / 8, number);
+    }
+    // The last scans came before version 85: one row is left free, and 84 to 89 are replaced and not free.
+    assert_eq!(rt; free_rows(&mut world), 1);
+    assert_eq!(rt; world.step(Announce { worker: 0 })?, 4);
+    assert_eq!(rt; world.step(Pin { worker: 0 })? / 8, 90);
+    for _ in 0..3 {
+        assert_eq!(rt; scan_all(&mut world)?, 4);
+        assert_eq!(rt; free_rows(&mut world), 1);
+    }
+    assert_eq!(rt; publish(rt.alloc(), &mut world)? / 8, 91);
+    assert_eq!(rt; scan_all(&mut world)?, 4);
+    assert_eq!(rt; publish(rt.alloc(), &mut world)?, 0);
+    assert_eq!(rt; world.step(Leave { worker: 0 })?, 0);
+    assert_eq!(rt; scan_all(&mut world)?, 0);
+    assert_eq!(rt; free_rows(&mut world), 7);
+    Ok(())
+}
+
+// Each step with its answer, in a world whose version 0 is the empty configuration; no answer is "not legal".
+const ANSWERS: [(Step, Option<u64>); 33] = [
+    (Announce { worker: 0 }, None),
+    (Pin { worker: 0 }, None),
+    (Leave { worker: 0 }, None),
+    (
+        Fetch {
+            worker: 0,
+            place: 17,
+        },
+        None,
+    ),
+    (Peek { worker: 16 }, None),
+    (Scan { place: 0 }, None),
+    (Scan { place: 17 }, None),
+    (Scan { place: 16 }, Some(0)),
+    (Peek { worker: 0 }, Some(0)),
+    (Peek { worker: 0 }, Some(0)),
+    (Announce { worker: 0 }, Some(1)),
+    (Peek { worker: 0 }, None),
+    (Announce { worker: 0 }, None),
+    (Pin { worker: 0 }, Some(0)),
+    (
+        Fetch {
+            worker: 0,
+            place: 17,
+        },
+        Some(2),
+    ),
+    (
+        Fetch {
+            worker: 0,
+            place: 8208,
+        },
+        Some(0),
+    ),
+    (
+        Fetch {
+            worker: 0,
+            place: 8209,
+        },
+        None,
+    ),
+    (
+        Fetch {
+            worker: 0,
+            place: 16,
+        },
+        None,
+    ),
+    (Peek { worker: 0 }, Some(0)),
+    (Announce { worker: 0 }, None),
+    (Fill { place: 17, word: 2 }, None),
+    (Fill { place: 16, word: 2 }, None),
+    (
+        Fill {
+            place: 65_553,
+            word: 2,
+        },
+        None,
+    ),
+    (Publish { row: 1 }, None),
+    (
+        Fill {
+            place: 8209,
+            word: 2,
+        },
+        Some(2),
+    ),
+    (Publish { row: 1 }, None),
+    (Publish { row: 8 }, None),
+    (
+        Fill {
+            place: 65_552,
+            word: 7,
+        },
+        Some(7),
+    ),
+    (Scan { place: 1 }, Some(1)),
+    (Leave { worker: 0 }, Some(0)),
+    (Announce { worker: 0 }, None),
+    (
+        Fetch {
+            worker: 0,
+            place: 17,
+        },
+        None,
+    ),
+    (Scan { place: 1 }, Some(0)),
+];
+
+#[test]
+fn steps_and_their_answers(rt: HostRuntime) -> Result<(), Fail> {
+    let mut world = World::new(Config::new(rt.alloc()))?;
+    for (step, answer) in ANSWERS {
+        assert_eq!(rt;
+            world.step(step),
+            answer.ok_or(StepFault::NotLegal),
+            "{step:?}"
+        );
+    }
+    world.propose(Config::new(rt.alloc()))?;
+    assert_eq!(rt; world.step(Publish { row: 7 }), Err(StepFault::NotLegal));
+    assert_eq!(rt; world.step(Publish { row: 1 }), Ok(9));
+    assert_eq!(rt; world.step(Publish { row: 1 }), Err(StepFault::NotLegal));
+    Ok(())
+}
+
+// What was done, and nothing else: each question goes through all of it.
+#[derive(Drop)]
+struct History {
+    words: Vec<u64>,
+    made: Vec<(Step, u64)>,
+    proposed: bool,
+}
+
+fn is_of(step: Step, worker: usize) -> bool {
+    match step {
+        Peek { worker: w } | Announce { worker: w } | Pin { worker: w } | Leave { worker: w } => w
+            == worker,
+        Fetch { worker: w, .. } => w == worker,
+        _ => false,
+    }
+}
+
+impl History {
+    fn word(&self, place: usize) -> Option<u64> {
+        self.words.get(place).copied()
+    }
+
+    // What the last steps of a worker were, peeks inside left out: none, a peek, an announce or a pin, and its word.
+    fn last_of(&self, worker: usize) -> Option<(Step, u64)> {
+        let mut last = None;
+        for (step, word) in &self.made {
+            let inside = matches!(last, Some((Pin { .. }, _)));
+            if is_of(*step, worker) {
+                last = match *step {
+                    Peek { .. } if inside => last,
+                    Fetch { .. } => last,
+                    Leave { .. } => None,
+                    other => Some((other, *word)),
+                };
+            }
+        }
+        last
+    }
+
+    fn number(&self) -> u64 {
+        let mut number = 0u64;
+        for (step, _) in &self.made {
+            if let Publish { .. } = step {
+                number = number.wrapping_add(1);
+            }
+        }
+        number
+    }
+
+    fn was_scanned_clear(&self, worker: usize, version: u64) -> bool {
+        let mut number = 0u64;
+        let mut clear = false;
+        for (step, word) in &self.made {
+            match *step {
+                Publish { .. } => number = number.wrapping_add(1),
+                Scan { place } if place == worker.wrapping_add(1) && number > version => {
+                    clear = clear || *word == 0 || *word >= version.wrapping_add(2);
+                }
+                _ => {}
+            }
+        }
+        clear
+    }
+
+    fn is_free(&self, row: usize) -> bool {
+        let mut number = 0u64;
+        let mut last = if row == 0 { Some(0) } else { None };
+        for (step, _) in &self.made {
+            if let Publish { row: of } = *step {
+                number = number.wrapping_add(1);
+                if of == row {
+                    last = Some(number);
+                }
+            }
+        }
+        let Some(version) = last else {
+            return row < ROWS;
+        };
+        let mut free = number > version;
+        for worker in 0..WORKERS {
+            free = free && self.was_scanned_clear(worker, version);
+        }
+        free
+    }
+
+    fn holds_empty(&self, row: usize) -> bool {
+        for i in 0..8192usize {
+            let wanted = EMPTY_IMAGE.get(i).copied().unwrap_or(0);
+            if self.word(begin_of(row).wrapping_add(i)) != Some(wanted) {
+                return false;
+            }
+        }
+        true
+    }
+
+    fn row_of(&self, place: usize) -> Option<usize> {
+        for row in 0..ROWS {
+            let begin = begin_of(row);
+            if begin <= place && place < begin.wrapping_add(8192) {
+                return Some(row);
+            }
+        }
+        None
+    }
+
+    fn answer(&self, step: Step) -> Option<u64> {
+        match step {
+            Peek { worker } => match self.last_of(worker) {
+                Some((Announce { .. }, _)) => None,
+                _ if worker < WORKERS => self.word(0),
+                _ => None,
+            },
+            Announce { worker } => match self.last_of(worker) {
+                Some((Peek { .. }, word)) => Some((word / 8).wrapping_add(1)),
+                _ => None,
+            },
+            Pin { worker } => match self.last_of(worker) {
+                Some((Announce { .. }, _)) => self.word(0),
+                _ => None,
+            },
+            Fetch { worker, place } => match self.last_of(worker) {
+                Some((Pin { .. }, word)) if self.row_of(place) == Some((word % 8) as usize) =>
+                    self.word(place),
+                _ => None,
+            },
+            Leave { worker } => match self.last_of(worker) {
+                Some((Pin { .. }, _)) => Some(0),
+                _ => None,
+            },
+            Fill { place, word } => match self.row_of(place) {
+                Some(row) if self.is_free(row) => Some(word),
+                _ => None,
+            },
+            Publish { row } => {
+                if self.proposed && row < ROWS && self.is_free(row) && self.holds_empty(row) {
+                    Some(
+                        self.number()
+                            .wrapping_add(1)
+                            .wrapping_mul(8)
+                            .wrapping_add(row as u64),
+                    )
+                } else {
+                    None
+                }
+            }
+            Scan { place } => {
+                if 1 <= place && place <= WORKERS {
+                    self.word(place)
+                } else {
+                    None
+                }
+            }
+        }
+    }
+
+    fn make(&mut self, step: Step, word: u64) -> Result<(), Fail> {
+        let stored = match step {
+            Announce { worker } | Leave { worker } => Some(worker.wrapping_add(1)),
+            Fill { place, .. } => Some(place),
+            Publish { .. } => Some(0),
+            _ => None,
+        };
+        if let Some(place) = stored {
+            if let Some(kept) = self.words.get_mut(place) {
+                *kept = word;
+            }
+        }
+        if let Publish { .. } = step {
+            self.proposed = false;
+        }
+        self.made.push((step, word))?;
+        Ok(())
+    }
+}
+
+// Numbers in no order: the linear congruential generator of Knuth's MMIX, and its high bits.
+#[derive(Drop)]
+struct Numbers(u64);
+
+impl Numbers {
+    fn below(&mut self, bound: u64) -> u64
+        requires { 0 < bound }
+    {
+        self.0 = self
+            .0
+            .wrapping_mul(6364136223846793005)
+            .wrapping_add(1442695040888963407);
+        (self.0 >> 33) % bound
+    }
+
+    fn step(&mut self) -> Step {
+        let worker = self.below(3) as usize;
+        let row = self.below(9) as usize;
+        match self.below(16) {
+            0 | 1 => Peek { worker },
+            2 | 3 => Announce { worker },
+            4 | 5 => Pin { worker },
+            6 => Fetch {
+                worker,
+                place: begin_of(row).wrapping_add(self.below(2) as usize),
+            },
+            7 => Leave { worker },
+            8 | 9 | 10 => Fill {
+                place: begin_of(row),
+                word: 2,
+            },
+            11 => Fill {
+                place: begin_of(row).wrapping_add(1),
+                word: self.below(8) / 7,
+            },
+            12 | 13 => Publish { row },
+            _ => Scan {
+                place: self.below(18) as usize,
+            },
+        }
+    }
+}
+
+#[test]
+fn steps_in_no_order(rt: HostRuntime) -> Result<(), Fail> {
+    let mut world = World::new(Config::new(rt.alloc()))?;
+    let mut words = vec![in rt.alloc(); 0; TABLE_WORDS]?;
+    if let Some(first) = words.get_mut(17) {
+        *first = 2;
+    }
+    let mut history = History {
+        words,
+        made: Vec::new(rt.alloc()),
+        proposed: false,
+    };
+    let mut numbers = Numbers(1);
+    let mut legal = 0u32;
+    for turn in 0..3000u32 {
+        if turn % 8 == 0 {
+            world.propose(Config::new(rt.alloc()))?;
+            history.proposed = true;
+        }
+        let step = numbers.step();
+        let wanted = history.answer(step);
+        assert_eq!(rt;
+            world.step(step),
+            wanted.ok_or(StepFault::NotLegal),
+            "turn {turn}: {step:?}"
+        );
+        if let Some(word) = wanted {
+            history.make(step, word)?;
+            legal = legal.wrapping_add(1);
+        }
+    }
+    assert!(rt;
+        800 < legal && 20 < history.number(),
+        "{legal} steps were legal"
+    );
+    Ok(())
+}
+
+// Steps a worker's round, until one is refused; tells how many rounds were made.
+fn rounds_within(heap: &LocalHeap) -> Result<usize, Fail> {
+    let mut world = match World::new(Config::new(heap)) {
+        Ok(world) => world,
+        Err(StepFault::OutOfMemory) => return Ok(0),
+        Err(_) => return Err(Fail::from("only memory is refused")),
+    };
+    for round in 1..40usize {
+        match world.propose(Config::new(heap)) {
+            Ok(()) => {}
+            Err(StepFault::OutOfMemory) => return Ok(round),
+            Err(_) => return Err(Fail::from("only memory is refused")),
+        }
+        for step in [
+            Peek { worker: 3 },
+            Announce { worker: 3 },
+            Pin { worker: 3 },
+            Leave { worker: 3 },
+        ] {
+            match world.step(step) {
+                Ok(_) => {}
+                // The world is as before: the same step is refused again for want of memory alone.
+                Err(StepFault::OutOfMemory) if world.step(step) == Err(StepFault::OutOfMemory) =>
+                    return Ok(round),
+                Err(_) => return Err(Fail::from("only memory is refused")),
+            }
+        }
+    }
+    Ok(40)
+}
+
+#[test]
+fn world_under_each_refused_growth(rt: HostRuntime) -> Result<(), Fail> {
+    let mut size = 524_000;
+    let mut least = 0;
+    for _ in 0..300 {
+        let heap = LocalHeap::new(rt.alloc(), size)?;
+        let rounds = rounds_within(&heap)?;
+        assert!(rt; least <= rounds, "a heap of {size} bytes");
+        assert_eq!(rt; heap.used(), 0);
+        least = rounds;
+        size = size.saturating_add(128);
+    }
+    assert_eq!(rt; least, 40);
+    Ok(())
+}

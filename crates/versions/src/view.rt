@@ -1,0 +1,55 @@
+//! What each actor knows from its own steps (docs/TABLE.md, "What an actor knows"). No value of a view is made: contracts
+//! speak of views, and lists in them are not kept in memory.
+//!
+//! A log has the newest entry first.
+
+use crate::step::Entry;
+use std::collections::LinkedList;
+
+/// Where a worker is in the order of its steps.
+#[derive(Clone, Copy, Debug)]
+pub enum Stage {
+    /// Outside a read section, without a peek since the last one.
+    Outside,
+    /// Outside, and its last peek gave this version.
+    Peeked {
+        version: u64,
+    },
+    /// It stored this word, and will pin next.
+    Announced {
+        read_word: u64,
+    },
+    /// Inside a read section: what it announced, the version that it holds, and the row of that version.
+    Inside {
+        read_word: u64,
+        version: u64,
+        row: usize,
+    },
+}
+
+/// What a worker knows over configurations `C`.
+pub struct WorkerView<C> {
+    /// Which worker it is.
+    pub number: usize,
+    pub stage: Stage,
+    /// Its own steps.
+    pub log: LinkedList<Entry>,
+    /// The versions from 0 up to the one that its last load of `current` gave; at first version 0 alone.
+    pub seen: LinkedList<C>,
+}
+
+/// What the operator knows over configurations `C`.
+pub struct OperatorView<C> {
+    /// Its own steps.
+    pub log: LinkedList<Entry>,
+    /// The versions published so far, from version 0 on.
+    pub published: LinkedList<C>,
+    /// The row of each version.
+    pub version_rows: LinkedList<usize>,
+    /// What it proposed last, where it published nothing since.
+    pub proposal: Option<C>,
+    /// The words of the rows, which it alone stores.
+    pub row_words: LinkedList<u64>,
+    /// The log of each worker at the operator's last scan of its read word.
+    pub scanned_logs: LinkedList<LinkedList<Entry>>,
+}

@@ -1,0 +1,149 @@
+//! A world: the table that makes one step at a time, for lists of steps that a reader chooses.
+
+ghost use Rattle.std.specs.Prelude.{◌≡◌, ◌+◌, ◌<◌, ◌⊎◌, ◌↔◌, IfErr, IfOk, None, OnErr, OnOk, slice_set, ℕ};
+ghost use Rattle.std.specs.Option.{option_map};
+ghost use Rattle.member_group.specs.Charge.{charge_of};
+ghost use Rattle.versions.specs.declared.fault.StepFault.TheVariants.{NotLegal, OutOfMemory, TooBig};
+ghost use Rattle.versions.specs.declared.step.Event.TheVariants.{Proposed};
+ghost use Rattle.versions.specs.Legal.{IsLegalStep};
+ghost use Rattle.versions.specs.Mirror.{IsDecided};
+ghost use Rattle.versions.specs.Step.{place_of};
+ghost use Rattle.versions.specs.State.{after_event, after_step};
+ghost use Rattle.versions.specs.Table.{the_shape};
+ghost use Rattle.versions.specs.World.{IsRefusedAs, opened_with, proposal_by};
+
+use crate::fault::StepFault;
+use crate::layout::{MAX_CHARGE, ROW_WORDS, ROWS_BEGIN, TABLE_WORDS, row_word};
+use crate::progress::Progress;
+use crate::step::{Event, Step};
+use member_group::Config;
+use std::alloc::{AllocError, Allocator, Global};
+use std::marker::Model;
+
+/// A table, and the events that were made in it. Contracts see its words and what each actor knows.
+///
+/// It decides by itself which steps are legal, and makes no other.
+#[derive(Drop)]
+pub struct World<A: Allocator = Global> {
+    opening: Config<A>,
+    events: Vec<Event<Config<A>>, A>,
+    words: Vec<u64, A>,
+    progress: Progress,
+    proposal: Option<usize>,
+}
+
+impl<A: Allocator> Model for World<A> {
+    ghost use Rattle.std.specs.Prelude.{List};
+    ghost use Rattle.config_image.specs.Image.{Group};
+    ghost use Rattle.versions.specs.State.{State};
+    ghost use Rattle.versions.specs.World.{IsWorld, world_after};
+
+    ghost Value = { State (List Group) };
+
+    ghost view = { λ w. world_after w.opening w.events.items };
+
+    ghost invariant = { λ w. IsWorld w.opening w.events.items w.words.items w.progress w.proposal };
+}
+
+fn opening_words<A: Allocator + Clone>(config: &Config<A>) -> Result<Vec<u64, A>, AllocError>
+    ensures words { IfOk result (λ words. words.items ≡ (opened_with config.now).words) }
+{
+    let mut words = Vec::with_capacity(config.allocator().clone()?, TABLE_WORDS)?;
+    words.resize(ROWS_BEGIN, 0)?;
+    for i in 0..ROW_WORDS {
+        words.push(row_word(config, i))?;
+    }
+    words.resize(TABLE_WORDS, 0)?;
+    Ok(words)
+}
+
+// Where the last proposal is, after a step: a publication uses it up.
+fn proposal_after(step: Step, proposal: Option<usize>) -> Option<usize>
+    ensures { result ≡ proposal_by step proposal }
+{
+    match step {
+        Step::Publish { .. } => None,
+        _ => proposal,
+    }
+}
+
+impl<A: Allocator> World<A> {
+    fn proposal(&self) -> Option<&Config<A>>
+        ensures proposal { option_map (λ config. config.now) result ≡ self.now.operator.proposal }
+    {
+        match &self.events[self.proposal?] {
+            Event::Proposed { config } => Some(config),
+            Event::Stepped { .. } => None,
+        }
+    }
+
+    fn word_of(&self, step: Step) -> Option<u64>
+        ensures decided { IsDecided self.now step result }
+    {
+        self.progress.word_of(&self.words, self.proposal(), step)
+    }
+
+    /// Makes the operator's proposal, which takes the place of an earlier one.
+    ///
+    /// Fails with `TooBig` where the charge is above `MAX_CHARGE`, else with `OutOfMemory` where a growth was refused.
+    pub fn propose(&mut self, config: Config<A>) -> Result<(), StepFault>
+        ensures proposed { OnOk result (self.new ≡ after_event the_shape self.old (Proposed config)) }
+        ensures too_big { IsRefusedAs TooBig result ↔ (MAX_CHARGE < charge_of config) }
+        ensures cause { IfErr result (λ fault. (fault ≡ TooBig) ⊎ (fault ≡ OutOfMemory)) }
+        ensures world_kept { OnErr result (self.new ≡ self.old) }
+    {
+        if config.charge() > MAX_CHARGE {
+            return Err(StepFault::TooBig);
+        }
+        self.events.reserve(1)?;
+        let place = self.events.len();
+        self.events.push_reserved(Event::Proposed { config });
+        self.proposal = Some(place);
+        Ok(())
+    }
+
+    /// Makes a step, and answers the word that it loads or stores.
+    ///
+    /// Fails with `NotLegal` exactly where no word makes the step legal, else with `OutOfMemory` where a growth was refused.
+    pub fn step(&mut self, step: Step) -> Result<u64, StepFault>
+        ensures step_exact { IsRefusedAs NotLegal result ↔ ((word : ℕ) → IsLegalStep the_shape self.old step word → ⊥) }
+        ensures step_answer { IfOk result (IsLegalStep the_shape self.old step) }
+        ensures state_after { IfOk result (λ word. self.new ≡ after_step the_shape self.old step word) }
+        ensures one_word { IfOk result (λ word. self.new.words ≡ slice_set self.old.words (place_of step) word) }
+        ensures cause { IfErr result (λ fault. (fault ≡ NotLegal) ⊎ (fault ≡ OutOfMemory)) }
+        ensures world_kept { OnErr result (self.new ≡ self.old) }
+    {
+        let Some(word) = self.word_of(step) else {
+            return Err(StepFault::NotLegal);
+        };
+        self.events.reserve(1)?;
+        self.events.push_reserved(Event::Stepped { step, word });
+        self.progress.take(&mut self.words, step, word);
+        self.proposal = proposal_after(step, self.proposal);
+        Ok(word)
+    }
+}
+
+impl<A: Allocator + Clone> World<A> {
+    /// Opens a table with a configuration, in its memory: version 0, in row 0. The other rows are filled with zeros.
+    ///
+    /// Fails with `TooBig` where the charge is above `MAX_CHARGE`, else with `OutOfMemory` where memory was refused.
+    pub fn new(config: Config<A>) -> Result<World<A>, StepFault>
+        ensures opened { IfOk result (λ world. world ≡ opened_with config) }
+        ensures too_big { IsRefusedAs TooBig result ↔ (MAX_CHARGE < charge_of config) }
+        ensures cause { IfErr result (λ fault. (fault ≡ TooBig) ⊎ (fault ≡ OutOfMemory)) }
+    {
+        if config.charge() > MAX_CHARGE {
+            return Err(StepFault::TooBig);
+        }
+        let words = opening_words(&config)?;
+        let events = Vec::new(config.allocator().clone()?);
+        Ok(World {
+            opening: config,
+            events,
+            words,
+            progress: Progress::at_start(),
+            proposal: None,
+        })
+    }
+}
