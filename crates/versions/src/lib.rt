@@ -32,4 +32,6 @@ pub fn every_trace()
 {}
 
 #[cfg(test)]
+mod history;
+#[cfg(test)]
 mod tests;
