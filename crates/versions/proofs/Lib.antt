@@ -5,6 +5,8 @@ pub mod Rule
 pub mod WorkerSteps
 pub mod OperatorSteps
 pub mod TraceLemmas
+pub mod ReuseLemmas
+pub mod SafetyLemmas
 pub mod ShapeLemmas
 pub mod MirrorLemmas
 pub mod RowLemmas

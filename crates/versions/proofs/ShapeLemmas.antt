@@ -5,7 +5,7 @@ use Rattle.std.proofs.Math.Nat.{mod-lt}
 use Rattle.config_image.specs.declared.TheConstants.{ROW_WORDS}
 use Rattle.config_image.specs.Image.{Group, row}
 use Rattle.member_group.specs.Charge.{charge_of}
-use Rattle.versions.specs.declared.layout.TheConstants.{LAST_NUMBER, MAX_CHARGE, ROWS, ROWS_BEGIN, TABLE_WORDS, WORKERS}
+use Rattle.versions.specs.declared.layout.TheConstants.{LAST_NUMBER, CHARGE_LIMIT, ROWS, ROWS_BEGIN, TABLE_WORDS, WORKERS}
 use Rattle.versions.specs.Layout.{HoldsRow, IsInRow}
 use Rattle.versions.specs.Table.{the_shape}
 
@@ -25,9 +25,9 @@ pub last_number_is : the_shape.last_number ≡ LAST_NUMBER
 unfolding the_shape
 last_number_is = refl
 
-pub max_charge_is : the_shape.max_charge ≡ MAX_CHARGE
+pub charge_limit_is : the_shape.charge_limit ≡ CHARGE_LIMIT
 unfolding the_shape
-max_charge_is = refl
+charge_limit_is = refl
 
 pub charge_is : (config : List Group) → the_shape.charge config ≡ charge_of config
 unfolding the_shape

@@ -12,7 +12,7 @@ use Rattle.versions.specs.Free.{IsScannedClear, number_after}
 use Rattle.versions.specs.State.{State, start_of, state_after}
 
 abbrev small : Shape (List ℕ)
-small = record { workers = 2; rows = 2; row_words = 2; last_number = 100; max_charge = 2; charge = length; row = λ config. config }
+small = record { workers = 2; rows = 2; row_words = 2; last_number = 100; charge_limit = 2; charge = length; row = λ config. config }
 
 -- worker 1 enters at version 0; version 1 is proposed, filled into row 1 and published; the newest event comes first
 abbrev entered : List (Event (List ℕ))

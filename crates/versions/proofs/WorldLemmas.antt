@@ -8,7 +8,7 @@ use mathlib.Core.Option.{some}
 use lib.ListN.{get_elem?}
 use Rattle.config_image.specs.Image.{Group, row}
 use Rattle.member_group.specs.Charge.{charge_of}
-use Rattle.versions.specs.declared.layout.TheConstants.{MAX_CHARGE, ROWS_BEGIN, TABLE_WORDS}
+use Rattle.versions.specs.declared.layout.TheConstants.{CHARGE_LIMIT, ROWS_BEGIN, TABLE_WORDS}
 use Rattle.versions.specs.declared.progress.Progress.{Progress}
 use Rattle.versions.specs.declared.step.Step.{Step}
 use Rattle.versions.specs.declared.step.Step.TheVariants.{Announce, Fetch, Fill, Leave, Peek, Pin, Publish, Scan}
@@ -25,13 +25,13 @@ use Rattle.versions.specs.World.{IsProposalAt, IsWorld, opened_with, opening_row
 use Rattle.versions.proofs.ListLemmas.{elem_below}
 use Rattle.versions.proofs.MirrorLemmas.{IsBook-proposed, IsMirror-operator, none_some}
 use Rattle.versions.proofs.RowLemmas.{length-row}
-use Rattle.versions.proofs.ShapeLemmas.{all_rows_is, charge_is, max_charge_is, other_rows_is, row_is, row_words_is, rows_is, workers_is}
+use Rattle.versions.proofs.ShapeLemmas.{all_rows_is, charge_is, charge_limit_is, other_rows_is, row_is, row_words_is, rows_is, workers_is}
 use Rattle.versions.proofs.TraceLemmas.{length-new_workers, new_worker_at, only}
 
 length-the_row : (config : List Group) → length (the_shape.row config) ≡ the_shape.row_words
 length-the_row config = ap length (row_is config) ∙ (length-row config ∙ sym row_words_is)
 
-pub IsOpening-rows : (config : List Group) → the_shape.charge config ≤ the_shape.max_charge → IsOpening the_shape config (opening_rows config)
+pub IsOpening-rows : (config : List Group) → the_shape.charge config ≤ the_shape.charge_limit → IsOpening the_shape config (opening_rows config)
 IsOpening-rows config charge = record {
   charge = charge;
   some_row = omega (arith, rows_is);
@@ -39,7 +39,7 @@ IsOpening-rows config charge = record {
   first_row = λ i low. get_or_append_left (the_shape.row config) (replicate ((the_shape.rows - 1) * the_shape.row_words) 0) 0 i (omega (arith, length-the_row config));
 }
 
-pub IsReached-world : (config : List Group) (events : List (Event (List Group))) → the_shape.charge config ≤ the_shape.max_charge → IsLegal the_shape (opened_with config) (reverse events) → IsReached the_shape (world_after config events)
+pub IsReached-world : (config : List Group) (events : List (Event (List Group))) → the_shape.charge config ≤ the_shape.charge_limit → IsLegal the_shape (opened_with config) (reverse events) → IsReached the_shape (world_after config events)
 IsReached-world config events charge legal = record {
   config = config;
   rows = opening_rows config;
@@ -112,8 +112,8 @@ pub opened_words_are : (config : List Group) (items : List ℕ) → items ≡ (r
 opened_words_are config items is = is ∙ (ap (λ l. (replicate ROWS_BEGIN 0 ++ l) ++ replicate (TABLE_WORDS - (ROWS_BEGIN + length (row config))) 0) (sym (row_is config))
     ∙ opened_words ROWS_BEGIN the_shape.workers (TABLE_WORDS - (ROWS_BEGIN + length (row config))) ((the_shape.rows - 1) * the_shape.row_words) (the_shape.row config) (omega (arith, workers_is)) (omega (arith, length-row config, other_rows_is)))
 
-pub light : (config : List Group) (charge : ℕ) → charge ≡ charge_of config → charge ≤ MAX_CHARGE → the_shape.charge config ≤ the_shape.max_charge
-light config charge is low = omega (arith, charge_is config, max_charge_is)
+pub light : (config : List Group) (charge : ℕ) → charge ≡ charge_of config → charge ≤ CHARGE_LIMIT → the_shape.charge config ≤ the_shape.charge_limit
+light config charge is low = omega (arith, charge_is config, charge_limit_is)
 
 still_proposed : (events : List (Event (List Group))) (event : Event (List Group)) (proposal : Option (List Group)) (found : Option ℕ) → IsProposalAt events proposal found → IsProposalAt (events ++ event ∷ []) proposal found
 still_proposed events event proposal None h = h
@@ -146,7 +146,7 @@ IsWorld-stepped config events table table' progress progress' found step x h leg
 
 -- a world after a proposal
 pub IsWorld-proposed : (config : List Group) (events : List (Event (List Group))) (table : List ℕ) (progress : Progress) (found : Option ℕ) (proposed : List Group) → IsWorld config events table progress found
-    → the_shape.charge proposed ≤ the_shape.max_charge → IsWorld config (events ++ Proposed proposed ∷ []) table progress (Some (length events))
+    → the_shape.charge proposed ≤ the_shape.charge_limit → IsWorld config (events ++ Proposed proposed ∷ []) table progress (Some (length events))
 IsWorld-proposed config events table progress found proposed h low =
     let s = world_after config events in let more = world_after-pushed config events (Proposed proposed) in record {
       charge = h.charge;
@@ -157,7 +157,7 @@ IsWorld-proposed config events table progress found proposed h low =
       proposed = subst (λ (t : State (List Group)). IsProposalAt (events ++ Proposed proposed ∷ []) t.operator.proposal (Some (length events))) (sym more) (proposed, slice_get-end events (Proposed proposed), refl);
     }
 
-pub IsWorld-opened : (config : List Group) (words : List ℕ) (progress : Progress) → the_shape.charge config ≤ the_shape.max_charge → words ≡ (opened_with config).words → BeginsAtStart progress → IsWorld config [] words progress None
+pub IsWorld-opened : (config : List Group) (words : List ℕ) (progress : Progress) → the_shape.charge config ≤ the_shape.charge_limit → words ≡ (opened_with config).words → BeginsAtStart progress → IsWorld config [] words progress None
 IsWorld-opened config words progress charge same h = record {
   charge = charge;
   legal = tt;

@@ -22,8 +22,8 @@ number_after (newest ∷ older) = number_by newest.step (number_after older)
 abbrev pub IsReplaced : ℕ → List Entry → Type 0
 IsReplaced m log = m < number_after log
 
--- a read word that holds back no version up to m: its worker is outside, or its next pin, or its last, comes after an announce
--- of a later version than m
+-- a read word that does not hold back version m: it is 0, or it announces a later version than m, which its worker's pin
+-- comes after
 abbrev pub IsClear : ℕ → ℕ → Type 0
 IsClear m x = (x ≡ 0) ⊎ (m + 2 ≤ x)
 
@@ -37,6 +37,16 @@ abbrev pub IsScannedClear : ℕ → ℕ → List Entry → Type 0
 IsScannedClear w m [] = ⊥
 IsScannedClear w m (newest ∷ older) = ClearsBy w m older newest.step newest.word (IsScannedClear w m older)
 
+-- a step that loads `word` scans worker w and gives x; or it does not scan w, and the last scan before it gave x
+abbrev pub GivesLast : ℕ → ℕ → Step → ℕ → Type 0 → Type 0
+GivesLast w x (Scan place) word before = ((place ≡ 1 + w) × (word ≡ x)) ⊎ ((place ≡ 1 + w → ⊥) × before)
+GivesLast w x _ word before = before
+
+-- the operator's last scan of worker w gave x
+abbrev pub IsLastScan : ℕ → ℕ → List Entry → Type 0
+IsLastScan w x [] = ⊥
+IsLastScan w x (newest ∷ older) = GivesLast w x newest.step newest.word (IsLastScan w x older)
+
 -- version m is the last one that was published in row r
 abbrev pub IsLastIn : ℕ → ℕ → List ℕ → Type 0
 IsLastIn r m version_rows = (get_elem? version_rows m ≡ some r) × ((later : ℕ) → m < later → get_elem? version_rows later ≡ some r → ⊥)
@@ -49,3 +59,15 @@ module _ {C : Type 0} (shape : Shape C) where
   -- a row is free where it was never used, or its last version is free
   abbrev pub IsFreeRow : OperatorView C → ℕ → Type 0
   IsFreeRow view r = (r < shape.rows) × ((m : ℕ) → IsLastIn r m view.version_rows → IsFree m view.log)
+
+  -- whatever the operator does next, a free version stays free
+  abbrev pub FreeStaysFree : Type 0
+  FreeStaysFree = (n : ℕ) (newest : Entry) (older : List Entry) → IsFree n older → IsFree n (newest ∷ older)
+
+  -- the versions before a free one are free
+  abbrev pub FreeBelow : Type 0
+  FreeBelow = (m n : ℕ) (log : List Entry) → m ≤ n → IsFree n log → IsFree m log
+
+  -- each version that was published in a free row is free, not the last alone
+  abbrev pub FreeRowsAreFree : Type 0
+  FreeRowsAreFree = (view : OperatorView C) (r n : ℕ) → IsFreeRow view r → get_elem? view.version_rows n ≡ some r → IsFree n view.log

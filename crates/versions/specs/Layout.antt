@@ -8,7 +8,7 @@ pub record Shape (C : Type 0) : Type 0 where
   pub rows : ℕ
   pub row_words : ℕ
   pub last_number : ℕ
-  pub max_charge : ℕ
+  pub charge_limit : ℕ
   pub charge : C → ℕ
   pub row : C → List ℕ
 

@@ -66,10 +66,10 @@ module _ {C : Type 0} (shape : Shape C) where
   IsLegalStep state (Publish r) x = CanPublish state r × (x ≡ current_word shape (number_after state.operator.log + 1) r)
   IsLegalStep state (Scan place) x = (w : ℕ) × (w < shape.workers) × (place ≡ 1 + w) × Loads state place x
 
-  -- a proposal is not charged too much
+  -- a step is legal with the word that it loads or stores; a proposal is legal where its charge is at most the greatest
   abbrev pub IsLegalEvent : State C → Event C → Type 0
   IsLegalEvent state (Stepped step x) = IsLegalStep state step x
-  IsLegalEvent state (Proposed config) = shape.charge config ≤ shape.max_charge
+  IsLegalEvent state (Proposed config) = shape.charge config ≤ shape.charge_limit
 
   -- each event is legal where it comes
   abbrev pub IsLegal : State C → List (Event C) → Type 0

@@ -82,7 +82,7 @@ module _ {C : Type 0} (shape : Shape C) where
 
   -- a table opens with a configuration that is not charged too much, and whose row is row 0
   pub record IsOpening (config : C) (rows : List ℕ) : Type 0 where
-    pub charge : shape.charge config ≤ shape.max_charge
+    pub charge : shape.charge config ≤ shape.charge_limit
     pub some_row : 0 < shape.rows
     pub whole : length rows ≡ shape.rows * shape.row_words
     pub first_row : (i : ℕ) → i < shape.row_words → slice_index rows i ≡ slice_index (shape.row config) i

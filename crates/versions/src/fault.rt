@@ -12,7 +12,7 @@ pub enum StepFault {
     NotLegal,
     /// A growth was refused, and nothing was changed.
     OutOfMemory,
-    /// The configuration's charge is above `MAX_CHARGE`.
+    /// The configuration's charge is above `CHARGE_LIMIT`.
     TooBig,
 }
 

@@ -1,6 +1,15 @@
 //! What tells that versions and rows are free: scans, counted by worker.
 ghost use Rattle.std.specs.Prelude.{◌≡◌, ◌<◌, ◌≤◌, length, slice_index, ℕ, ◌↔◌};
-ghost use Rattle.versions.specs.Free.{IsClear};
+ghost use Rattle.versions.specs.Free.{FreeBelow, FreeRowsAreFree, FreeStaysFree, IsClear};
+ghost use Rattle.versions.specs.Table.{the_shape};
+
+/// Law: a free version stays free, the versions before a free one are free, and each version of a free row is free. It runs
+/// nothing.
+pub fn free_versions()
+    ensures free_stays_free { FreeStaysFree the_shape }
+    ensures free_below { FreeBelow the_shape }
+    ensures free_rows { FreeRowsAreFree the_shape }
+{}
 
 pub(crate) fn least(numbers: &[u64]) -> u64
     requires { 0 < length numbers.now }

@@ -17,7 +17,7 @@ pub const WORKERS: usize = 16;
 pub const ROWS: usize = 8;
 
 /// The greatest charge of a configuration, so that its image fits a row.
-pub const MAX_CHARGE: u64 = 8192;
+pub const CHARGE_LIMIT: u64 = 8192;
 
 /// The number of the last version that may be published.
 pub const LAST_NUMBER: u64 = 1 << 48;

@@ -2,11 +2,12 @@
 //! holds in every interleaving of them (Desnoyers et al. 2012, "User-Level Implementations of Read-Copy Update";
 //! docs/TABLE.md).
 //!
-//! `every_trace` is the law; the definitions that it cites are those of the crates that make the steps.
+//! `every_trace` is the law. The crates that make the steps on shared memory cite the same definitions; `World` makes them
+//! one by one, by itself.
 #![tactic(auto)]
 
 ghost use Rattle.versions.specs.Table.{the_shape};
-ghost use Rattle.versions.specs.Safety.{InEveryTrace, FetchesPublished, KeepsHeld, LoadsNewest, ScansTell};
+ghost use Rattle.versions.specs.Safety.{FetchesPublished, InEveryTrace, KeepsHeld, ListsVersions, LoadsNewest, ScansTell, SeesUpToLastLoad, StepsOnOneWord, ViewsTellTable};
 
 mod fault;
 mod freedom;
@@ -17,18 +18,24 @@ mod view;
 mod world;
 
 pub use fault::StepFault;
-pub use layout::{LAST_NUMBER, MAX_CHARGE, ROWS, ROWS_BEGIN, TABLE_WORDS, WORKERS};
+pub use freedom::free_versions;
+pub use layout::{CHARGE_LIMIT, LAST_NUMBER, ROWS, ROWS_BEGIN, TABLE_WORDS, WORKERS};
 pub use step::{Entry, Event, Step};
 pub use view::{OperatorView, Stage, WorkerView};
 pub use world::World;
 
-/// Law: in every legal trace each load of `current` gives the version published last, no version that a worker holds is
-/// reclaimed, each fetch gives the published word, and each scan tells a log of its worker. It runs nothing.
+/// Law: in every legal trace each load of `current` gives the version published last, each worker has seen the versions up to
+/// its last load, no version that a worker holds is reclaimed, each fetch gives the published word, each scan tells a log of its
+/// worker, the words of the table are as the actors know them, and each step is on one word. It runs nothing.
 pub fn every_trace()
     ensures pin_is_newest { InEveryTrace the_shape (LoadsNewest the_shape) }
+    ensures seen_up_to_last_load { InEveryTrace the_shape (SeesUpToLastLoad the_shape) }
     ensures held_version_kept { InEveryTrace the_shape (KeepsHeld the_shape) }
     ensures fetch_is_published { InEveryTrace the_shape (FetchesPublished the_shape) }
     ensures scan_tells_log { InEveryTrace the_shape (ScansTell the_shape) }
+    ensures views_tell_table { InEveryTrace the_shape (ViewsTellTable the_shape) }
+    ensures versions_listed { InEveryTrace the_shape (ListsVersions the_shape) }
+    ensures one_word { InEveryTrace the_shape (StepsOnOneWord the_shape) }
 {}
 
 #[cfg(test)]

@@ -5,8 +5,10 @@ ghost use Rattle.std.specs.Prelude.{◌<◌};
 use crate::Step::{self, Announce, Fetch, Fill, Leave, Peek, Pin, Publish, Scan};
 use crate::history::{EMPTY_IMAGE, History, begin_of};
 use crate::{ROWS, StepFault, TABLE_WORDS, WORKERS, World};
+use bpf_verify::Program;
+use ipv4_fields::Endpoint;
 use linked_list_allocator::LocalHeap;
-use member_group::Config;
+use member_group::{Command, Config};
 use std::alloc::{Allocator, Global};
 use std::test::Fail;
 
@@ -179,6 +181,58 @@ fn steps_and_their_answers(rt: HostRuntime) -> Result<(), Fail> {
     assert_eq!(rt; world.step(Publish { row: 7 }), Err(StepFault::NotLegal));
     assert_eq!(rt; world.step(Publish { row: 1 }), Ok(9));
     assert_eq!(rt; world.step(Publish { row: 1 }), Err(StepFault::NotLegal));
+    Ok(())
+}
+
+// The group 10.0.0.2:53 with the member 7 at 127.0.0.1:9001, without programs, and its image.
+const GROUP: Endpoint = Endpoint {
+    address: 0x0a00_0002,
+    port: 53,
+};
+
+const GROUP_IMAGE: [u64; 9] = [9, 1, 0x0a00_0002_0035, 6, 1, 0, 7, 0x7f00_0001_2329, 0];
+
+fn with_group(alloc: Global) -> Result<Config, Fail> {
+    let added = Config::new(alloc).apply(&Command::<Program<Global>>::AddGroup { key: GROUP });
+    let joined = added.and_then(|config| {
+        config.apply(&Command::<Program<Global>>::Join {
+            key: GROUP,
+            member: 7,
+            to: Endpoint {
+                address: 0x7f00_0001,
+                port: 9001,
+            },
+        })
+    });
+    joined.map_err(|_| Fail::from("the commands are applied"))
+}
+
+#[test]
+fn group_is_published_word_by_word(rt: HostRuntime) -> Result<(), Fail> {
+    let mut world = World::new(Config::new(rt.alloc()))?;
+    world.propose(with_group(rt.alloc())?)?;
+    for (i, word) in GROUP_IMAGE.into_iter().enumerate() {
+        // The last word of the image is 0, as the row has it.
+        if i < 8 {
+            assert_eq!(rt; world.step(Publish { row: 5 }), Err(StepFault::NotLegal));
+        }
+        let place = begin_of(5).wrapping_add(i);
+        assert_eq!(rt; world.step(Fill { place, word })?, word);
+    }
+    assert_eq!(rt; world.step(Publish { row: 5 })?, 13);
+    assert_eq!(rt; world.word(0), Some(13));
+    assert_eq!(rt; world.word(TABLE_WORDS), None);
+    for (step, answer) in [
+        (Peek { worker: 15 }, 13),
+        (Announce { worker: 15 }, 2),
+        (Pin { worker: 15 }, 13),
+    ] {
+        assert_eq!(rt; world.step(step)?, answer);
+    }
+    for (i, word) in GROUP_IMAGE.into_iter().enumerate() {
+        let place = begin_of(5).wrapping_add(i);
+        assert_eq!(rt; world.step(Fetch { worker: 15, place })?, word);
+    }
     Ok(())
 }
 

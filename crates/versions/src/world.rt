@@ -1,19 +1,19 @@
 //! A world: the table that makes one step at a time, for lists of steps that a reader chooses.
 
-ghost use Rattle.std.specs.Prelude.{◌≡◌, ◌+◌, ◌<◌, ◌⊎◌, ◌↔◌, IfErr, IfOk, None, OnErr, OnOk, slice_set, ℕ};
+ghost use Rattle.std.specs.Prelude.{◌≡◌, ◌+◌, ◌<◌, ◌⊎◌, ◌↔◌, IfErr, IfOk, None, OnErr, OnOk, slice_get, slice_set, ℕ};
 ghost use Rattle.std.specs.Option.{option_map};
 ghost use Rattle.member_group.specs.Charge.{charge_of};
 ghost use Rattle.versions.specs.declared.fault.StepFault.TheVariants.{NotLegal, OutOfMemory, TooBig};
 ghost use Rattle.versions.specs.declared.step.Event.TheVariants.{Proposed};
 ghost use Rattle.versions.specs.Legal.{IsLegalStep};
-ghost use Rattle.versions.specs.Mirror.{IsDecided};
+ghost use Rattle.versions.specs.Mirror.{IsDecided, IsReached};
 ghost use Rattle.versions.specs.Step.{place_of};
 ghost use Rattle.versions.specs.State.{after_event, after_step};
 ghost use Rattle.versions.specs.Table.{the_shape};
 ghost use Rattle.versions.specs.World.{IsRefusedAs, opened_with, proposal_by};
 
 use crate::fault::StepFault;
-use crate::layout::{MAX_CHARGE, ROW_WORDS, ROWS_BEGIN, TABLE_WORDS, row_word};
+use crate::layout::{CHARGE_LIMIT, ROW_WORDS, ROWS_BEGIN, TABLE_WORDS, row_word};
 use crate::progress::Progress;
 use crate::step::{Event, Step};
 use member_group::Config;
@@ -22,7 +22,8 @@ use std::marker::Model;
 
 /// A table, and the events that were made in it. Contracts see its words and what each actor knows.
 ///
-/// It decides by itself which steps are legal, and makes no other.
+/// It decides by itself which steps are legal, and makes no other. It keeps every event, the proposed configurations among
+/// them, so its memory grows with each call that is answered by `Ok`.
 #[derive(Drop)]
 pub struct World<A: Allocator = Global> {
     opening: Config<A>,
@@ -68,6 +69,15 @@ fn proposal_after(step: Step, proposal: Option<usize>) -> Option<usize>
 }
 
 impl<A: Allocator> World<A> {
+    /// The word at a place of the table, `None` from 65,553 on. Each world is what a legal trace from an opening of the table
+    /// leads to, so what `every_trace` says holds of it.
+    pub fn word(&self, place: usize) -> Option<u64>
+        ensures word { result ≡ slice_get self.now.words place }
+        ensures reached { IsReached the_shape self.now }
+    {
+        self.words.get(place).copied()
+    }
+
     fn proposal(&self) -> Option<&Config<A>>
         ensures proposal { option_map (λ config. config.now) result ≡ self.now.operator.proposal }
     {
@@ -85,14 +95,14 @@ impl<A: Allocator> World<A> {
 
     /// Makes the operator's proposal, which takes the place of an earlier one.
     ///
-    /// Fails with `TooBig` where the charge is above `MAX_CHARGE`, else with `OutOfMemory` where a growth was refused.
+    /// Fails with `TooBig` where the charge is above `CHARGE_LIMIT`, else with `OutOfMemory` where a growth was refused.
     pub fn propose(&mut self, config: Config<A>) -> Result<(), StepFault>
         ensures proposed { OnOk result (self.new ≡ after_event the_shape self.old (Proposed config)) }
-        ensures too_big { IsRefusedAs TooBig result ↔ (MAX_CHARGE < charge_of config) }
+        ensures too_big { IsRefusedAs TooBig result ↔ (CHARGE_LIMIT < charge_of config) }
         ensures cause { IfErr result (λ fault. (fault ≡ TooBig) ⊎ (fault ≡ OutOfMemory)) }
         ensures world_kept { OnErr result (self.new ≡ self.old) }
     {
-        if config.charge() > MAX_CHARGE {
+        if config.charge() > CHARGE_LIMIT {
             return Err(StepFault::TooBig);
         }
         self.events.reserve(1)?;
@@ -104,7 +114,8 @@ impl<A: Allocator> World<A> {
 
     /// Makes a step, and answers the word that it loads or stores.
     ///
-    /// Fails with `NotLegal` exactly where no word makes the step legal, else with `OutOfMemory` where a growth was refused.
+    /// Fails with `NotLegal` exactly where no word makes the step legal, also where a worker, row or place is out of range,
+    /// else with `OutOfMemory` where a growth was refused.
     pub fn step(&mut self, step: Step) -> Result<u64, StepFault>
         ensures step_exact { IsRefusedAs NotLegal result ↔ ((word : ℕ) → IsLegalStep the_shape self.old step word → ⊥) }
         ensures step_answer { IfOk result (IsLegalStep the_shape self.old step) }
@@ -127,13 +138,13 @@ impl<A: Allocator> World<A> {
 impl<A: Allocator + Clone> World<A> {
     /// Opens a table with a configuration, in its memory: version 0, in row 0. The other rows are filled with zeros.
     ///
-    /// Fails with `TooBig` where the charge is above `MAX_CHARGE`, else with `OutOfMemory` where memory was refused.
+    /// Fails with `TooBig` where the charge is above `CHARGE_LIMIT`, else with `OutOfMemory` where memory was refused.
     pub fn new(config: Config<A>) -> Result<World<A>, StepFault>
         ensures opened { IfOk result (λ world. world ≡ opened_with config) }
-        ensures too_big { IsRefusedAs TooBig result ↔ (MAX_CHARGE < charge_of config) }
+        ensures too_big { IsRefusedAs TooBig result ↔ (CHARGE_LIMIT < charge_of config) }
         ensures cause { IfErr result (λ fault. (fault ≡ TooBig) ⊎ (fault ≡ OutOfMemory)) }
     {
-        if config.charge() > MAX_CHARGE {
+        if config.charge() > CHARGE_LIMIT {
             return Err(StepFault::TooBig);
         }
         let words = opening_words(&config)?;

@@ -11,4 +11,4 @@ invariant_of-self-2 g c =
     let place : c.len-place.result ≡ length w.events.items = c.len-place.ensures ∙ (c.reserve.ensures.len ∙ w.events.ok.0) in
     subst (λ l. IsWorld w.opening l w.words.items w.progress (Some c.len-place.result)) (sym events)
     (subst (λ n. IsWorld w.opening (w.events.items ++ Proposed c.args.config ∷ []) w.words.items w.progress (Some n)) (sym place)
-    (IsWorld-proposed w.opening w.events.items w.words.items w.progress w.proposal c.args.config c.self.invariant (light c.args.config c.charge.result c.charge.ensures.charge_exact c.if-charge-gt-MAX_CHARGE.false)))
+    (IsWorld-proposed w.opening w.events.items w.words.items w.progress w.proposal c.args.config c.self.invariant (light c.args.config c.charge.result c.charge.ensures.charge_exact c.if-charge-gt-CHARGE_LIMIT.false)))
