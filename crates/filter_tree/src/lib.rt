@@ -18,6 +18,7 @@ mod printing;
 mod truth;
 mod value;
 
+pub use accessed::{accesses_packet, accesses_protocol, accesses_transport};
 pub use arithmetic::{Arith, Operator, Protocol, Size};
 pub use expression::{Expr, Relation};
 pub use prefix::Prefix;

@@ -1,0 +1,89 @@
+-- Which parts of a packet's headers are loaded, and what they are asked.
+use Rattle.std.specs.Prelude.{◌≡◌, ◌==◌, ◌*◌, ◌+◌, Bool, List, Option, Some, false, true, ℕ}
+use Rattle.ipv4_fields.specs.declared.header.Field.TheVariants.{Destination as DestinationAddress, DestinationPort, Source as SourceAddress, SourcePort}
+use Rattle.ipv4_fields.specs.Field.{field_of, ihl_of, number_at}
+use Rattle.bpf_insn.specs.declared.instruction.Operation.{Operation}
+use Rattle.bpf_insn.specs.declared.instruction.Size.{Size as InsnSize}
+use Rattle.bpf_machine.specs.Meaning.{computed}
+use Rattle.bpf_machine.specs.Packet.{packet_number}
+use Rattle.filter_tree.specs.declared.arithmetic.Operator.{Operator}
+use Rattle.filter_tree.specs.declared.arithmetic.Protocol.{Protocol}
+use Rattle.filter_tree.specs.declared.arithmetic.Protocol.TheVariants.{Icmp, Ip, Tcp as Tcp', Udp as Udp'}
+use Rattle.filter_tree.specs.declared.arithmetic.Size.{Size}
+use Rattle.filter_tree.specs.Arithmetic.{byte_count, combined}
+use Rattle.filter_tree.specs.declared.primitive.Direction.{Direction}
+use Rattle.filter_tree.specs.declared.primitive.Transport.{Transport}
+use Rattle.filter_tree.specs.declared.primitive.Transport.TheVariants.{Tcp, Udp, Unnamed}
+use Rattle.filter_tree.specs.declared.truth.Truth.{Truth}
+use Rattle.filter_tree.specs.Measure.{by_direction}
+use Rattle.filter_tree.specs.Outcome.{tested}
+use Rattle.filter_tree.specs.Prefix.{covers}
+use Rattle.filter_tree.specs.Primitive.{at_ends, is_between}
+use Rattle.filter_compile.specs.declared.check.Check.{Check}
+use Rattle.filter_compile.specs.declared.check.Check.TheVariants.{Between, Covered, Equal}
+use Rattle.filter_compile.specs.declared.ends.End.{End}
+use Rattle.filter_compile.specs.declared.ends.End.TheVariants.{Destination, Source}
+use Rattle.filter_compile.specs.declared.ends.Part.{Part}
+use Rattle.filter_compile.specs.declared.ends.Part.TheVariants.{Address, Port}
+
+-- what is known of X: nothing, or that it is the length of the packet's IPv4 header
+abbrev pub Knows : Bool → List ℕ → ℕ → Type 0
+Knows false packet x = Unit {0}
+Knows true packet x = (ihl : ℕ) × (ihl_of packet ≡ Some ihl) × (x ≡ 4 * ihl)
+
+-- whether a number passes a check
+abbrev pub passes : Check → ℕ → Bool
+passes (Equal n) number = number == n
+passes (Covered prefix) number = covers prefix number
+passes (Between n m) number = is_between n m number
+
+-- the most instructions of a check, but for the load
+abbrev pub weight_of_check : Check → ℕ
+weight_of_check (Equal n) = 3
+weight_of_check (Covered prefix) = 4
+weight_of_check (Between n m) = 6
+
+-- the most instructions of the tests of both ends, of addresses and of ports with what comes before them
+abbrev pub weight_of_ends : Direction → Check → ℕ
+weight_of_ends direction check = by_direction direction (weight_of_check check + 1) ((weight_of_check check + 1) + (weight_of_check check + 1))
+
+abbrev pub weight_of_addresses : Direction → Check → ℕ
+weight_of_addresses direction check = weight_of_ends direction check + 5
+
+abbrev pub weight_of_transport : Transport → ℕ
+weight_of_transport Tcp = 4
+weight_of_transport Udp = 4
+weight_of_transport Unnamed = 10
+
+abbrev pub weight_of_ports : Transport → Direction → Check → ℕ
+weight_of_ports transport direction check = weight_of_ends direction check + 1 + 4 + weight_of_transport transport + 5
+
+-- the field that tells of an end of a packet: its address, or its port, which is loaded by the length of the header in X
+abbrev pub end_of : Part → End → List ℕ → Option ℕ
+end_of Address Source packet = field_of SourceAddress packet
+end_of Address Destination packet = field_of DestinationAddress packet
+end_of Port Source packet = field_of SourcePort packet
+end_of Port Destination packet = field_of DestinationPort packet
+
+abbrev pub by_header : Part → Bool
+by_header Address = false
+by_header Port = true
+
+-- the ends of a packet that a direction means pass a check
+abbrev pub ends_pass : Part → Direction → Check → List ℕ → Truth
+ends_pass part direction check packet = at_ends direction (tested (passes check) (end_of part Source packet)) (tested (passes check) (end_of part Destination packet))
+
+-- the operation computes what the operator combines
+abbrev pub DoesAs : Operator → Operation → Type 0
+DoesAs operator operation = (a b : ℕ) → computed operation a b ≡ combined operator a b
+
+-- a load of this size reads as many bytes as an accessor of that
+abbrev pub ReadsAs : Size → InsnSize → Type 0
+ReadsAs size insn_size = (packet : List ℕ) (place : ℕ) → packet_number packet insn_size place ≡ number_at (byte_count size) packet place
+
+-- the most instructions of an accessor, but for its index
+abbrev pub weight_of_access : Protocol → ℕ
+weight_of_access Ip = 2
+weight_of_access Tcp' = 4
+weight_of_access Udp' = 4
+weight_of_access Icmp = 4
