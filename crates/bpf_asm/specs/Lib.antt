@@ -1,0 +1,10 @@
+pub mod Line
+pub mod Token
+pub mod Statement
+pub mod Target
+pub mod Assembly
+pub mod Text
+pub mod Reading
+pub mod View
+pub use Rattle.bpf_insn.specs.Word
+pub use Rattle.bpf_verify.specs.Accepted

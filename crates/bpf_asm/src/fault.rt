@@ -1,0 +1,39 @@
+//! Why a text is not assembled.
+
+ghost use Rattle.std.specs.Prelude.{◌≡◌};
+ghost use Rattle.bpf_asm.specs.declared.fault.AsmFault.TheVariants.{OutOfMemory};
+
+use std::alloc::{AllocError, AllocFailed};
+
+/// Why a text is not assembled. Lines are counted from 1, empty ones included.
+#[derive(Clone, Copy, Debug, PartialEq, Eq)]
+pub enum AsmFault {
+    /// A1: the first line that is in no form of docs/MACHINE.md, "Assembly text".
+    Syntax { line: usize },
+    /// A2: a jump of the line goes to a name that no line defines.
+    UnknownLabel { line: usize },
+    /// A3: the first line that defines a name which an earlier line defines.
+    DoubleLabel { line: usize },
+    /// A4: a jump of the line goes to a label at its own instruction or before it.
+    BackwardJump { line: usize },
+    /// A5: an offset of the line is above 255 in a conditional jump, or above 4294967295 in `ja`.
+    TooFar { line: usize },
+    /// A6: memory for the labels or the words was refused.
+    OutOfMemory,
+}
+
+impl From<AllocError> for AsmFault {
+    ghost from_gives = { λ _ fault. fault ≡ OutOfMemory };
+
+    fn from(_error: AllocError) -> AsmFault {
+        AsmFault::OutOfMemory
+    }
+}
+
+impl<T: Drop> From<AllocFailed<T>> for AsmFault {
+    ghost from_gives = { λ _ fault. fault ≡ OutOfMemory };
+
+    fn from(_error: AllocFailed<T>) -> AsmFault {
+        AsmFault::OutOfMemory
+    }
+}

@@ -1,0 +1,101 @@
+//! The lines of a text, and what stands on each (docs/MACHINE.md, "Assembly text").
+
+ghost use Rattle.std.specs.Prelude.{◌≡◌, ◌∷◌, ◌+◌, ◌≤◌, MatchOption, length};
+ghost use Rattle.std.specs.Option.{option_map};
+ghost use Rattle.bpf_asm.specs.Line.{ends_line, lines_of};
+ghost use Rattle.bpf_asm.specs.Reading.{forms_fault, line_at, read_line, rest_in, tokens_of};
+ghost use Rattle.bpf_asm.specs.View.{fault_in, left_len, line_of, lines_left, statement_of};
+
+use crate::fault::AsmFault;
+use crate::operand::after_mark;
+use crate::statement::{Statement, read_statement};
+use crate::token::{Token, first_token};
+
+#[derive(Clone, Copy)]
+pub(crate) struct Line<'a> {
+    pub(crate) label: Option<&'a [u8]>,
+    pub(crate) statement: Option<Statement<'a>>,
+}
+
+fn ends_line(b: u8) -> bool
+    ensures { result ≡ ends_line b }
+{
+    b == b'\n' || b == b';'
+}
+
+/// Cuts the first line off a text, and gives what is left, or nothing where it was the last line.
+pub(crate) fn first_line(text: &[u8]) -> (&[u8], Option<&[u8]>)
+    ensures lines { lines_of text.now ≡ result.0.now ∷ lines_left result.1 }
+    ensures shorter { left_len result.1 ≤ length text.now }
+{
+    for (i, b) in text.iter().enumerate() {
+        if ends_line(*b) {
+            return (&text[..i], Some(&text[i + 1..]));
+        }
+    }
+    (text, None)
+}
+
+// An instruction, or nothing.
+fn statement_or_nothing(line: &[u8]) -> Option<Option<Statement<'_>>>
+    ensures { option_map (option_map statement_of) result ≡ rest_in (tokens_of line.now) }
+{
+    match first_token(line) {
+        None => Some(None),
+        Some((Token::Word(name), rest)) => Some(Some(read_statement(name, rest)?)),
+        _ => None,
+    }
+}
+
+/// Reads a line, or tells that it is in no form.
+pub(crate) fn read_line(line: &[u8]) -> Option<Line<'_>>
+    ensures { option_map line_of result ≡ read_line line.now }
+{
+    match first_token(line) {
+        None => Some(Line {
+            label: None,
+            statement: None,
+        }),
+        Some((Token::Word(name), rest)) => match after_mark(rest, b':') {
+            Some(rest) => Some(Line {
+                label: Some(name),
+                statement: statement_or_nothing(rest)?,
+            }),
+            None => Some(Line {
+                label: None,
+                statement: Some(read_statement(name, rest)?),
+            }),
+        },
+        _ => None,
+    }
+}
+
+/// Reads a line, and one in no form as an empty one.
+pub(crate) fn line_or_empty(line: &[u8]) -> Line<'_>
+    ensures { line_of result ≡ line_at line.now }
+{
+    match read_line(line) {
+        Some(line) => line,
+        None => Line {
+            label: None,
+            statement: None,
+        },
+    }
+}
+
+/// Tests that each line of a text is in a form.
+pub(crate) fn check_forms(text: &[u8]) -> Result<(), AsmFault>
+    ensures { fault_in result ≡ forms_fault 1 (lines_of text.now) }
+{
+    let mut number = 1;
+    let mut left = Some(text);
+    while let Some(lines) = left {
+        let (line, rest) = first_line(lines);
+        if read_line(line).is_none() {
+            return Err(AsmFault::Syntax { line: number });
+        }
+        number += 1;
+        left = rest;
+    }
+    Ok(())
+}

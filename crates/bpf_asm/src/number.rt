@@ -1,0 +1,43 @@
+//! Numbers as they are written: `0`, decimal without a leading zero, or `0x` and hexadecimal digits of either case.
+
+ghost use Rattle.std.specs.Prelude.{◌≡◌, ◌≤◌, ◌^◌, ◌<◌, ◌+◌, ◌*◌};
+ghost use Rattle.bpf_asm.specs.Reading.{next_value, number_of, numeral};
+
+fn next(value: u32, radix: u32, digit: u8) -> Option<u32>
+    requires lower { 2 ≤ radix }
+    requires upper { radix ≤ 36 }
+    ensures { result ≡ next_value radix value digit }
+{
+    let digit = char::from(digit).to_digit(radix)?;
+    value.checked_mul(radix)?.checked_add(digit)
+}
+
+fn numeral(radix: u32, digits: &[u8]) -> Option<u32>
+    requires lower { 2 ≤ radix }
+    requires upper { radix ≤ 36 }
+    ensures { result ≡ numeral radix digits.now }
+{
+    if digits.is_empty() {
+        return None;
+    }
+    let mut value = 0;
+    for digit in digits {
+        value = next(value, radix, *digit)?;
+    }
+    Some(value)
+}
+
+/// Tells the number that a run of letters and digits spells, where it is one below 2^32.
+pub(crate) fn number_of(run: &[u8]) -> Option<u32>
+    ensures { result ≡ number_of run.now }
+{
+    if run.len() > 1 && run[0] == b'0' {
+        if run[1] == b'x' {
+            numeral(16, &run[2..])
+        } else {
+            None
+        }
+    } else {
+        numeral(10, run)
+    }
+}

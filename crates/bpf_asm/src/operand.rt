@@ -1,0 +1,132 @@
+//! Operands as they are written behind a mnemonic (docs/MACHINE.md, "Assembly text").
+
+ghost use Rattle.std.specs.Prelude.{◌≡◌, codes};
+ghost use Rattle.std.specs.Option.{option_map};
+ghost use Rattle.bpf_asm.specs.Reading.{after_mark, after_number, after_word, bracket_in, closed_in, form_in, header_in, marked_in, named_in, tokens_of};
+ghost use Rattle.bpf_asm.specs.View.{form_of};
+
+use crate::token::{Token, first_token};
+
+#[derive(Clone, Copy)]
+pub(crate) enum Form<'a> {
+    Nothing,
+    Absolute(u32),
+    Indexed(u32),
+    Constant(u32),
+    Cell(u32),
+    Header(u32),
+    Skip(u32),
+    Name(&'a [u8]),
+}
+
+pub(crate) fn after_mark(line: &[u8], mark: u8) -> Option<&[u8]>
+    ensures { option_map (λ rest. tokens_of rest.now) result ≡ after_mark mark (tokens_of line.now) }
+{
+    match first_token(line) {
+        Some((Token::Mark(b), rest)) if b == mark => Some(rest),
+        _ => None,
+    }
+}
+
+fn after_word<'a>(line: &'a [u8], name: &[u8]) -> Option<&'a [u8]>
+    ensures { option_map (λ rest. tokens_of rest.now) result ≡ after_word name.now (tokens_of line.now) }
+{
+    match first_token(line) {
+        Some((Token::Word(other), rest)) if other == name => Some(rest),
+        _ => None,
+    }
+}
+
+fn after_number(line: &[u8]) -> Option<(u32, &[u8])>
+    ensures { option_map (λ found. (found.0, tokens_of found.1.now)) result ≡ after_number (tokens_of line.now) }
+{
+    match first_token(line) {
+        Some((Token::Number(n), rest)) => Some((n, rest)),
+        _ => None,
+    }
+}
+
+// `k]`
+fn closed(line: &[u8]) -> Option<(u32, &[u8])>
+    ensures { option_map (λ found. (found.0, tokens_of found.1.now)) result ≡ closed_in (tokens_of line.now) }
+{
+    let (k, rest) = after_number(line)?;
+    Some((k, after_mark(rest, b']')?))
+}
+
+// `k]` or `x+k]`, behind `[`
+fn bracket(line: &[u8]) -> Option<(Form<'_>, &[u8])>
+    ensures { option_map (λ found. (form_of found.0, tokens_of found.1.now)) result ≡ bracket_in (tokens_of line.now) }
+{
+    match after_word(line, b"x") {
+        Some(rest) => {
+            let (k, rest) = closed(after_mark(rest, b'+')?)?;
+            Some((Form::Indexed(k), rest))
+        }
+        None => {
+            let (k, rest) = closed(line)?;
+            Some((Form::Absolute(k), rest))
+        }
+    }
+}
+
+// `*([k]&0xf)`, behind a number that has to be 4
+fn header(four: u32, line: &[u8]) -> Option<(Form<'_>, &[u8])>
+    ensures { option_map (λ found. (form_of found.0, tokens_of found.1.now)) result ≡ header_in four (tokens_of line.now) }
+{
+    let rest = after_mark(line, b'*')?;
+    let rest = after_mark(rest, b'(')?;
+    let rest = after_mark(rest, b'[')?;
+    let (k, rest) = closed(rest)?;
+    let rest = after_mark(rest, b'&')?;
+    let (mask, rest) = after_number(rest)?;
+    let rest = after_mark(rest, b')')?;
+    if four == 4 && mask == 15 {
+        Some((Form::Header(k), rest))
+    } else {
+        None
+    }
+}
+
+// A word: `M` before `[k]`, or a name that stands alone.
+fn named<'a>(name: &'a [u8], line: &'a [u8]) -> Option<(Form<'a>, &'a [u8])>
+    ensures { option_map (λ found. (form_of found.0, tokens_of found.1.now)) result ≡ named_in name.now (tokens_of line.now) }
+{
+    match after_mark(line, b'[') {
+        Some(rest) => {
+            if name != b"M".as_slice() {
+                return None;
+            }
+            let (k, rest) = closed(rest)?;
+            Some((Form::Cell(k), rest))
+        }
+        None => Some((Form::Name(name), line)),
+    }
+}
+
+fn marked(mark: u8, line: &[u8]) -> Option<(Form<'_>, &[u8])>
+    ensures { option_map (λ found. (form_of found.0, tokens_of found.1.now)) result ≡ marked_in mark (tokens_of line.now) }
+{
+    if mark == b'[' {
+        return bracket(line);
+    }
+    let (k, rest) = after_number(line)?;
+    match mark {
+        b'#' => Some((Form::Constant(k), rest)),
+        b'+' => Some((Form::Skip(k), rest)),
+        _ => None,
+    }
+}
+
+/// Reads the operand at the front of a line, and gives the rest. A label of a jump is an operand too.
+pub(crate) fn operand_form(line: &[u8]) -> Option<(Form<'_>, &[u8])>
+    ensures { option_map (λ found. (form_of found.0, tokens_of found.1.now)) result ≡ form_in (tokens_of line.now) }
+{
+    match first_token(line) {
+        None => Some((Form::Nothing, line)),
+        Some((Token::Word(name), rest)) => named(name, rest),
+        Some((Token::Number(n), rest)) => header(n, rest),
+        Some((Token::Mark(mark), rest)) => marked(mark, rest),
+        Some((Token::Stray, _)) => None,
+    }
+}

@@ -1,0 +1,114 @@
+//! How a program is printed (docs/MACHINE.md, "How a program is printed").
+
+ghost use Rattle.std.specs.Prelude.{◌≡◌, ◌++◌, ◌∷◌, [], IfOk, OnOk, string_bytes};
+ghost use Rattle.bpf_asm.specs.Statement.{load_name, operation_name, test_name};
+ghost use Rattle.bpf_asm.specs.Text.{printed, printed_insn, printed_operand};
+
+use bpf_insn::{Insn, Operand, Operation, Size, Test};
+use bpf_verify::{OutOfMemory, Program};
+use std::alloc::Allocator;
+
+fn load_name(size: Size) -> &'static str
+    ensures { result.now ≡ load_name size }
+{
+    match size {
+        Size::Word => "ld",
+        Size::Half => "ldh",
+        Size::Byte => "ldb",
+    }
+}
+
+fn operation_name(operation: Operation) -> &'static str
+    ensures { result.now ≡ operation_name operation }
+{
+    match operation {
+        Operation::Add => "add",
+        Operation::Sub => "sub",
+        Operation::Mul => "mul",
+        Operation::Div => "div",
+        Operation::Or => "or",
+        Operation::And => "and",
+        Operation::Lsh => "lsh",
+        Operation::Rsh => "rsh",
+        Operation::Mod => "mod",
+        Operation::Xor => "xor",
+    }
+}
+
+fn test_name(test: Test) -> &'static str
+    ensures { result.now ≡ test_name test }
+{
+    match test {
+        Test::Equal => "jeq",
+        Test::Greater => "jgt",
+        Test::GreaterOrEqual => "jge",
+        Test::CommonBit => "jset",
+    }
+}
+
+fn print_operand<A: Allocator>(text: &mut String<A>, operand: Operand) -> Result<(), OutOfMemory>
+    ensures { OnOk result (string_bytes text.new ≡ string_bytes text.old ++ printed_operand operand) }
+{
+    match operand {
+        Operand::K(k) => write!(text, "#{k}"),
+        Operand::X => text.push_str("x"),
+    }
+}
+
+fn print_insn<A: Allocator>(text: &mut String<A>, insn: Insn) -> Result<(), OutOfMemory>
+    ensures { OnOk result (string_bytes text.new ≡ string_bytes text.old ++ printed_insn insn) }
+{
+    match insn {
+        Insn::LoadAbsolute(size, k) => {
+            text.push_str(load_name(size))?;
+            write!(text, " [{k}]")
+        }
+        Insn::LoadIndexed(size, k) => {
+            text.push_str(load_name(size))?;
+            write!(text, " [x+{k}]")
+        }
+        Insn::LoadConstant(k) => write!(text, "ld #{k}"),
+        Insn::LoadCell(k) => write!(text, "ld M[{k}]"),
+        Insn::LoadLength => text.push_str("ld len"),
+        Insn::LoadXConstant(k) => write!(text, "ldx #{k}"),
+        Insn::LoadXCell(k) => write!(text, "ldx M[{k}]"),
+        Insn::LoadXLength => text.push_str("ldx len"),
+        Insn::LoadXHeader(k) => write!(text, "ldx 4*([{k}]&0xf)"),
+        Insn::Store(k) => write!(text, "st M[{k}]"),
+        Insn::StoreX(k) => write!(text, "stx M[{k}]"),
+        Insn::Alu(operation, operand) => {
+            text.push_str(operation_name(operation))?;
+            text.push_str(" ")?;
+            print_operand(text, operand)
+        }
+        Insn::Negate => text.push_str("neg"),
+        Insn::CopyToX => text.push_str("tax"),
+        Insn::CopyFromX => text.push_str("txa"),
+        Insn::Jump(k) => write!(text, "ja +{k}"),
+        Insn::JumpIf(test, operand, offsets) => {
+            let (jt, jf) = (offsets.jt, offsets.jf);
+            text.push_str(test_name(test))?;
+            text.push_str(" ")?;
+            print_operand(text, operand)?;
+            write!(text, ",{jt},{jf}")
+        }
+        Insn::ReturnConstant(k) => write!(text, "ret #{k}"),
+        Insn::ReturnA => text.push_str("ret a"),
+    }
+}
+
+/// Prints a program as a text in memory of `alloc`: an instruction a line, numbers in decimal, jumps by numbers, one
+/// space behind the mnemonic and no other. A program has one spelling, and `assemble` reads it back.
+pub fn print<A: Allocator, B: Allocator>(
+    alloc: A,
+    program: &Program<B>,
+) -> Result<String<A>, OutOfMemory>
+    ensures printed { IfOk result (λ text. string_bytes text ≡ printed program.now.words) }
+{
+    let mut text = String::new(alloc);
+    for word in program.words() {
+        print_insn(&mut text, Insn::from_instruction_word(*word))?;
+        text.push_str("\n")?;
+    }
+    Ok(text)
+}

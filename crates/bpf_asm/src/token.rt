@@ -1,0 +1,107 @@
+//! The tokens of a line (docs/MACHINE.md, "Assembly text").
+
+ghost use Rattle.std.specs.Prelude.{◌≡◌, ◌∷◌, MatchOption, [], drop, take};
+ghost use Rattle.std.specs.List.{prefix_len};
+ghost use Rattle.bpf_asm.specs.Reading.{number_of, number_token, tokens_of};
+ghost use Rattle.bpf_asm.specs.Token.{begins_word, is_gap, is_mark};
+ghost use Rattle.bpf_asm.specs.View.{is_of, token_of};
+
+use crate::number::number_of;
+
+#[derive(Clone, Copy)]
+pub(crate) enum Token<'a> {
+    Word(&'a [u8]),
+    Number(u32),
+    Mark(u8),
+    // A number that is misspelt or too great, or a byte of no token.
+    Stray,
+}
+
+// A kind of bytes that runs are made of.
+#[derive(Clone, Copy)]
+enum Kind {
+    Gap,
+    Word,
+    Number,
+}
+
+fn is_gap(b: u8) -> bool
+    ensures { result ≡ is_gap b }
+{
+    b == b' ' || b == b'\t'
+}
+
+fn is_mark(b: u8) -> bool
+    ensures { result ≡ is_mark b }
+{
+    matches!(
+        b,
+        b'[' | b']' | b'(' | b')' | b'#' | b'+' | b'*' | b'&' | b',' | b':'
+    )
+}
+
+fn begins_word(b: u8) -> bool
+    ensures { result ≡ begins_word b }
+{
+    b.is_ascii_alphabetic() || b == b'_'
+}
+
+fn is_of(kind: Kind, b: u8) -> bool
+    ensures { result ≡ is_of kind b }
+{
+    match kind {
+        Kind::Gap => is_gap(b),
+        Kind::Word => b.is_ascii_alphanumeric() || b == b'_',
+        Kind::Number => b.is_ascii_alphanumeric(),
+    }
+}
+
+fn run_len(kind: Kind, text: &[u8]) -> usize
+    ensures { result ≡ prefix_len (is_of kind) text.now }
+{
+    for (i, b) in text.iter().enumerate() {
+        if !is_of(kind, *b) {
+            return i;
+        }
+    }
+    text.len()
+}
+
+fn longest_run(kind: Kind, text: &[u8]) -> (&[u8], &[u8])
+    ensures run { result.0.now ≡ take (prefix_len (is_of kind) text.now) text.now }
+    ensures rest { result.1.now ≡ drop (prefix_len (is_of kind) text.now) text.now }
+{
+    let len = run_len(kind, text);
+    (&text[..len], &text[len..])
+}
+
+fn number_token(run: &[u8]) -> Token<'_>
+    ensures { token_of result ≡ number_token (number_of run.now) }
+{
+    match number_of(run) {
+        Some(n) => Token::Number(n),
+        None => Token::Stray,
+    }
+}
+
+/// Reads the first token of a line, and gives the rest of the line, or nothing where only gaps are left.
+pub(crate) fn first_token(line: &[u8]) -> Option<(Token<'_>, &[u8])>
+    ensures { MatchOption result (tokens_of line.now ≡ []) (λ found. tokens_of line.now ≡ token_of found.0 ∷ tokens_of found.1.now) }
+{
+    let (_gap, line) = longest_run(Kind::Gap, line);
+    let b = *line.first()?;
+    if begins_word(b) {
+        let (name, rest) = longest_run(Kind::Word, line);
+        return Some((Token::Word(name), rest));
+    }
+    if b.is_ascii_digit() {
+        let (run, rest) = longest_run(Kind::Number, line);
+        return Some((number_token(run), rest));
+    }
+    let token = if is_mark(b) {
+        Token::Mark(b)
+    } else {
+        Token::Stray
+    };
+    Some((token, &line[1..]))
+}
