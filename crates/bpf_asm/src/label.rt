@@ -2,7 +2,7 @@
 
 use crate::fault::AsmFault;
 use crate::line::{first_line, line_or_empty};
-use std::alloc::{Allocator, AllocError};
+use std::alloc::{AllocError, Allocator};
 use std::collections::BTreeMap;
 
 /// The place of each name: how many instructions stand before its label.

@@ -19,7 +19,6 @@ mod token;
 pub use bpf_verify::OutOfMemory;
 pub use fault::AsmFault;
 pub use printing::print;
-
 use std::alloc::Allocator;
 
 /// Assembles a text to words, which need not be a program: their number and what they do is `bpf_verify`'s matter.

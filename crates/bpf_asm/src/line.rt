@@ -37,6 +37,7 @@ pub(crate) fn first_line(text: &[u8]) -> (&[u8], Option<&[u8]>)
 }
 
 // An instruction, or nothing.
+#[tactic(auto, unfolding(crate::specs::Reading::rest_in))]
 fn statement_or_nothing(line: &[u8]) -> Option<Option<Statement<'_>>>
     ensures { option_map (option_map statement_of) result ≡ rest_in (tokens_of line.now) }
 {
@@ -48,6 +49,7 @@ fn statement_or_nothing(line: &[u8]) -> Option<Option<Statement<'_>>>
 }
 
 /// Reads a line, or tells that it is in no form.
+#[tactic(auto, unfolding(crate::specs::Reading::read_line, crate::specs::Reading::line_in))]
 pub(crate) fn read_line(line: &[u8]) -> Option<Line<'_>>
     ensures { option_map line_of result ≡ read_line line.now }
 {

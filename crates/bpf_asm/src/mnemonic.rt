@@ -1,36 +1,60 @@
 //! The mnemonics of operations and of conditional jumps (networking/filter.rst, "BPF engine and instruction set").
 
 ghost use Rattle.std.specs.Prelude.{◌≡◌};
+ghost use Rattle.std.specs.Str.{bytes_eq};
 ghost use Rattle.bpf_asm.specs.Reading.{operation_of, test_of};
 
 use bpf_insn::{Operation, Test};
 
+/// Tells whether a word is this one.
+pub(crate) fn is_name(word: &[u8], name: &str) -> bool
+    ensures { result ≡ bytes_eq word.now name.now }
+{
+    word == name.as_bytes()
+}
+
+#[tactic(auto, unfolding(crate::specs::Reading::operation_of))]
 pub(crate) fn operation_of(name: &[u8]) -> Option<Operation>
     ensures { result ≡ operation_of name.now }
 {
-    match name {
-        b"add" => Some(Operation::Add),
-        b"sub" => Some(Operation::Sub),
-        b"mul" => Some(Operation::Mul),
-        b"div" => Some(Operation::Div),
-        b"or" => Some(Operation::Or),
-        b"and" => Some(Operation::And),
-        b"lsh" => Some(Operation::Lsh),
-        b"rsh" => Some(Operation::Rsh),
-        b"mod" => Some(Operation::Mod),
-        b"xor" => Some(Operation::Xor),
-        _ => None,
+    if is_name(name, "add") {
+        Some(Operation::Add)
+    } else if is_name(name, "sub") {
+        Some(Operation::Sub)
+    } else if is_name(name, "mul") {
+        Some(Operation::Mul)
+    } else if is_name(name, "div") {
+        Some(Operation::Div)
+    } else if is_name(name, "or") {
+        Some(Operation::Or)
+    } else if is_name(name, "and") {
+        Some(Operation::And)
+    } else if is_name(name, "lsh") {
+        Some(Operation::Lsh)
+    } else if is_name(name, "rsh") {
+        Some(Operation::Rsh)
+    } else if is_name(name, "mod") {
+        Some(Operation::Mod)
+    } else if is_name(name, "xor") {
+        Some(Operation::Xor)
+    } else {
+        None
     }
 }
 
+#[tactic(auto, unfolding(crate::specs::Reading::test_of))]
 pub(crate) fn test_of(name: &[u8]) -> Option<Test>
     ensures { result ≡ test_of name.now }
 {
-    match name {
-        b"jeq" => Some(Test::Equal),
-        b"jgt" => Some(Test::Greater),
-        b"jge" => Some(Test::GreaterOrEqual),
-        b"jset" => Some(Test::CommonBit),
-        _ => None,
+    if is_name(name, "jeq") {
+        Some(Test::Equal)
+    } else if is_name(name, "jgt") {
+        Some(Test::Greater)
+    } else if is_name(name, "jge") {
+        Some(Test::GreaterOrEqual)
+    } else if is_name(name, "jset") {
+        Some(Test::CommonBit)
+    } else {
+        None
     }
 }

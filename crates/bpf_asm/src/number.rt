@@ -12,6 +12,7 @@ fn next(value: u32, radix: u32, digit: u8) -> Option<u32>
     value.checked_mul(radix)?.checked_add(digit)
 }
 
+#[tactic(auto, unfolding(crate::specs::Reading::numeral))]
 fn numeral(radix: u32, digits: &[u8]) -> Option<u32>
     requires lower { 2 ≤ radix }
     requires upper { radix ≤ 36 }
@@ -28,6 +29,7 @@ fn numeral(radix: u32, digits: &[u8]) -> Option<u32>
 }
 
 /// Tells the number that a run of letters and digits spells, where it is one below 2^32.
+#[tactic(auto, unfolding(crate::specs::Reading::number_of))]
 pub(crate) fn number_of(run: &[u8]) -> Option<u32>
     ensures { result ≡ number_of run.now }
 {

@@ -5,7 +5,7 @@ ghost use Rattle.std.specs.Option.{option_map};
 ghost use Rattle.bpf_asm.specs.Reading.{alone, branch_in, cell_operand, far_of, insn_in, near_in, operand_of, other_insn, return_of, short_load, statement_in, tokens_of, unbranched, word_load, x_load};
 ghost use Rattle.bpf_asm.specs.View.{form_of, statement_of, target_of};
 
-use crate::mnemonic::{operation_of, test_of};
+use crate::mnemonic::{is_name, operation_of, test_of};
 use crate::operand::{Form, after_mark, operand_form};
 use crate::token::{Token, first_token};
 use bpf_insn::{Insn, Operand, Size, Test};
@@ -25,6 +25,7 @@ pub(crate) enum Statement<'a> {
     Branch(Test, Operand, Target<'a>, Target<'a>),
 }
 
+#[tactic(auto, unfolding(crate::specs::Reading::word_load))]
 fn word_load(form: Form) -> Option<Insn>
     ensures { result ≡ word_load (form_of form.entry) }
 {
@@ -33,11 +34,12 @@ fn word_load(form: Form) -> Option<Insn>
         Form::Indexed(k) => Some(Insn::LoadIndexed(Size::Word, k)),
         Form::Constant(k) => Some(Insn::LoadConstant(k)),
         Form::Cell(k) => Some(Insn::LoadCell(k)),
-        Form::Name(name) if name == b"len".as_slice() => Some(Insn::LoadLength),
+        Form::Name(name) if is_name(name, "len") => Some(Insn::LoadLength),
         _ => None,
     }
 }
 
+#[tactic(auto, unfolding(crate::specs::Reading::short_load))]
 fn short_load(size: Size, form: Form) -> Option<Insn>
     ensures { result ≡ short_load size (form_of form.entry) }
 {
@@ -48,6 +50,7 @@ fn short_load(size: Size, form: Form) -> Option<Insn>
     }
 }
 
+#[tactic(auto, unfolding(crate::specs::Reading::x_load))]
 fn x_load(form: Form) -> Option<Insn>
     ensures { result ≡ x_load (form_of form.entry) }
 {
@@ -55,11 +58,12 @@ fn x_load(form: Form) -> Option<Insn>
         Form::Constant(k) => Some(Insn::LoadXConstant(k)),
         Form::Cell(k) => Some(Insn::LoadXCell(k)),
         Form::Header(k) => Some(Insn::LoadXHeader(k)),
-        Form::Name(name) if name == b"len".as_slice() => Some(Insn::LoadXLength),
+        Form::Name(name) if is_name(name, "len") => Some(Insn::LoadXLength),
         _ => None,
     }
 }
 
+#[tactic(auto, unfolding(crate::specs::Reading::cell_operand))]
 fn cell_of(form: Form) -> Option<u32>
     ensures { result ≡ cell_operand (form_of form.entry) }
 {
@@ -69,26 +73,29 @@ fn cell_of(form: Form) -> Option<u32>
     }
 }
 
+#[tactic(auto, unfolding(crate::specs::Reading::return_of))]
 fn return_of(form: Form) -> Option<Insn>
     ensures { result ≡ return_of (form_of form.entry) }
 {
     match form {
         Form::Constant(k) => Some(Insn::ReturnConstant(k)),
-        Form::Name(name) if name == b"a".as_slice() => Some(Insn::ReturnA),
+        Form::Name(name) if is_name(name, "a") => Some(Insn::ReturnA),
         _ => None,
     }
 }
 
+#[tactic(auto, unfolding(crate::specs::Reading::operand_of))]
 fn operand_of(form: Form) -> Option<Operand>
     ensures { result ≡ operand_of (form_of form.entry) }
 {
     match form {
         Form::Constant(k) => Some(Operand::K(k)),
-        Form::Name(name) if name == b"x".as_slice() => Some(Operand::X),
+        Form::Name(name) if is_name(name, "x") => Some(Operand::X),
         _ => None,
     }
 }
 
+#[tactic(auto, unfolding(crate::specs::Reading::alone))]
 fn alone(insn: Insn, form: Form) -> Option<Insn>
     ensures { result ≡ alone insn (form_of form.entry) }
 {
@@ -99,34 +106,36 @@ fn alone(insn: Insn, form: Form) -> Option<Insn>
 }
 
 // An instruction that is no jump and no operation with an operand.
+#[tactic(auto, unfolding(crate::specs::Reading::other_insn))]
 fn other_insn(name: &[u8], form: Form) -> Option<Insn>
     ensures { result ≡ other_insn name.now (form_of form.entry) }
 {
-    if name == b"ld".as_slice() {
+    if is_name(name, "ld") {
         word_load(form)
-    } else if name == b"ldh".as_slice() {
+    } else if is_name(name, "ldh") {
         short_load(Size::Half, form)
-    } else if name == b"ldb".as_slice() {
+    } else if is_name(name, "ldb") {
         short_load(Size::Byte, form)
-    } else if name == b"ldx".as_slice() {
+    } else if is_name(name, "ldx") {
         x_load(form)
-    } else if name == b"st".as_slice() {
+    } else if is_name(name, "st") {
         Some(Insn::Store(cell_of(form)?))
-    } else if name == b"stx".as_slice() {
+    } else if is_name(name, "stx") {
         Some(Insn::StoreX(cell_of(form)?))
-    } else if name == b"ret".as_slice() {
+    } else if is_name(name, "ret") {
         return_of(form)
-    } else if name == b"neg".as_slice() {
+    } else if is_name(name, "neg") {
         alone(Insn::Negate, form)
-    } else if name == b"tax".as_slice() {
+    } else if is_name(name, "tax") {
         alone(Insn::CopyToX, form)
-    } else if name == b"txa".as_slice() {
+    } else if is_name(name, "txa") {
         alone(Insn::CopyFromX, form)
     } else {
         None
     }
 }
 
+#[tactic(auto, unfolding(crate::specs::Reading::insn_in))]
 fn insn_of(name: &[u8], form: Form) -> Option<Insn>
     ensures { result ≡ insn_in name.now (form_of form.entry) }
 {
@@ -136,6 +145,7 @@ fn insn_of(name: &[u8], form: Form) -> Option<Insn>
     }
 }
 
+#[tactic(auto, unfolding(crate::specs::Reading::far_of))]
 fn far_target(form: Form<'_>) -> Option<Target<'_>>
     ensures { option_map target_of result ≡ far_of (form_of form.entry) }
 {
@@ -146,6 +156,7 @@ fn far_target(form: Form<'_>) -> Option<Target<'_>>
     }
 }
 
+#[tactic(auto, unfolding(crate::specs::Reading::near_in))]
 fn near_target(line: &[u8]) -> Option<(Target<'_>, &[u8])>
     ensures { option_map (λ found. (target_of found.0, tokens_of found.1.now)) result ≡ near_in (tokens_of line.now) }
 {
@@ -156,6 +167,7 @@ fn near_target(line: &[u8]) -> Option<(Target<'_>, &[u8])>
     }
 }
 
+#[tactic(auto, unfolding(crate::specs::Reading::branch_in))]
 fn branch(test: Test, line: &[u8]) -> Option<Statement<'_>>
     ensures { option_map statement_of result ≡ branch_in test (tokens_of line.now) }
 {
@@ -169,10 +181,11 @@ fn branch(test: Test, line: &[u8]) -> Option<Statement<'_>>
     }
 }
 
+#[tactic(auto, unfolding(crate::specs::Reading::unbranched))]
 fn unbranched<'a>(name: &[u8], form: Form<'a>) -> Option<Statement<'a>>
     ensures { option_map statement_of result ≡ unbranched name.now (form_of form.entry) }
 {
-    if name == b"ja".as_slice() {
+    if is_name(name, "ja") {
         Some(Statement::Jump(far_target(form)?))
     } else {
         Some(Statement::Plain(insn_of(name, form)?))
@@ -180,6 +193,7 @@ fn unbranched<'a>(name: &[u8], form: Form<'a>) -> Option<Statement<'a>>
 }
 
 /// Reads the instruction of a mnemonic and of the line behind it.
+#[tactic(auto, unfolding(crate::specs::Reading::unbranched_in, crate::specs::Reading::statement_in))]
 pub(crate) fn read_statement<'a>(name: &[u8], line: &'a [u8]) -> Option<Statement<'a>>
     ensures { option_map statement_of result ≡ statement_in name.now (tokens_of line.now) }
 {
