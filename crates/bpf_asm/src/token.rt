@@ -1,6 +1,6 @@
 //! The tokens of a line (docs/MACHINE.md, "Assembly text").
 
-ghost use Rattle.std.specs.Prelude.{◌≡◌, ◌∷◌, MatchOption, [], drop, take};
+ghost use Rattle.std.specs.Prelude.{◌≡◌, ◌∷◌, ◌≤◌, MatchOption, [], drop, length, take};
 ghost use Rattle.std.specs.List.{prefix_len};
 ghost use Rattle.bpf_asm.specs.Reading.{number_of, number_token, tokens_of};
 ghost use Rattle.bpf_asm.specs.Token.{begins_word, is_gap, is_mark};
@@ -57,7 +57,8 @@ fn is_of(kind: Kind, b: u8) -> bool
 }
 
 fn run_len(kind: Kind, text: &[u8]) -> usize
-    ensures { result ≡ prefix_len (is_of kind) text.now }
+    ensures len { result ≡ prefix_len (is_of kind) text.now }
+    ensures within { result ≤ length text.now }
 {
     for (i, b) in text.iter().enumerate() {
         if !is_of(kind, *b) {
@@ -98,10 +99,9 @@ pub(crate) fn first_token(line: &[u8]) -> Option<(Token<'_>, &[u8])>
         let (run, rest) = longest_run(Kind::Number, line);
         return Some((number_token(run), rest));
     }
-    let token = if is_mark(b) {
-        Token::Mark(b)
-    } else {
-        Token::Stray
-    };
-    Some((token, &line[1..]))
+    let rest = &line[1..];
+    if is_mark(b) {
+        return Some((Token::Mark(b), rest));
+    }
+    Some((Token::Stray, rest))
 }
