@@ -13,8 +13,8 @@ pub numeral-stops : (radix value i : ℕ) (digits : List ℕ) → i < length dig
 unfolding numeral
 numeral-stops radix value i digits inside stops rest =
     let whole : numeral_after radix digits (Some 0) ≡ None =
-        sym rest
-        ∙ ap (λ left. numeral_after radix left (Some value)) (drop_more digits i 0 inside)
-        ∙ ap (numeral_after radix (drop (i + 1) digits)) stops
-        ∙ numeral_after-none radix (drop (i + 1) digits) in
+    sym rest
+    ∙ ap (λ left. numeral_after radix left (Some value)) (drop_more digits i 0 inside)
+    ∙ ap (numeral_after radix (drop (i + 1) digits)) stops
+    ∙ numeral_after-none radix (drop (i + 1) digits) in
     cond_both (nat_lt 0 (length digits)) (numeral_after radix digits (Some 0)) None (λ found. found ≡ None) (λ _. whole) (λ _. refl)

@@ -1,6 +1,6 @@
 -- What the steps of the assembler read: lists of tokens, and the parts of a form from their front. Its laws are that it
 -- reads exactly the grammar (`Spells_line`).
-use Rattle.std.specs.Prelude.{◌==◌, ◌+◌, ◌*◌, ◌^◌, ◌∷◌, ◌&&◌, List, None, Option, Some, [], codes, drop, if◌then◌else◌, length, nat_lt, option_and_then, slice_index, suc, unwrap_or, zero, ℕ}
+use Rattle.std.specs.Prelude.{◌==◌, ◌+◌, ◌*◌, ◌^◌, ◌∷◌, ◌&&◌, List, None, Option, Some, [], codes, drop, if◌then◌else◌, length, map, nat_lt, option_and_then, slice_index, suc, unwrap_or, zero, ℕ}
 use Rattle.std.specs.Char.{digit_value, is_ascii_alphanumeric, is_ascii_digit}
 use Rattle.std.specs.List.{prefix_len, take_while}
 use Rattle.std.specs.Option.{option_map}
@@ -17,6 +17,7 @@ use Rattle.bpf_insn.specs.declared.instruction.Test.{Test}
 use Rattle.bpf_insn.specs.declared.instruction.Test.TheVariants.{CommonBit, Equal, Greater, GreaterOrEqual}
 use Rattle.bpf_asm.specs.declared.fault.AsmFault.{AsmFault}
 use Rattle.bpf_asm.specs.declared.fault.AsmFault.TheVariants.{Syntax}
+use Rattle.bpf_asm.specs.Line.{lines_of}
 use Rattle.bpf_asm.specs.Statement.{Line, Statement, Target, branch, goes_to, jump, plain, skips}
 use Rattle.bpf_asm.specs.Target.{first_of}
 use Rattle.bpf_asm.specs.Token.{Token, begins_word, is_gap, is_in_word, is_mark, mark, number, stray, word}
@@ -318,6 +319,10 @@ read_line bytes = line_in (tokens_of bytes)
 -- the line that the bytes are, without anything on it where they are in no form
 abbrev pub line_at : List ℕ → Line
 line_at bytes = unwrap_or (read_line bytes) (line None None)
+
+-- the lines of a text
+abbrev pub lines_read : List ℕ → List Line
+lines_read text = map line_at (lines_of text)
 
 -- the first line in no form, of lines from line n on
 abbrev pub form_fault : ℕ → Option Line → Option AsmFault

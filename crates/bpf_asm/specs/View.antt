@@ -1,11 +1,15 @@
 -- What a contract sees of tokens, operands, statements, lines and labels: their texts without where these lie.
-use Rattle.std.specs.Prelude.{◌+◌, Bool, Err, List, None, Ok, Option, Result, Some, [], length, ℕ}
+use Rattle.std.specs.Prelude.{◌≡◌, ◌+◌, ◌-◌, ◌∷◌, ◌++◌, ◌⊎◌, Bool, Err, IsSome, List, None, Ok, Option, Result, Some, [], if◌then◌else◌, length, nat_le, ℕ}
 use Rattle.std.specs.Borrow.{Bor}
 use Rattle.std.specs.Char.{is_ascii_alphanumeric}
 use Rattle.std.specs.BTreeMap.{BTreeMap, get_by}
 use Rattle.std.specs.Cmp.Lexicographic.{slice_cmp}
+use Rattle.std.specs.Map.{update}
 use Rattle.std.specs.Option.{option_map}
 use Rattle.std.specs.Ordering.{nat_cmp}
+use Rattle.std.specs.Str.{bytes_eq}
+use Rattle.bpf_insn.specs.declared.instruction.Insn.{Insn}
+use Rattle.bpf_insn.specs.Word.{word_of}
 use Rattle.bpf_asm.specs.declared.token.Kind.{Kind}
 use Rattle.bpf_asm.specs.declared.token.Kind.TheVariants as kind
 use Rattle.bpf_asm.specs.declared.token.Token.{Token as LentToken}
@@ -17,10 +21,12 @@ use Rattle.bpf_asm.specs.declared.statement.Statement.TheVariants as statement
 use Rattle.bpf_asm.specs.declared.statement.Target.{Target as LentTarget}
 use Rattle.bpf_asm.specs.declared.statement.Target.TheVariants as target
 use Rattle.bpf_asm.specs.declared.fault.AsmFault.{AsmFault}
+use Rattle.bpf_asm.specs.declared.fault.AsmFault.TheVariants.{BackwardJump, DoubleLabel, OutOfMemory, UnknownLabel}
 use Rattle.bpf_asm.specs.declared.line.Line.{Line as LentLine}
 use Rattle.bpf_asm.specs.Line.{lines_of}
 use Rattle.bpf_asm.specs.Reading.{Form, absolute_form, cell_form, constant_form, header_form, indexed_form, name_form, nothing, skip_form}
 use Rattle.bpf_asm.specs.Statement.{Line, Statement, Target, branch, goes_to, jump, plain, skips}
+use Rattle.bpf_asm.specs.Target.{IsInsnOf}
 use Rattle.bpf_asm.specs.Token.{Token, is_gap, is_in_word, mark, number, stray, word}
 
 abbrev pub is_of : Kind → ℕ → Bool
@@ -74,3 +80,29 @@ fault_in (Err fault) = Some fault
 -- the place of a name among the labels
 abbrev pub place_among : BTreeMap (Bor (List ℕ)) ℕ → List ℕ → Option ℕ
 place_among labels name = get_by (λ key. slice_cmp nat_cmp name key.now) labels
+
+-- a line's label was added, none is there or none was known by its name
+abbrev pub Defines : (List ℕ → Option ℕ) → Option (List ℕ) → ℕ → (List ℕ → Option ℕ) → Type 0
+Defines places None place after = (name : List ℕ) → after name ≡ places name
+Defines places (Some name) place after =
+    (places name ≡ None) × ((other : List ℕ) → after other ≡ update bytes_eq places name (Some place) other)
+
+-- a line's label was known by its name, unless memory was refused
+abbrev pub IsDefinedAgain : (List ℕ → Option ℕ) → Option (List ℕ) → ℕ → AsmFault → Type 0
+IsDefinedAgain places None n fault = ⊥
+IsDefinedAgain places (Some name) n fault = (fault ≡ OutOfMemory) ⊎ (IsSome (places name) × (fault ≡ DoubleLabel n))
+
+-- this is the fault, unless memory was refused
+abbrev pub UnlessMemory : AsmFault → Option AsmFault → Type 0
+UnlessMemory fault found = (fault ≡ OutOfMemory) ⊎ (found ≡ Some fault)
+
+-- how far a place lies behind the instruction after the one at pc, of line n
+abbrev pub distance_to : ℕ → ℕ → Option ℕ → Result ℕ AsmFault
+distance_to pc n None = Err (UnknownLabel n)
+distance_to pc n (Some place) = if nat_le place pc then Err (BackwardJump n) else Ok (place - (pc + 1))
+
+-- the word of a statement was added, if there is a statement
+abbrev pub AddsWord : (List ℕ → Option ℕ) → List ℕ → Option Statement → List ℕ → Type 0
+AddsWord places words None after = after ≡ words
+AddsWord places words (Some statement) after =
+    (insn : Insn) × IsInsnOf places (length words) statement insn × (after ≡ words ++ word_of insn ∷ [])

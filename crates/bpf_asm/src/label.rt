@@ -1,45 +1,92 @@
 //! Labels, and the places that they stand for (docs/MACHINE.md, "Assembly text").
 
+ghost use Rattle.std.specs.Prelude.{◌≡◌, ◌≤◌, IfErr, IfOk, List, None, OnOk, Some, [], is_none, ℕ};
+ghost use Rattle.std.specs.Map.{update};
+ghost use Rattle.std.specs.Option.{option_map};
+ghost use Rattle.std.specs.Str.{bytes_eq};
+ghost use Rattle.bpf_asm.specs.Assembly.{places_of};
+ghost use Rattle.bpf_asm.specs.Reading.{lines_read};
+ghost use Rattle.bpf_asm.specs.Target.{count_of, doubles_fault};
+ghost use Rattle.bpf_asm.specs.View.{Defines, IsDefinedAgain, UnlessMemory, line_of, place_among};
+
 use crate::fault::AsmFault;
-use crate::line::{first_line, line_or_empty};
+use crate::line::{Line, first_line, line_or_empty};
 use std::alloc::{AllocError, Allocator};
 use std::collections::BTreeMap;
 
 /// The place of each name: how many instructions stand before its label.
 #[derive(Drop)]
 pub(crate) struct Labels<'a, A: Allocator> {
-    places: BTreeMap<&'a [u8], usize, A>,
+    pub(crate) places: BTreeMap<&'a [u8], usize, A>,
 }
 
 impl<'a, A: Allocator> Labels<'a, A> {
     /// Tells the place of a name.
-    pub(crate) fn place(&self, name: &'a [u8]) -> Option<usize> {
+    pub(crate) fn place(&self, name: &'a [u8]) -> Option<usize>
+        ensures { result ≡ place_among self.now.places name.now }
+    {
         self.places.get(&name).copied()
     }
 }
 
-/// Reads the labels of a text, whose lines are in form, or tells the first line that defines a name again.
+impl<'a, A: Allocator + Clone> Labels<'a, A> {
+    // Tells whether the name is new.
+    fn define(&mut self, name: &'a [u8], place: usize) -> Result<bool, AllocError>
+        ensures is_new { IfOk result (λ is_new. is_new ≡ is_none (place_among self.old.places name.entry.now)) }
+        ensures defined { OnOk result ((other : List ℕ) → place_among self.new.places other ≡ update bytes_eq (place_among self.old.places) name.entry.now (Some place) other) }
+    {
+        Ok(self.places.insert(name, place)?.is_none())
+    }
+
+    fn define_label(&mut self, line: Line<'a>, place: usize, number: usize) -> Result<(), AsmFault>
+        ensures defined { OnOk result (Defines (place_among self.old.places) (line_of line.entry).label place (place_among self.new.places)) }
+        ensures fault { IfErr result (IsDefinedAgain (place_among self.old.places) (line_of line.entry).label number) }
+    {
+        match line.label {
+            None => Ok(()),
+            Some(name) => {
+                if self.define(name, place)? {
+                    Ok(())
+                } else {
+                    Err(AsmFault::DoubleLabel { line: number })
+                }
+            }
+        }
+    }
+}
+
+fn count_of(line: &Line) -> usize
+    ensures count { result ≡ count_of (line_of line.now).statement }
+    ensures one { result ≤ 1 }
+{
+    match line.statement {
+        None => 0,
+        Some(_) => 1,
+    }
+}
+
+/// Reads the labels of a text, or tells the first line that defines a name again. Lines in no form count as empty.
 pub(crate) fn labels_of<'a, A: Allocator + Clone>(
     alloc: A,
     text: &'a [u8],
-) -> Result<Labels<'a, A>, AsmFault> {
-    let mut places = BTreeMap::new(alloc);
+) -> Result<Labels<'a, A>, AsmFault>
+    ensures places { IfOk result (λ labels. place_among labels.places ≡ places_of (lines_read text.entry.now)) }
+    ensures names_apart { OnOk result (doubles_fault [] 1 (lines_read text.entry.now) ≡ None) }
+    ensures fault { IfErr result (λ fault. UnlessMemory fault (doubles_fault [] 1 (lines_read text.entry.now))) }
+{
+    let mut labels = Labels {
+        places: BTreeMap::new(alloc),
+    };
     let mut number = 1;
     let mut place = 0;
     let mut left = Some(text);
     while let Some(lines) = left {
         let (line, rest) = first_line(lines);
         let line = line_or_empty(line);
-        if let Some(name) = line.label {
-            if places.insert(name, place)?.is_some() {
-                return Err(AsmFault::DoubleLabel { line: number });
-            }
-        }
-        if line.statement.is_some() {
-            place += 1;
-        }
+        labels.define_label(line, place, number)?;
+        place += count_of(&line);
         number += 1;
         left = rest;
     }
-    Ok(Labels { places })
+    Ok(labels)
 }

@@ -1,4 +1,10 @@
-//! The words of a text whose labels are known: where each jump goes.
+//! Where each jump goes, and the words of a text whose labels are known (docs/MACHINE.md, "Assembly text").
+
+ghost use Rattle.std.specs.Prelude.{◌≡◌, ◌+◌, ◌^◌, ◌<◌, ◌≤◌, IfErr, IfOk, None, OnOk, Some, length};
+ghost use Rattle.std.specs.Option.{option_map};
+ghost use Rattle.bpf_asm.specs.Reading.{lines_read};
+ghost use Rattle.bpf_asm.specs.Target.{IsCode, IsInsnOf, IsOffset, statement_fault, statements_of, target_fault, targets_fault};
+ghost use Rattle.bpf_asm.specs.View.{AddsWord, UnlessMemory, distance_to, place_among, statement_of, target_of};
 
 use crate::fault::AsmFault;
 use crate::label::Labels;
@@ -8,9 +14,9 @@ use bpf_insn::{Insn, Offsets};
 use std::alloc::Allocator;
 
 // The greatest offsets of `ja` and of a conditional jump.
-const FARTHEST: usize = u32::MAX as usize;
+const FARTHEST: usize = 0xffff_ffff;
 
-const FARTHEST_BRANCH: usize = u8::MAX as usize;
+const FARTHEST_BRANCH: usize = 0xff;
 
 // Where an instruction stands: its place among the instructions, and its line.
 #[derive(Clone, Copy)]
@@ -19,19 +25,35 @@ struct Position {
     line: usize,
 }
 
+fn distance(place: Option<usize>, at: Position) -> Result<usize, AsmFault>
+    ensures { result ≡ distance_to at.pc at.line place }
+{
+    match place {
+        None => Err(AsmFault::UnknownLabel { line: at.line }),
+        Some(place) => {
+            if place <= at.pc {
+                Err(AsmFault::BackwardJump { line: at.line })
+            } else {
+                Ok(place - (at.pc + 1))
+            }
+        }
+    }
+}
+
 fn offset_of<'a, A: Allocator>(
     labels: &Labels<'a, A>,
     at: Position,
     most: usize,
     target: Target<'a>,
-) -> Result<usize, AsmFault> {
+) -> Result<usize, AsmFault>
+    ensures offset { IfOk result (IsOffset (place_among labels.now.places) at.pc (target_of target.entry)) }
+    ensures within { IfOk result (λ offset. offset ≤ most) }
+    ensures faultless { OnOk result (target_fault (place_among labels.now.places) at.pc most at.line (target_of target.entry) ≡ None) }
+    ensures fault { IfErr result (λ fault. target_fault (place_among labels.now.places) at.pc most at.line (target_of target.entry) ≡ Some fault) }
+{
     let offset = match target {
         Target::Skips(k) => k as usize,
-        Target::GoesTo(name) => match labels.place(name) {
-            None => return Err(AsmFault::UnknownLabel { line: at.line }),
-            Some(place) if place <= at.pc => return Err(AsmFault::BackwardJump { line: at.line }),
-            Some(place) => place - (at.pc + 1),
-        },
+        Target::GoesTo(name) => distance(labels.place(name), at)?,
     };
     if offset > most {
         return Err(AsmFault::TooFar { line: at.line });
@@ -43,39 +65,63 @@ fn insn_of<'a, A: Allocator>(
     labels: &Labels<'a, A>,
     at: Position,
     statement: Statement<'a>,
-) -> Result<Insn, AsmFault> {
+) -> Result<Insn, AsmFault>
+    ensures insn { IfOk result (IsInsnOf (place_among labels.now.places) at.pc (statement_of statement.entry)) }
+    ensures faultless { OnOk result (statement_fault (place_among labels.now.places) at.pc at.line (Some (statement_of statement.entry)) ≡ None) }
+    ensures fault { IfErr result (λ fault. statement_fault (place_among labels.now.places) at.pc at.line (Some (statement_of statement.entry)) ≡ Some fault) }
+{
     match statement {
         Statement::Plain(insn) => Ok(insn),
         Statement::Jump(target) => {
             let k = offset_of(labels, at, FARTHEST, target)?;
             Ok(Insn::Jump(k as u32))
         }
-        Statement::Branch(test, operand, yes, no) => {
-            let jt = offset_of(labels, at, FARTHEST_BRANCH, yes)? as u8;
-            let jf = offset_of(labels, at, FARTHEST_BRANCH, no)? as u8;
-            Ok(Insn::JumpIf(test, operand, Offsets { jt, jf }))
+        Statement::Branch(test, operand, on_true, on_false) => {
+            let jt = offset_of(labels, at, FARTHEST_BRANCH, on_true)? as u8;
+            let jf = offset_of(labels, at, FARTHEST_BRANCH, on_false)? as u8;
+            Ok(Insn::JumpIf(test, operand, Offsets { jf, jt }))
         }
     }
 }
 
-/// Makes the words of a text, whose lines are in form, or tells the first fault of a target.
+// Puts the word of a line's instruction behind the words before it.
+fn push_word<'a, A: Allocator, B: Allocator>(
+    words: &mut Vec<u64, B>,
+    labels: &Labels<'a, A>,
+    statement: Option<Statement<'a>>,
+    line: usize,
+) -> Result<(), AsmFault>
+    ensures word { OnOk result (AddsWord (place_among labels.now.places) words.old.items (option_map statement_of statement.entry) words.new.items) }
+    ensures faultless { OnOk result (statement_fault (place_among labels.now.places) (length words.old.items) line (option_map statement_of statement.entry) ≡ None) }
+    ensures fault { IfErr result (λ fault. UnlessMemory fault (statement_fault (place_among labels.now.places) (length words.old.items) line (option_map statement_of statement.entry))) }
+{
+    let Some(statement) = statement else {
+        return Ok(());
+    };
+    let at = Position {
+        pc: words.len(),
+        line,
+    };
+    words.push(insn_of(labels, at, statement)?.to_word())?;
+    Ok(())
+}
+
+/// Makes the words of a text, or tells the first fault of a target. Lines in no form count as empty.
 pub(crate) fn words_of<'a, A: Allocator, B: Allocator>(
     alloc: B,
     labels: &Labels<'a, A>,
     text: &'a [u8],
-) -> Result<Vec<u64, B>, AsmFault> {
+) -> Result<Vec<u64, B>, AsmFault>
+    ensures code { IfOk result (λ words. IsCode (place_among labels.now.places) 0 (statements_of (lines_read text.entry.now)) words.items) }
+    ensures faultless { OnOk result (targets_fault (place_among labels.now.places) 0 1 (lines_read text.entry.now) ≡ None) }
+    ensures fault { IfErr result (λ fault. UnlessMemory fault (targets_fault (place_among labels.now.places) 0 1 (lines_read text.entry.now))) }
+{
     let mut words = Vec::new(alloc);
     let mut number = 1;
     let mut left = Some(text);
     while let Some(lines) = left {
         let (line, rest) = first_line(lines);
-        if let Some(statement) = line_or_empty(line).statement {
-            let at = Position {
-                pc: words.len(),
-                line: number,
-            };
-            words.push(insn_of(labels, at, statement)?.to_word())?;
-        }
+        push_word(&mut words, labels, line_or_empty(line).statement, number)?;
         number += 1;
         left = rest;
     }
