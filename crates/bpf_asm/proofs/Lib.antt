@@ -1,3 +1,5 @@
 pub mod NumberLemmas
 pub mod CutLemmas
 pub mod TokenLemmas
+pub mod CodeLemmas
+pub mod LabelLemmas

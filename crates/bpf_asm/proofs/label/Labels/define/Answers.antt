@@ -1,0 +1,5 @@
+use Rattle.std.proofs.lemmas.Map.Text.{btree_map_updates_str}
+use Rattle.bpf_asm.proofs.label.Labels.define.Goals as goal
+
+pub returns-clause-defined : goal.returns-clause-defined
+returns-clause-defined g c = ?
