@@ -39,7 +39,7 @@ pub by_name : {A : Type 0} {P : Type 0} (name expected : List ℕ) (here later :
 by_name name expected here later found first others is =
     by_test (bytes_eq name expected) here later found (λ same. first ((bytes_eq-Decides name expected).0 same)) others is
 
-nothing_found : {A : Type 0} {P : Type 0} (found : A) → None ≡ Some found → P
+pub nothing_found : {A : Type 0} {P : Type 0} (found : A) → None ≡ Some found → P
 nothing_found found is = absurd cc
 
 -- ---- what follows a token
@@ -76,7 +76,7 @@ after_number_is (mark b ∷ tokens) found is = nothing_found found is
 after_number_is (stray ∷ tokens) found is = nothing_found found is
 after_number_is (number n ∷ tokens) found is = let same : (n, tokens) ≡ found = cc in ap (λ it. number it.0 ∷ it.1) same
 
-bind : {A B P : Type 0} (first : Option A) (f : A → Option B) (found : B) → option_and_then f first ≡ Some found → ((x : A) → first ≡ Some x → f x ≡ Some found → P) → P
+pub bind : {A B P : Type 0} (first : Option A) (f : A → Option B) (found : B) → option_and_then f first ≡ Some found → ((x : A) → first ≡ Some x → f x ≡ Some found → P) → P
 bind None f found is later = absurd cc
 bind (Some x) f found is later = later x refl is
 

@@ -3,5 +3,7 @@ pub mod CutLemmas
 pub mod TokenLemmas
 pub mod SpelledLemmas
 pub mod FormLemmas
+pub mod InsnLemmas
+pub mod StatementLemmas
 pub mod CodeLemmas
 pub mod LabelLemmas

@@ -109,17 +109,14 @@ abbrev pub near_target : Target → Token
 near_target (skips k) = number k
 near_target (goes_to name) = word name
 
+abbrev pub comma : Token
+comma = mark 44
+
 abbrev pub SpellsStatement : List Token → Statement → Type 0
 SpellsStatement tokens (plain insn) = SpellsInsn tokens insn
 SpellsStatement tokens (jump target) = tokens ≡ word (codes "ja") ∷ far_target target
 SpellsStatement tokens (branch test right on_true on_false) =
-    tokens
-    ≡ word (test_name test) ∷ operand right
-    ++ punctuation (codes ",")
-    ++ near_target on_true
-    ∷ punctuation (codes ",")
-    ++ near_target on_false
-    ∷ []
+    tokens ≡ word (test_name test) ∷ operand right ++ (comma ∷ near_target on_true ∷ comma ∷ near_target on_false ∷ [])
 
 -- an instruction or none
 abbrev pub SpellsRest : List Token → Option Statement → Type 0
