@@ -5,5 +5,6 @@ pub mod SpelledLemmas
 pub mod FormLemmas
 pub mod InsnLemmas
 pub mod StatementLemmas
+pub mod ReadLemmas
 pub mod CodeLemmas
 pub mod LabelLemmas
