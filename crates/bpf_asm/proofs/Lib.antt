@@ -6,5 +6,8 @@ pub mod FormLemmas
 pub mod InsnLemmas
 pub mod StatementLemmas
 pub mod ReadLemmas
+pub mod TextLemmas
+pub mod TargetLemmas
+pub mod AssemblyLemmas
 pub mod CodeLemmas
 pub mod LabelLemmas
