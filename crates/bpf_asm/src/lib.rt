@@ -5,6 +5,9 @@
 //! `assemble` reads back. Both take any allocator.
 #![tactic(auto)]
 
+ghost use Rattle.std.specs.Prelude.{◌≡◌, ◌⊎◌, Err, IfErr, IfOk, IsOk, List, ℕ};
+ghost use Rattle.bpf_asm.specs.Assembly.{Assembles, HasNotBoth, HasOneFault, HasOneValue, IsFaultOrMemory};
+
 mod fault;
 mod label;
 mod line;
@@ -25,11 +28,22 @@ use std::alloc::Allocator;
 ///
 /// `Err` is the first line in no form, else the first line that defines a name again, else the first fault of a target,
 /// of one line's targets the first.
-pub fn assemble<A: Allocator + Clone>(alloc: A, text: &[u8]) -> Result<Vec<u64, A>, AsmFault> {
+pub fn assemble<A: Allocator + Clone>(alloc: A, text: &[u8]) -> Result<Vec<u64, A>, AsmFault>
+    ensures assembles { IfOk result (λ words. Assembles text.now words.items) }
+    ensures fault { IfErr result (IsFaultOrMemory text.now) }
+    ensures refuses_no_assembly { (words : List ℕ) → Assembles text.now words → IsOk result ⊎ (result ≡ Err AsmFault.OutOfMemory) }
+{
     line::check_forms(text)?;
     let labels = label::labels_of(alloc.clone()?, text)?;
     target::words_of(alloc, &labels, text)
 }
+
+/// Law: a text has at most one list of words and at most one fault, and never both. It runs nothing.
+pub fn one_value()
+    ensures one_value { HasOneValue }
+    ensures one_fault { HasOneFault }
+    ensures not_both { HasNotBoth }
+{}
 
 #[cfg(test)]
 mod tests;

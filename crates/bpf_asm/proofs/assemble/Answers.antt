@@ -1,0 +1,43 @@
+use Rattle.std.proofs.Common.{◌≡◌, IfErr, sym}
+use Rattle.std.proofs.lemmas.Result.{IfOk-weaker, MatchResult-weaker, err_from_is_err_and}
+use Rattle.bpf_asm.proofs.AssemblyLemmas.{assembled, forms_refused, labels_refused, refuses_none, targets_refused}
+use Rattle.bpf_asm.specs.Assembly.{Assembles, IsFaultOrMemory}
+use Rattle.bpf_asm.specs.Reading.{lines_read}
+use Rattle.bpf_asm.specs.Target.{IsCode, statements_of}
+use Rattle.bpf_asm.specs.View.{place_among}
+use Rattle.bpf_asm.proofs.assemble.Goals as goal
+
+pub returns-in_err-check_forms-clause-fault : goal.returns-in_err-check_forms-clause-fault
+returns-in_err-check_forms-clause-fault g c =
+    let p = err_from_is_err_and c.from_residual.result c.from_residual.ensures.1 in
+    rw (p.1, p.2) (forms_refused c.args.text.now c.in_err-check_forms.field-0.0 (sym c.in_err-check_forms.ensures))
+
+pub returns-in_err-check_forms-clause-refuses_no_assembly :
+    goal.returns-in_err-check_forms-clause-refuses_no_assembly
+returns-in_err-check_forms-clause-refuses_no_assembly g c =
+    refuses_none c.args.text.now c.from_residual.result (returns-in_err-check_forms-clause-fault g c)
+
+pub returns-in_err-labels-clause-fault : goal.returns-in_err-labels-clause-fault
+returns-in_err-labels-clause-fault g c =
+    let p = err_from_is_err_and c.from_residual-in_err-labels.result c.from_residual-in_err-labels.ensures.1 in
+    rw (p.1, p.2) (labels_refused c.args.text.now c.in_ok-check_forms.ensures c.in_err-labels.field-0.0 c.in_err-labels.ensures.fault)
+
+pub returns-in_err-labels-clause-refuses_no_assembly :
+    goal.returns-in_err-labels-clause-refuses_no_assembly
+returns-in_err-labels-clause-refuses_no_assembly g c =
+    refuses_none c.args.text.now c.from_residual-in_err-labels.result (returns-in_err-labels-clause-fault g c)
+
+pub returns-clause-assembles : goal.returns-clause-assembles
+returns-clause-assembles g c =
+    let places = place_among c.in_ok-labels.labels.places in
+    let known = c.in_ok-labels.ensures in
+    IfOk-weaker c.words_of.result (λ words. IsCode places 0 (statements_of (lines_read c.args.text.now)) words.items) (λ words. Assembles c.args.text.now words.items) (λ words. assembled c.args.text.now c.in_ok-check_forms.ensures places known.names_apart known.places words.items) c.words_of.ensures.code
+
+pub returns-clause-fault : goal.returns-clause-fault
+returns-clause-fault g c =
+    let places = place_among c.in_ok-labels.labels.places in
+    let known = c.in_ok-labels.ensures in
+    MatchResult-weaker c.words_of.result c.words_of.ensures.fault (λ words same. same) (λ fault. targets_refused c.args.text.now c.in_ok-check_forms.ensures places known.names_apart known.places fault)
+
+pub returns-clause-refuses_no_assembly : goal.returns-clause-refuses_no_assembly
+returns-clause-refuses_no_assembly g c = refuses_none c.args.text.now c.words_of.result (returns-clause-fault g c)
