@@ -6,8 +6,10 @@ pub mod FormLemmas
 pub mod InsnLemmas
 pub mod StatementLemmas
 pub mod ReadLemmas
+pub mod FitLemmas
 pub mod TextLemmas
 pub mod TargetLemmas
 pub mod AssemblyLemmas
+pub mod ShownLemmas
 pub mod CodeLemmas
 pub mod LabelLemmas

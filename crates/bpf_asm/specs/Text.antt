@@ -34,7 +34,7 @@ printed_insn CopyFromX = codes "txa"
 printed_insn (Jump k) = codes "ja +" ++ decimal k
 printed_insn (JumpIf test operand offsets) =
     test_name test
-    ++ (codes " " ++ printed_operand operand ++ codes "," ++ decimal offsets.jt ++ codes "," ++ decimal offsets.jf)
+    ++ (codes " " ++ (printed_operand operand ++ (codes "," ++ (decimal offsets.jt ++ (codes "," ++ decimal offsets.jf)))))
 printed_insn (ReturnConstant k) = codes "ret #" ++ decimal k
 printed_insn ReturnA = codes "ret a"
 
