@@ -11,5 +11,6 @@ pub mod TextLemmas
 pub mod TargetLemmas
 pub mod AssemblyLemmas
 pub mod ShownLemmas
+pub mod PrintLemmas
 pub mod CodeLemmas
 pub mod LabelLemmas
