@@ -12,5 +12,6 @@ pub mod TargetLemmas
 pub mod AssemblyLemmas
 pub mod ShownLemmas
 pub mod PrintLemmas
+pub mod ProgramLemmas
 pub mod CodeLemmas
 pub mod LabelLemmas

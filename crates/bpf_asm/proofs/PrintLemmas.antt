@@ -1,4 +1,4 @@
--- What is printed of a program is assembled to its words.
+-- What is printed of an instruction spells it.
 use Rattle.std.proofs.Common.{◌≡◌, ◌∙◌, ◌+◌, ◌++◌, ◌<◌, ◌≤◌, ◌^◌, Err, List, None, Ok, Option, Result, Some, [], ap, append_assoc, arith, codes, get_or, inl, inr, length, refl, subst, suc, sym, zero, ◌∷◌, ℕ}
 use Rattle.std.specs.Prelude.{slice_get}
 use Rattle.std.specs.Fmt.{decimal}

@@ -1,6 +1,7 @@
 //! How a program is printed (docs/MACHINE.md, "How a program is printed").
 
 ghost use Rattle.std.specs.Prelude.{◌≡◌, ◌++◌, ◌∷◌, [], IfOk, OnOk, string_bytes};
+ghost use Rattle.bpf_asm.specs.Assembly.{Assembles};
 ghost use Rattle.bpf_asm.specs.Statement.{load_name, operation_name, test_name};
 ghost use Rattle.bpf_asm.specs.Text.{printed, printed_insn, printed_operand};
 
@@ -104,6 +105,7 @@ pub fn print<A: Allocator, B: Allocator>(
     program: &Program<B>,
 ) -> Result<String<A>, OutOfMemory>
     ensures printed { IfOk result (λ text. string_bytes text ≡ printed program.now.words) }
+    ensures reads_back { IfOk result (λ text. Assembles (string_bytes text) program.now.words) }
 {
     let mut text = String::new(alloc);
     for word in program.words() {
