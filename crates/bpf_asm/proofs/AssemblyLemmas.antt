@@ -134,7 +134,7 @@ forms_refused text fault is =
       cut = found.first.cut;
       before_in_form = found.first.before_in_form;
       in_no_form = found.first.in_no_form;
-      number = found.first.number
+      number = found.first.number;
     } in
     subst (IsFaultOrMemory text) (sym found.is) first
 
@@ -148,7 +148,7 @@ module _ (text : List ℕ) (good : None ≡ forms_fault 1 (lines_of text)) where
       as_fault text fault (doubles_of_lines [] 1 (lines_read text) fault is) (record {
         lines = lines_read text;
         in_form = in_form;
-        first = ap (λ first. first_of first (targets_fault (places_of (lines_read text)) 0 1 (lines_read text))) is
+        first = ap (λ first. first_of first (targets_fault (places_of (lines_read text)) 0 1 (lines_read text))) is;
       })
 
   module _ (places : List ℕ → Option ℕ) (apart : doubles_fault [] 1 (lines_read text) ≡ None) (same : places ≡ places_of (lines_read text)) where
@@ -161,7 +161,7 @@ module _ (text : List ℕ) (good : None ≡ forms_fault 1 (lines_of text)) where
           first =
               ap (λ first. first_of first (targets_fault (places_of (lines_read text)) 0 1 (lines_read text))) apart
               ∙ ap (λ own. targets_fault own 0 1 (lines_read text)) (sym same)
-              ∙ is
+              ∙ is;
         })
 
     pub assembled : (words : List ℕ) → IsCode places 0 (statements_of (lines_read text)) words → Assembles text words
@@ -169,7 +169,7 @@ module _ (text : List ℕ) (good : None ≡ forms_fault 1 (lines_of text)) where
       lines = lines_read text;
       in_form = in_form;
       names_apart = apart;
-      code = subst (λ own. IsCode own 0 (statements_of (lines_read text)) words) same code
+      code = subst (λ own. IsCode own 0 (statements_of (lines_read text)) words) same code;
     }
 
 -- a text that is assembled is refused for want of memory alone

@@ -41,7 +41,7 @@ module _ (places : List ℕ → Option ℕ) where
     fault =
         ap (λ pc. targets_fault places pc (n + 1) left) (length-added line.statement words after added)
         ∙ sym (ap (λ fault. first_of fault (targets_fault places (length words + count_of line.statement) (n + 1) left)) faultless)
-        ∙ emits.fault
+        ∙ emits.fault;
   }
 
   pub emits_fault : (whole left : List Line) (line : Line) (n : ℕ) (words : List ℕ) (fault : AsmFault) → Emits places whole (line ∷ left) n words → statement_fault places (length words) n line.statement ≡ Some fault → targets_fault places 0 1 whole ≡ Some fault

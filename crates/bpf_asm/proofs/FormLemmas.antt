@@ -106,9 +106,9 @@ bracket_by tokens found (Some behind) x is =
     bind (after_mark 43 behind >>= closed_in) _ found is (λ k both same.
     bind (after_mark 43 behind) _ k both (λ rest plus first.
     stands (mark 91 ∷ tokens) k.1 (indexed_form k.0) found same (
-      ap (λ left. mark 91 ∷ left) (after_word_is (codes "x") tokens behind x)
-      ∙ ap (λ left. mark 91 ∷ word (codes "x") ∷ left) (after_mark_is 43 behind rest plus)
-      ∙ ap (λ left. mark 91 ∷ word (codes "x") ∷ mark 43 ∷ left) (closed_is rest k first)
+    ap (λ left. mark 91 ∷ left) (after_word_is (codes "x") tokens behind x)
+    ∙ ap (λ left. mark 91 ∷ word (codes "x") ∷ left) (after_mark_is 43 behind rest plus)
+    ∙ ap (λ left. mark 91 ∷ word (codes "x") ∷ mark 43 ∷ left) (closed_is rest k first)
     )))
 
 pub bracket_is : (tokens : List Token) (found : Form × List Token) → bracket_in tokens ≡ Some found → StandsIn (mark 91 ∷ tokens) found
@@ -128,15 +128,15 @@ header_is four tokens found is =
     let last = cond_some ((four == 4) && (mask.0 == 15)) (header_form k.0, rest) found is_7 in
     let numbers = and_parts (four == 4) (mask.0 == 15) last.0 in
     stands (number four ∷ tokens) rest (header_form k.0) found (ap (λ it. Some it) last.1) (
-      ap (λ it. number it ∷ tokens) (eqb-true four 4 numbers.0)
-      ∙ ap (λ left. number 4 ∷ left) (after_mark_is 42 tokens star at_star)
-      ∙ ap (λ left. number 4 ∷ mark 42 ∷ left) (after_mark_is 40 star open_ at_open)
-      ∙ ap (λ left. number 4 ∷ mark 42 ∷ mark 40 ∷ left) (after_mark_is 91 open_ bracket at_bracket)
-      ∙ ap (λ left. number 4 ∷ mark 42 ∷ mark 40 ∷ mark 91 ∷ left) (closed_is bracket k at_k)
-      ∙ ap (λ left. number 4 ∷ mark 42 ∷ mark 40 ∷ mark 91 ∷ number k.0 ∷ mark 93 ∷ left) (after_mark_is 38 k.1 masked at_and)
-      ∙ ap (λ left. number 4 ∷ mark 42 ∷ mark 40 ∷ mark 91 ∷ number k.0 ∷ mark 93 ∷ mark 38 ∷ left) (after_number_is masked mask at_mask)
-      ∙ ap (λ it. number 4 ∷ mark 42 ∷ mark 40 ∷ mark 91 ∷ number k.0 ∷ mark 93 ∷ mark 38 ∷ number it ∷ mask.1) (eqb-true mask.0 15 numbers.1)
-      ∙ ap (λ left. number 4 ∷ mark 42 ∷ mark 40 ∷ mark 91 ∷ number k.0 ∷ mark 93 ∷ mark 38 ∷ number 15 ∷ left) (after_mark_is 41 mask.1 rest at_close)
+    ap (λ it. number it ∷ tokens) (eqb-true four 4 numbers.0)
+    ∙ ap (λ left. number 4 ∷ left) (after_mark_is 42 tokens star at_star)
+    ∙ ap (λ left. number 4 ∷ mark 42 ∷ left) (after_mark_is 40 star open_ at_open)
+    ∙ ap (λ left. number 4 ∷ mark 42 ∷ mark 40 ∷ left) (after_mark_is 91 open_ bracket at_bracket)
+    ∙ ap (λ left. number 4 ∷ mark 42 ∷ mark 40 ∷ mark 91 ∷ left) (closed_is bracket k at_k)
+    ∙ ap (λ left. number 4 ∷ mark 42 ∷ mark 40 ∷ mark 91 ∷ number k.0 ∷ mark 93 ∷ left) (after_mark_is 38 k.1 masked at_and)
+    ∙ ap (λ left. number 4 ∷ mark 42 ∷ mark 40 ∷ mark 91 ∷ number k.0 ∷ mark 93 ∷ mark 38 ∷ left) (after_number_is masked mask at_mask)
+    ∙ ap (λ it. number 4 ∷ mark 42 ∷ mark 40 ∷ mark 91 ∷ number k.0 ∷ mark 93 ∷ mark 38 ∷ number it ∷ mask.1) (eqb-true mask.0 15 numbers.1)
+    ∙ ap (λ left. number 4 ∷ mark 42 ∷ mark 40 ∷ mark 91 ∷ number k.0 ∷ mark 93 ∷ mark 38 ∷ number 15 ∷ left) (after_mark_is 41 mask.1 rest at_close)
     ))))))))
 
 named_by : (name : List ℕ) (tokens : List Token) (found : Form × List Token) (open_ : Option (List Token)) → after_mark 91 tokens ≡ open_ → cell_or name tokens open_ ≡ Some found → StandsIn (word name ∷ tokens) found
@@ -145,9 +145,9 @@ named_by name tokens found (Some behind) at_open is =
     by_name name (codes "M") _ None found (λ same closing.
     bind (closed_in behind) _ found closing (λ k first last.
     stands (word name ∷ tokens) k.1 (cell_form k.0) found last (
-      ap (λ it. word it ∷ tokens) same
-      ∙ ap (λ left. word (codes "M") ∷ left) (after_mark_is 91 tokens behind at_open)
-      ∙ ap (λ left. word (codes "M") ∷ mark 91 ∷ left) (closed_is behind k first)
+    ap (λ it. word it ∷ tokens) same
+    ∙ ap (λ left. word (codes "M") ∷ left) (after_mark_is 91 tokens behind at_open)
+    ∙ ap (λ left. word (codes "M") ∷ mark 91 ∷ left) (closed_is behind k first)
     ))) (nothing_found found) is
 
 pub named_is : (name : List ℕ) (tokens : List Token) (found : Form × List Token) → named_in name tokens ≡ Some found → StandsIn (word name ∷ tokens) found

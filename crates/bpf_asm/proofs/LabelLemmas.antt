@@ -32,7 +32,7 @@ tracks_none places whole empty = record {
   earlier = [];
   names = λ name. rw (empty name) refl;
   fault = refl;
-  found = λ name. ap (λ place. first_place place (place_in (labels_from 0 whole) name)) (empty name)
+  found = λ name. ap (λ place. first_place place (place_in (labels_from 0 whole) name)) (empty name);
 }
 
 same_names : (name other : List ℕ) → bytes_eq other name ≡ bytes_eq name other
@@ -44,7 +44,7 @@ module _ (places after : List ℕ → Option ℕ) (whole left : List Line) (stat
     earlier = tracks.earlier;
     names = λ name. tracks.names name ∙ ap is_some (sym (same name));
     fault = tracks.fault;
-    found = λ name. ap (λ own. first_place own (place_in (labels_from (place + count_of statement) left) name)) (same name) ∙ tracks.found name
+    found = λ name. ap (λ own. first_place own (place_in (labels_from (place + count_of statement) left) name)) (same name) ∙ tracks.found name;
   }
 
   module _ (name : List ℕ) (tracks : Tracks places whole (record { label = Some name; statement = statement } ∷ left) n place) where
@@ -67,7 +67,7 @@ module _ (places after : List ℕ → Option ℕ) (whole left : List Line) (stat
           ap (λ own. first_place own (place_in (labels_from (place + count_of statement) left) other)) (updates other)
           ∙ found_more other (bytes_eq name other) (λ same. ap places (sym ((bytes_eq-Decides name other).0 same)) ∙ absent)
           ∙ ap (λ same. first_place (places other) (cond same (Some place) (place_in (labels_from (place + count_of statement) left) other))) (sym (same_names name other))
-          ∙ tracks.found other
+          ∙ tracks.found other;
     }
 
     pub tracks_again : IsSome (places name) → doubles_fault [] 1 whole ≡ Some (DoubleLabel n)

@@ -186,5 +186,5 @@ insn_prints (JumpIf test right offsets) fits =
     record {
       tokens = word (test_name test) ∷ operand right ++ (mark 44 ∷ number offsets.jt ∷ mark 44 ∷ number offsets.jf ∷ []);
       shown = behind (test_name test) (printed_operand right ++ (44 ∷ (decimal offsets.jt ++ (44 ∷ decimal offsets.jf)))) (operand right ++ (mark 44 ∷ number offsets.jt ∷ mark 44 ∷ number offsets.jf ∷ [])) (test_is_name test) all;
-      spelled = refl
+      spelled = refl;
     }

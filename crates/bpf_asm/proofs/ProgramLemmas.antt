@@ -78,7 +78,7 @@ no_words = record {
   lines = line None None ∷ [];
   in_form = (([], refl, refl), tt);
   apart = λ earlier n. refl;
-  code = λ places pc. refl
+  code = λ places pc. refl;
 }
 
 more_words : (w : ℕ) (insn : Insn) (text words : List ℕ) → instruction_of w ≡ Ok insn → Gives text words → Gives (printed_line (instruction_of w) ++ text) (w ∷ words)
@@ -87,11 +87,11 @@ more_words w insn text words is later =
     let own = insn_prints insn fits in
     let printed_is : printed_line (instruction_of w) ++ text ≡ printed_insn insn ++ (10 ∷ text) = ap (λ it. printed_line it ++ text) is ∙ append_assoc (printed_insn insn) (10 ∷ []) text in
     let cut = ap lines_of printed_is ∙ lines_of-line (printed_insn insn) text own.shown.on_line in record {
-  lines = line_for insn ∷ later.lines;
-  in_form = subst (λ lines. AllZip Spells_line lines (line_for insn ∷ later.lines)) (sym cut) (insn_line insn fits, later.in_form);
-  apart = λ earlier n. later.apart earlier (n + 1);
-  code = λ places pc. (insn, words, ap (λ it. it ∷ words) (sym (instruction_of-sound w insn is).1), insn_of_statement places pc insn fits, later.code places (pc + 1))
-}
+      lines = line_for insn ∷ later.lines;
+      in_form = subst (λ lines. AllZip Spells_line lines (line_for insn ∷ later.lines)) (sym cut) (insn_line insn fits, later.in_form);
+      apart = λ earlier n. later.apart earlier (n + 1);
+      code = λ places pc. (insn, words, ap (λ it. it ∷ words) (sym (instruction_of-sound w insn is).1), insn_of_statement places pc insn fits, later.code places (pc + 1));
+    }
 
 gives : (words : List ℕ) → AllByRecursion IsInsn words → Gives (printed words) words
 gives [] all = no_words
@@ -118,8 +118,8 @@ instruction_word_at words i accepted inside =
 pub reads_back : (words : List ℕ) → IsAccepted words → Assembles (printed words) words
 reads_back words accepted =
     let it = gives words (all_insns words (λ i inside. insn_at words i accepted inside)) in record {
-  lines = it.lines;
-  in_form = it.in_form;
-  names_apart = it.apart [] 1;
-  code = it.code (places_of it.lines) 0
-}
+      lines = it.lines;
+      in_form = it.in_form;
+      names_apart = it.apart [] 1;
+      code = it.code (places_of it.lines) 0;
+    }

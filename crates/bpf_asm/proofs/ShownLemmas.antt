@@ -74,13 +74,13 @@ gap_shown text (token ∷ tokens) shown = behind_gap shown.tokens_are where
   behind_gap : IsTokens text (token ∷ tokens) → Shows (32 ∷ text) (token ∷ tokens)
   behind_gap (gap, run, rest, is, gaps, spelled, later) = record {
     tokens_are = (32 ∷ gap, run, rest, ap (λ left. 32 ∷ left) is, gaps, spelled, later);
-    on_line = shown.on_line
+    on_line = shown.on_line;
   }
 
 pub mark_shown : (b : ℕ) (text : List ℕ) (tokens : List Token) → is_mark b ≡ true → not (ends_line b) ≡ true → Shows text tokens → Shows (b ∷ text) (mark b ∷ tokens)
 mark_shown b text tokens is stays shown = record {
   tokens_are = ([], b ∷ [], text, refl, refl, (refl, is), shown.tokens_are);
-  on_line = and_from (not (ends_line b)) (list_all (λ it. not (ends_line it)) text) stays shown.on_line
+  on_line = and_from (not (ends_line b)) (list_all (λ it. not (ends_line it)) text) stays shown.on_line;
 }
 
 -- a name is a word that stays on the line
@@ -92,13 +92,13 @@ pub record IsName (name : List ℕ) : Type 0 where
 pub name_shown : (name text : List ℕ) (tokens : List Token) → IsName name → (BeginsWith is_in_word text → ⊥) → Shows text tokens → Shows (name ++ text) (word name ∷ tokens)
 name_shown name text tokens is longest shown = record {
   tokens_are = ([], name, text, refl, refl, (refl, is.begins, record { all = is.all; longest = longest }), shown.tokens_are);
-  on_line = stays-append name text is.stays shown.on_line
+  on_line = stays-append name text is.stays shown.on_line;
 }
 
 pub number_shown : (run text : List ℕ) (n : ℕ) (tokens : List Token) → AreDigits run → SpellsNumber run n → (BeginsWith is_ascii_alphanumeric text → ⊥) → Shows text tokens → Shows (run ++ text) (number n ∷ tokens)
 number_shown run text n tokens digits spelled longest shown = record {
   tokens_are = ([], run, text, refl, refl, (digits.0, record { all = digits.1; longest = longest }, spelled), shown.tokens_are);
-  on_line = stays-append run text digits.2 shown.on_line
+  on_line = stays-append run text digits.2 shown.on_line;
 }
 
 pub decimal_shown : (n : ℕ) (text : List ℕ) (tokens : List Token) → n < 2 ^ 32 → (BeginsWith is_ascii_alphanumeric text → ⊥) → Shows text tokens → Shows (decimal n ++ text) (number n ∷ tokens)

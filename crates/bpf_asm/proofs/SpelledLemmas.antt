@@ -84,7 +84,7 @@ stops_behind_prefix is_kind (b ∷ text) = stops_more is_kind b text (is_kind b)
 pub longest_prefix : (is_kind : ℕ → Bool) (b : ℕ) (text : List ℕ) → is_kind b ≡ true → IsLongestRun is_kind (b ∷ take (prefix_len is_kind text) text) (drop (prefix_len is_kind text) text)
 longest_prefix is_kind b text first = record {
   all = and_from (is_kind b) (list_all is_kind (take (prefix_len is_kind text) text)) first (all_in_prefix is_kind text);
-  longest = stops_behind_prefix is_kind text
+  longest = stops_behind_prefix is_kind text;
 }
 
 -- ---- what is spelled is read

@@ -48,31 +48,31 @@ module _ (name : List ℕ) (test : Test) (tokens : List Token) (found : Statemen
       bind (near_in false_at) _ found is_5 (λ on_false at_false is_6.
       let last = ended on_false.1 (branch test right on_true.0 on_false.0) found is_6 in
       subst (SpellsStatement (word name ∷ tokens)) last.1 (
-        ap (λ it. word it ∷ tokens) (test_is name test named)
-        ∙ ap (λ left. word (test_name test) ∷ left) (form_is tokens form at_form)
-        ∙ ap (λ left. word (test_name test) ∷ left ++ form.1) (operand_is form.0 right at_right)
-        ∙ ap (λ left. word (test_name test) ∷ operand right ++ left) (after_mark_is 44 form.1 true_at comma)
-        ∙ ap (λ left. word (test_name test) ∷ operand right ++ mark 44 ∷ left) (near_is true_at on_true at_true)
-        ∙ ap (λ left. word (test_name test) ∷ operand right ++ mark 44 ∷ near_target on_true.0 ∷ left) (after_mark_is 44 on_true.1 false_at second)
-        ∙ ap (λ left. word (test_name test) ∷ operand right ++ mark 44 ∷ near_target on_true.0 ∷ mark 44 ∷ left) (near_is false_at on_false at_false)
-        ∙ ap (λ left. word (test_name test) ∷ operand right ++ mark 44 ∷ near_target on_true.0 ∷ mark 44 ∷ near_target on_false.0 ∷ left) last.0
+      ap (λ it. word it ∷ tokens) (test_is name test named)
+      ∙ ap (λ left. word (test_name test) ∷ left) (form_is tokens form at_form)
+      ∙ ap (λ left. word (test_name test) ∷ left ++ form.1) (operand_is form.0 right at_right)
+      ∙ ap (λ left. word (test_name test) ∷ operand right ++ left) (after_mark_is 44 form.1 true_at comma)
+      ∙ ap (λ left. word (test_name test) ∷ operand right ++ mark 44 ∷ left) (near_is true_at on_true at_true)
+      ∙ ap (λ left. word (test_name test) ∷ operand right ++ mark 44 ∷ near_target on_true.0 ∷ left) (after_mark_is 44 on_true.1 false_at second)
+      ∙ ap (λ left. word (test_name test) ∷ operand right ++ mark 44 ∷ near_target on_true.0 ∷ mark 44 ∷ left) (near_is false_at on_false at_false)
+      ∙ ap (λ left. word (test_name test) ∷ operand right ++ mark 44 ∷ near_target on_true.0 ∷ mark 44 ∷ near_target on_false.0 ∷ left) last.0
       )))))))
 
 unbranched_is : (name : List ℕ) (form : Form) (found : Statement) → unbranched name form ≡ Some found → SpellsStatement (word name ∷ form_tokens form) found
 unfolding unbranched
 unbranched_is name form found is =
     by_name name (codes "ja") (option_map jump (far_of form)) (option_map plain (insn_in name form)) found (λ same here. by_target same (far_of form) refl here) (λ here. by_insn (insn_in name form) refl here) is where
-  by_target : name ≡ codes "ja" → (target : Option Target) → far_of form ≡ target → option_map jump target ≡ Some found → SpellsStatement (word name ∷ form_tokens form) found
-  by_target same None no_target here = nothing_found found here
-  by_target same (Some target) a_target here =
-      let it : jump target ≡ found = cc in
-      subst (SpellsStatement (word name ∷ form_tokens form)) it (ap (λ mnemonic. word mnemonic ∷ form_tokens form) same ∙ ap (λ rest. word (codes "ja") ∷ rest) (far_is form target a_target))
+      by_target : name ≡ codes "ja" → (target : Option Target) → far_of form ≡ target → option_map jump target ≡ Some found → SpellsStatement (word name ∷ form_tokens form) found
+      by_target same None no_target here = nothing_found found here
+      by_target same (Some target) a_target here =
+          let it : jump target ≡ found = cc in
+          subst (SpellsStatement (word name ∷ form_tokens form)) it (ap (λ mnemonic. word mnemonic ∷ form_tokens form) same ∙ ap (λ rest. word (codes "ja") ∷ rest) (far_is form target a_target))
 
-  by_insn : (insn : Option Insn) → insn_in name form ≡ insn → option_map plain insn ≡ Some found → SpellsStatement (word name ∷ form_tokens form) found
-  by_insn None no_insn here = nothing_found found here
-  by_insn (Some insn) an_insn here =
-      let it : plain insn ≡ found = cc in
-      subst (SpellsStatement (word name ∷ form_tokens form)) it (insn_is name form insn an_insn)
+      by_insn : (insn : Option Insn) → insn_in name form ≡ insn → option_map plain insn ≡ Some found → SpellsStatement (word name ∷ form_tokens form) found
+      by_insn None no_insn here = nothing_found found here
+      by_insn (Some insn) an_insn here =
+          let it : plain insn ≡ found = cc in
+          subst (SpellsStatement (word name ∷ form_tokens form)) it (insn_is name form insn an_insn)
 
 unbranched_in_is : (name : List ℕ) (tokens : List Token) (found : Statement) → unbranched_in name tokens ≡ Some found → SpellsStatement (word name ∷ tokens) found
 unfolding unbranched_in

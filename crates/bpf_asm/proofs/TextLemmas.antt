@@ -87,24 +87,24 @@ bad_first n bytes lines fault None is later some = record {
     cut = refl;
     before_in_form = tt;
     in_no_form = λ it spelled. let read = line_reads bytes it spelled in absurd cc;
-    number = omega arith
-  }
+    number = omega arith;
+  };
 }
 bad_first n bytes lines fault (Some it) is later some =
     let found = later some in record {
-  m = found.m;
-  is = found.is;
-  first = record {
-    before = bytes ∷ found.first.before;
-    bad = found.first.bad;
-    after = found.first.after;
-    good = it ∷ found.first.good;
-    cut = ap (λ left. bytes ∷ left) found.first.cut;
-    before_in_form = (line_spelled bytes it is, found.first.before_in_form);
-    in_no_form = found.first.in_no_form;
-    number = omega (arith, found.first.number)
-  }
-}
+      m = found.m;
+      is = found.is;
+      first = record {
+        before = bytes ∷ found.first.before;
+        bad = found.first.bad;
+        after = found.first.after;
+        good = it ∷ found.first.good;
+        cut = ap (λ left. bytes ∷ left) found.first.cut;
+        before_in_form = (line_spelled bytes it is, found.first.before_in_form);
+        in_no_form = found.first.in_no_form;
+        number = omega (arith, found.first.number);
+      };
+    }
 
 pub forms_bad : (n : ℕ) (lines : List (List ℕ)) (fault : AsmFault) → forms_fault n lines ≡ Some fault → FoundFrom n lines fault
 forms_bad n [] fault some = absurd cc
