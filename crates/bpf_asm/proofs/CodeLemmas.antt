@@ -1,5 +1,5 @@
 -- Words are added line by line: what the lines that are left give is what all lines give.
-use Rattle.std.proofs.Common.{◌≡◌, ◌∙◌, ◌+◌, ◌++◌, List, None, Option, Some, [], ap, append_assoc, arith, length, length-append, map, refl, sym, ◌∷◌, ℕ}
+use Rattle.std.proofs.Common.{◌≡◌, ◌∙◌, ◌+◌, ◌++◌, List, None, Option, Some, [], ap, append_assoc, arith, length, map, refl, sym, ◌∷◌, ℕ}
 use Rattle.std.specs.Borrow.{Bor}
 use Rattle.std.proofs.lemmas.List.{append-nil, length_push}
 use Rattle.bpf_insn.specs.Word.{word_of}

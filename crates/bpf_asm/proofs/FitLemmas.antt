@@ -1,8 +1,8 @@
 -- The fields of an instruction that is read are in their ranges.
-use Rattle.std.proofs.Common.{◌≡◌, ◌==◌, ◌∙◌, ◌<◌, ◌^◌, Bool, Err, List, None, Ok, Option, Result, Some, [], ap, cond, false, refl, subst, sym, true, ◌∷◌, ℕ}
+use Rattle.std.proofs.Common.{◌≡◌, ◌==◌, ◌<◌, ◌^◌, Bool, List, Ok, Option, Some, [], cond, false, subst, true, ◌∷◌, ℕ}
 use Rattle.bpf_insn.specs.declared.instruction.Insn.{Insn}
 use Rattle.bpf_insn.specs.Table.{Entry, Uses, instruction_with, table, uses_in, uses_of}
-use Rattle.bpf_insn.specs.Word.{FieldsFit, IsInstructionWord, instruction_of}
+use Rattle.bpf_insn.specs.Word.{FieldsFit, instruction_of}
 use Rattle.bpf_insn.proofs.WordLemmas.{instruction_of-complete, instruction_of-sound}
 
 -- the instruction that an entry makes of fields in their ranges has them

@@ -1,22 +1,11 @@
 -- Operands and instructions: what is read of a list of tokens is what is spelled there.
-use Rattle.std.proofs.Common.{◌≡◌, ◌==◌, ◌∙◌, ◌++◌, ◌&&◌, Bool, List, None, Option, Some, [], ap, codes, option_and_then, cond, false, refl, subst, sym, true, ◌∷◌, ℕ}
-use Rattle.std.specs.Option.{option_map}
+use Rattle.std.proofs.Common.{◌≡◌, ◌==◌, ◌∙◌, ◌++◌, ◌&&◌, Bool, List, None, Option, Some, [], ap, codes, option_and_then, cond, false, refl, subst, true, ◌∷◌, ℕ}
 use Rattle.std.specs.Str.{bytes_eq}
 use Rattle.std.proofs.lemmas.Bool.{and_parts, eqb-true}
-use Rattle.std.proofs.lemmas.Option.{cond_some, option_and_then_some}
+use Rattle.std.proofs.lemmas.Option.{cond_some}
 use Rattle.std.proofs.lemmas.Slice.Eq.{bytes_eq-Decides}
-use Rattle.bpf_insn.specs.declared.instruction.Insn.{Insn}
-use Rattle.bpf_insn.specs.declared.instruction.Insn.TheVariants.{Alu, CopyFromX, CopyToX, Jump, JumpIf, LoadAbsolute, LoadCell, LoadConstant, LoadIndexed, LoadLength, LoadXCell, LoadXConstant, LoadXHeader, LoadXLength, Negate, ReturnA, ReturnConstant, Store, StoreX}
-use Rattle.bpf_insn.specs.declared.instruction.Size.{Size}
-use Rattle.bpf_insn.specs.declared.instruction.Size.TheVariants.{Byte, Half, Word}
-use Rattle.bpf_insn.specs.declared.instruction.Operation.{Operation}
-use Rattle.bpf_insn.specs.declared.instruction.Operation.TheVariants.{Add, And, Div, Lsh, Mod, Mul, Or, Rsh, Sub, Xor}
-use Rattle.bpf_insn.specs.declared.instruction.Operand.{Operand}
-use Rattle.bpf_insn.specs.declared.instruction.Operand.TheVariants.{K, X}
-use Rattle.bpf_insn.specs.declared.instruction.Test.{Test}
-use Rattle.bpf_insn.specs.declared.instruction.Test.TheVariants.{CommonBit, Equal, Greater, GreaterOrEqual}
-use Rattle.bpf_asm.specs.Reading.{Form, absolute_form, after_mark, after_number, after_word, alone, bracket_in, cell_form, cell_operand, cell_or, closed_in, constant_form, form_in, header_form, header_in, indexed_form, indexed_or, insn_in, marked_in, name_form, named_in, nothing, number_behind, operand_of, operation_of, operation_or, other_insn, return_of, short_load, skip_form, test_of, with_number, word_load, x_load, ◌>>=◌}
-use Rattle.bpf_asm.specs.Statement.{SpellsInsn, absolute, cell, constant, header, indexed, load_name, operand, operation_name, punctuation, test_name}
+use Rattle.bpf_asm.specs.Reading.{Form, absolute_form, after_mark, after_number, after_word, bracket_in, cell_form, cell_or, closed_in, constant_form, form_in, header_form, header_in, indexed_form, indexed_or, marked_in, name_form, named_in, nothing, skip_form, ◌>>=◌}
+use Rattle.bpf_asm.specs.Statement.{absolute, cell, constant, header, indexed}
 use Rattle.bpf_asm.specs.Token.{Token, mark, number, stray, word}
 
 -- the tokens of an operand

@@ -1,12 +1,8 @@
 -- Instructions: what is read of a mnemonic and an operand is what is spelled there, and what is spelled is read.
-use Rattle.std.proofs.Common.{◌≡◌, ◌∙◌, ◌++◌, Bool, List, None, Option, Some, [], ap, codes, cond, false, refl, subst, sym, true, ◌∷◌, ℕ}
+use Rattle.std.proofs.Common.{◌≡◌, ◌∙◌, List, None, Option, Some, [], ap, codes, refl, subst, ◌∷◌, ℕ}
 use Rattle.std.specs.Option.{option_map}
-use Rattle.std.specs.Str.{bytes_eq}
-use Rattle.std.proofs.lemmas.Option.{cond_some}
-use Rattle.std.proofs.lemmas.Slice.Eq.{bytes_eq-Decides}
 use Rattle.bpf_insn.specs.declared.instruction.Insn.{Insn}
-use Rattle.bpf_insn.specs.declared.instruction.Insn.TheVariants.{Alu, CopyFromX, CopyToX, Jump, JumpIf, LoadAbsolute, LoadCell, LoadConstant, LoadIndexed, LoadLength, LoadXCell, LoadXConstant, LoadXHeader, LoadXLength, Negate, ReturnA, ReturnConstant, Store, StoreX}
-use Rattle.bpf_insn.specs.declared.instruction.Size.{Size}
+use Rattle.bpf_insn.specs.declared.instruction.Insn.TheVariants.{Alu, CopyFromX, CopyToX, LoadAbsolute, LoadCell, LoadConstant, LoadIndexed, LoadLength, LoadXCell, LoadXConstant, LoadXHeader, LoadXLength, Negate, ReturnA, ReturnConstant, Store, StoreX}
 use Rattle.bpf_insn.specs.declared.instruction.Size.TheVariants.{Byte, Half, Word}
 use Rattle.bpf_insn.specs.declared.instruction.Operation.{Operation}
 use Rattle.bpf_insn.specs.declared.instruction.Operation.TheVariants.{Add, And, Div, Lsh, Mod, Mul, Or, Rsh, Sub, Xor}
@@ -17,7 +13,7 @@ use Rattle.bpf_insn.specs.declared.instruction.Test.TheVariants.{CommonBit, Equa
 use Rattle.bpf_asm.proofs.FormLemmas.{by_name, form_tokens, nothing_found}
 use Rattle.bpf_asm.specs.Reading.{Form, absolute_form, alone, cell_form, cell_operand, constant_form, header_form, indexed_form, insn_in, name_form, nothing, on_name, operand_of, operation_of, operation_or, other_insn, return_of, short_load, skip_form, test_of, word_load, x_load}
 use Rattle.bpf_asm.specs.Statement.{SpellsInsn, operand, operation_name, test_name}
-use Rattle.bpf_asm.specs.Token.{Token, word}
+use Rattle.bpf_asm.specs.Token.{word}
 
 -- the operand behind a mnemonic, as an instruction's tokens
 abbrev pub Spelled : List ℕ → Form → Insn → Type 0

@@ -1,17 +1,16 @@
 -- Labels are added line by line: what the lines that are left give is what all lines give.
-use Rattle.std.proofs.Common.{◌≡◌, ◌∙◌, ◌+◌, ◌++◌, ◌||◌, Bool, IsSome, List, None, Option, Some, [], ap, cond, false, is_some, refl, sym, true, ◌∷◌, ℕ}
+use Rattle.std.proofs.Common.{◌≡◌, ◌∙◌, ◌+◌, ◌||◌, Bool, IsSome, List, None, Option, Some, [], ap, cond, false, is_some, refl, sym, true, ◌∷◌, ℕ}
 use Rattle.std.specs.List.{list_any}
-use Rattle.std.specs.Map.{lookup, update}
+use Rattle.std.specs.Map.{update}
 use Rattle.std.specs.Str.{bytes_eq}
 use Rattle.std.proofs.Math.Path.{fun_ext}
 use Rattle.std.proofs.lemmas.Bool.{cond-false, cond-true}
 use Rattle.std.proofs.lemmas.Cmp.{nat_list_eq_equiv}
 use Rattle.std.proofs.lemmas.Slice.Eq.{bytes_eq-Decides}
-use Rattle.bpf_asm.specs.declared.fault.AsmFault.{AsmFault}
 use Rattle.bpf_asm.specs.declared.fault.AsmFault.TheVariants.{DoubleLabel}
 use Rattle.bpf_asm.specs.Assembly.{places_of}
 use Rattle.bpf_asm.specs.Statement.{Line, Statement}
-use Rattle.bpf_asm.specs.Target.{count_of, defines_again, doubles_fault, labels_from, place_in, with_label, with_name}
+use Rattle.bpf_asm.specs.Target.{count_of, doubles_fault, labels_from, place_in}
 use Rattle.bpf_asm.specs.View.{Defines}
 
 -- the first of two places, none where there is none

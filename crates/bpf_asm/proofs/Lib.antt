@@ -15,3 +15,4 @@ pub mod PrintLemmas
 pub mod ProgramLemmas
 pub mod CodeLemmas
 pub mod LabelLemmas
+mod StandardFacts

@@ -1,5 +1,5 @@
 -- Numbers: what is read is what is spelled.
-use Rattle.std.proofs.Common.{◌≡◌, ◌==◌, ◌∙◌, ◌+◌, ◌++◌, ◌*◌, ◌^◌, ◌<◌, ◌≤◌, ◌⊎◌, ◌&&◌, Bool, List, None, Option, Some, [], ap, arith, codes, cond, drop, false, get_or, inl, inr, length, nat_lt, refl, suc, sym, true, zero, ◌∷◌, ℕ}
+use Rattle.std.proofs.Common.{◌≡◌, ◌==◌, ◌∙◌, ◌+◌, ◌++◌, ◌*◌, ◌^◌, ◌<◌, ◌≤◌, ◌⊎◌, ◌&&◌, Bool, List, None, Option, Some, [], ap, arith, codes, cond, drop, false, get_or, inl, inr, length, nat_lt, refl, suc, sym, true, ◌∷◌, ℕ}
 use Rattle.std.specs.Char.{digit_value}
 use Rattle.std.specs.Fmt.{decimal}
 use Rattle.std.specs.Str.Parse.{AllDigits, IsNumeral, digits_value, digits_value_after}
@@ -10,7 +10,7 @@ use Rattle.std.proofs.lemmas.List.{drop_more}
 use Rattle.std.proofs.lemmas.Option.{cond_some}
 use Rattle.std.proofs.lemmas.Str.Parse.{IsNumeralModel}
 use Rattle.bpf_asm.specs.Reading.{next_value, number_of, numeral, numeral_after}
-use Rattle.bpf_asm.specs.Token.{IsHexadecimal, SpellsNumber}
+use Rattle.bpf_asm.specs.Token.{SpellsNumber}
 
 -- behind a digit that is none nothing is read
 pub numeral_after-none : (radix : ℕ) (cs : List ℕ) → numeral_after radix cs None ≡ None

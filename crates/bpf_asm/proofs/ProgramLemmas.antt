@@ -1,35 +1,22 @@
 -- What is printed of a program is assembled to its words.
-use Rattle.std.proofs.Common.{◌≡◌, ◌∙◌, ◌+◌, ◌++◌, ◌<◌, ◌≤◌, ◌^◌, Err, List, None, Ok, Option, Result, Some, [], ap, append_assoc, arith, codes, get_or, inl, inr, length, refl, subst, suc, sym, zero, ◌∷◌, ℕ}
+use Rattle.std.proofs.Common.{◌≡◌, ◌∙◌, ◌+◌, ◌++◌, ◌<◌, List, None, Ok, Option, Some, [], ap, append_assoc, arith, get_or, length, refl, subst, suc, sym, zero, ◌∷◌, ℕ}
 use Rattle.std.specs.Prelude.{slice_get}
-use Rattle.std.specs.Fmt.{decimal}
 use Rattle.std.specs.List.{AllByRecursion, AllZip}
-use Rattle.std.proofs.lemmas.Bool.{false≢true}
-use Rattle.std.proofs.lemmas.Fmt.{decimal_digit}
 use Rattle.bpf_insn.specs.declared.instruction.Insn.{Insn}
 use Rattle.bpf_insn.specs.declared.instruction.Insn.TheVariants.{Alu, CopyFromX, CopyToX, Jump, JumpIf, LoadAbsolute, LoadCell, LoadConstant, LoadIndexed, LoadLength, LoadXCell, LoadXConstant, LoadXHeader, LoadXLength, Negate, ReturnA, ReturnConstant, Store, StoreX}
-use Rattle.bpf_insn.specs.declared.instruction.Size.{Size}
-use Rattle.bpf_insn.specs.declared.instruction.Size.TheVariants.{Byte, Half, Word}
-use Rattle.bpf_insn.specs.declared.instruction.Operation.{Operation}
-use Rattle.bpf_insn.specs.declared.instruction.Operation.TheVariants.{Add, And, Div, Lsh, Mod, Mul, Or, Rsh, Sub, Xor}
-use Rattle.bpf_insn.specs.declared.instruction.Operand.{Operand}
-use Rattle.bpf_insn.specs.declared.instruction.Operand.TheVariants.{K, X}
-use Rattle.bpf_insn.specs.declared.instruction.Test.{Test}
-use Rattle.bpf_insn.specs.declared.instruction.Test.TheVariants.{CommonBit, Equal, Greater, GreaterOrEqual}
-use Rattle.bpf_insn.specs.declared.instruction.WordFault.{WordFault}
-use Rattle.bpf_insn.specs.Word.{FieldsFit, IsInstructionWord, OperandFits, instruction_of, word_of}
+use Rattle.bpf_insn.specs.Word.{FieldsFit, IsInstructionWord, instruction_of}
 use Rattle.bpf_insn.proofs.WordLemmas.{instruction_of-sound}
 use Rattle.bpf_verify.specs.Accepted.{IsAccepted}
 use Rattle.bpf_verify.proofs.PlaceLemmas.{faultless_at}
 use Rattle.bpf_asm.proofs.FitLemmas.{fields_fit}
-use Rattle.bpf_asm.proofs.ShownLemmas.{IsName, Shows, decimal_shown, gap_shown, last_decimal_shown, lines_of-line, mark_shown, name_shown, nothing_shown, number_shown}
+use Rattle.bpf_asm.proofs.ShownLemmas.{lines_of-line}
 use Rattle.bpf_asm.specs.Assembly.{Assembles, places_of}
 use Rattle.bpf_asm.specs.Line.{lines_of}
 use Rattle.bpf_asm.specs.Reading.{line}
-use Rattle.bpf_asm.specs.Statement.{Line, SpellsStatement, Spells_line, Statement, Target, absolute, branch, cell, constant, header, indexed, jump, load_name, near_target, operand, operation_name, plain, skips, test_name}
+use Rattle.bpf_asm.specs.Statement.{Line, Spells_line}
 use Rattle.bpf_asm.specs.Target.{IsCode, IsInsnOf, doubles_fault, statements_of}
-use Rattle.bpf_asm.specs.Text.{printed, printed_insn, printed_line, printed_operand}
-use Rattle.bpf_asm.specs.Token.{Token, mark, number, word}
-use Rattle.bpf_asm.proofs.PrintLemmas.{Prints, insn_prints, statement_for}
+use Rattle.bpf_asm.specs.Text.{printed, printed_insn, printed_line}
+use Rattle.bpf_asm.proofs.PrintLemmas.{insn_prints, statement_for}
 
 -- an instruction's line
 abbrev pub line_for : Insn → Line

@@ -1,9 +1,8 @@
 -- Statements and lines: what is spelled is read, and has no stray.
-use Rattle.std.proofs.Common.{◌≡◌, ◌∙◌, ◌++◌, Bool, List, None, Option, Some, [], ap, codes, refl, subst, sym, ◌∷◌, ℕ}
+use Rattle.std.proofs.Common.{◌≡◌, ◌∙◌, ◌++◌, List, None, Option, Some, [], ap, codes, refl, subst, sym, ◌∷◌, ℕ}
 use Rattle.std.specs.Option.{option_map}
 use Rattle.bpf_insn.specs.declared.instruction.Insn.{Insn}
 use Rattle.bpf_insn.specs.declared.instruction.Insn.TheVariants.{Alu, CopyFromX, CopyToX, Jump, JumpIf, LoadAbsolute, LoadCell, LoadConstant, LoadIndexed, LoadLength, LoadXCell, LoadXConstant, LoadXHeader, LoadXLength, Negate, ReturnA, ReturnConstant, Store, StoreX}
-use Rattle.bpf_insn.specs.declared.instruction.Size.{Size}
 use Rattle.bpf_insn.specs.declared.instruction.Size.TheVariants.{Byte, Half, Word}
 use Rattle.bpf_insn.specs.declared.instruction.Operation.{Operation}
 use Rattle.bpf_insn.specs.declared.instruction.Operation.TheVariants.{Add, And, Div, Lsh, Mod, Mul, Or, Rsh, Sub, Xor}
@@ -13,8 +12,8 @@ use Rattle.bpf_insn.specs.declared.instruction.Test.{Test}
 use Rattle.bpf_insn.specs.declared.instruction.Test.TheVariants.{CommonBit, Equal, Greater, GreaterOrEqual}
 use Rattle.bpf_asm.proofs.SpelledLemmas.{HasNoStray}
 use Rattle.bpf_asm.specs.Reading.{after_mark, after_number, after_word, alone, bracket_in, branch_in, cell_operand, closed_in, far_of, form_in, header_in, insn_in, label_or, line, line_in, marked_in, named_in, near_in, operand_of, operation_of, other_insn, rest_in, return_of, short_load, statement_in, test_of, unbranched, unbranched_in, word_load, x_load}
-use Rattle.bpf_asm.specs.Statement.{Line, SpellsInsn, SpellsParts, SpellsRest, SpellsStatement, Statement, Target, absolute, branch, cell, comma, constant, far_target, goes_to, header, indexed, jump, load_name, near_target, operand, operation_name, plain, skips, test_name}
-use Rattle.bpf_asm.specs.Token.{Token, mark, number, stray, word}
+use Rattle.bpf_asm.specs.Statement.{SpellsInsn, SpellsParts, SpellsRest, SpellsStatement, Statement, Target, absolute, branch, cell, comma, constant, far_target, goes_to, header, indexed, jump, near_target, operand, operation_name, plain, skips, test_name}
+use Rattle.bpf_asm.specs.Token.{Token, word}
 
 -- the tokens are a mnemonic and an operand that is read with it as this statement, and have no stray
 pub record IsRead (tokens : List Token) (statement : Statement) : Type 0 where

@@ -1,6 +1,6 @@
 -- Printed texts: their tokens, and that no byte of them ends a line.
-use Rattle.std.proofs.Common.{◌≡◌, ◌==◌, ◌∙◌, ◌+◌, ◌++◌, ◌<◌, ◌≤◌, ◌^◌, ◌&&◌, ◌⊎◌, ◌||◌, Bool, List, None, Option, Some, [], ap, arith, codes, false, inl, inr, length, not, refl, subst, sym, true, ◌∷◌, ℕ}
-use Rattle.std.specs.Char.{digit_value, is_ascii_alphanumeric, is_ascii_digit}
+use Rattle.std.proofs.Common.{◌≡◌, ◌==◌, ◌∙◌, ◌++◌, ◌<◌, ◌≤◌, ◌^◌, ◌⊎◌, List, [], ap, arith, inl, inr, length, not, refl, subst, true, ◌∷◌, ℕ}
+use Rattle.std.specs.Char.{is_ascii_alphanumeric, is_ascii_digit}
 use Rattle.std.specs.Fmt.{decimal}
 use Rattle.std.specs.Int.{is_in_range}
 use Rattle.std.specs.List.{list_all}
@@ -11,7 +11,7 @@ use Rattle.std.proofs.lemmas.List.{append-nil}
 use Rattle.std.proofs.lemmas.Str.Parse.{numerals_by_value, tells_all_ascii_digits}
 use Rattle.bpf_asm.proofs.TokenLemmas.{is_ascii_alphanumeric-first}
 use Rattle.bpf_asm.specs.Line.{ends_line, lines_of, with_front}
-use Rattle.bpf_asm.specs.Token.{BeginsWith, IsLongestRun, IsTokens, SpellsNumber, SpellsToken, Token, begins_word, is_gap, is_in_word, is_mark, mark, number, stray, word}
+use Rattle.bpf_asm.specs.Token.{BeginsWith, IsTokens, SpellsNumber, Token, begins_word, is_in_word, is_mark, mark, number, word}
 
 -- no byte of a text ends a line
 abbrev pub StaysOnLine : List ℕ → Type 0

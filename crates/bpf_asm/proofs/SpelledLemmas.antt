@@ -1,12 +1,11 @@
 -- The tokens that are read are the tokens that are spelled.
-use Rattle.std.proofs.Common.{◌≡◌, ◌==◌, ◌∙◌, ◌+◌, ◌++◌, ◌-◌, ◌<◌, ◌≤◌, ◌⊎◌, ◌||◌, Bool, IsTrue, List, None, Option, Some, [], ap, arith, codes, cond, drop, false, inl, inr, length, nat_le, refl, subst, suc, sym, take, true, zero, ◌∷◌, ℕ}
+use Rattle.std.proofs.Common.{◌≡◌, ◌==◌, ◌∙◌, ◌+◌, ◌++◌, ◌≤◌, ◌⊎◌, ◌||◌, Bool, List, None, Option, Some, [], ap, arith, codes, cond, drop, false, inl, inr, length, nat_le, refl, subst, suc, sym, take, true, zero, ◌∷◌, ℕ}
 use Rattle.std.specs.Char.{is_ascii_alphanumeric, is_ascii_digit}
 use Rattle.std.specs.Int.{is_in_range}
 use Rattle.std.specs.List.{AllByRecursion, list_all, list_any, prefix_len}
 use Rattle.std.proofs.Math.Numerals.{one-add}
 use Rattle.std.proofs.lemmas.Bool.{and_from, and_parts, cond-false, cond-true, eqb-true, false_from_ne_true, leb-true, or_cases}
-use Rattle.std.proofs.lemmas.List.{append_assoc, drop_at, length-drop, take-append-drop, take_at}
-use Rattle.std.proofs.Math.ListN.{length-append}
+use Rattle.std.proofs.lemmas.List.{drop_at, length-drop, take-append-drop, take_at}
 use Rattle.bpf_asm.proofs.NumberLemmas.{number-spelled, number_is}
 use Rattle.bpf_asm.proofs.TokenLemmas.{is_ascii_alphanumeric-first, is_in_word-first, tokens_after-drop, tokens_of-first, tokens_of-nil}
 use Rattle.bpf_asm.specs.Reading.{more_of, number_of, number_token, token_at, tokens_after, tokens_of}

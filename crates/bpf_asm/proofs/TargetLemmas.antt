@@ -5,10 +5,9 @@ use Rattle.bpf_insn.specs.declared.instruction.Insn.{Insn}
 use Rattle.bpf_insn.specs.declared.instruction.Insn.TheVariants.{Jump, JumpIf}
 use Rattle.bpf_insn.specs.Table.{offsets}
 use Rattle.bpf_insn.specs.Word.{word_of}
-use Rattle.bpf_asm.specs.declared.fault.AsmFault.{AsmFault}
-use Rattle.bpf_asm.specs.declared.fault.AsmFault.TheVariants.{BackwardJump, DoubleLabel, OutOfMemory, Syntax, TooFar, UnknownLabel}
+use Rattle.bpf_asm.specs.declared.fault.AsmFault.TheVariants.{BackwardJump, TooFar}
 use Rattle.bpf_asm.specs.Statement.{Line, Statement, Target, branch, goes_to, jump, plain, skips}
-use Rattle.bpf_asm.specs.Target.{FARTHEST, FARTHEST_BRANCH, IsCode, IsInsnOf, IsOffset, count_of, doubles_fault, first_of, place_fault, statement_fault, statements_of, target_fault, targets_fault, with_statement}
+use Rattle.bpf_asm.specs.Target.{FARTHEST, FARTHEST_BRANCH, IsCode, IsInsnOf, IsOffset, count_of, first_of, place_fault, statement_fault, statements_of, target_fault, targets_fault, with_statement}
 
 module _ (places : List ℕ → Option ℕ) where
   -- ---- one value

@@ -1,8 +1,8 @@
 -- The lines of a text: what is read of them is what they spell, and the fault of the first that spells nothing.
-use Rattle.std.proofs.Common.{◌≡◌, ◌∙◌, ◌+◌, ◌++◌, List, None, Option, Some, [], ap, arith, length, map, refl, rules, subst, sym, unwrap_or, ◌∷◌, ℕ}
+use Rattle.std.proofs.Common.{◌≡◌, ◌∙◌, ◌+◌, ◌++◌, List, None, Option, Some, [], ap, arith, length, map, refl, unwrap_or, ◌∷◌, ℕ}
 use Rattle.std.specs.List.{AllZip}
 use Rattle.bpf_asm.specs.declared.fault.AsmFault.{AsmFault}
-use Rattle.bpf_asm.specs.declared.fault.AsmFault.TheVariants.{BackwardJump, DoubleLabel, OutOfMemory, Syntax, TooFar, UnknownLabel}
+use Rattle.bpf_asm.specs.declared.fault.AsmFault.TheVariants.{Syntax}
 use Rattle.bpf_asm.proofs.ReadLemmas.{line_read}
 use Rattle.bpf_asm.proofs.SpelledLemmas.{tokens_read, tokens_spelled}
 use Rattle.bpf_asm.proofs.StatementLemmas.{line_is}

@@ -1,12 +1,12 @@
 -- The tokens of a text, from its front.
-use Rattle.std.proofs.Common.{◌≡◌, ◌==◌, ◌∙◌, ◌+◌, ◌<◌, ◌||◌, Bool, List, None, Option, Some, [], ap, cond, drop, false, length, refl, slice_get, suc, sym, take, true, zero, ◌∷◌, ℕ}
+use Rattle.std.proofs.Common.{◌≡◌, ◌==◌, ◌∙◌, ◌+◌, ◌||◌, Bool, List, None, Some, [], ap, cond, drop, false, refl, slice_get, suc, sym, take, true, zero, ◌∷◌, ℕ}
 use Rattle.std.specs.Char.{is_ascii_alphanumeric, is_ascii_digit}
 use Rattle.std.specs.Int.{is_in_range}
 use Rattle.std.specs.List.{prefix_len}
 use Rattle.std.proofs.Math.Numerals.{one-add}
 use Rattle.std.proofs.lemmas.Bool.{cond-false, cond-true}
 use Rattle.bpf_asm.specs.Reading.{more_of, number_of, number_token, token_at, tokens_after, tokens_of}
-use Rattle.bpf_asm.specs.Token.{Token, begins_word, is_gap, is_in_word, is_mark, mark, stray, word}
+use Rattle.bpf_asm.specs.Token.{begins_word, is_gap, is_in_word, is_mark, mark, stray, word}
 
 -- what is skipped is dropped
 pub tokens_after-drop : (n : ℕ) (text : List ℕ) → tokens_after n text ≡ tokens_of (drop n text)

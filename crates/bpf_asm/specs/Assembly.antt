@@ -1,5 +1,5 @@
 -- Which words an assembly text is, and what is wrong with another text (docs/MACHINE.md, "Assembly text").
-use Rattle.std.specs.Prelude.{◌≡◌, ◌+◌, ◌∷◌, ◌++◌, Err, List, None, Ok, Option, Result, Some, [], length, ℕ}
+use Rattle.std.specs.Prelude.{◌≡◌, ◌+◌, ◌∷◌, ◌++◌, List, None, Option, Some, [], length, ℕ}
 use Rattle.std.specs.List.{AllZip}
 use Rattle.bpf_asm.specs.declared.fault.AsmFault.{AsmFault}
 use Rattle.bpf_asm.specs.declared.fault.AsmFault.TheVariants.{BackwardJump, DoubleLabel, OutOfMemory, Syntax, TooFar, UnknownLabel}

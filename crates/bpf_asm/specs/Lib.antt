@@ -6,5 +6,6 @@ pub mod Assembly
 pub mod Text
 pub mod Reading
 pub mod View
+pub use Rattle.bpf_insn.specs.Table
 pub use Rattle.bpf_insn.specs.Word
 pub use Rattle.bpf_verify.specs.Accepted

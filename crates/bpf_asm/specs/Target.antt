@@ -1,5 +1,5 @@
 -- Labels, and where jumps go (docs/MACHINE.md, "Assembly text"). Places count instructions from 0, lines from 1.
-use Rattle.std.specs.Prelude.{◌≡◌, ◌+◌, ◌-◌, ◌≤◌, ◌∷◌, ◌++◌, Bool, List, None, Option, Some, [], false, if◌then◌else◌, nat_le, ℕ}
+use Rattle.std.specs.Prelude.{◌≡◌, ◌+◌, ◌-◌, ◌≤◌, ◌∷◌, Bool, List, None, Option, Some, [], false, if◌then◌else◌, nat_le, ℕ}
 use Rattle.std.specs.List.{list_any}
 use Rattle.std.specs.Map.{lookup}
 use Rattle.std.specs.Str.{bytes_eq}

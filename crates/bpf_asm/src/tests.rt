@@ -276,6 +276,50 @@ fn msh_in_any_spelling(rt: HostRuntime) -> Result<(), Fail> {
     Ok(())
 }
 
+// docs/MACHINE.md, "Assembly text" and "How a program is printed".
+const EXAMPLE: &str = "        ldb [9]
+        jeq #17,udp,other
+udp:    ldh [6]
+        jset #0x1fff,other,first
+first:  ldx 4*([0]&0xf)
+        ldh [x+2]
+        jeq #53,keep,other
+keep:   ret #65535
+other:  ret #0
+";
+
+const EXAMPLE_WORDS: [u64; 9] = [
+    0x0030_0000_0000_0009,
+    0x0015_0006_0000_0011,
+    0x0028_0000_0000_0006,
+    0x0045_0400_0000_1fff,
+    0x00b1_0000_0000_0000,
+    0x0048_0000_0000_0002,
+    0x0015_0001_0000_0035,
+    0x0006_0000_0000_ffff,
+    0x0006_0000_0000_0000,
+];
+
+const EXAMPLE_PRINTED: &str = "ldb [9]
+jeq #17,0,6
+ldh [6]
+jset #8191,4,0
+ldx 4*([0]&0xf)
+ldh [x+2]
+jeq #53,0,1
+ret #65535
+ret #0
+";
+
+#[test]
+fn example_of_the_document(rt: HostRuntime) -> Result<(), Fail> {
+    let alloc = rt.alloc();
+    let program = program(alloc, EXAMPLE.as_bytes())?;
+    assert!(rt; program.words() == EXAMPLE_WORDS.as_slice());
+    assert_eq!(rt; print(alloc, &program)?.as_str(), EXAMPLE_PRINTED);
+    Ok(())
+}
+
 #[test]
 fn two_labels_on_one_line(rt: HostRuntime) -> Result<(), Fail> {
     let alloc = rt.alloc();

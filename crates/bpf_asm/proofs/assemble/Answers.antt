@@ -1,7 +1,7 @@
-use Rattle.std.proofs.Common.{◌≡◌, IfErr, sym}
+use Rattle.std.proofs.Common.{sym}
 use Rattle.std.proofs.lemmas.Result.{IfOk-weaker, MatchResult-weaker, err_from_is_err_and}
 use Rattle.bpf_asm.proofs.AssemblyLemmas.{assembled, forms_refused, labels_refused, refuses_none, targets_refused}
-use Rattle.bpf_asm.specs.Assembly.{Assembles, IsFaultOrMemory}
+use Rattle.bpf_asm.specs.Assembly.{Assembles}
 use Rattle.bpf_asm.specs.Reading.{lines_read}
 use Rattle.bpf_asm.specs.Target.{IsCode, statements_of}
 use Rattle.bpf_asm.specs.View.{place_among}

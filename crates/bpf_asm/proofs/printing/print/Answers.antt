@@ -1,4 +1,4 @@
-use Rattle.std.proofs.Common.{◌≡◌, ◌∙◌, ap, string_bytes, subst, sym}
+use Rattle.std.proofs.Common.{◌∙◌, ap, subst, sym}
 use Rattle.std.proofs.lemmas.List.{take_all}
 use Rattle.bpf_asm.proofs.ProgramLemmas.{instruction_word_at, reads_back}
 use Rattle.bpf_asm.specs.Assembly.{Assembles}

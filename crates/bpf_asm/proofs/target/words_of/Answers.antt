@@ -1,4 +1,4 @@
-use Rattle.std.proofs.Common.{arith, length, ◌+◌, ◌≤◌}
+use Rattle.std.proofs.Common.{arith}
 use Rattle.bpf_asm.specs.Reading.{lines_read}
 use Rattle.bpf_asm.specs.View.{line_of, place_among}
 use Rattle.bpf_asm.proofs.CodeLemmas.{emits_all, emits_more, lines_at, lines_at-some}

@@ -1,4 +1,4 @@
-use Rattle.std.proofs.Common.{◌≡◌, ◌∙◌, [], ap, drop, refl, rules, sym, ◌∷◌}
+use Rattle.std.proofs.Common.{◌∙◌, ap, sym, ◌∷◌}
 use Rattle.std.proofs.lemmas.List.{take_rest}
 use Rattle.bpf_asm.specs.Reading.{tokens_of}
 use Rattle.bpf_asm.specs.Token.{mark, stray}
