@@ -11,7 +11,8 @@ ghost use Rattle.bpf_asm.specs.View.{Defines, IsDefinedAgain, UnlessMemory, line
 
 use crate::fault::AsmFault;
 use crate::line::{Line, first_line, line_or_empty};
-use std::alloc::{AllocError, Allocator};
+use bpf_verify::OutOfMemory;
+use std::alloc::Allocator;
 use std::collections::BTreeMap;
 
 /// The place of each name: how many instructions stand before its label.
@@ -31,7 +32,7 @@ impl<'a, A: Allocator> Labels<'a, A> {
 
 impl<'a, A: Allocator + Clone> Labels<'a, A> {
     // Tells whether the name is new.
-    fn define(&mut self, name: &'a [u8], place: usize) -> Result<bool, AllocError>
+    fn define(&mut self, name: &'a [u8], place: usize) -> Result<bool, OutOfMemory>
         ensures is_new { IfOk result (λ is_new. is_new ≡ is_none (place_among self.old.places name.entry.now)) }
         ensures defined { OnOk result ((other : List ℕ) → place_among self.new.places other ≡ update bytes_eq (place_among self.old.places) name.entry.now (Some place) other) }
     {
