@@ -1,0 +1,3 @@
+mod RunLemmas
+mod SpeltLemmas
+mod CloseLemmas

@@ -1,0 +1,17 @@
+//! An expression in postfix order: what is read of it, each part behind its own parts.
+
+use filter_tree::{Operator, Primitive, Protocol, Relation, Size};
+
+/// A part of an expression, which takes the parts that it stands over from those before it.
+#[derive(Clone, Copy, Debug, PartialEq, Eq)]
+pub enum Item {
+    Number(u32),
+    Length,
+    Access(Protocol, Size),
+    Operate(Operator),
+    Primitive(Primitive),
+    Relate(Relation),
+    Negate,
+    Conjoin,
+    Disjoin,
+}

@@ -1,0 +1,68 @@
+//! Reading the tokens of a filter expression (pcap-filter(7); docs/EXPRESSIONS.md, "Tokens").
+
+use filter_tree::{Operator, Protocol, Relation};
+
+/// `and` or `or`, as it is spelt.
+#[derive(Clone, Copy, Debug, PartialEq, Eq)]
+pub enum Connective {
+    /// `and`.
+    And,
+    /// `or`.
+    Or,
+    /// `&&`.
+    AndSign,
+    /// `||`.
+    OrSign,
+}
+
+/// A token of a filter expression.
+#[derive(Clone, Copy, Debug, PartialEq, Eq)]
+pub enum Token {
+    /// `ip`, `tcp`, `udp`, `icmp`.
+    Named(Protocol),
+    /// `proto`.
+    Proto,
+    /// `host`.
+    Host,
+    /// `net`.
+    Net,
+    /// `port`.
+    Port,
+    /// `portrange`.
+    PortRange,
+    /// `less`.
+    Less,
+    /// `greater`.
+    Greater,
+    /// `len`.
+    Length,
+    /// `src`.
+    Source,
+    /// `dst`.
+    Destination,
+    /// `and`, `&&`, `or`, `||`.
+    Connects(Connective),
+    /// `not`, `!`.
+    Not,
+    /// `>`, `<`, `>=`, `<=`, `=`, `==`, `!=`.
+    Compares(Relation),
+    /// `|`, `^`, `&`, `<<`, `>>`, `+`, `-`, `*`, `/`, `%`.
+    Operates(Operator),
+    /// `(`.
+    Open,
+    /// `)`.
+    Close,
+    /// `[`.
+    OpenIndex,
+    /// `]`.
+    CloseIndex,
+    /// `:`.
+    Colon,
+    /// A number as it is worth; 4294967296 stands for every greater one.
+    Number(u64),
+    /// Four decimal numbers with dots between them as an address in host order; 4294967296 stands for any other spelling
+    /// with a dot.
+    Address(u64),
+    /// Bytes that are no token of the language: another word, a number that is misspelt, any other byte.
+    Stray,
+}
