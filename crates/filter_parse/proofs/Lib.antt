@@ -1,3 +1,4 @@
 mod RunLemmas
 mod SpeltLemmas
 mod CloseLemmas
+mod StandardFacts

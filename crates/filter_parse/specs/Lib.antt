@@ -1,2 +1,4 @@
+pub mod Token
 pub mod Grammar
+pub mod Fault
 pub mod Pass

@@ -1,6 +1,6 @@
 -- How far the parser's one pass has come: what has just been read, what is open around it, and the parts of the expression
 -- that are known, in postfix order. The pass looks at one token beyond what it has read.
-use Rattle.std.specs.Prelude.{◌∷◌, ◌++◌, ◌==◌, ◌&&◌, Bool, List, None, Option, Some, [], false, if◌then◌else◌, nat_le, option_and_then, true, ℕ}
+use Rattle.std.specs.Prelude.{◌∷◌, ◌++◌, ◌==◌, ◌&&◌, Bool, List, None, Option, Some, [], false, if◌then◌else◌, length, nat_le, option_and_then, true, Result, Ok, Err, ℕ}
 use Rattle.filter_tree.specs.declared.arithmetic.Operator.TheVariants.{Divide, Subtract}
 use Rattle.filter_tree.specs.declared.arithmetic.Protocol.{Protocol}
 use Rattle.filter_tree.specs.declared.arithmetic.Protocol.TheVariants.{Ip as IpName, Tcp as TcpName, Udp as UdpName}
@@ -12,6 +12,8 @@ use Rattle.filter_tree.specs.declared.primitive.Primitive.TheVariants.{AtLeast, 
 use Rattle.filter_tree.specs.declared.primitive.Transport.{Transport}
 use Rattle.filter_tree.specs.declared.primitive.Transport.TheVariants.{Tcp, Udp, Unnamed}
 use Rattle.filter_tree.specs.Tree.{ArithTree, Tree, accessor, conjunction, disjunction, negation, number, operation, packet_length, primitive, relation}
+use Rattle.filter_parse.specs.declared.fault.ParseFault.{ParseFault}
+use Rattle.filter_parse.specs.declared.fault.ParseFault.TheVariants.{BadAddress, NumberTooBig, Syntax}
 use Rattle.filter_parse.specs.declared.item.Item.{Item}
 use Rattle.filter_parse.specs.declared.item.Item.TheVariants.{Access, Conjoin, Disjoin, Length as PushLength, Negate, Number as PushNumber, Operate, Primitive as PushPrimitive, Relate}
 use Rattle.filter_parse.specs.declared.state.Control.{Control}
@@ -22,7 +24,9 @@ use Rattle.filter_parse.specs.declared.token.Connective.{Connective}
 use Rattle.filter_parse.specs.declared.token.Connective.TheVariants.{And, AndSign, Or, OrSign}
 use Rattle.filter_parse.specs.declared.token.Token.{Token}
 use Rattle.filter_parse.specs.declared.token.Token.TheVariants.{Address, Close, CloseIndex, Colon, Compares, Connects, Destination, Greater, Host, Length, Less, Named, Net, Not, Number, Open, OpenIndex, Operates, Port, PortRange, Proto, Source}
+use Rattle.filter_parse.specs.Fault.{bracket_fault, open_after, prefix_fault}
 use Rattle.filter_parse.specs.Grammar.{level_of, named}
+use Rattle.filter_parse.specs.Token.{Placed, tokens_of}
 
 -- what has just been read, what is open around it, the innermost first, and what is known
 pub data Reading : Type 0 where
@@ -213,3 +217,53 @@ accepted _ = None
 abbrev pub run : List Token → Reading → Option (List Item)
 run [] state = accepted (settled None state)
 run (token ∷ rest) state = option_and_then (run rest) (taken token (settled (Some token) state))
+
+-- the greatest number that may stand next, and the address whose prefix bits do
+abbrev pub limit_in : Control → ℕ
+limit_in WantsProtocol = 255
+limit_in (WantsPort transport direction) = 65535
+limit_in (WantsFirst transport direction) = 65535
+limit_in (WantsLast transport direction n) = 65535
+limit_in _ = 4294967295
+
+abbrev pub network_in : Control → Option ℕ
+network_in (WantsBits direction a) = Some a
+network_in _ = None
+
+-- the fault of a token by what it says, where so many brackets are open
+abbrev pub fault_in : Control → ℕ → Token → ℕ → Option ParseFault
+fault_in control count (Number n) at = if nat_le n (limit_in control) then prefix_fault (network_in control) n at else Some (NumberTooBig at)
+fault_in control count (Address a) at = if nat_le a 4294967295 then None else Some (BadAddress at)
+fault_in control count Open at = bracket_fault count at
+fault_in control count OpenIndex at = bracket_fault count at
+fault_in control count _ at = None
+
+abbrev pub control_of : Reading → Control
+control_of (reading control frames items) = control
+
+-- a token that does not fit is at fault whatever it says
+abbrev pub judged_by : Option ParseFault → ℕ → Option Reading → Result Reading ParseFault
+judged_by own at None = Err (Syntax at)
+judged_by (Some fault) at (Some state) = Err fault
+judged_by None at (Some state) = Ok state
+
+abbrev pub judged : Token → ℕ → ℕ → Reading → Result Reading ParseFault
+judged token at count state = judged_by (fault_in (control_of state) count token at) at (taken token (settled (Some token) state))
+
+abbrev pub passed_on : (Reading → Result (List Item) ParseFault) → Result Reading ParseFault → Result (List Item) ParseFault
+passed_on more (Ok state) = more state
+passed_on more (Err fault) = Err fault
+
+abbrev pub at_end : ℕ → Option (List Item) → Result (List Item) ParseFault
+at_end end (Some items) = Ok items
+at_end end None = Err (Syntax end)
+
+-- what the pass over the tokens left makes of them, before a place where they end
+abbrev pub pass : List Placed → ℕ → ℕ → Reading → Result (List Item) ParseFault
+pass [] end count state = at_end end (accepted (settled None state))
+pass (placed ∷ more) end count state =
+    passed_on (pass more end (open_after placed.token count)) (judged placed.token placed.place count state)
+
+-- the pass over a text
+abbrev pub pass_of : List ℕ → Result (List Item) ParseFault
+pass_of text = pass (tokens_of text) (length text) 0 (reading Expects [] [])

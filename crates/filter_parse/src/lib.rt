@@ -1,10 +1,15 @@
 //! Filter expressions read from text (pcap-filter(7); docs/EXPRESSIONS.md).
 #![tactic(auto)]
 
+mod fault;
 mod item;
 mod state;
 mod token;
 
-pub use token::{Connective, Token};
+pub use token::{Connective, Token, Lexeme, TOO_BIG};
+pub use fault::ParseFault;
 pub use item::Item;
+
+/// The greatest depth of a tree that is read, and the most brackets that may be open.
+pub const MAX_DEPTH: u32 = 64;
 pub use state::{Control, Frame};

@@ -2,6 +2,9 @@
 
 use filter_tree::{Operator, Protocol, Relation};
 
+/// What stands for every number above 4294967295, and for an address that is misspelt.
+pub const TOO_BIG: u64 = 1 << 32;
+
 /// `and` or `or`, as it is spelt.
 #[derive(Clone, Copy, Debug, PartialEq, Eq)]
 pub enum Connective {
@@ -65,4 +68,11 @@ pub enum Token {
     Address(u64),
     /// Bytes that are no token of the language: another word, a number that is misspelt, any other byte.
     Stray,
+}
+
+/// A token and its number of bytes.
+#[derive(Clone, Copy, Debug, PartialEq, Eq)]
+pub struct Lexeme {
+    pub token: Token,
+    pub len: usize,
 }

@@ -1,0 +1,83 @@
+-- Which texts are expressions, and the fault of each other one (docs/EXPRESSIONS.md, "Faults and their places").
+use Rattle.std.specs.Prelude.{◌≡◌, ◌<◌, ◌≤◌, ◌-◌, ◌%◌, ◌^◌, ◌==◌, ◌++◌, ◌&&◌, ◌∷◌, List, None, Option, Some, [], if◌then◌else◌, length, nat_le, nat_lt, pred, reverse, suc, ℕ}
+use Rattle.filter_tree.specs.declared.arithmetic.Operator.TheVariants.{Divide, Subtract}
+use Rattle.filter_tree.specs.Measure.{depth_of}
+use Rattle.filter_tree.specs.Tree.{Tree}
+use Rattle.filter_parse.specs.declared.TheConstants.{MAX_DEPTH}
+use Rattle.filter_parse.specs.declared.fault.ParseFault.{ParseFault}
+use Rattle.filter_parse.specs.declared.fault.ParseFault.TheVariants.{BadAddress, BadPrefix, NumberTooBig, Syntax, TooDeep}
+use Rattle.filter_parse.specs.declared.token.Token.{Token}
+use Rattle.filter_parse.specs.declared.token.Token.TheVariants.{Address, Close, CloseIndex, Net, Number, Open, OpenIndex, Operates, Port, PortRange, Proto}
+use Rattle.filter_parse.specs.Grammar.{IsViable, Spells}
+use Rattle.filter_parse.specs.Token.{Placed, kinds, tokens_of}
+
+-- The tokens before a place are named the last first.
+
+-- the greatest number that may stand behind them
+abbrev pub limit_after : List Token → ℕ
+limit_after (Port ∷ before) = 65535
+limit_after (PortRange ∷ before) = 65535
+limit_after (Operates Subtract ∷ Number n ∷ PortRange ∷ before) = 65535
+limit_after (Proto ∷ before) = 255
+limit_after before = 4294967295
+
+-- the address whose prefix bits stand behind them
+abbrev pub network_after : List Token → Option ℕ
+network_after (Operates Divide ∷ Address a ∷ Net ∷ before) = Some a
+network_after before = None
+
+-- how many brackets are open once one more token has come
+abbrev pub open_after : Token → ℕ → ℕ
+open_after Open n = suc n
+open_after OpenIndex n = suc n
+open_after Close n = pred n
+open_after CloseIndex n = pred n
+open_after _ n = n
+
+abbrev pub open_brackets : List Token → ℕ
+open_brackets [] = 0
+open_brackets (token ∷ before) = open_after token (open_brackets before)
+
+-- a number of prefix bits above 32, or past which a bit of the address is set
+abbrev pub prefix_fault : Option ℕ → ℕ → ℕ → Option ParseFault
+prefix_fault None n at = None
+prefix_fault (Some a) n at = if nat_le n 32 && a % 2 ^ (32 - n) == 0 then None else Some (BadPrefix at)
+
+-- the fault of a token at a place by what it says, where an expression may go on with it
+abbrev pub bracket_fault : ℕ → ℕ → Option ParseFault
+bracket_fault count at = if nat_lt count MAX_DEPTH then None else Some (TooDeep at)
+
+abbrev pub own_fault : List Token → Token → ℕ → Option ParseFault
+own_fault before (Number n) at = if nat_le n (limit_after before) then prefix_fault (network_after before) n at else Some (NumberTooBig at)
+own_fault before (Address a) at = if nat_le a 4294967295 then None else Some (BadAddress at)
+own_fault before Open at = bracket_fault (open_brackets before) at
+own_fault before OpenIndex at = bracket_fault (open_brackets before) at
+own_fault before _ at = None
+
+-- no token has a fault of its own
+abbrev pub IsFaultless : List Token → List Placed → Type 0
+IsFaultless before [] = Unit {0}
+IsFaultless before (placed ∷ more) =
+    (own_fault before placed.token placed.place ≡ None) × IsFaultless (placed.token ∷ before) more
+
+-- the text is an expression, and this is its tree
+pub record HasTree (text : List ℕ) (tree : Tree) : Type 0 where
+  pub spelt : Spells (kinds (tokens_of text)) tree
+  pub faultless : IsFaultless [] (tokens_of text)
+  pub shallow : depth_of tree ≤ MAX_DEPTH
+
+-- The text has this fault. Of all places the least is answered, and where both could be, that the token does not fit there.
+pub data HasFault : List ℕ → ParseFault → Type 0 where
+  -- no expression goes on with the next token
+  unexpected : {text : List ℕ} (front more : List Placed) (next : Placed) → tokens_of text ≡ front ++ next ∷ more →
+    IsFaultless [] front → IsViable (kinds front) → ¬ IsViable (kinds front ++ next.token ∷ []) → HasFault text (Syntax next.place)
+  -- one does, but the token has a fault of its own
+  faulty : {text : List ℕ} {fault : ParseFault} (front more : List Placed) (next : Placed) → tokens_of text ≡ front ++ next ∷ more →
+    IsFaultless [] front → IsViable (kinds front ++ next.token ∷ []) → own_fault (reverse (kinds front)) next.token next.place ≡ Some fault →
+    HasFault text fault
+  -- the tokens begin an expression and are none
+  unfinished : {text : List ℕ} → IsFaultless [] (tokens_of text) → IsViable (kinds (tokens_of text)) →
+    ((tree : Tree) → ¬ Spells (kinds (tokens_of text)) tree) → HasFault text (Syntax (length text))
+  -- the tree is too deep
+  deep : {text : List ℕ} {tree : Tree} → IsFaultless [] (tokens_of text) → Spells (kinds (tokens_of text)) tree → MAX_DEPTH < depth_of tree →
+    HasFault text (TooDeep (length text))

@@ -1,0 +1,179 @@
+-- The tokens of a text (pcap-filter(7); docs/EXPRESSIONS.md, "Tokens").
+use Rattle.std.specs.Prelude.{◌+◌, ◌-◌, ◌*◌, ◌/◌, ◌^◌, ◌==◌, ◌&&◌, ◌||◌, ◌∷◌, Bool, List, None, Option, Some, [], codes, drop, false, if◌then◌else◌, length, min, nat_le, nat_lt, option_and_then, pred, suc, take, unwrap_or, map, ℕ}
+use Prim.Native.Nat.{zero}
+use Rattle.std.specs.Char.{digit_value, is_ascii_alphabetic, is_ascii_alphanumeric, is_ascii_digit, is_ascii_hexdigit}
+use Rattle.std.specs.List.{fold, list_all, list_any, position_or_len, prefix_len}
+use Rattle.std.specs.Str.{bytes_eq}
+use Rattle.filter_tree.specs.declared.arithmetic.Operator.TheVariants.{Add, And as BitAnd, Divide, ExclusiveOr, Modulo, Multiply, Or as BitOr, ShiftLeft, ShiftRight, Subtract}
+use Rattle.filter_tree.specs.declared.arithmetic.Protocol.TheVariants.{Icmp, Ip, Tcp, Udp}
+use Rattle.filter_tree.specs.declared.expression.Relation.TheVariants.{Equal, Greater as GreaterThan, GreaterOrEqual, Less as LessThan, LessOrEqual, NotEqual}
+use Rattle.filter_parse.specs.declared.token.TheConstants.{TOO_BIG}
+use Rattle.filter_parse.specs.declared.token.Connective.TheVariants.{And, AndSign, Or, OrSign}
+use Rattle.filter_parse.specs.declared.token.Lexeme.{Lexeme}
+use Rattle.filter_parse.specs.declared.token.Token.{Token}
+use Rattle.filter_parse.specs.declared.token.Token.TheVariants.{Address, Close, CloseIndex, Colon, Compares, Connects, Destination, Greater, Host, Length, Less, Named, Net, Not, Number, Open, OpenIndex, Operates, Port, PortRange, Proto, Source, Stray}
+
+-- space and tab separate tokens
+abbrev pub is_blank : ℕ → Bool
+is_blank c = c == 32 || c == 9
+
+-- a word is a longest run of letters, digits and `_` that begins with a letter or `_`
+abbrev pub begins_word : ℕ → Bool
+begins_word c = is_ascii_alphabetic c || c == 95
+
+abbrev pub is_word_part : ℕ → Bool
+is_word_part c = is_ascii_alphanumeric c || c == 95
+
+-- a number or an address is a longest run of letters, digits and dots that begins with a digit
+abbrev pub is_dot : ℕ → Bool
+is_dot c = c == 46
+
+abbrev pub is_number_part : ℕ → Bool
+is_number_part c = is_ascii_alphanumeric c || c == 46
+
+-- the words of the language
+abbrev pub word_token : List ℕ → Token
+word_token word =
+    if bytes_eq word (codes "ip") then Named Ip
+    else (if bytes_eq word (codes "tcp") then Named Tcp
+    else (if bytes_eq word (codes "udp") then Named Udp
+    else (if bytes_eq word (codes "icmp") then Named Icmp
+    else (if bytes_eq word (codes "proto") then Proto
+    else (if bytes_eq word (codes "host") then Host
+    else (if bytes_eq word (codes "net") then Net
+    else (if bytes_eq word (codes "port") then Port
+    else (if bytes_eq word (codes "portrange") then PortRange
+    else (if bytes_eq word (codes "less") then Less
+    else (if bytes_eq word (codes "greater") then Greater
+    else (if bytes_eq word (codes "len") then Length
+    else (if bytes_eq word (codes "src") then Source
+    else (if bytes_eq word (codes "dst") then Destination
+    else (if bytes_eq word (codes "and") then Connects And
+    else (if bytes_eq word (codes "or") then Connects Or
+    else (if bytes_eq word (codes "not") then Not
+    else Stray))))))))))))))))
+
+-- what a number of any size is kept as: 4294967296 stands for every greater one
+abbrev pub capped : ℕ → ℕ
+capped n = min n TOO_BIG
+
+-- what digits are worth
+abbrev pub value_of : ℕ → List ℕ → ℕ
+value_of base digits = fold (λ n c. n * base + digit_value c) 0 digits
+
+-- decimal digits without a leading zero, or `0` alone
+abbrev pub is_decimal : List ℕ → Bool
+is_decimal [] = false
+is_decimal (c ∷ []) = is_ascii_digit c
+is_decimal (c ∷ digits) = nat_lt 48 c && list_all is_ascii_digit (c ∷ digits)
+
+-- `0x`, and at least one hexadecimal digit
+abbrev pub is_hexadecimal : List ℕ → Bool
+is_hexadecimal text = bytes_eq (take 2 text) (codes "0x") && nat_lt 2 (length text) && list_all is_ascii_hexdigit (drop 2 text)
+
+abbrev pub number_token : List ℕ → Token
+number_token text =
+    if is_decimal text then Number (capped (value_of 10 text))
+    else (if is_hexadecimal text then Number (capped (value_of 16 (drop 2 text))) else Stray)
+
+-- a part of an address: a decimal number up to 255
+abbrev pub octet_of : List ℕ → Option ℕ
+octet_of part = if is_decimal part && nat_le (value_of 10 part) 255 then Some (value_of 10 part) else None
+
+-- the place of the first dot, or the length
+abbrev pub first_dot : List ℕ → ℕ
+first_dot text = position_or_len is_dot text
+
+-- an address with so many parts behind the first, and what the parts before are worth
+abbrev pub address_behind : ℕ → ℕ → List ℕ → Option ℕ
+address_behind zero before text = option_and_then (λ part. Some (before * 256 + part)) (octet_of text)
+address_behind (suc more) before text =
+    if nat_lt (first_dot text) (length text) then
+      option_and_then (λ part. address_behind more (before * 256 + part) (drop (first_dot text + 1) text)) (octet_of (take (first_dot text) text))
+    else None
+
+-- an address: four parts with a dot between each two
+abbrev pub address_of : List ℕ → Option ℕ
+address_of text = address_behind 3 0 text
+
+abbrev pub number_or_address : List ℕ → Token
+number_or_address text = if list_any is_dot text then Address (unwrap_or (address_of text) TOO_BIG) else number_token text
+
+-- the signs of two bytes
+abbrev pub pair_sign : ℕ → ℕ → Option Token
+pair_sign c d =
+    if c == 38 && d == 38 then Some (Connects AndSign)
+    else (if c == 124 && d == 124 then Some (Connects OrSign)
+    else (if c == 60 && d == 60 then Some (Operates ShiftLeft)
+    else (if c == 62 && d == 62 then Some (Operates ShiftRight)
+    else (if c == 62 && d == 61 then Some (Compares GreaterOrEqual)
+    else (if c == 60 && d == 61 then Some (Compares LessOrEqual)
+    else (if c == 61 && d == 61 then Some (Compares Equal)
+    else (if c == 33 && d == 61 then Some (Compares NotEqual)
+    else None)))))))
+
+-- the signs of one byte: brackets and `:`
+abbrev pub mark : ℕ → Token
+mark c =
+    if c == 40 then Open
+    else (if c == 41 then Close
+    else (if c == 91 then OpenIndex
+    else (if c == 93 then CloseIndex
+    else (if c == 58 then Colon
+    else (if c == 33 then Not
+    else Stray)))))
+
+-- operators and relations
+abbrev pub sign : ℕ → Token
+sign c =
+    if c == 47 then Operates Divide
+    else (if c == 43 then Operates Add
+    else (if c == 45 then Operates Subtract
+    else (if c == 42 then Operates Multiply
+    else (if c == 37 then Operates Modulo
+    else (if c == 38 then Operates BitAnd
+    else (if c == 124 then Operates BitOr
+    else (if c == 94 then Operates ExclusiveOr
+    else (if c == 60 then Compares LessThan
+    else (if c == 62 then Compares GreaterThan
+    else (if c == 61 then Compares Equal
+    else mark c))))))))))
+
+-- a sign of two bytes where they are one, else the first byte alone
+abbrev pub sign_or : ℕ → Option Token → Lexeme
+sign_or c (Some token) = record { token = token; len = 2 }
+sign_or c None = record { token = sign c; len = 1 }
+
+abbrev pub sign_lexeme : ℕ → List ℕ → Lexeme
+sign_lexeme c [] = record { token = sign c; len = 1 }
+sign_lexeme c (d ∷ rest) = sign_or c (pair_sign c d)
+
+-- the token that begins with a byte that is no blank, and its number of bytes
+abbrev pub lexeme : ℕ → List ℕ → Lexeme
+lexeme c rest =
+    if begins_word c then
+      record { token = word_token (take (prefix_len is_word_part (c ∷ rest)) (c ∷ rest)); len = prefix_len is_word_part (c ∷ rest) }
+    else (if is_ascii_digit c then
+      record { token = number_or_address (take (prefix_len is_number_part (c ∷ rest)) (c ∷ rest)); len = prefix_len is_number_part (c ∷ rest) }
+    else sign_lexeme c rest)
+
+-- a token and the place of its first byte
+pub record Placed : Type 0 where
+  pub token : Token
+  pub place : ℕ
+
+-- the tokens of a text whose first byte is at a place, behind so many bytes that belong to the token before them
+abbrev pub tokens_from : ℕ → ℕ → List ℕ → List Placed
+tokens_from inside place [] = []
+tokens_from (suc inside) place (c ∷ text) = tokens_from inside (place + 1) text
+tokens_from zero place (c ∷ text) =
+    if is_blank c then tokens_from zero (place + 1) text
+    else record { token = (lexeme c text).token; place = place } ∷ tokens_from ((lexeme c text).len - 1) (place + 1) text
+
+-- the tokens of a text
+abbrev pub tokens_of : List ℕ → List Placed
+tokens_of text = tokens_from 0 0 text
+
+-- the same without their places
+abbrev pub kinds : List Placed → List Token
+kinds tokens = map (λ placed. placed.token) tokens

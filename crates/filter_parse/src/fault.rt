@@ -1,0 +1,43 @@
+//! Why a text is no filter expression.
+
+use std::alloc::{AllocError, AllocFailed};
+
+/// Why a text is no filter expression, and where: `at` counts bytes from the text's first. A place where something is
+/// missing at the end is the text's length.
+#[derive(Clone, Copy, Debug, PartialEq, Eq)]
+pub enum ParseFault {
+    /// P1: no expression begins with what stands before and this token.
+    Syntax { at: usize },
+    /// P2: a number above what may stand there.
+    NumberTooBig { at: usize },
+    /// P3: an address that is not four decimal numbers of 0 to 255 without leading zeros.
+    BadAddress { at: usize },
+    /// P4: a number of prefix bits above 32, or past which a bit of the address is set.
+    BadPrefix { at: usize },
+    /// P5: a bracket with which more than `MAX_DEPTH` are open, or a tree that is deeper.
+    TooDeep { at: usize },
+    /// P6: a growth was refused.
+    OutOfMemory,
+}
+
+impl From<AllocError> for ParseFault {
+    ghost use Rattle.std.specs.Prelude.{◌≡◌};
+    ghost use Rattle.filter_parse.specs.declared.fault.ParseFault.TheVariants.{OutOfMemory};
+
+    ghost from_gives = { λ _ e. e ≡ OutOfMemory };
+
+    fn from(_e: AllocError) -> ParseFault {
+        ParseFault::OutOfMemory
+    }
+}
+
+impl<T: Drop> From<AllocFailed<T>> for ParseFault {
+    ghost use Rattle.std.specs.Prelude.{◌≡◌};
+    ghost use Rattle.filter_parse.specs.declared.fault.ParseFault.TheVariants.{OutOfMemory};
+
+    ghost from_gives = { λ _ e. e ≡ OutOfMemory };
+
+    fn from(_e: AllocFailed<T>) -> ParseFault {
+        ParseFault::OutOfMemory
+    }
+}
