@@ -2,3 +2,5 @@ mod RunLemmas
 mod SpeltLemmas
 mod CloseLemmas
 mod StandardFacts
+mod PrecedeLemmas
+mod JudgeLemmas
