@@ -1,5 +1,5 @@
 -- The tokens of a text (pcap-filter(7); docs/EXPRESSIONS.md, "Tokens").
-use Rattle.std.specs.Prelude.{◌+◌, ◌-◌, ◌*◌, ◌/◌, ◌^◌, ◌==◌, ◌&&◌, ◌||◌, ◌∷◌, Bool, List, None, Option, Some, [], codes, drop, false, if◌then◌else◌, length, min, nat_le, nat_lt, option_and_then, pred, suc, take, unwrap_or, map, ℕ}
+use Rattle.std.specs.Prelude.{◌+◌, ◌-◌, ◌*◌, ◌/◌, ◌^◌, ◌==◌, ◌&&◌, ◌||◌, ◌∷◌, Bool, List, None, Option, Some, [], codes, drop, false, if◌then◌else◌, length, min, nat_le, nat_lt, option_and_then, option_map, pred, suc, take, unwrap_or, map, ℕ}
 use Prim.Native.Nat.{zero}
 use Rattle.std.specs.Char.{digit_value, is_ascii_alphabetic, is_ascii_alphanumeric, is_ascii_digit, is_ascii_hexdigit}
 use Rattle.std.specs.List.{fold, list_all, list_any, position_or_len, prefix_len}
@@ -31,13 +31,24 @@ is_dot c = c == 46
 abbrev pub is_number_part : ℕ → Bool
 is_number_part c = is_ascii_alphanumeric c || c == 46
 
--- the words of the language
-abbrev pub word_token : List ℕ → Token
-word_token word =
-    if bytes_eq word (codes "ip") then Named Ip
-    else (if bytes_eq word (codes "tcp") then Named Tcp
-    else (if bytes_eq word (codes "udp") then Named Udp
-    else (if bytes_eq word (codes "icmp") then Named Icmp
+-- the words of the language: names and connectives
+abbrev pub name_token : List ℕ → Option Token
+name_token word =
+    if bytes_eq word (codes "ip") then Some (Named Ip)
+    else (if bytes_eq word (codes "tcp") then Some (Named Tcp)
+    else (if bytes_eq word (codes "udp") then Some (Named Udp)
+    else (if bytes_eq word (codes "icmp") then Some (Named Icmp)
+    else (if bytes_eq word (codes "and") then Some (Connects And)
+    else (if bytes_eq word (codes "or") then Some (Connects Or)
+    else (if bytes_eq word (codes "not") then Some Not
+    else (if bytes_eq word (codes "len") then Some Length
+    else None)))))))
+
+-- qualifiers, and what begins a primitive
+abbrev pub qualifier_token : List ℕ → Token
+qualifier_token word =
+    if bytes_eq word (codes "src") then Source
+    else (if bytes_eq word (codes "dst") then Destination
     else (if bytes_eq word (codes "proto") then Proto
     else (if bytes_eq word (codes "host") then Host
     else (if bytes_eq word (codes "net") then Net
@@ -45,13 +56,10 @@ word_token word =
     else (if bytes_eq word (codes "portrange") then PortRange
     else (if bytes_eq word (codes "less") then Less
     else (if bytes_eq word (codes "greater") then Greater
-    else (if bytes_eq word (codes "len") then Length
-    else (if bytes_eq word (codes "src") then Source
-    else (if bytes_eq word (codes "dst") then Destination
-    else (if bytes_eq word (codes "and") then Connects And
-    else (if bytes_eq word (codes "or") then Connects Or
-    else (if bytes_eq word (codes "not") then Not
-    else Stray))))))))))))))))
+    else Stray))))))))
+
+abbrev pub word_token : List ℕ → Token
+word_token word = unwrap_or (name_token word) (qualifier_token word)
 
 -- what a number of any size is kept as: 4294967296 stands for every greater one
 abbrev pub capped : ℕ → ℕ
@@ -69,7 +77,8 @@ is_decimal (c ∷ digits) = nat_lt 48 c && list_all is_ascii_digit (c ∷ digits
 
 -- `0x`, and at least one hexadecimal digit
 abbrev pub is_hexadecimal : List ℕ → Bool
-is_hexadecimal text = bytes_eq (take 2 text) (codes "0x") && nat_lt 2 (length text) && list_all is_ascii_hexdigit (drop 2 text)
+is_hexadecimal (c ∷ d ∷ e ∷ digits) = c == 48 && d == 120 && list_all is_ascii_hexdigit (e ∷ digits)
+is_hexadecimal _ = false
 
 abbrev pub number_token : List ℕ → Token
 number_token text =
@@ -84,17 +93,17 @@ octet_of part = if is_decimal part && nat_le (value_of 10 part) 255 then Some (v
 abbrev pub first_dot : List ℕ → ℕ
 first_dot text = position_or_len is_dot text
 
--- an address with so many parts behind the first, and what the parts before are worth
-abbrev pub address_behind : ℕ → ℕ → List ℕ → Option ℕ
-address_behind zero before text = option_and_then (λ part. Some (before * 256 + part)) (octet_of text)
-address_behind (suc more) before text =
-    if nat_lt (first_dot text) (length text) then
-      option_and_then (λ part. address_behind more (before * 256 + part) (drop (first_dot text + 1) text)) (octet_of (take (first_dot text) text))
-    else None
+-- the part before the first dot, and what stands behind that dot
+abbrev pub first_octet : List ℕ → Option (ℕ × List ℕ)
+first_octet text =
+    if first_dot text == length text then None
+    else option_map (λ octet. (octet, drop (first_dot text + 1) text)) (octet_of (take (first_dot text) text))
 
 -- an address: four parts with a dot between each two
 abbrev pub address_of : List ℕ → Option ℕ
-address_of text = address_behind 3 0 text
+address_of text =
+    option_and_then (λ a. option_and_then (λ b. option_and_then (λ c. option_map (λ d. a.0 * 2 ^ 24 + b.0 * 2 ^ 16 + c.0 * 2 ^ 8 + d)
+        (octet_of c.1)) (first_octet b.1)) (first_octet a.1)) (first_octet text)
 
 abbrev pub number_or_address : List ℕ → Token
 number_or_address text = if list_any is_dot text then Address (unwrap_or (address_of text) TOO_BIG) else number_token text

@@ -3,6 +3,8 @@
 
 mod fault;
 mod item;
+mod number;
+mod sign;
 mod state;
 mod token;
 
