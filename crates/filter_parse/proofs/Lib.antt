@@ -4,3 +4,4 @@ mod CloseLemmas
 mod StandardFacts
 mod PrecedeLemmas
 mod JudgeLemmas
+mod TokenLemmas

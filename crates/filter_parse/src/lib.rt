@@ -4,6 +4,7 @@
 mod fault;
 mod item;
 mod number;
+mod scan;
 mod sign;
 mod state;
 mod token;

@@ -1,0 +1,119 @@
+//! Taking a text apart into its tokens (docs/EXPRESSIONS.md, "Tokens").
+
+ghost use Rattle.std.specs.Prelude.{◌≡◌, ◌≤◌, ◌+◌, ◌∷◌, ◌<◌, IfSome, MatchOption, [], drop, length};
+ghost use Rattle.std.specs.List.{prefix_len};
+ghost use Rattle.filter_parse.specs.Token.{begins_word, is_blank, is_number_part, is_word_part, lexeme, sign_lexeme, tokens_from};
+
+use crate::number::number_or_address;
+use crate::sign::{pair_sign, sign, word_token};
+use crate::token::{Lexeme, Token};
+
+/// A token, the place of its first byte, and the place behind its last.
+#[derive(Clone, Copy, Debug, PartialEq, Eq)]
+pub struct Found {
+    pub token: Token,
+    pub place: usize,
+    pub end: usize,
+}
+
+fn is_blank(c: u8) -> bool
+    ensures { result ≡ is_blank c }
+{
+    c == b' ' || c == b'\t'
+}
+
+fn begins_word(c: u8) -> bool
+    ensures { result ≡ begins_word c }
+{
+    c.is_ascii_alphabetic() || c == b'_'
+}
+
+fn is_word_part(c: u8) -> bool
+    ensures { result ≡ is_word_part c }
+{
+    c.is_ascii_alphanumeric() || c == b'_'
+}
+
+fn is_number_part(c: u8) -> bool
+    ensures { result ≡ is_number_part c }
+{
+    c.is_ascii_alphanumeric() || c == b'.'
+}
+
+fn word_len(text: &[u8]) -> usize
+    ensures len { result ≡ prefix_len is_word_part text.now }
+    ensures within { result ≤ length text.now }
+{
+    text.iter().take_while(|c| is_word_part(**c)).count()
+}
+
+fn number_len(text: &[u8]) -> usize
+    ensures len { result ≡ prefix_len is_number_part text.now }
+    ensures within { result ≤ length text.now }
+{
+    text.iter().take_while(|c| is_number_part(**c)).count()
+}
+
+fn sign_lexeme(c: u8, rest: &[u8]) -> Lexeme
+    ensures exact { result ≡ sign_lexeme c rest.now }
+    ensures some { 1 ≤ result.len }
+    ensures within { result.len ≤ length rest.now + 1 }
+{
+    if let Some(d) = rest.first()
+        && let Some(token) = pair_sign(c, *d)
+    {
+        return Lexeme { token, len: 2 };
+    }
+    Lexeme {
+        token: sign(c),
+        len: 1,
+    }
+}
+
+fn lexeme(text: &[u8], c: u8, rest: &[u8]) -> Lexeme
+    requires { text.now ≡ c ∷ rest.now }
+    ensures exact { result ≡ lexeme c rest.now }
+    ensures some { 1 ≤ result.len }
+    ensures within { result.len ≤ length text.now }
+{
+    if begins_word(c) {
+        let len = word_len(text);
+        Lexeme {
+            token: word_token(&text[..len]),
+            len,
+        }
+    } else if c.is_ascii_digit() {
+        let len = number_len(text);
+        Lexeme {
+            token: number_or_address(&text[..len]),
+            len,
+        }
+    } else {
+        sign_lexeme(c, rest)
+    }
+}
+
+/// Finds the next token of a text, at a place or behind blanks that stand there.
+pub fn next_token(text: &[u8], at: usize) -> Option<Found>
+    requires { at ≤ length text.now }
+    ensures found { MatchOption result
+        (tokens_from 0 at (drop at text.now) ≡ [])
+        (λ found. tokens_from 0 at (drop at text.now)
+            ≡ record { token = found.token; place = found.place } ∷ tokens_from 0 found.end (drop found.end text.now)) }
+    ensures within { IfSome result (λ found. found.end ≤ length text.now) }
+    ensures forward { IfSome result (λ found. at < found.end) }
+{
+    let mut place = at;
+    while let [c, rest @ ..] = &text[place..] {
+        if !is_blank(*c) {
+            let lexeme = lexeme(&text[place..], *c, rest);
+            return Some(Found {
+                token: lexeme.token,
+                place,
+                end: place + lexeme.len,
+            });
+        }
+        place += 1;
+    }
+    None
+}
