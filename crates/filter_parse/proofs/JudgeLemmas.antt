@@ -104,7 +104,7 @@ module _ (text : List ℕ) where
 
   step-says : (front more : List Placed) (next : Placed) (before : List Token) (state : Reading) → tokens_of text ≡ front ++ next ∷ more → Reaches front before state →
       (found : Option Reading) → taken next.token (settled (Some next.token) state) ≡ found →
-      (own : Option ParseFault) → fault_in (control_of state) (open_brackets before) next.token next.place ≡ own →
+      (own : Option ParseFault) → fault_in (control_of (settled (Some next.token) state)) (open_brackets before) next.token next.place ≡ own →
       IsProperIfAny found → PrecedesIfAny found (next.token ∷ before) →
       ((s : Reading) → Reaches (front ++ next ∷ []) (next.token ∷ before) s → Says (pass more (length text) (open_brackets (next.token ∷ before)) s)) →
       Says (passed_on (pass more (length text) (open_brackets (next.token ∷ before))) (judged_by own next.place found))
@@ -130,7 +130,7 @@ module _ (text : List ℕ) where
       ending-says front state (whole ∙ append-nil front) r.1 r.2 r.4 (accepted (settled None state)) refl
   pass-says (next ∷ more) front before state whole r =
       step-says front more next before state whole r (taken next.token (settled (Some next.token) state)) refl
-        (fault_in (control_of state) (open_brackets before) next.token next.place) refl
+        (fault_in (control_of (settled (Some next.token) state)) (open_brackets before) next.token next.place) refl
         (step-proper next.token state r.2) (step-precedes before next.token state r.3)
         (λ s reaches. pass-says more (front ++ next ∷ []) (next.token ∷ before) s (whole ∙ sym (append_assoc front (next ∷ []) more)) reaches)
 

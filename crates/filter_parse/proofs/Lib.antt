@@ -5,3 +5,4 @@ mod StandardFacts
 mod PrecedeLemmas
 mod JudgeLemmas
 mod TokenLemmas
+mod PassLemmas

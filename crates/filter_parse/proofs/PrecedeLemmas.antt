@@ -276,7 +276,7 @@ number-faults limit other network elsewhere n at e f =
 -- a number that fits has the fault that the tokens before it say
 number-fault : (before : List Token) (n at count : ℕ) (control : Control) (frames : List Frame) (items : List Item) (s : Reading) → Precedes control before →
     taken (Number n) (settled (Some (Number n)) (reading control frames items)) ≡ Some s →
-    own_fault before (Number n) at ≡ fault_in control count (Number n) at
+    own_fault before (Number n) at ≡ fault_in (control_of (settled (Some (Number n)) (reading control frames items))) count (Number n) at
 number-fault before n at count Expects frames items s p h = number-faults _ _ _ _ n at p.0 p.1
 number-fault before n at count HasNumber frames items s p h = absurd (let e = reduced-refuses n frames items in cc)
 number-fault before n at count HasTruth frames items s p h = absurd cc
@@ -301,7 +301,7 @@ number-fault before n at count (WantsEnd q size) frames items s p h = absurd cc
 -- the fault that the pass sees is the one that the tokens before say
 pub own_fault-seen : (before : List Token) (token : Token) (at count : ℕ) (state s : Reading) → Precedes (control_of state) before →
     count ≡ open_brackets before → taken token (settled (Some token) state) ≡ Some s →
-    own_fault before token at ≡ fault_in (control_of state) count token at
+    own_fault before token at ≡ fault_in (control_of (settled (Some token) state)) count token at
 own_fault-seen before (Number n) at count (reading control frames items) s p e h = number-fault before n at count control frames items s p h
 own_fault-seen before Open at count (reading control frames items) s p e h = ap (λ c. bracket_fault c at) (sym e)
 own_fault-seen before OpenIndex at count (reading control frames items) s p e h = ap (λ c. bracket_fault c at) (sym e)

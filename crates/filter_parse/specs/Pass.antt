@@ -1,6 +1,7 @@
 -- How far the parser's one pass has come: what has just been read, what is open around it, and the parts of the expression
 -- that are known, in postfix order. The pass looks at one token beyond what it has read.
-use Rattle.std.specs.Prelude.{◌∷◌, ◌++◌, ◌==◌, ◌&&◌, Bool, List, None, Option, Some, [], false, if◌then◌else◌, length, nat_le, option_and_then, true, Result, Ok, Err, ℕ}
+use Rattle.std.specs.Prelude.{◌≡◌, ◌⊎◌, ◌∷◌, ◌++◌, ◌==◌, ◌&&◌, Bool, List, None, Option, Some, [], false, if◌then◌else◌, length, nat_le, option_and_then, true, Result, Ok, Err, ℕ}
+use Rattle.filter_tree.specs.declared.arithmetic.Operator.{Operator}
 use Rattle.filter_tree.specs.declared.arithmetic.Operator.TheVariants.{Divide, Subtract}
 use Rattle.filter_tree.specs.declared.arithmetic.Protocol.{Protocol}
 use Rattle.filter_tree.specs.declared.arithmetic.Protocol.TheVariants.{Ip as IpName, Tcp as TcpName, Udp as UdpName}
@@ -13,9 +14,10 @@ use Rattle.filter_tree.specs.declared.primitive.Transport.{Transport}
 use Rattle.filter_tree.specs.declared.primitive.Transport.TheVariants.{Tcp, Udp, Unnamed}
 use Rattle.filter_tree.specs.Tree.{ArithTree, Tree, accessor, conjunction, disjunction, negation, number, operation, packet_length, primitive, relation}
 use Rattle.filter_parse.specs.declared.fault.ParseFault.{ParseFault}
-use Rattle.filter_parse.specs.declared.fault.ParseFault.TheVariants.{BadAddress, NumberTooBig, Syntax}
+use Rattle.filter_parse.specs.declared.fault.ParseFault.TheVariants.{BadAddress, NumberTooBig, OutOfMemory, Syntax}
 use Rattle.filter_parse.specs.declared.item.Item.{Item}
 use Rattle.filter_parse.specs.declared.item.Item.TheVariants.{Access, Conjoin, Disjoin, Length as PushLength, Negate, Number as PushNumber, Operate, Primitive as PushPrimitive, Relate}
+use Rattle.filter_parse.specs.declared.pass.Pass.{Pass}
 use Rattle.filter_parse.specs.declared.state.Control.{Control}
 use Rattle.filter_parse.specs.declared.state.Control.TheVariants.{Directed, Expects, Named as HasNamed, Number as HasNumber, Truth as HasTruth, WantsAddress, WantsBits, WantsDash, WantsEnd, WantsFirst, WantsLast, WantsLeast, WantsMost, WantsNetwork, WantsPort, WantsProtocol, WantsSize, WantsSlash, Widened}
 use Rattle.filter_parse.specs.declared.state.Frame.{Frame}
@@ -248,7 +250,8 @@ judged_by (Some fault) at (Some state) = Err fault
 judged_by None at (Some state) = Ok state
 
 abbrev pub judged : Token → ℕ → ℕ → Reading → Result Reading ParseFault
-judged token at count state = judged_by (fault_in (control_of state) count token at) at (taken token (settled (Some token) state))
+judged token at count state =
+    judged_by (fault_in (control_of (settled (Some token) state)) count token at) at (taken token (settled (Some token) state))
 
 abbrev pub passed_on : (Reading → Result (List Item) ParseFault) → Result Reading ParseFault → Result (List Item) ParseFault
 passed_on more (Ok state) = more state
@@ -267,3 +270,26 @@ pass (placed ∷ more) end count state =
 -- the pass over a text
 abbrev pub pass_of : List ℕ → Result (List Item) ParseFault
 pass_of text = pass (tokens_of text) (length text) 0 (reading Expects [] [])
+
+-- what a contract sees of a `Pass`
+abbrev pub reading_of : {A : Type 0} → Pass A → Reading
+reading_of p = reading p.control p.frames.items p.items.items
+
+-- the innermost of what is open, and what is open around it
+abbrev pub top_of : List Frame → Option Frame
+top_of [] = None
+top_of (frame ∷ frames) = Some frame
+
+abbrev pub below_top : List Frame → List Frame
+below_top [] = []
+below_top (frame ∷ frames) = frames
+
+-- the operator on top where it binds at least as tightly as a level says
+abbrev pub waiting : ℕ → List Frame → Option Operator
+waiting level (Operand operator ∷ frames) = if nat_le level (level_of operator) then Some operator else None
+waiting level _ = None
+
+-- an outcome of a step is the expected one, or memory was refused
+abbrev pub Meets : {T : Type 0} → Result Reading ParseFault → Result T ParseFault → Reading → Type 0
+Meets expected (Ok done) state = expected ≡ Ok state
+Meets expected (Err fault) state = (fault ≡ OutOfMemory) ⊎ (expected ≡ Err fault)

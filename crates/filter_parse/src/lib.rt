@@ -4,6 +4,7 @@
 mod fault;
 mod item;
 mod number;
+mod pass;
 mod scan;
 mod sign;
 mod state;
@@ -16,3 +17,6 @@ pub use item::Item;
 /// The greatest depth of a tree that is read, and the most brackets that may be open.
 pub const MAX_DEPTH: u32 = 64;
 pub use state::{Control, Frame};
+
+/// The answer of a call that was refused memory.
+pub use std::alloc::AllocError as OutOfMemory;
