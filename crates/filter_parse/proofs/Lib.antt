@@ -5,4 +5,3 @@ mod StandardFacts
 mod PrecedeLemmas
 mod JudgeLemmas
 mod TokenLemmas
-mod PassLemmas

@@ -8,6 +8,7 @@ mod pass;
 mod scan;
 mod sign;
 mod state;
+mod step;
 mod token;
 
 pub use token::{Connective, Token, Lexeme, TOO_BIG};

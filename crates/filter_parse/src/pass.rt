@@ -2,7 +2,8 @@
 
 ghost use Rattle.std.specs.Prelude.{◌≡◌, ◌++◌, ◌∷◌, IfOk, None, OnOk, Some, [], MatchResult};
 ghost use Rattle.filter_parse.specs.Grammar.{level_of, named};
-ghost use Rattle.filter_parse.specs.declared.state.Control.TheVariants.{Number, Truth};
+ghost use Rattle.filter_parse.specs.declared.state.Control.TheVariants.{Named, Number, Truth};
+ghost use Rattle.filter_parse.specs.declared.item.Item.TheVariants.{Primitive as PutPrimitive};
 ghost use Rattle.filter_parse.specs.Pass.{below_top, completed, ends, is_numeric, junction_of, looseness, reading, reading_of, reduced, settled, top_of, waiting};
 
 use crate::OutOfMemory;
@@ -145,4 +146,57 @@ pub fn complete<A: Allocator>(
         items.push(junction_of(word))?;
     }
     Ok(())
+}
+
+impl<A: Allocator> Pass<A> {
+    /// Settles how far what came last reaches, by the token that is next.
+    pub fn settle(&mut self, next: Option<Token>) -> Result<(), OutOfMemory>
+        ensures settled { OnOk result (reading_of self.new ≡ settled next (reading_of self.old)) }
+        ensures open { self.new.open ≡ self.old.open }
+    {
+        match self.control {
+            Control::Number => self.settle_number(next),
+            Control::Named(protocol) => self.settle_name(protocol, next),
+            _ => Ok(()),
+        }
+    }
+
+    fn settle_number(&mut self, next: Option<Token>) -> Result<(), OutOfMemory>
+        requires { self.old.control ≡ Number }
+        ensures settled { OnOk result (reading_of self.new ≡ settled next (reading_of self.old)) }
+        ensures open { self.new.open ≡ self.old.open }
+    {
+        reduce(&mut self.frames, &mut self.items, looseness(next))?;
+        if ends(next)
+            && let Some(Frame::Compared(relator)) = top(&self.frames)
+        {
+            pop(&mut self.frames);
+            self.items.push(Item::Relate(relator))?;
+            complete(&mut self.frames, &mut self.items)?;
+            self.control = Control::Truth;
+        }
+        Ok(())
+    }
+
+    fn settle_name(&mut self, protocol: Protocol, next: Option<Token>) -> Result<(), OutOfMemory>
+        requires { self.old.control ≡ Named protocol }
+        ensures settled { OnOk result (reading_of self.new ≡ settled next (reading_of self.old)) }
+        ensures open { self.new.open ≡ self.old.open }
+    {
+        if ends(next) && !is_numeric(&self.frames) {
+            self.put_primitive(named(protocol))?;
+        }
+        Ok(())
+    }
+
+    pub fn put_primitive(&mut self, primitive: Primitive) -> Result<(), OutOfMemory>
+        ensures put { OnOk result (reading_of self.new
+            ≡ completed self.old.frames.items (self.old.items.items ++ PutPrimitive primitive ∷ [])) }
+        ensures open { self.new.open ≡ self.old.open }
+    {
+        self.items.push(Item::Primitive(primitive))?;
+        complete(&mut self.frames, &mut self.items)?;
+        self.control = Control::Truth;
+        Ok(())
+    }
 }
