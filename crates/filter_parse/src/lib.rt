@@ -5,6 +5,7 @@ mod fault;
 mod item;
 mod number;
 mod pass;
+mod primitive;
 mod scan;
 mod sign;
 mod state;

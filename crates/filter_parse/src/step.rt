@@ -16,7 +16,7 @@ use crate::token::{Connective, Token};
 use filter_tree::{Direction, Operator, Prefix, Primitive, Protocol, Size, Transport};
 use std::alloc::Allocator;
 
-fn number_to_u32(n: u64, at: usize) -> Result<u32, ParseFault>
+pub fn number_to_u32(n: u64, at: usize) -> Result<u32, ParseFault>
     ensures { MatchResult result
         (λ m. (m ≡ n) × (n ≤ 4294967295))
         (λ fault. (fault ≡ NumberTooBig at) × (4294967295 < n)) }
@@ -27,7 +27,7 @@ fn number_to_u32(n: u64, at: usize) -> Result<u32, ParseFault>
     }
 }
 
-fn number_to_u16(n: u64, at: usize) -> Result<u16, ParseFault>
+pub fn number_to_u16(n: u64, at: usize) -> Result<u16, ParseFault>
     ensures { MatchResult result
         (λ m. (m ≡ n) × (n ≤ 65535))
         (λ fault. (fault ≡ NumberTooBig at) × (65535 < n)) }
@@ -38,7 +38,7 @@ fn number_to_u16(n: u64, at: usize) -> Result<u16, ParseFault>
     }
 }
 
-fn number_to_u8(n: u64, at: usize) -> Result<u8, ParseFault>
+pub fn number_to_u8(n: u64, at: usize) -> Result<u8, ParseFault>
     ensures { MatchResult result
         (λ m. (m ≡ n) × (n ≤ 255))
         (λ fault. (fault ≡ NumberTooBig at) × (255 < n)) }
@@ -49,7 +49,7 @@ fn number_to_u8(n: u64, at: usize) -> Result<u8, ParseFault>
     }
 }
 
-fn known_address(a: u64, at: usize) -> Result<u32, ParseFault>
+pub fn known_address(a: u64, at: usize) -> Result<u32, ParseFault>
     ensures { MatchResult result
         (λ m. (m ≡ a) × (a ≤ 4294967295))
         (λ fault. (fault ≡ BadAddress at) × (4294967295 < a)) }
@@ -60,7 +60,7 @@ fn known_address(a: u64, at: usize) -> Result<u32, ParseFault>
     }
 }
 
-fn prefix(address: u32, bits: u32, at: usize) -> Result<Prefix, ParseFault>
+pub fn prefix(address: u32, bits: u32, at: usize) -> Result<Prefix, ParseFault>
     ensures { MatchResult result
         (λ p. (p ≡ record { address = address; bits = bits }) × (prefix_fault (Some address) bits at ≡ None))
         (λ fault. prefix_fault (Some address) bits at ≡ Some fault) }
@@ -95,7 +95,7 @@ impl<A: Allocator> Pass<A> {
         Ok(())
     }
 
-    fn put_operand(&mut self, item: Item) -> Result<(), ParseFault>
+    pub fn put_operand(&mut self, item: Item) -> Result<(), ParseFault>
         ensures put { MatchResult result
             (λ _. reading_of self.new ≡ reading Number self.old.frames.items (self.old.items.items ++ item ∷ []))
             (λ fault. fault ≡ OutOfMemory) }
@@ -106,7 +106,7 @@ impl<A: Allocator> Pass<A> {
         Ok(())
     }
 
-    fn put_simple(&mut self, primitive: Primitive) -> Result<(), ParseFault>
+    pub fn put_simple(&mut self, primitive: Primitive) -> Result<(), ParseFault>
         ensures put { MatchResult result
             (λ _. reading_of self.new ≡ completed self.old.frames.items (self.old.items.items ++ PutPrimitive primitive ∷ []))
             (λ fault. fault ≡ OutOfMemory) }
@@ -116,7 +116,7 @@ impl<A: Allocator> Pass<A> {
         Ok(())
     }
 
-    fn begin(&mut self, token: Token, at: usize) -> Result<(), ParseFault>
+    pub fn begin(&mut self, token: Token, at: usize) -> Result<(), ParseFault>
         ensures met { Meets (judged_by (fault_in Expects self.old.open token at) at
             (begins token self.old.frames.items self.old.items.items)) result (reading_of self.new) }
         ensures count { self.new.open ≡ self.old.open }
@@ -170,7 +170,7 @@ impl<A: Allocator> Pass<A> {
         Ok(())
     }
 
-    fn go_in_direction(
+    pub fn go_in_direction(
         &mut self,
         token: Token,
         transport: Transport,
@@ -189,5 +189,97 @@ impl<A: Allocator> Pass<A> {
             _ => return Err(ParseFault::Syntax { at }),
         };
         Ok(())
+    }
+
+    pub fn after_source(&mut self, transport: Transport, token: Token, at: usize) -> Result<(), ParseFault>
+        ensures met { Meets (judged_by None at
+            (after_source transport token self.old.frames.items self.old.items.items)) result (reading_of self.new) }
+        ensures count { self.new.open ≡ self.old.open }
+    {
+        match token {
+            Token::Connects(Connective::Or) => self.control = Control::Widened(transport, Direction::Either),
+            Token::Connects(Connective::And) => self.control = Control::Widened(transport, Direction::Both),
+            _ => return self.go_in_direction(token, transport, Direction::Source, at),
+        }
+        Ok(())
+    }
+
+    pub fn after_number(&mut self, token: Token, at: usize) -> Result<(), ParseFault>
+        ensures met { Meets (judged_by None at
+            (after_number token self.old.frames.items self.old.items.items)) result (reading_of self.new) }
+        ensures count { self.new.open ≡ self.old.open }
+    {
+        match (token, top(&self.frames)) {
+            (Token::Operates(operator), _) => self.open_frame(Frame::Operand(operator)),
+            (Token::Compares(relator), _) => {
+                if is_numeric(&self.frames) {
+                    return Err(ParseFault::Syntax { at });
+                }
+                self.open_frame(Frame::Compared(relator))
+            }
+            (Token::Close, Some(Frame::Bracket(_))) => {
+                pop(&mut self.frames);
+                self.control = Control::Number;
+                Ok(())
+            }
+            (Token::CloseIndex, Some(Frame::Index(protocol))) => {
+                pop(&mut self.frames);
+                self.put_operand(Item::Access(protocol, Size::One))
+            }
+            (Token::Colon, Some(Frame::Index(protocol))) => {
+                pop(&mut self.frames);
+                self.control = Control::WantsSize(protocol);
+                Ok(())
+            }
+            _ => Err(ParseFault::Syntax { at }),
+        }
+    }
+
+    pub fn after_truth(&mut self, token: Token, at: usize) -> Result<(), ParseFault>
+        ensures met { Meets (judged_by None at
+            (after_truth token self.old.frames.items self.old.items.items)) result (reading_of self.new) }
+        ensures count { self.new.open ≡ self.old.open }
+    {
+        match (token, top(&self.frames)) {
+            (Token::Connects(word), _) => self.open_frame(Frame::Left(word)),
+            (Token::Close, Some(Frame::Bracket(_))) => {
+                pop(&mut self.frames);
+                complete(&mut self.frames, &mut self.items)?;
+                self.control = Control::Truth;
+                Ok(())
+            }
+            _ => Err(ParseFault::Syntax { at }),
+        }
+    }
+
+    fn after_protocol(&mut self, protocol: Protocol, token: Token, at: usize) -> Result<(), ParseFault>
+        ensures met { Meets (judged_by None at
+            (after_protocol protocol token self.old.frames.items self.old.items.items)) result (reading_of self.new) }
+        ensures count { self.new.open ≡ self.old.open }
+    {
+        match (protocol, token) {
+            (Protocol::Ip, Token::Proto) => {
+                self.control = Control::WantsProtocol;
+                Ok(())
+            }
+            (Protocol::Tcp, _) => self.begin_direction(Transport::Tcp, token, at),
+            (Protocol::Udp, _) => self.begin_direction(Transport::Udp, token, at),
+            _ => Err(ParseFault::Syntax { at }),
+        }
+    }
+
+    pub fn after_name(&mut self, protocol: Protocol, token: Token, at: usize) -> Result<(), ParseFault>
+        ensures met { Meets (judged_by (fault_in (Named protocol) self.old.open token at) at
+            (after_name protocol token self.old.frames.items self.old.items.items)) result (reading_of self.new) }
+        ensures count { self.new.open ≡ self.old.open }
+    {
+        match token {
+            Token::OpenIndex => {
+                one_more_bracket(self.open, at)?;
+                self.open_frame(Frame::Index(protocol))
+            }
+            _ if is_numeric(&self.frames) => Err(ParseFault::Syntax { at }),
+            _ => self.after_protocol(protocol, token, at),
+        }
     }
 }
