@@ -6,6 +6,7 @@ mod item;
 mod number;
 mod pass;
 mod primitive;
+mod recognize;
 mod scan;
 mod sign;
 mod state;
