@@ -2,3 +2,4 @@ pub mod Token
 pub mod Grammar
 pub mod Fault
 pub mod Pass
+pub mod Postfix

@@ -1,6 +1,8 @@
 //! Filter expressions read from text (pcap-filter(7); docs/EXPRESSIONS.md).
 #![tactic(auto)]
 
+mod build;
+mod depth;
 mod fault;
 mod item;
 mod number;

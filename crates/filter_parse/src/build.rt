@@ -1,0 +1,76 @@
+//! The tree of an expression in postfix order.
+
+ghost use Rattle.std.specs.Prelude.{◌≡◌, ◌∷◌, IfOk, OnOk, Some, [], map};
+ghost use Rattle.filter_tree.specs.Tree.{Tree};
+ghost use Rattle.filter_tree.specs.View.{arith_tree_of, tree_of};
+ghost use Rattle.filter_parse.specs.Postfix.{IsArithmeticFirst, IsTruthFirst, Takes, arithmetic, built, grown, growth_of, truth};
+
+use crate::OutOfMemory;
+use crate::item::Item;
+use filter_tree::{Arith, Expr};
+use std::alloc::Allocator;
+use std::collections::VecDeque;
+
+/// A tree that waits for the part that takes it.
+#[derive(Drop)]
+pub enum Part<A: Allocator> {
+    Arithmetic(Arith<A>),
+    Truth(Expr<A>),
+}
+
+fn pop_arithmetic<A: Allocator>(parts: &mut VecDeque<Part<A>, A>) -> Arith<A>
+    requires { IsArithmeticFirst (map growth_of parts.old.items) }
+    ensures { map growth_of parts.old.items ≡ arithmetic (arith_tree_of result) ∷ map growth_of parts.new.items }
+{
+    match parts.pop_front() {
+        Some(Part::Arithmetic(a)) => a,
+        _ => unreachable!(),
+    }
+}
+
+fn pop_truth<A: Allocator>(parts: &mut VecDeque<Part<A>, A>) -> Expr<A>
+    requires { IsTruthFirst (map growth_of parts.old.items) }
+    ensures { map growth_of parts.old.items ≡ truth (tree_of result) ∷ map growth_of parts.new.items }
+{
+    match parts.pop_front() {
+        Some(Part::Truth(e)) => e,
+        _ => unreachable!(),
+    }
+}
+
+fn grow<A: Allocator + Clone>(alloc: A, parts: &mut VecDeque<Part<A>, A>, item: Item) -> Result<(), OutOfMemory>
+    requires { Takes item (map growth_of parts.old.items) }
+    ensures { OnOk result (grown item (map growth_of parts.old.items) ≡ Some (map growth_of parts.new.items)) }
+{
+    let part = match item {
+        Item::Number(n) => Part::Arithmetic(Arith::Number(n)),
+        Item::Length => Part::Arithmetic(Arith::Length),
+        Item::Access(protocol, size) => {
+            let index = pop_arithmetic(parts);
+            Part::Arithmetic(Arith::Accessor(protocol, Box::new(alloc, index)?, size))
+        }
+        Item::Operate(operator) => {
+            let right = pop_arithmetic(parts);
+            let left = Box::new(alloc.clone()?, pop_arithmetic(parts))?;
+            Part::Arithmetic(Arith::Operation(left, operator, Box::new(alloc, right)?))
+        }
+        Item::Primitive(primitive) => Part::Truth(Expr::Primitive(primitive)),
+        Item::Relate(relator) => {
+            let right = pop_arithmetic(parts);
+            Part::Truth(Expr::Relation(pop_arithmetic(parts), relator, right))
+        }
+        Item::Negate => Part::Truth(Expr::Not(Box::new(alloc, pop_truth(parts))?)),
+        Item::Conjoin => {
+            let right = pop_truth(parts);
+            let left = Box::new(alloc.clone()?, pop_truth(parts))?;
+            Part::Truth(Expr::And(left, Box::new(alloc, right)?))
+        }
+        Item::Disjoin => {
+            let right = pop_truth(parts);
+            let left = Box::new(alloc.clone()?, pop_truth(parts))?;
+            Part::Truth(Expr::Or(left, Box::new(alloc, right)?))
+        }
+    };
+    parts.push_front(part)?;
+    Ok(())
+}
