@@ -5,3 +5,5 @@ mod StandardFacts
 mod PrecedeLemmas
 mod JudgeLemmas
 mod TokenLemmas
+mod PostfixLemmas
+mod ParseLemmas

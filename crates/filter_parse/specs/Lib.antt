@@ -1,5 +1,6 @@
 pub mod Token
 pub mod Grammar
 pub mod Fault
+pub mod Laws
 pub mod Pass
 pub mod Postfix

@@ -74,3 +74,15 @@ fn grow<A: Allocator + Clone>(alloc: A, parts: &mut VecDeque<Part<A>, A>, item: 
     parts.push_front(part)?;
     Ok(())
 }
+
+/// Builds the tree that some parts are.
+pub fn build<A: Allocator + Clone>(alloc: A, items: &[Item]) -> Result<Expr<A>, OutOfMemory>
+    requires { (tree : Tree) × (built items.now [] ≡ Some (truth tree ∷ [])) }
+    ensures { IfOk result (λ e. built items.now [] ≡ Some (truth (tree_of e) ∷ [])) }
+{
+    let mut parts = VecDeque::new(alloc.clone()?);
+    for item in items {
+        grow(alloc.clone()?, &mut parts, *item)?;
+    }
+    Ok(pop_truth(&mut parts))
+}

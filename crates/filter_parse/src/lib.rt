@@ -1,5 +1,14 @@
-//! Filter expressions read from text (pcap-filter(7); docs/EXPRESSIONS.md).
+//! Filter expressions read from text (pcap-filter(7); docs/EXPRESSIONS.md, "Grammar" and "Faults and their places").
+//!
+//! `parse` goes over the text once, keeps what is open on a stack of its own and gathers the expression's parts in postfix
+//! order. Only a whole expression whose depth is within the limit becomes a tree.
 #![tactic(auto)]
+
+ghost use Rattle.std.specs.Prelude.{◌≡◌, ◌⊎◌, IfErr, IfOk};
+ghost use Rattle.filter_tree.specs.Tree.{Tree};
+ghost use Rattle.filter_tree.specs.View.{tree_of};
+ghost use Rattle.filter_parse.specs.Fault.{HasFault, HasTree};
+ghost use Rattle.filter_parse.specs.Laws.{IsUnambiguous};
 
 mod build;
 mod depth;
@@ -15,13 +24,43 @@ mod state;
 mod step;
 mod token;
 
-pub use token::{Connective, Token, Lexeme, TOO_BIG};
+use build::build;
+use depth::depth_of;
 pub use fault::ParseFault;
+use filter_tree::Expr;
 pub use item::Item;
-
-/// The greatest depth of a tree that is read, and the most brackets that may be open.
-pub const MAX_DEPTH: u32 = 64;
+use recognize::recognize;
 pub use state::{Control, Frame};
+use std::alloc::Allocator;
+pub use token::{Connective, Lexeme, TOO_BIG, Token};
 
 /// The answer of a call that was refused memory.
 pub use std::alloc::AllocError as OutOfMemory;
+
+/// The greatest depth of a tree that is read, and the most brackets that may be open.
+pub const MAX_DEPTH: u32 = 64;
+
+/// Reads a filter expression: the tree that the grammar gives the text, with its parts placed by clones of `alloc`.
+///
+/// `Err` is the fault at the least place, of those at one place first that the token does not fit there; a tree that is too
+/// deep is answered only where nothing else is wrong. The text may be any bytes.
+pub fn parse<A: Allocator + Clone>(alloc: A, text: &[u8]) -> Result<Expr<A>, ParseFault>
+    ensures parses { IfOk result (λ e. HasTree text.now (tree_of e)) }
+    ensures fault { IfErr result (λ fault. (fault ≡ ParseFault.OutOfMemory) ⊎ HasFault text.now fault) }
+    ensures every_tree { (tree : Tree) → HasTree text.now tree → IfErr result (λ fault. fault ≡ ParseFault.OutOfMemory) }
+{
+    let items = match recognize(alloc.clone()?, text) {
+        Ok(items) => items,
+        Err(fault) => return Err(fault),
+    };
+    if depth_of(alloc.clone()?, &items)? > MAX_DEPTH {
+        return Err(ParseFault::TooDeep { at: text.len() });
+    }
+    Ok(build(alloc, &items)?)
+}
+
+/// A text has at most one tree.
+pub fn one_value()
+    ensures one_value { IsUnambiguous }
+{
+}

@@ -1,0 +1,87 @@
+-- A text has a tree or a fault, and never both.
+use Rattle.std.proofs.Common.{◌≡◌, ◌<◌, ◌≤◌, ◌∙◌, ◌∷◌, ◌++◌, Err, List, None, Ok, Option, Result, Some, [], ap, append_assoc, arith, length, map, min, option_map, refl, reverse, subst, sym, ℕ}
+use Rattle.std.proofs.lemmas.List.{append-nil, map-append, reverse-append}
+use Rattle.filter_tree.specs.Measure.{depth_of}
+use Rattle.filter_tree.specs.Tree.{Tree}
+use Rattle.filter_parse.specs.declared.fault.ParseFault.{ParseFault}
+use Rattle.filter_parse.specs.declared.fault.ParseFault.TheVariants.{TooDeep}
+use Rattle.filter_parse.specs.declared.item.Item.{Item}
+use Rattle.filter_parse.specs.declared.token.Token.{Token}
+use Rattle.filter_parse.specs.Fault.{HasFault, HasTree, IsFaultless, deep, faulty, own_fault, unexpected, unfinished}
+use Rattle.filter_parse.specs.Grammar.{IsViable, Spells}
+use Rattle.filter_parse.specs.Laws.{IsUnambiguous}
+use Rattle.filter_parse.specs.Pass.{pass_of, with_tree}
+use Rattle.filter_parse.specs.Postfix.{Growth, built, depths_of, first_depth, truth}
+use Rattle.filter_parse.specs.Token.{Placed, kinds, tokens_of}
+use Rattle.filter_parse.proofs.RunLemmas.{run-spelt}
+use Rattle.filter_parse.proofs.SpeltLemmas.{IsSpelt, spelt-run}
+use Rattle.filter_parse.proofs.JudgeLemmas.{Says, pass_of-says}
+use Rattle.filter_parse.proofs.PostfixLemmas.{built-tree, depths-tree, same-tree}
+
+pub unambiguous : IsUnambiguous
+unambiguous tokens one other d e =
+    let parts : Some (with_tree one []) ≡ Some (with_tree other []) = sym (run-spelt d) ∙ run-spelt e in
+    let same : with_tree one [] ≡ with_tree other [] = cc in
+    same-tree one other same
+
+pub fault-says : (text : List ℕ) (fault : ParseFault) → pass_of text ≡ Err fault → HasFault text fault
+fault-says text fault h = subst (Says text) h (pass_of-says text)
+
+-- no token of a faultless list is at fault
+faultless-at : (start : List Token) (front more : List Placed) (next : Placed) → IsFaultless start (front ++ next ∷ more) →
+    own_fault (reverse (kinds front) ++ start) next.token next.place ≡ None
+faultless-at start [] more next f = f.0
+faultless-at start (first ∷ front) more next f =
+    subst (λ b. own_fault b next.token next.place ≡ None)
+        (sym (ap (λ b. b ++ start) (reverse-append (first.token ∷ []) (kinds front)) ∙ append_assoc (reverse (kinds front)) (first.token ∷ []) start))
+        (faultless-at (first.token ∷ start) front more next f.1)
+
+kinds-split : (front more : List Placed) (next : Placed) → kinds (front ++ next ∷ more) ≡ (kinds front ++ next.token ∷ []) ++ kinds more
+kinds-split front more next =
+    map-append (λ (x : Placed). x.token) front (next ∷ more) ∙ sym (append_assoc (kinds front) (next.token ∷ []) (kinds more))
+
+pub tree-or-fault : (text : List ℕ) (tree : Tree) (fault : ParseFault) → HasTree text tree → HasFault text fault → ⊥
+tree-or-fault text tree fault t (unexpected front more next whole f v bad) =
+    bad (kinds more, tree, subst (λ ts. Spells ts tree) (ap kinds whole ∙ kinds-split front more next) t.spelt)
+tree-or-fault text tree fault t (faulty front more next whole f v own) =
+    let none = faultless-at [] front more next (subst (IsFaultless []) whole t.faultless) in
+    let same = ap (λ b. own_fault b next.token next.place) (append-nil (reverse (kinds front))) in
+    cc
+tree-or-fault text tree fault t (unfinished f v bad) = bad tree t.spelt
+tree-or-fault text tree fault t (deep {tree = other} f d below) =
+    let same = ap depth_of (unambiguous (kinds (tokens_of text)) tree other t.spelt d) in
+    omega (arith, t.shallow)
+
+-- the parts that the pass gathers are those of the text's tree
+parts-say : (text : List ℕ) (items : List Item) → pass_of text ≡ Ok items → IsFaultless [] (tokens_of text) × IsSpelt (kinds (tokens_of text)) items
+parts-say text items h =
+    let s = subst (Says text) h (pass_of-says text) in
+    (s.0, spelt-run (kinds (tokens_of text)) items s.1)
+
+pub parts-build : (text : List ℕ) (items : List Item) → pass_of text ≡ Ok items → (tree : Tree) × (built items [] ≡ Some (truth tree ∷ []))
+parts-build text items h =
+    let s = parts-say text items h in
+    (s.1.0, ap (λ is. built is []) s.1.2 ∙ built-tree s.1.0 [] [])
+
+parts-depth : (tree : Tree) (items : List Item) → items ≡ with_tree tree [] → first_depth (depths_of items []) ≡ min (depth_of tree) 65
+parts-depth tree items h = ap (λ is. first_depth (depths_of is [])) h ∙ ap first_depth (depths-tree tree [] [])
+
+pub deep-says : (text : List ℕ) (items : List Item) (depth : ℕ) → pass_of text ≡ Ok items → depth ≡ first_depth (depths_of items []) → 64 < depth →
+    HasFault text (TooDeep (length text))
+deep-says text items depth h measured below =
+    let s = parts-say text items h in
+    let same = parts-depth s.1.0 items s.1.2 in
+    deep s.0 s.1.1 (omega arith)
+
+pub tree-says : (text : List ℕ) (items : List Item) (depth : ℕ) (tree : Tree) → pass_of text ≡ Ok items → depth ≡ first_depth (depths_of items []) → depth ≤ 64 →
+    built items [] ≡ Some (truth tree ∷ []) → HasTree text tree
+tree-says text items depth tree h measured above b =
+    let s = parts-say text items h in
+    let same = parts-depth s.1.0 items s.1.2 in
+    let found : built items [] ≡ Some (truth s.1.0 ∷ []) = ap (λ is. built is []) s.1.2 ∙ built-tree s.1.0 [] [] in
+    let one : s.1.0 ≡ tree = cc in
+    record {
+      spelt = subst (λ t. Spells (kinds (tokens_of text)) t) one s.1.1;
+      faultless = s.0;
+      shallow = subst (λ t. depth_of t ≤ 64) one (omega arith);
+    }
