@@ -104,7 +104,7 @@ close-truth : (frames : List Frame) (items : List Item) → IsForTruth frames �
 close-truth [] items p = ([], (items, refl), refl)
 close-truth (Left word ∷ frames) items (base, p) =
     let c : (more : List Token) × IsClosedBy (completed frames (items ++ junction_of word ∷ [])) more × (ends (next_of more) ≡ true) =
-            close-truth frames (items ++ junction_of word ∷ []) p in
+    close-truth frames (items ++ junction_of word ∷ []) p in
     (c.0, (c.1.0, ap (run c.0) (sym (completed-base frames (items ++ junction_of word ∷ []) base)) ∙ c.1.1), c.2)
 close-truth (Negated ∷ frames) items p = close-truth frames (items ++ Negate ∷ []) p
 close-truth (Bracket true ∷ frames) items p = absurd p
@@ -119,8 +119,8 @@ compared-run : (more : List Token) (relator : Relation) (frames : List Frame) (i
     run more (reading HasNumber (Compared relator ∷ frames) items) ≡ run more (completed frames (items ++ Relate relator ∷ []))
 compared-run more relator frames items end =
     run-settled more (reading HasNumber (Compared relator ∷ frames) items) (completed frames (items ++ Relate relator ∷ []))
-        (ap (λ t. compared t (reading HasNumber (Compared relator ∷ frames) items)) end
-        ∙ sym (settled-completed (next_of more) frames (items ++ Relate relator ∷ [])))
+    (ap (λ t. compared t (reading HasNumber (Compared relator ∷ frames) items)) end
+    ∙ sym (settled-completed (next_of more) frames (items ++ Relate relator ∷ [])))
 
 ends-loose : (next : Option Token) → ends next ≡ true → looseness next ≤ 0
 ends-loose None h = omega arith
@@ -133,13 +133,16 @@ close-equation : (frames : List Frame) (items : List Item) → is_numeric frames
 close-equation frames items h p same =
     let after : List Item = items ++ PushNumber 1 ∷ [] in
     let c : (more : List Token) × IsClosedBy (completed frames (after ++ Relate Equal ∷ [])) more × (ends (next_of more) ≡ true) =
-            close-truth frames (after ++ Relate Equal ∷ []) p in
-    (Compares Equal ∷ Number 1 ∷ c.0,
-      (c.1.0,
+    close-truth frames (after ++ Relate Equal ∷ []) p in (
+      Compares Equal ∷ Number 1 ∷ c.0,
+      (
+        c.1.0,
         ap (λ (s : Reading). option_and_then (run (Number 1 ∷ c.0)) (taken (Compares Equal) (compared false s))) (same items)
-        ∙ ap (λ t. option_and_then (run (Number 1 ∷ c.0)) (cond t None (Some (reading Expects (Compared Equal ∷ frames) items)))) h
-        ∙ compared-run c.0 Equal frames after c.2 ∙ c.1.1),
-      omega arith)
+            ∙ ap (λ t. option_and_then (run (Number 1 ∷ c.0)) (cond t None (Some (reading Expects (Compared Equal ∷ frames) items)))) h
+            ∙ compared-run c.0 Equal frames after c.2 ∙ c.1.1,
+      ),
+      omega arith,
+    )
 
 close-number : (frames : List Frame) (items : List Item) → IsForNumber frames →
     (more : List Token) × IsClosedBy (reading HasNumber frames items) more × (looseness (next_of more) ≤ 0)
@@ -151,23 +154,26 @@ close-number (Bracket true ∷ frames) items p =
     (Close ∷ c.0, c.1, omega arith)
 close-number (Bracket false ∷ frames) items p =
     let c : (more : List Token) × IsClosedBy (reading HasNumber frames items) more × (looseness (next_of more) ≤ 0) =
-            close-number frames items (number-of_truth frames p) in
+    close-number frames items (number-of_truth frames p) in
     (Close ∷ c.0, c.1, omega arith)
 close-number (Compared relator ∷ frames) items p =
     let c : (more : List Token) × IsClosedBy (completed frames (items ++ Relate relator ∷ [])) more × (ends (next_of more) ≡ true) =
-            close-truth frames (items ++ Relate relator ∷ []) p in
+    close-truth frames (items ++ Relate relator ∷ []) p in
     (c.0, (c.1.0, compared-run c.0 relator frames items c.2 ∙ c.1.1), ends-loose (next_of c.0) c.2)
 close-number (Operand operator ∷ frames) items p =
     let c : (more : List Token) × IsClosedBy (reading HasNumber frames (items ++ Operate operator ∷ [])) more × (looseness (next_of more) ≤ 0) =
-            close-number frames (items ++ Operate operator ∷ []) p in
-    (c.0,
-      (c.1.0,
+    close-number frames (items ++ Operate operator ∷ []) p in (
+      c.0,
+      (
+        c.1.0,
         run-settled c.0 (reading HasNumber (Operand operator ∷ frames) items) _ (reduced-operand (next_of c.0) operator frames items (omega (arith, c.2)))
-        ∙ c.1.1),
-      c.2)
+            ∙ c.1.1,
+      ),
+      c.2,
+    )
 close-number (Index q ∷ frames) items p =
     let c : (more : List Token) × IsClosedBy (reading HasNumber frames (items ++ Access q One ∷ [])) more × (looseness (next_of more) ≤ 0) =
-            close-number frames (items ++ Access q One ∷ []) p in
+    close-number frames (items ++ Access q One ∷ []) p in
     (CloseIndex ∷ c.0, c.1, omega arith)
 
 -- what a primitive closes with: a port
@@ -207,17 +213,17 @@ close (reading (WantsAddress direction) frames items) p =
     close-primitive frames (items ++ PushPrimitive (IsHost direction 0) ∷ []) p _ (Address 0 ∷ []) (λ rest. refl)
 close (reading (WantsNetwork direction) frames items) p =
     close-primitive frames (items ++ PushPrimitive (IsNet direction (record { address = 0; bits = 0 })) ∷ []) p _
-        (Address 0 ∷ Operates Divide ∷ Number 0 ∷ []) (λ rest. refl)
+    (Address 0 ∷ Operates Divide ∷ Number 0 ∷ []) (λ rest. refl)
 close (reading (WantsSlash direction a) frames items) p =
     close-primitive frames (items ++ PushPrimitive (IsNet direction (record { address = a; bits = 0 })) ∷ []) p _
-        (Operates Divide ∷ Number 0 ∷ []) (λ rest. refl)
+    (Operates Divide ∷ Number 0 ∷ []) (λ rest. refl)
 close (reading (WantsBits direction a) frames items) p =
     close-primitive frames (items ++ PushPrimitive (IsNet direction (record { address = a; bits = 0 })) ∷ []) p _ (Number 0 ∷ []) (λ rest. refl)
 close (reading (WantsPort transport direction) frames items) p =
     close-primitive frames (items ++ PushPrimitive (IsPort transport direction 0) ∷ []) p _ (Number 0 ∷ []) (λ rest. refl)
 close (reading (WantsFirst transport direction) frames items) p =
     close-primitive frames (items ++ PushPrimitive (IsPortRange transport direction 0 0) ∷ []) p _
-        (Number 0 ∷ Operates Subtract ∷ Number 0 ∷ []) (λ rest. refl)
+    (Number 0 ∷ Operates Subtract ∷ Number 0 ∷ []) (λ rest. refl)
 close (reading (WantsDash transport direction n) frames items) p =
     close-primitive frames (items ++ PushPrimitive (IsPortRange transport direction n 0) ∷ []) p _ (Operates Subtract ∷ Number 0 ∷ []) (λ rest. refl)
 close (reading (WantsLast transport direction n) frames items) p =
@@ -252,8 +258,8 @@ reduced-proper level (Compared relator ∷ frames) items p = p
 reduced-proper level (Index q ∷ frames) items p = p
 reduced-proper level (Operand operator ∷ frames) items p =
     elim (nat_le level (level_of operator))
-      as (λ t. IsProper (cond t (reduced level frames (items ++ Operate operator ∷ [])) (reading HasNumber (Operand operator ∷ frames) items)))
-      [ true ↦ reduced-proper level frames (items ++ Operate operator ∷ []) p | false ↦ p ]
+    as (λ t. IsProper (cond t (reduced level frames (items ++ Operate operator ∷ [])) (reading HasNumber (Operand operator ∷ frames) items)))
+    [ true ↦ reduced-proper level frames (items ++ Operate operator ∷ []) p | false ↦ p ]
 
 compared-proper : (end : Bool) (state : Reading) → IsProper state → IsProper (compared end state)
 compared-proper true (reading HasNumber (Compared relator ∷ frames) items) p = completed-proper frames (items ++ Relate relator ∷ []) p

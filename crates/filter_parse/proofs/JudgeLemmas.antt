@@ -66,10 +66,12 @@ unviable-after front h (more, tree, d) =
 IsFaultless-push : (start : List Token) (front : List Placed) (next : Placed) → IsFaultless start front →
     own_fault (reverse (kinds front) ++ start) next.token next.place ≡ None → IsFaultless start (front ++ next ∷ [])
 IsFaultless-push start [] next f h = (h, tt)
-IsFaultless-push start (first ∷ front) next f h =
-    (f.0, IsFaultless-push (first.token ∷ start) front next f.1
-        (subst (λ b. own_fault b next.token next.place ≡ None)
-            (ap (λ b. b ++ start) (reverse-append (first.token ∷ []) (kinds front)) ∙ append_assoc (reverse (kinds front)) (first.token ∷ []) start) h))
+IsFaultless-push start (first ∷ front) next f h = (
+  f.0,
+  IsFaultless-push (first.token ∷ start) front next f.1
+      (subst (λ b. own_fault b next.token next.place ≡ None)
+      (ap (λ b. b ++ start) (reverse-append (first.token ∷ []) (kinds front)) ∙ append_assoc (reverse (kinds front)) (first.token ∷ []) start) h),
+)
 
 module _ (text : List ℕ) where
   -- what an outcome of the pass says of the text
@@ -79,17 +81,18 @@ module _ (text : List ℕ) where
 
   ending-says : (front : List Placed) (state : Reading) → tokens_of text ≡ front → after (kinds front) beginning ≡ Some state → IsProper state →
       IsFaultless [] front → (found : Option (List Item)) → accepted (settled None state) ≡ found → Says (at_end (length text) found)
-  ending-says front state whole h p f (Some items) e =
-      (subst (IsFaultless []) (sym whole) f,
-        ap (λ ts. run (kinds ts) beginning) whole ∙ ap (λ ts. run ts beginning) (sym (append-nil (kinds front)))
-        ∙ run-append (kinds front) [] beginning ∙ ap (option_and_then (run [])) h ∙ e)
+  ending-says front state whole h p f (Some items) e = (
+    subst (IsFaultless []) (sym whole) f,
+    ap (λ ts. run (kinds ts) beginning) whole ∙ ap (λ ts. run ts beginning) (sym (append-nil (kinds front)))
+        ∙ run-append (kinds front) [] beginning ∙ ap (option_and_then (run [])) h ∙ e,
+  )
   ending-says front state whole h p f None e =
       unfinished (subst (IsFaultless []) (sym whole) f) (subst (λ ts. IsViable (kinds ts)) (sym whole) (viable-after (kinds front) state h p))
-        (λ tree d.
-          let c : run (kinds front ++ []) beginning ≡ None = run-append (kinds front) [] beginning ∙ ap (option_and_then (run [])) h ∙ e in
-          let g : run (kinds front ++ []) beginning ≡ Some (with_tree tree []) =
-                ap (λ ts. run ts beginning) (append-nil (kinds front)) ∙ run-spelt (subst (λ ts. Spells (kinds ts) tree) whole d) in
-          cc)
+      (λ tree d.
+      let c : run (kinds front ++ []) beginning ≡ None = run-append (kinds front) [] beginning ∙ ap (option_and_then (run [])) h ∙ e in
+      let g : run (kinds front ++ []) beginning ≡ Some (with_tree tree []) =
+      ap (λ ts. run ts beginning) (append-nil (kinds front)) ∙ run-spelt (subst (λ ts. Spells (kinds ts) tree) whole d) in
+      cc)
 
   after-next : (front : List Placed) (next : Placed) (state : Reading) (found : Option Reading) → after (kinds front) beginning ≡ Some state →
       taken next.token (settled (Some next.token) state) ≡ found → after (kinds front ++ next.token ∷ []) beginning ≡ found
@@ -110,19 +113,21 @@ module _ (text : List ℕ) where
       Says (passed_on (pass more (length text) (open_brackets (next.token ∷ before))) (judged_by own next.place found))
   step-says front more next before state whole r None e own o p q go =
       unexpected front more next whole r.4 (viable-after (kinds front) state r.1 r.2)
-        (unviable-after (kinds front ++ next.token ∷ []) (after-next front next state None r.1 e))
+      (unviable-after (kinds front ++ next.token ∷ []) (after-next front next state None r.1 e))
   step-says front more next before state whole r (Some s) e (Some fault) o p q go =
       faulty front more next whole r.4 (viable-after (kinds front ++ next.token ∷ []) s (after-next front next state (Some s) r.1 e) p)
-        (ap (λ b. own_fault b next.token next.place) (sym r.0)
-        ∙ own_fault-seen before next.token next.place (open_brackets before) state s r.3 refl e ∙ o)
+      (ap (λ b. own_fault b next.token next.place) (sym r.0)
+      ∙ own_fault-seen before next.token next.place (open_brackets before) state s r.3 refl e ∙ o)
   step-says front more next before state whole r (Some s) e None o p q go =
-      go s
-        (ap (λ b. next.token ∷ b) r.0 ∙ sym (ap reverse (map-append (λ (x : Placed). x.token) front (next ∷ [])) ∙ reverse-append (kinds front) (next.token ∷ [])),
-          ap (λ ts. after ts beginning) (map-append (λ (x : Placed). x.token) front (next ∷ [])) ∙ after-next front next state (Some s) r.1 e,
-          p, q,
-          IsFaultless-push [] front next r.4
+      go s (
+        ap (λ b. next.token ∷ b) r.0 ∙ sym (ap reverse (map-append (λ (x : Placed). x.token) front (next ∷ [])) ∙ reverse-append (kinds front) (next.token ∷ [])),
+        ap (λ ts. after ts beginning) (map-append (λ (x : Placed). x.token) front (next ∷ [])) ∙ after-next front next state (Some s) r.1 e,
+        p,
+        q,
+        IsFaultless-push [] front next r.4
             (ap (λ b. own_fault b next.token next.place) (append-nil (reverse (kinds front)) ∙ sym r.0)
-            ∙ own_fault-seen before next.token next.place (open_brackets before) state s r.3 refl e ∙ o))
+            ∙ own_fault-seen before next.token next.place (open_brackets before) state s r.3 refl e ∙ o),
+      )
 
   pass-says : (more front : List Placed) (before : List Token) (state : Reading) → tokens_of text ≡ front ++ more → Reaches front before state →
       Says (pass more (length text) (open_brackets before) state)
@@ -130,9 +135,9 @@ module _ (text : List ℕ) where
       ending-says front state (whole ∙ append-nil front) r.1 r.2 r.4 (accepted (settled None state)) refl
   pass-says (next ∷ more) front before state whole r =
       step-says front more next before state whole r (taken next.token (settled (Some next.token) state)) refl
-        (fault_in (control_of (settled (Some next.token) state)) (open_brackets before) next.token next.place) refl
-        (step-proper next.token state r.2) (step-precedes before next.token state r.3)
-        (λ s reaches. pass-says more (front ++ next ∷ []) (next.token ∷ before) s (whole ∙ sym (append_assoc front (next ∷ []) more)) reaches)
+      (fault_in (control_of (settled (Some next.token) state)) (open_brackets before) next.token next.place) refl
+      (step-proper next.token state r.2) (step-precedes before next.token state r.3)
+      (λ s reaches. pass-says more (front ++ next ∷ []) (next.token ∷ before) s (whole ∙ sym (append_assoc front (next ∷ []) more)) reaches)
 
   pub pass_of-says : Says (pass (tokens_of text) (length text) 0 beginning)
   pass_of-says = pass-says (tokens_of text) [] [] beginning refl (refl, refl, tt, (refl, refl), tt)

@@ -33,8 +33,8 @@ faultless-at : (start : List Token) (front more : List Placed) (next : Placed) �
 faultless-at start [] more next f = f.0
 faultless-at start (first ∷ front) more next f =
     subst (λ b. own_fault b next.token next.place ≡ None)
-        (sym (ap (λ b. b ++ start) (reverse-append (first.token ∷ []) (kinds front)) ∙ append_assoc (reverse (kinds front)) (first.token ∷ []) start))
-        (faultless-at (first.token ∷ start) front more next f.1)
+    (sym (ap (λ b. b ++ start) (reverse-append (first.token ∷ []) (kinds front)) ∙ append_assoc (reverse (kinds front)) (first.token ∷ []) start))
+    (faultless-at (first.token ∷ start) front more next f.1)
 
 kinds-split : (front more : List Placed) (next : Placed) → kinds (front ++ next ∷ more) ≡ (kinds front ++ next.token ∷ []) ++ kinds more
 kinds-split front more next =

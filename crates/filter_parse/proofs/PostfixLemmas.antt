@@ -113,7 +113,7 @@ built-tree (disjunction a b) items trees =
 pub same-tree : (one other : Tree) → with_tree one [] ≡ with_tree other [] → one ≡ other
 same-tree one other h =
     let e : Some (truth one ∷ []) ≡ Some (truth other ∷ []) =
-          sym (built-tree one [] []) ∙ ap (λ items. built items []) h ∙ built-tree other [] [] in
+    sym (built-tree one [] []) ∙ ap (λ items. built items []) h ∙ built-tree other [] [] in
     cc
 
 depths-push : (items : List Item) (item : Item) (depths : List ℕ) → depths_of (items ++ item ∷ []) depths ≡ deepened item (depths_of items depths)
@@ -160,4 +160,4 @@ pub takes-at : (items : List Item) (i : ℕ) (item : Item) (trees whole : List G
     built (drop i items) trees ≡ Some whole → Takes item trees
 takes-at items i item trees whole inside is h =
     subst (λ m. Takes m trees) (sym is)
-        (takes-next (get_or items i item) (drop (suc i) items) trees whole (ap (λ ts. built ts trees) (sym (drop-cons items i item inside)) ∙ h))
+    (takes-next (get_or items i item) (drop (suc i) items) trees whole (ap (λ ts. built ts trees) (sym (drop-cons items i item inside)) ∙ h))

@@ -124,8 +124,8 @@ reduced-precedes before level (Compared relator ∷ frames) items p = p
 reduced-precedes before level (Index q ∷ frames) items p = p
 reduced-precedes before level (Operand operator ∷ frames) items p =
     elim (nat_le level (level_of operator))
-      as (λ t. Precedes (control_of (cond t (reduced level frames (items ++ Operate operator ∷ [])) (reading HasNumber (Operand operator ∷ frames) items))) before)
-      [ true ↦ reduced-precedes before level frames (items ++ Operate operator ∷ []) p | false ↦ p ]
+    as (λ t. Precedes (control_of (cond t (reduced level frames (items ++ Operate operator ∷ [])) (reading HasNumber (Operand operator ∷ frames) items))) before)
+    [ true ↦ reduced-precedes before level frames (items ++ Operate operator ∷ []) p | false ↦ p ]
 
 compared-precedes : (before : List Token) (end : Bool) (state : Reading) → Precedes (control_of state) before → Precedes (control_of (compared end state)) before
 compared-precedes before true (reading HasNumber (Compared relator ∷ frames) items) p = completed-precedes before frames (items ++ Relate relator ∷ [])
@@ -256,8 +256,8 @@ reduced-refuses n (Compared relator ∷ frames) items = refl
 reduced-refuses n (Index q ∷ frames) items = refl
 reduced-refuses n (Operand operator ∷ frames) items =
     elim (nat_le 0 (level_of operator))
-      as (λ t. taken (Number n) (cond t (reduced 0 frames (items ++ Operate operator ∷ [])) (reading HasNumber (Operand operator ∷ frames) items)) ≡ None)
-      [ true ↦ reduced-refuses n frames (items ++ Operate operator ∷ []) | false ↦ refl ]
+    as (λ t. taken (Number n) (cond t (reduced 0 frames (items ++ Operate operator ∷ [])) (reading HasNumber (Operand operator ∷ frames) items)) ≡ None)
+    [ true ↦ reduced-refuses n frames (items ++ Operate operator ∷ []) | false ↦ refl ]
 
 name-refuses : (q : Protocol) (test : Bool) (n : ℕ) (frames : List Frame) (items : List Item) →
     cond test None (after_protocol q (Number n) frames items) ≡ None

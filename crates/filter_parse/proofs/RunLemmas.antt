@@ -66,7 +66,7 @@ pub reduced-operand : (next : Option Token) (operator : Operator) (frames : List
     settled next (reading HasNumber (Operand operator ∷ frames) items) ≡ settled next (reading HasNumber frames (items ++ Operate operator ∷ []))
 reduced-operand next operator frames items loose =
     ap (λ t. compared (ends next) (cond t (reduced (looseness next) frames (items ++ Operate operator ∷ [])) (reading HasNumber (Operand operator ∷ frames) items)))
-        (le-leb (looseness next) (level_of operator) loose)
+    (le-leb (looseness next) (level_of operator) loose)
 
 mutual
   pub arith-run : {level : ℕ} {from rest : List Token} {a : ArithTree} → SpellsArith level from rest a →
@@ -78,7 +78,7 @@ mutual
       ∙ ap (λ (s : Reading). option_and_then (run mid) (taken (Operates operator) (compared false s))) (below (level_of operator) (with_arith a items) tight)
       ∙ arith-run e (Operand operator ∷ frames) (with_arith a items) (IsBelow-operand operator frames) (omega arith)
       ∙ run-settled rest (reading HasNumber (Operand operator ∷ frames) (with_arith b (with_arith a items))) _
-          (reduced-operand (next_of rest) operator frames (with_arith b (with_arith a items)) (omega arith))
+      (reduced-operand (next_of rest) operator frames (with_arith b (with_arith a items)) (omega arith))
 
   pub operand-run : {from rest : List Token} {a : ArithTree} → SpellsOperand from rest a →
       (frames : List Frame) (items : List Item) →
@@ -193,9 +193,9 @@ pub primitive-run : {from rest : List Token} {p : Primitive} → SpellsPrimitive
     run from (reading Expects frames items) ≡ run rest (completed frames (items ++ PushPrimitive p ∷ []))
 primitive-run (protocol {rest = rest} {p = p}) frames items h end =
     run-settled rest (reading (HasNamed p) frames items) _
-        (ap (λ t. declared_name (t && negation_of (is_numeric frames)) p frames items) end
-        ∙ ap (λ t. declared_name (negation_of t) p frames items) h
-        ∙ sym (settled-completed (next_of rest) frames (items ++ PushPrimitive (named p) ∷ [])))
+    (ap (λ t. declared_name (t && negation_of (is_numeric frames)) p frames items) end
+    ∙ ap (λ t. declared_name (negation_of t) p frames items) h
+    ∙ sym (settled-completed (next_of rest) frames (items ++ PushPrimitive (named p) ∷ [])))
 primitive-run (proto {rest = rest} {n = n}) frames items h end =
     ap (λ t. option_and_then (run (Number n ∷ rest)) (cond t None (Some (reading WantsProtocol frames items)))) h
 primitive-run (host d) frames items h end = prefix-run unnamed Host _ d host_word frames items h
@@ -226,12 +226,12 @@ mutual
   unary-run (related {mid = mid} {rest = rest} {a = a} {b = b} relator d f) frames items h end =
       arith-run d frames items (IsBelow-truth frames h) (omega arith)
       ∙ ap (λ (s : Reading). option_and_then (run mid) (taken (Compares relator) (compared false s)))
-          (IsBelow-truth frames h 0 (with_arith a items) (omega arith))
+      (IsBelow-truth frames h 0 (with_arith a items) (omega arith))
       ∙ ap (λ t. option_and_then (run mid) (cond t None (Some (reading Expects (Compared relator ∷ frames) (with_arith a items))))) h
       ∙ arith-run f (Compared relator ∷ frames) (with_arith a items) (λ l is above. refl) (ends-loose (next_of rest) end)
       ∙ run-settled rest (reading HasNumber (Compared relator ∷ frames) (with_arith b (with_arith a items))) _
-          (ap (λ t. compared t (reading HasNumber (Compared relator ∷ frames) (with_arith b (with_arith a items)))) end
-          ∙ sym (settled-completed (next_of rest) frames (with_arith b (with_arith a items) ++ Relate relator ∷ [])))
+      (ap (λ t. compared t (reading HasNumber (Compared relator ∷ frames) (with_arith b (with_arith a items)))) end
+      ∙ sym (settled-completed (next_of rest) frames (with_arith b (with_arith a items) ++ Relate relator ∷ [])))
 
   pub expr-run : {from rest : List Token} {e : Tree} → SpellsExpr from rest e → (frames : List Frame) (items : List Item) →
       is_numeric frames ≡ false → ((is : List Item) → completed frames is ≡ reading HasTruth frames is) → ends (next_of rest) ≡ true →

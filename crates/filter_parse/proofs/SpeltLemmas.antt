@@ -134,9 +134,14 @@ module _ (whole rest : List Token) (P : Reading → Type 0)
       SpellsUnary from rest e → items ≡ with_tree e before → Waits whole frames from before → P (completed frames items)
   completed-holds [] items from e before d is w = holds [] items (from, e, before, unary d, is, w)
   completed-holds (Left word ∷ frames) items from e before d is (start, a, earlier, left, was, w) =
-      holds frames (items ++ junction_of word ∷ [])
-          (start, joined word a e, earlier, junction word left d,
-              ap (λ i. i ++ junction_of word ∷ []) (is ∙ ap (with_tree e) was) ∙ with_tree-joined word a e earlier, w)
+      holds frames (items ++ junction_of word ∷ []) (
+        start,
+        joined word a e,
+        earlier,
+        junction word left d,
+        ap (λ i. i ++ junction_of word ∷ []) (is ∙ ap (with_tree e) was) ∙ with_tree-joined word a e earlier,
+        w,
+      )
   completed-holds (Negated ∷ frames) items from e before d is w =
       completed-holds frames (items ++ Negate ∷ []) (Not ∷ from) (negation e) before (negated d) (ap (λ i. i ++ Negate ∷ []) is) w
   completed-holds (Bracket numeric ∷ frames) items from e before d is w = holds (Bracket numeric ∷ frames) items (from, e, before, unary d, is, w)
@@ -161,12 +166,17 @@ reduced-holds whole rest level bound (Compared relator ∷ frames) items low (fr
 reduced-holds whole rest level bound (Index p ∷ frames) items low (from, a, before, d, is, w) top = ((from, a, before, arith-looser d level low, is, w), tt)
 reduced-holds whole rest level bound (Operand operator ∷ frames) items low (from, a, before, d, is, (start, b, earlier, left, was, w, below)) top =
     elim (nat_le level (level_of operator))
-      as (λ t. nat_le level (level_of operator) ≡ t → Settles level whole (cond t (reduced level frames (items ++ Operate operator ∷ [])) (reading HasNumber (Operand operator ∷ frames) items)) rest)
-      [ true ↦ λ h. reduced-holds whole rest level (level_of operator) frames (items ++ Operate operator ∷ []) (leb-true level (level_of operator) h)
-          (start, operation b operator a, earlier,
-            combined operator (omega arith) left (arith-looser d (suc (level_of operator)) (omega (arith, top))),
-            ap (λ i. i ++ Operate operator ∷ []) (is ∙ ap (with_arith a) was), w) below
-      | false ↦ λ h. ((from, a, before, arith-looser d level low, is, (start, b, earlier, left, was, w, below)), leb-false level (level_of operator) h) ] refl
+    as (λ t. nat_le level (level_of operator) ≡ t → Settles level whole (cond t (reduced level frames (items ++ Operate operator ∷ [])) (reading HasNumber (Operand operator ∷ frames) items)) rest) [
+      | true ↦ λ h. reduced-holds whole rest level (level_of operator) frames (items ++ Operate operator ∷ []) (leb-true level (level_of operator) h) (
+        start,
+        operation b operator a,
+        earlier,
+        combined operator (omega arith) left (arith-looser d (suc (level_of operator)) (omega (arith, top))),
+        ap (λ i. i ++ Operate operator ∷ []) (is ∙ ap (with_arith a) was),
+        w,
+      ) below
+      | false ↦ λ h. ((from, a, before, arith-looser d level low, is, (start, b, earlier, left, was, w, below)), leb-false level (level_of operator) h)
+    ] refl
 
 level-within : (next : Option Token) → looseness next ≤ 6
 level-within None = omega arith
@@ -182,22 +192,22 @@ compared-holds : (whole rest : List Token) (level : ℕ) (end : Bool) (state : R
     Settles level whole (compared end state) rest
 compared-holds whole rest level true (reading HasNumber (Compared relator ∷ frames) items) ((from, b, before, d, is, (start, a, earlier, left, was, w)), top) =
     completed-holds whole rest (λ s. Settles level whole s rest) (truth-settles level whole rest) frames (items ++ Relate relator ∷ []) start
-        (relation a relator b) earlier (related relator left (arith-looser d 0 (omega arith)))
-        (ap (λ i. i ++ Relate relator ∷ []) (is ∙ ap (with_arith b) was)) w
+    (relation a relator b) earlier (related relator left (arith-looser d 0 (omega arith)))
+    (ap (λ i. i ++ Relate relator ∷ []) (is ∙ ap (with_arith b) was)) w
 compared-holds whole rest level _ state k = k
 
 declared-holds : (whole rest : List Token) (level : ℕ) (is : Bool) (p : Protocol) (frames : List Frame) (items : List Item) →
     Waits whole frames (Named p ∷ rest) items → Settles level whole (declared_name is p frames items) rest
 declared-holds whole rest level true p frames items w =
     completed-holds whole rest (λ s. Settles level whole s rest) (truth-settles level whole rest) frames (items ++ PushPrimitive (named p) ∷ [])
-        (Named p ∷ rest) (primitive (named p)) items (simple protocol) refl w
+    (Named p ∷ rest) (primitive (named p)) items (simple protocol) refl w
 declared-holds whole rest level false p frames items w = w
 
 settled-holds : (whole rest : List Token) (next : Option Token) (state : Reading) → Knows whole state rest →
     Settles (looseness next) whole (settled next state) rest
 settled-holds whole rest next (reading HasNumber frames items) k =
     compared-holds whole rest (looseness next) (ends next) (reduced (looseness next) frames items)
-        (reduced-holds whole rest (looseness next) 6 frames items (level-within next) k (top-below frames))
+    (reduced-holds whole rest (looseness next) 6 frames items (level-within next) k (top-below frames))
 settled-holds whole rest next (reading (HasNamed p) frames items) k =
     declared-holds whole rest (looseness next) (ends next && negation_of (is_numeric frames)) p frames items k
 settled-holds whole rest next (reading _ frames items) k = k
@@ -220,14 +230,22 @@ in_direction-holds whole rest _ _ direction frames items from mid t d w = tt
 after_source-holds : (whole rest : List Token) (token : Token) (transport : Transport) (frames : List Frame) (items : List Item)
     (from after : List Token) → SpellsTransport from (Source ∷ after) transport → after ≡ token ∷ rest → Waits whole frames from items →
     KnowsIfAny whole (after_source transport token frames items) rest
-after_source-holds whole rest (Connects Or) transport frames items from after t e w =
-    (from, Source ∷ after, t,
-        λ behind e'. let same : after ≡ Connects Or ∷ Destination ∷ behind = e ∙ ap (λ ts. Connects Or ∷ ts) e' in
-            rw same source_or_destination, w)
-after_source-holds whole rest (Connects And) transport frames items from after t e w =
-    (from, Source ∷ after, t,
-        λ behind e'. let same : after ≡ Connects And ∷ Destination ∷ behind = e ∙ ap (λ ts. Connects And ∷ ts) e' in
-            rw same source_and_destination, w)
+after_source-holds whole rest (Connects Or) transport frames items from after t e w = (
+  from,
+  Source ∷ after,
+  t,
+  λ behind e'. let same : after ≡ Connects Or ∷ Destination ∷ behind = e ∙ ap (λ ts. Connects Or ∷ ts) e' in
+      rw same source_or_destination,
+  w,
+)
+after_source-holds whole rest (Connects And) transport frames items from after t e w = (
+  from,
+  Source ∷ after,
+  t,
+  λ behind e'. let same : after ≡ Connects And ∷ Destination ∷ behind = e ∙ ap (λ ts. Connects And ∷ ts) e' in
+      rw same source_and_destination,
+  w,
+)
 after_source-holds whole rest token transport frames items from after t e w =
     in_direction-holds whole rest token transport FromSource frames items from (Source ∷ after) t (rw (sym e) source) w
 
@@ -324,13 +342,16 @@ in_primitive-holds whole rest _ _ frames items k = tt
 -- the size that a number is
 size-spelt : (n : ℕ) (size : Size) → size_of_number n ≡ Some size → SpellsSize (Number n) size
 size-spelt n size e =
-    elim (nat_eq n 1) as (λ t. nat_eq n 1 ≡ t → cond t (Some One) (cond (nat_eq n 2) (Some Two) (cond (nat_eq n 4) (Some Four) None)) ≡ Some size → SpellsSize (Number n) size)
-      [ true ↦ λ is e'. let same : One ≡ size = cc in subst (SpellsSize (Number n)) same (subst (λ m. SpellsSize (Number m) One) (sym (eqb-true n 1 is)) one)
-      | false ↦ λ _. elim (nat_eq n 2) as (λ t. nat_eq n 2 ≡ t → cond t (Some Two) (cond (nat_eq n 4) (Some Four) None) ≡ Some size → SpellsSize (Number n) size)
-          [ true ↦ λ is e'. let same : Two ≡ size = cc in subst (SpellsSize (Number n)) same (subst (λ m. SpellsSize (Number m) Two) (sym (eqb-true n 2 is)) two)
-          | false ↦ λ _. elim (nat_eq n 4) as (λ t. nat_eq n 4 ≡ t → cond t (Some Four) None ≡ Some size → SpellsSize (Number n) size)
-              [ true ↦ λ is e'. let same : Four ≡ size = cc in subst (SpellsSize (Number n)) same (subst (λ m. SpellsSize (Number m) Four) (sym (eqb-true n 4 is)) four)
-              | false ↦ λ _ e'. absurd cc ] refl ] refl ] refl e
+    elim (nat_eq n 1) as (λ t. nat_eq n 1 ≡ t → cond t (Some One) (cond (nat_eq n 2) (Some Two) (cond (nat_eq n 4) (Some Four) None)) ≡ Some size → SpellsSize (Number n) size) [
+      | true ↦ λ is e'. let same : One ≡ size = cc in subst (SpellsSize (Number n)) same (subst (λ m. SpellsSize (Number m) One) (sym (eqb-true n 1 is)) one)
+      | false ↦ λ _. elim (nat_eq n 2) as (λ t. nat_eq n 2 ≡ t → cond t (Some Two) (cond (nat_eq n 4) (Some Four) None) ≡ Some size → SpellsSize (Number n) size) [
+        | true ↦ λ is e'. let same : Two ≡ size = cc in subst (SpellsSize (Number n)) same (subst (λ m. SpellsSize (Number m) Two) (sym (eqb-true n 2 is)) two)
+        | false ↦ λ _. elim (nat_eq n 4) as (λ t. nat_eq n 4 ≡ t → cond t (Some Four) None ≡ Some size → SpellsSize (Number n) size) [
+          | true ↦ λ is e'. let same : Four ≡ size = cc in subst (SpellsSize (Number n)) same (subst (λ m. SpellsSize (Number m) Four) (sym (eqb-true n 4 is)) four)
+          | false ↦ λ _ e'. absurd cc
+        ] refl
+      ] refl
+    ] refl e
 
 sized-holds : (whole rest : List Token) (p : Protocol) (n : ℕ) (size : Option Size) (frames : List Frame) (items : List Item) → size_of_number n ≡ size →
     Knows whole (reading (WantsSize p) frames items) (Number n ∷ rest) → KnowsIfAny whole (sized_by p size frames items) rest
@@ -371,7 +392,7 @@ pub run-holds : (whole rest : List Token) (items : List Item) (state : Reading) 
 run-holds whole [] items state k h = accepted-spelt whole (settled None state) items (settled-holds whole [] None state k) h
 run-holds whole (token ∷ rest) items state k h =
     step-spelt whole rest items (taken token (settled (Some token) state)) (λ s. run-holds whole rest items s)
-        (taken-holds whole rest token (settled (Some token) state) (settled-holds whole (token ∷ rest) (Some token) state k)) h
+    (taken-holds whole rest token (settled (Some token) state) (settled-holds whole (token ∷ rest) (Some token) state k)) h
 
 -- what the pass takes for whole is spelt
 pub spelt-run : (tokens : List Token) (items : List Item) → run tokens (reading Expects [] []) ≡ Some items → IsSpelt tokens items

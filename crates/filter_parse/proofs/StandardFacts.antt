@@ -90,4 +90,3 @@ fault_27 = refl
 
 fault_28 : pass_of (codes "ip < 3") ≡ Err (Syntax 3)
 fault_28 = refl
-

@@ -25,9 +25,9 @@ tokens_from-token text place c rest l here dark is some =
     ∙ ap (λ t. cond t (tokens_from 0 (place + 1) rest) (record { token = (lexeme c rest).token; place = place } ∷ tokens_from ((lexeme c rest).len - 1) (place + 1) rest)) dark
     ∙ ap (λ (m : Lexeme). record { token = m.token; place = place } ∷ tokens_from (m.len - 1) (place + 1) rest) (sym is)
     ∙ ap (λ ts. record { token = l.token; place = place } ∷ ts)
-        (tokens_from-inside (l.len - 1) (place + 1) rest
-        ∙ behind text place c rest (l.len - 1) here
-        ∙ ap (λ p. tokens_from 0 p (drop p text)) (omega arith))
+    (tokens_from-inside (l.len - 1) (place + 1) rest
+    ∙ behind text place c rest (l.len - 1) here
+    ∙ ap (λ p. tokens_from 0 p (drop p text)) (omega arith))
 
 -- the tokens behind a blank, and behind the text's end
 pub tokens_from-blank : (text : List ℕ) (place c : ℕ) (rest : List ℕ) → drop place text ≡ c ∷ rest → is_blank c ≡ true →

@@ -70,14 +70,14 @@ pub record HasTree (text : List ℕ) (tree : Tree) : Type 0 where
 pub data HasFault : List ℕ → ParseFault → Type 0 where
   -- no expression goes on with the next token
   unexpected : {text : List ℕ} (front more : List Placed) (next : Placed) → tokens_of text ≡ front ++ next ∷ more →
-    IsFaultless [] front → IsViable (kinds front) → ¬ IsViable (kinds front ++ next.token ∷ []) → HasFault text (Syntax next.place)
+      IsFaultless [] front → IsViable (kinds front) → ¬ IsViable (kinds front ++ next.token ∷ []) → HasFault text (Syntax next.place)
   -- one does, but the token has a fault of its own
   faulty : {text : List ℕ} {fault : ParseFault} (front more : List Placed) (next : Placed) → tokens_of text ≡ front ++ next ∷ more →
-    IsFaultless [] front → IsViable (kinds front ++ next.token ∷ []) → own_fault (reverse (kinds front)) next.token next.place ≡ Some fault →
-    HasFault text fault
+      IsFaultless [] front → IsViable (kinds front ++ next.token ∷ []) → own_fault (reverse (kinds front)) next.token next.place ≡ Some fault →
+      HasFault text fault
   -- the tokens begin an expression and are none
   unfinished : {text : List ℕ} → IsFaultless [] (tokens_of text) → IsViable (kinds (tokens_of text)) →
-    ((tree : Tree) → ¬ Spells (kinds (tokens_of text)) tree) → HasFault text (Syntax (length text))
+      ((tree : Tree) → ¬ Spells (kinds (tokens_of text)) tree) → HasFault text (Syntax (length text))
   -- the tree is too deep
   deep : {text : List ℕ} {tree : Tree} → IsFaultless [] (tokens_of text) → Spells (kinds (tokens_of text)) tree → MAX_DEPTH < depth_of tree →
-    HasFault text (TooDeep (length text))
+      HasFault text (TooDeep (length text))

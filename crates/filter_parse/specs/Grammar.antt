@@ -72,17 +72,17 @@ pub data SpellsPrimitive : List Token → List Token → Primitive → Type 0 wh
   protocol : {rest : List Token} {p : Protocol} → SpellsPrimitive (Named p ∷ rest) rest (named p)
   proto : {rest : List Token} {n : ℕ} → SpellsPrimitive (Named IpName ∷ Proto ∷ Number n ∷ rest) rest (IsProto n)
   host : {from rest : List Token} {direction : Direction} {a : ℕ} →
-    SpellsDirection from (Host ∷ Address a ∷ rest) direction → SpellsPrimitive from rest (IsHost direction a)
+      SpellsDirection from (Host ∷ Address a ∷ rest) direction → SpellsPrimitive from rest (IsHost direction a)
   net : {from rest : List Token} {direction : Direction} {a n : ℕ} →
-    SpellsDirection from (Net ∷ Address a ∷ Operates Divide ∷ Number n ∷ rest) direction →
-    SpellsPrimitive from rest (IsNet direction (record { address = a; bits = n }))
+      SpellsDirection from (Net ∷ Address a ∷ Operates Divide ∷ Number n ∷ rest) direction →
+      SpellsPrimitive from rest (IsNet direction (record { address = a; bits = n }))
   port : {from mid rest : List Token} {transport : Transport} {direction : Direction} {n : ℕ} →
-    SpellsTransport from mid transport → SpellsDirection mid (Port ∷ Number n ∷ rest) direction →
-    SpellsPrimitive from rest (IsPort transport direction n)
+      SpellsTransport from mid transport → SpellsDirection mid (Port ∷ Number n ∷ rest) direction →
+      SpellsPrimitive from rest (IsPort transport direction n)
   portrange : {from mid rest : List Token} {transport : Transport} {direction : Direction} {n m : ℕ} →
-    SpellsTransport from mid transport →
-    SpellsDirection mid (PortRange ∷ Number n ∷ Operates Subtract ∷ Number m ∷ rest) direction →
-    SpellsPrimitive from rest (IsPortRange transport direction n m)
+      SpellsTransport from mid transport →
+      SpellsDirection mid (PortRange ∷ Number n ∷ Operates Subtract ∷ Number m ∷ rest) direction →
+      SpellsPrimitive from rest (IsPortRange transport direction n m)
   less : {rest : List Token} {n : ℕ} → SpellsPrimitive (Less ∷ Number n ∷ rest) rest (AtMost n)
   greater : {rest : List Token} {n : ℕ} → SpellsPrimitive (Greater ∷ Number n ∷ rest) rest (AtLeast n)
 
@@ -91,34 +91,34 @@ mutual
   pub data SpellsArith : ℕ → List Token → List Token → ArithTree → Type 0 where
     operand : {level : ℕ} {from rest : List Token} {a : ArithTree} → SpellsOperand from rest a → SpellsArith level from rest a
     combined : {level : ℕ} {from mid rest : List Token} {a b : ArithTree} (operator : Operator) → level ≤ level_of operator →
-      SpellsArith (level_of operator) from (Operates operator ∷ mid) a →
-      SpellsArith (suc (level_of operator)) mid rest b →
-      SpellsArith level from rest (operation a operator b)
+        SpellsArith (level_of operator) from (Operates operator ∷ mid) a →
+        SpellsArith (suc (level_of operator)) mid rest b →
+        SpellsArith level from rest (operation a operator b)
 
   pub data SpellsOperand : List Token → List Token → ArithTree → Type 0 where
     literal : {rest : List Token} {n : ℕ} → SpellsOperand (Number n ∷ rest) rest (number n)
     len : {rest : List Token} → SpellsOperand (Length ∷ rest) rest packet_length
     bracketed : {mid rest : List Token} {a : ArithTree} → SpellsArith 0 mid (Close ∷ rest) a → SpellsOperand (Open ∷ mid) rest a
     byte_at : {mid rest : List Token} {p : Protocol} {index : ArithTree} → SpellsArith 0 mid (CloseIndex ∷ rest) index →
-      SpellsOperand (Named p ∷ OpenIndex ∷ mid) rest (accessor p index One)
+        SpellsOperand (Named p ∷ OpenIndex ∷ mid) rest (accessor p index One)
     bytes_at : {mid rest : List Token} {p : Protocol} {index : ArithTree} {size : Size} (n : Token) → SpellsSize n size →
-      SpellsArith 0 mid (Colon ∷ n ∷ CloseIndex ∷ rest) index →
-      SpellsOperand (Named p ∷ OpenIndex ∷ mid) rest (accessor p index size)
+        SpellsArith 0 mid (Colon ∷ n ∷ CloseIndex ∷ rest) index →
+        SpellsOperand (Named p ∷ OpenIndex ∷ mid) rest (accessor p index size)
 
 -- an expression; `and` and `or` bind alike and associate to the left
 mutual
   pub data SpellsExpr : List Token → List Token → Tree → Type 0 where
     unary : {from rest : List Token} {e : Tree} → SpellsUnary from rest e → SpellsExpr from rest e
     junction : {from mid rest : List Token} {a b : Tree} (word : Connective) → SpellsExpr from (Connects word ∷ mid) a →
-      SpellsUnary mid rest b → SpellsExpr from rest (joined word a b)
+        SpellsUnary mid rest b → SpellsExpr from rest (joined word a b)
 
   pub data SpellsUnary : List Token → List Token → Tree → Type 0 where
     negated : {mid rest : List Token} {e : Tree} → SpellsUnary mid rest e → SpellsUnary (Not ∷ mid) rest (negation e)
     enclosed : {mid rest : List Token} {e : Tree} → SpellsExpr mid (Close ∷ rest) e → SpellsUnary (Open ∷ mid) rest e
     simple : {from rest : List Token} {p : Primitive} → SpellsPrimitive from rest p → SpellsUnary from rest (primitive p)
     related : {from mid rest : List Token} {a b : ArithTree} (relator : Relation) →
-      SpellsArith 0 from (Compares relator ∷ mid) a → SpellsArith 0 mid rest b →
-      SpellsUnary from rest (relation a relator b)
+        SpellsArith 0 from (Compares relator ∷ mid) a → SpellsArith 0 mid rest b →
+        SpellsUnary from rest (relation a relator b)
 
 -- the tokens are those of a whole expression, and this is its tree
 abbrev pub Spells : List Token → Tree → Type 0

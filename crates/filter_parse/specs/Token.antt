@@ -103,7 +103,7 @@ first_octet text =
 abbrev pub address_of : List ℕ → Option ℕ
 address_of text =
     option_and_then (λ a. option_and_then (λ b. option_and_then (λ c. option_map (λ d. a.0 * 2 ^ 24 + b.0 * 2 ^ 16 + c.0 * 2 ^ 8 + d)
-        (octet_of c.1)) (first_octet b.1)) (first_octet a.1)) (first_octet text)
+    (octet_of c.1)) (first_octet b.1)) (first_octet a.1)) (first_octet text)
 
 abbrev pub number_or_address : List ℕ → Token
 number_or_address text = if list_any is_dot text then Address (unwrap_or (address_of text) TOO_BIG) else number_token text
@@ -161,9 +161,9 @@ sign_lexeme c (d ∷ rest) = sign_or c (pair_sign c d)
 abbrev pub lexeme : ℕ → List ℕ → Lexeme
 lexeme c rest =
     if begins_word c then
-      record { token = word_token (take (prefix_len is_word_part (c ∷ rest)) (c ∷ rest)); len = prefix_len is_word_part (c ∷ rest) }
+    record { token = word_token (take (prefix_len is_word_part (c ∷ rest)) (c ∷ rest)); len = prefix_len is_word_part (c ∷ rest) }
     else (if is_ascii_digit c then
-      record { token = number_or_address (take (prefix_len is_number_part (c ∷ rest)) (c ∷ rest)); len = prefix_len is_number_part (c ∷ rest) }
+    record { token = number_or_address (take (prefix_len is_number_part (c ∷ rest)) (c ∷ rest)); len = prefix_len is_number_part (c ∷ rest) }
     else sign_lexeme c rest)
 
 -- a token and the place of its first byte

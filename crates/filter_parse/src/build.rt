@@ -38,7 +38,11 @@ fn pop_truth<A: Allocator>(parts: &mut VecDeque<Part<A>, A>) -> Expr<A>
     }
 }
 
-fn grow<A: Allocator + Clone>(alloc: A, parts: &mut VecDeque<Part<A>, A>, item: Item) -> Result<(), OutOfMemory>
+fn grow<A: Allocator + Clone>(
+    alloc: A,
+    parts: &mut VecDeque<Part<A>, A>,
+    item: Item,
+) -> Result<(), OutOfMemory>
     requires { Takes item (map growth_of parts.old.items) }
     ensures { OnOk result (grown item (map growth_of parts.old.items) ≡ Some (map growth_of parts.new.items)) }
 {

@@ -28,11 +28,9 @@ use build::build;
 use depth::depth_of;
 pub use fault::ParseFault;
 use filter_tree::Expr;
-pub use item::Item;
 use recognize::recognize;
-pub use state::{Control, Frame};
 use std::alloc::Allocator;
-pub use token::{Connective, Lexeme, TOO_BIG, Token};
+pub use token::{Connective, TOO_BIG, Token};
 
 /// The answer of a call that was refused memory.
 pub use std::alloc::AllocError as OutOfMemory;
@@ -62,5 +60,7 @@ pub fn parse<A: Allocator + Clone>(alloc: A, text: &[u8]) -> Result<Expr<A>, Par
 /// A text has at most one tree.
 pub fn one_value()
     ensures one_value { IsUnambiguous }
-{
-}
+{}
+
+#[cfg(test)]
+mod tests;

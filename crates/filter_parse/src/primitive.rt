@@ -45,13 +45,19 @@ impl<A: Allocator> Pass<A> {
         ensures count { self.new.open ≡ self.old.open }
     {
         match (self.control, token) {
-            (Control::Directed(transport, Direction::Source), _) => self.after_source(transport, token, at),
-            (Control::Directed(transport, direction), _) => self.go_in_direction(token, transport, direction, at),
+            (Control::Directed(transport, Direction::Source), _) => self.after_source(
+                transport, token, at,
+            ),
+            (Control::Directed(transport, direction), _) => self.go_in_direction(
+                token, transport, direction, at,
+            ),
             (Control::Widened(transport, direction), Token::Destination) => {
                 self.control = Control::Directed(transport, direction);
                 Ok(())
             }
-            (Control::WantsProtocol, Token::Number(n)) => self.put_simple(Primitive::Proto(number_to_u8(n, at)?)),
+            (Control::WantsProtocol, Token::Number(n)) => self.put_simple(Primitive::Proto(
+                number_to_u8(n, at)?,
+            )),
             (Control::WantsAddress(direction), Token::Address(a)) => {
                 self.put_simple(Primitive::Host(direction, known_address(a, at)?))
             }
@@ -82,8 +88,12 @@ impl<A: Allocator> Pass<A> {
                 let m = number_to_u16(m, at)?;
                 self.put_simple(Primitive::PortRange(transport, direction, n, m))
             }
-            (Control::WantsMost, Token::Number(n)) => self.put_simple(Primitive::AtMost(number_to_u32(n, at)?)),
-            (Control::WantsLeast, Token::Number(n)) => self.put_simple(Primitive::AtLeast(number_to_u32(n, at)?)),
+            (Control::WantsMost, Token::Number(n)) => self.put_simple(Primitive::AtMost(
+                number_to_u32(n, at)?,
+            )),
+            (Control::WantsLeast, Token::Number(n)) => self.put_simple(Primitive::AtLeast(
+                number_to_u32(n, at)?,
+            )),
             _ => Err(ParseFault::Syntax { at }),
         }
     }
@@ -100,7 +110,9 @@ impl<A: Allocator> Pass<A> {
             (Control::Truth, _) => self.after_truth(token, at),
             (Control::Named(protocol), _) => self.after_name(protocol, token, at),
             (Control::WantsSize(protocol), Token::Number(n)) => self.take_size(protocol, n, at),
-            (Control::WantsEnd(protocol, size), Token::CloseIndex) => self.put_operand(Item::Access(protocol, size)),
+            (Control::WantsEnd(protocol, size), Token::CloseIndex) => self.put_operand(Item::Access(
+                protocol, size,
+            )),
             _ => self.go_in_primitive(token, at),
         }
     }

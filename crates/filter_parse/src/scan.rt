@@ -99,7 +99,7 @@ pub fn next_token(text: &[u8], at: usize) -> Option<Found>
     ensures found { MatchOption result
         (tokens_from 0 at (drop at text.now) ≡ [])
         (λ found. tokens_from 0 at (drop at text.now)
-            ≡ record { token = found.token; place = found.place } ∷ tokens_from 0 found.end (drop found.end text.now)) }
+        ≡ record { token = found.token; place = found.place } ∷ tokens_from 0 found.end (drop found.end text.now)) }
     ensures within { IfSome result (λ found. found.end ≤ length text.now) }
     ensures forward { IfSome result (λ found. at < found.end) }
 {

@@ -157,14 +157,22 @@ impl<A: Allocator> Pass<A> {
         }
     }
 
-    fn begin_direction(&mut self, transport: Transport, token: Token, at: usize) -> Result<(), ParseFault>
+    fn begin_direction(
+        &mut self,
+        transport: Transport,
+        token: Token,
+        at: usize,
+    ) -> Result<(), ParseFault>
         ensures met { Meets (judged_by None at
             (begins_direction transport token self.old.frames.items self.old.items.items)) result (reading_of self.new) }
         ensures count { self.new.open ≡ self.old.open }
     {
         match token {
             Token::Source => self.control = Control::Directed(transport, Direction::Source),
-            Token::Destination => self.control = Control::Directed(transport, Direction::Destination),
+            Token::Destination => self.control = Control::Directed(
+                transport,
+                Direction::Destination,
+            ),
             _ => return self.go_in_direction(token, transport, Direction::Either, at),
         }
         Ok(())
@@ -191,14 +199,25 @@ impl<A: Allocator> Pass<A> {
         Ok(())
     }
 
-    pub fn after_source(&mut self, transport: Transport, token: Token, at: usize) -> Result<(), ParseFault>
+    pub fn after_source(
+        &mut self,
+        transport: Transport,
+        token: Token,
+        at: usize,
+    ) -> Result<(), ParseFault>
         ensures met { Meets (judged_by None at
             (after_source transport token self.old.frames.items self.old.items.items)) result (reading_of self.new) }
         ensures count { self.new.open ≡ self.old.open }
     {
         match token {
-            Token::Connects(Connective::Or) => self.control = Control::Widened(transport, Direction::Either),
-            Token::Connects(Connective::And) => self.control = Control::Widened(transport, Direction::Both),
+            Token::Connects(Connective::Or) => self.control = Control::Widened(
+                transport,
+                Direction::Either,
+            ),
+            Token::Connects(Connective::And) => self.control = Control::Widened(
+                transport,
+                Direction::Both,
+            ),
             _ => return self.go_in_direction(token, transport, Direction::Source, at),
         }
         Ok(())
@@ -252,7 +271,12 @@ impl<A: Allocator> Pass<A> {
         }
     }
 
-    fn after_protocol(&mut self, protocol: Protocol, token: Token, at: usize) -> Result<(), ParseFault>
+    fn after_protocol(
+        &mut self,
+        protocol: Protocol,
+        token: Token,
+        at: usize,
+    ) -> Result<(), ParseFault>
         ensures met { Meets (judged_by None at
             (after_protocol protocol token self.old.frames.items self.old.items.items)) result (reading_of self.new) }
         ensures count { self.new.open ≡ self.old.open }
@@ -268,7 +292,12 @@ impl<A: Allocator> Pass<A> {
         }
     }
 
-    pub fn after_name(&mut self, protocol: Protocol, token: Token, at: usize) -> Result<(), ParseFault>
+    pub fn after_name(
+        &mut self,
+        protocol: Protocol,
+        token: Token,
+        at: usize,
+    ) -> Result<(), ParseFault>
         ensures met { Meets (judged_by (fault_in (Named protocol) self.old.open token at) at
             (after_name protocol token self.old.frames.items self.old.items.items)) result (reading_of self.new) }
         ensures count { self.new.open ≡ self.old.open }

@@ -22,7 +22,7 @@ pub returns-then-branch-gt-MAX_DEPTH-clause-every_tree : goal.returns-then-branc
 returns-then-branch-gt-MAX_DEPTH-clause-every_tree g c = λ tree t.
     let measured = c.in_ok-depth_of.ensures ∙ ap (λ is. first_depth (depths_of is [])) c.deref.ensures.value in
     absurd (tree-or-fault c.args.text.now tree (TooDeep (length c.args.text.now)) t
-        (deep-says c.args.text.now c.in-Ok.items.items c.in_ok-depth_of.field-0 c.in-Ok.ensures measured c.if-branch-gt-MAX_DEPTH.true))
+    (deep-says c.args.text.now c.in-Ok.items.items c.in_ok-depth_of.field-0 c.in-Ok.ensures measured c.if-branch-gt-MAX_DEPTH.true))
 
 pub build-requires : goal.build-requires
 build-requires g c =
@@ -33,4 +33,4 @@ pub returns-clause-parses : goal.returns-clause-parses
 returns-clause-parses g c =
     let measured = c.in_ok-depth_of.ensures ∙ ap (λ is. first_depth (depths_of is [])) c.deref.ensures.value in
     tree-says c.args.text.now c.in-Ok.items.items c.in_ok-depth_of.field-0 (tree_of c.in_ok-build.field-0) c.in-Ok.ensures measured
-        c.if-branch-gt-MAX_DEPTH.false (sym (ap (λ is. built is []) c.deref-2.ensures.value) ∙ c.in_ok-build.ensures)
+    c.if-branch-gt-MAX_DEPTH.false (sym (ap (λ is. built is []) c.deref-2.ensures.value) ∙ c.in_ok-build.ensures)

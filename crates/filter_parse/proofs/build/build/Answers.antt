@@ -6,4 +6,4 @@ use Rattle.filter_parse.proofs.build.build.Goals as goal
 pub grow-requires : goal.grow-requires
 grow-requires g c =
     takes-at c.args.items.now c.loop-item.item-index c.item-item.result (map (growth_of {A = g.row.A.Denot}) c.loop-item.parts.items) _ (omega arith)
-        c.item-item.is (c.loop-item.invariant ∙ c.requires.1)
+    c.item-item.is (c.loop-item.invariant ∙ c.requires.1)

@@ -12,5 +12,5 @@ judged-settled token at count open' state next e f =
 pub returns-in-Err-clause-met : goal.returns-in-Err-clause-met
 returns-in-Err-clause-met g c =
     let same = judged-settled c.args.token c.args.at c.args.self.now.open c.settle.new.self.open (reading_of c.args.self.now) (reading_of c.settle.new.self)
-        c.in_ok-settle.ensures.settled c.in_ok-settle.ensures.open in
+    c.in_ok-settle.ensures.settled c.in_ok-settle.ensures.open in
     elim c.in-Err.ensures.met [ inl e ↦ inl e | inr e ↦ inr (sym same ∙ e) ]
