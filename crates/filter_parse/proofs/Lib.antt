@@ -7,3 +7,5 @@ mod JudgeLemmas
 mod TokenLemmas
 mod PostfixLemmas
 mod ParseLemmas
+mod LexLemmas
+mod PrintedLemmas
