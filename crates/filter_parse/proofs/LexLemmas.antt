@@ -33,7 +33,7 @@ lexes-one c text rest l tokens dark is behind h = λ place.
 pub lexes-space : (rest : List ℕ) (tokens : List Token) → Lexes rest tokens → Lexes (32 ∷ rest) tokens
 lexes-space rest tokens h = λ place. h (place + 1)
 
-longest : (p : ℕ → Bool) (w rest : List ℕ) → prefix_len p w ≡ length w → prefix_len p rest ≡ 0 → prefix_len p (w ++ rest) ≡ length w
+pub longest : (p : ℕ → Bool) (w rest : List ℕ) → prefix_len p w ≡ length w → prefix_len p rest ≡ 0 → prefix_len p (w ++ rest) ≡ length w
 longest p w rest full apart =
     prefix_len-append p w rest
     ∙ ap (λ n. cond (nat_eq n (length w)) (length w + prefix_len p rest) n) full
@@ -85,11 +85,11 @@ lexes-sign c rest tokens dark no_word no_digit alone h =
         refl h
 
 -- a decimal digit
-digit-part : (c : ℕ) → is_ascii_digit c ≡ true → is_number_part c ≡ true
+pub digit-part : (c : ℕ) → is_ascii_digit c ≡ true → is_number_part c ≡ true
 digit-part c h = grind (arith, nat_tests)
 
-digit-no-dot : (c : ℕ) → is_ascii_digit c ≡ true → is_dot c ≡ false
-digit-no-dot c h = grind (arith, nat_tests)
+pub digit-no_dot : (c : ℕ) → is_ascii_digit c ≡ true → is_dot c ≡ false
+digit-no_dot c h = grind (arith, nat_tests)
 
 -- a number of several digits does not begin with 0
 abbrev pub HasNoZero : ℕ → List ℕ → Type 0
@@ -130,7 +130,7 @@ pub and-parts : (a b : Bool) → (a && b) ≡ true → (a ≡ true) × (b ≡ tr
 and-parts true b h = (refl, h)
 and-parts false b h = absurd cc
 
-all-prefix : (p q : ℕ → Bool) → ((c : ℕ) → p c ≡ true → q c ≡ true) → (ds : List ℕ) → list_all p ds ≡ true → prefix_len q ds ≡ length ds
+pub all-prefix : (p q : ℕ → Bool) → ((c : ℕ) → p c ≡ true → q c ≡ true) → (ds : List ℕ) → list_all p ds ≡ true → prefix_len q ds ≡ length ds
 all-prefix p q same [] h = refl
 all-prefix p q same (c ∷ ds) h =
     let both = and-parts (p c) (list_all p ds) h in
@@ -142,20 +142,20 @@ none-any p q differ (c ∷ ds) h =
     let both = and-parts (p c) (list_all p ds) h in
     ap (λ t. t || list_any q ds) (differ c both.0) ∙ none-any p q differ ds both.1
 
-run-decimal : (n c : ℕ) (w : List ℕ) → IsRun n (c ∷ w) → is_decimal (c ∷ w) ≡ true
+pub run-decimal : (n c : ℕ) (w : List ℕ) → IsRun n (c ∷ w) → is_decimal (c ∷ w) ≡ true
 run-decimal n c [] r = (and-parts (is_ascii_digit c) true r.0).0
 run-decimal n c (d ∷ w) r = ap (λ t. t && list_all is_ascii_digit (c ∷ d ∷ w)) (lt-ltb 48 c r.3) ∙ r.0
 
-digit-dark : (c : ℕ) → is_ascii_digit c ≡ true → is_blank c ≡ false
+pub digit-dark : (c : ℕ) → is_ascii_digit c ≡ true → is_blank c ≡ false
 digit-dark c h = grind (arith, nat_tests)
 
-digit-no_word : (c : ℕ) → is_ascii_digit c ≡ true → begins_word c ≡ false
+pub digit-no_word : (c : ℕ) → is_ascii_digit c ≡ true → begins_word c ≡ false
 digit-no_word c h = grind (arith, nat_tests)
 
 run-token : (n : ℕ) (ds : List ℕ) → n < 2 ^ 32 → IsRun n ds → number_or_address ds ≡ Number n
 run-token n [] h r = absurd r
 run-token n (c ∷ w) h r =
-    ap (λ t. cond t (Address (unwrap_or (address_of (c ∷ w)) TOO_BIG)) (number_token (c ∷ w))) (none-any is_ascii_digit is_dot digit-no-dot (c ∷ w) r.0)
+    ap (λ t. cond t (Address (unwrap_or (address_of (c ∷ w)) TOO_BIG)) (number_token (c ∷ w))) (none-any is_ascii_digit is_dot digit-no_dot (c ∷ w) r.0)
     ∙ ap (λ t. cond t (Number (capped (value_of 10 (c ∷ w)))) (cond (is_hexadecimal (c ∷ w)) (Number (capped (value_of 16 (drop 2 (c ∷ w))))) Stray)) (run-decimal n c w r)
     ∙ ap (λ m. Number (capped m)) r.1 ∙ ap Number (omega arith)
 

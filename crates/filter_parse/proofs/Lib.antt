@@ -9,3 +9,4 @@ mod PostfixLemmas
 mod ParseLemmas
 mod LexLemmas
 mod PrintedLemmas
+mod AddressLemmas
