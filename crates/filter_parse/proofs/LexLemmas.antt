@@ -17,21 +17,21 @@ use Rattle.filter_parse.specs.Token.{Placed, address_of, begins_word, capped, is
 use Rattle.filter_parse.proofs.TokenLemmas.{tokens_from-inside}
 
 -- the tokens of a text, wherever it stands
-abbrev pub Lexes : List ℕ → List Token → Type 0
-Lexes text tokens = (place : ℕ) → kinds (tokens_from 0 place text) ≡ tokens
+pub record Lexes (text : List ℕ) (tokens : List Token) : Type 0 where
+  pub same : (place : ℕ) → kinds (tokens_from 0 place text) ≡ tokens
 
 pub lexes-one : (c : ℕ) (text rest : List ℕ) (l : Lexeme) (tokens : List Token) → is_blank c ≡ false → lexeme c text ≡ l → drop (l.len - 1) text ≡ rest →
     Lexes rest tokens → Lexes (c ∷ text) (l.token ∷ tokens)
-lexes-one c text rest l tokens dark is behind h = λ place.
+lexes-one c text rest l tokens dark is behind h = record { same = λ place.
     ap (λ t. kinds (cond t (tokens_from 0 (place + 1) text) (record { token = (lexeme c text).token; place = place } ∷ tokens_from ((lexeme c text).len - 1) (place + 1) text))) dark
     ∙ ap (λ (m : Lexeme). m.token ∷ kinds (tokens_from (m.len - 1) (place + 1) text)) is
     ∙ ap (λ ts. l.token ∷ ts)
         (ap kinds (tokens_from-inside (l.len - 1) (place + 1) text)
         ∙ ap (λ r. kinds (tokens_from 0 ((place + 1) + (l.len - 1)) r)) behind
-        ∙ h ((place + 1) + (l.len - 1)))
+        ∙ h.same ((place + 1) + (l.len - 1))) }
 
 pub lexes-space : (rest : List ℕ) (tokens : List Token) → Lexes rest tokens → Lexes (32 ∷ rest) tokens
-lexes-space rest tokens h = λ place. h (place + 1)
+lexes-space rest tokens h = record { same = λ place. h.same (place + 1) }
 
 pub longest : (p : ℕ → Bool) (w rest : List ℕ) → prefix_len p w ≡ length w → prefix_len p rest ≡ 0 → prefix_len p (w ++ rest) ≡ length w
 longest p w rest full apart =
