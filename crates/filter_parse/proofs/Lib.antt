@@ -10,3 +10,4 @@ mod ParseLemmas
 mod LexLemmas
 mod PrintedLemmas
 mod AddressLemmas
+mod FaultlessLemmas

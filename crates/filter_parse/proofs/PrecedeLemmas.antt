@@ -55,7 +55,7 @@ abbrev pub PrecedesIfAny : Option Reading → List Token → Type 0
 PrecedesIfAny None before = Unit {0}
 PrecedesIfAny (Some state) before = Precedes (control_of state) before
 
-free-length : (before : List Token) (operator : Operator) → IsFree (Operates operator ∷ Length ∷ before)
+pub free-length : (before : List Token) (operator : Operator) → IsFree (Operates operator ∷ Length ∷ before)
 free-length before BitOr = (refl, refl)
 free-length before ExclusiveOr = (refl, refl)
 free-length before BitAnd = (refl, refl)
@@ -67,7 +67,7 @@ free-length before Multiply = (refl, refl)
 free-length before Divide = (refl, refl)
 free-length before Modulo = (refl, refl)
 
-free-close : (before : List Token) (operator : Operator) → IsFree (Operates operator ∷ Close ∷ before)
+pub free-close : (before : List Token) (operator : Operator) → IsFree (Operates operator ∷ Close ∷ before)
 free-close before BitOr = (refl, refl)
 free-close before ExclusiveOr = (refl, refl)
 free-close before BitAnd = (refl, refl)
@@ -79,7 +79,7 @@ free-close before Multiply = (refl, refl)
 free-close before Divide = (refl, refl)
 free-close before Modulo = (refl, refl)
 
-free-close_index : (before : List Token) (operator : Operator) → IsFree (Operates operator ∷ CloseIndex ∷ before)
+pub free-close_index : (before : List Token) (operator : Operator) → IsFree (Operates operator ∷ CloseIndex ∷ before)
 free-close_index before BitOr = (refl, refl)
 free-close_index before ExclusiveOr = (refl, refl)
 free-close_index before BitAnd = (refl, refl)
@@ -91,7 +91,7 @@ free-close_index before Multiply = (refl, refl)
 free-close_index before Divide = (refl, refl)
 free-close_index before Modulo = (refl, refl)
 
-free-number : (before : List Token) (n : ℕ) → IsFree before → (operator : Operator) → IsFree (Operates operator ∷ Number n ∷ before)
+pub free-number : (before : List Token) (n : ℕ) → IsFree before → (operator : Operator) → IsFree (Operates operator ∷ Number n ∷ before)
 free-number before n f BitOr = (refl, refl)
 free-number before n f ExclusiveOr = (refl, refl)
 free-number before n f BitAnd = (refl, refl)

@@ -1,9 +1,17 @@
 -- What holds of the grammar.
-use Rattle.std.specs.Prelude.{◌≡◌, List, ℕ}
-use Rattle.filter_tree.specs.Tree.{Tree}
+use Rattle.std.specs.Prelude.{◌≡◌, ◌≤◌, List, ℕ}
+use Rattle.filter_tree.specs.Measure.{depth_of}
+use Rattle.filter_tree.specs.Text.{printed}
+use Rattle.filter_tree.specs.Tree.{IsInRange, Tree}
+use Rattle.filter_parse.specs.declared.TheConstants.{MAX_DEPTH}
 use Rattle.filter_parse.specs.declared.token.Token.{Token}
+use Rattle.filter_parse.specs.Fault.{HasTree}
 use Rattle.filter_parse.specs.Grammar.{Spells}
 
 -- no tokens spell two trees
 abbrev pub IsUnambiguous : Type 0
 IsUnambiguous = (tokens : List Token) (one other : Tree) → Spells tokens one → Spells tokens other → one ≡ other
+
+-- the text that a tree is printed as has that tree
+abbrev pub ReadsBack : Type 0
+ReadsBack = (tree : Tree) → IsInRange tree → depth_of tree ≤ MAX_DEPTH → HasTree (printed tree) tree
