@@ -1,92 +1,125 @@
--- Worked texts and their faults, so that a slip in a definition does not check.
-use Rattle.std.specs.Prelude.{◌≡◌, ◌∷◌, List, Result, Ok, Err, [], codes, refl, ℕ}
-use Rattle.filter_parse.specs.declared.fault.ParseFault.{ParseFault}
-use Rattle.filter_parse.specs.declared.fault.ParseFault.TheVariants.{BadAddress, BadPrefix, NumberTooBig, Syntax, TooDeep}
-use Rattle.filter_parse.specs.Pass.{pass_of}
+-- Worked texts, with their trees and faults (docs/EXPRESSIONS.md), so that a slip in a definition does not check.
+use Rattle.std.specs.Prelude.{◌≡◌, ◌∷◌, Err, Ok, [], codes, refl}
+use Rattle.filter_tree.specs.declared.arithmetic.Operator.TheVariants.{Add, Multiply, Subtract}
+use Rattle.filter_tree.specs.declared.arithmetic.Protocol.TheVariants.{Ip as IpData}
+use Rattle.filter_tree.specs.declared.arithmetic.Size.TheVariants.{Two}
+use Rattle.filter_tree.specs.declared.expression.Relation.TheVariants.{Equal}
+use Rattle.filter_tree.specs.declared.primitive.Direction.TheVariants.{Either, Source}
+use Rattle.filter_tree.specs.declared.primitive.Primitive.TheVariants.{Ip, Net, Port, PortRange, Proto}
+use Rattle.filter_tree.specs.declared.primitive.Transport.TheVariants.{Tcp, Unnamed}
+use Rattle.filter_tree.specs.Tree.{accessor, conjunction, disjunction, negation, number, operation, packet_length, primitive, relation}
+use Rattle.filter_parse.specs.declared.fault.ParseFault.TheVariants.{BadAddress, BadPrefix, NumberTooBig, Syntax}
+use Rattle.filter_parse.specs.Pass.{pass_of, with_tree}
 
-fault_0 : pass_of (codes "") ≡ Err (Syntax 0)
-fault_0 = refl
+-- faults and their places
+empty : pass_of (codes "") ≡ Err (Syntax 0)
+empty = refl
 
-fault_1 : pass_of (codes "udp and") ≡ Err (Syntax 7)
-fault_1 = refl
+cut_short : pass_of (codes "udp and") ≡ Err (Syntax 7)
+cut_short = refl
 
-fault_2 : pass_of (codes "010 = 8") ≡ Err (Syntax 0)
-fault_2 = refl
+cut_short_before_blanks : pass_of (codes "udp and ") ≡ Err (Syntax 8)
+cut_short_before_blanks = refl
 
-fault_3 : pass_of (codes "port 65536") ≡ Err (NumberTooBig 5)
-fault_3 = refl
+leading_zero : pass_of (codes "010 = 8") ≡ Err (Syntax 0)
+leading_zero = refl
 
-fault_4 : pass_of (codes "host 10.0.0.256") ≡ Err (BadAddress 5)
-fault_4 = refl
+port_past_limit : pass_of (codes "port 65536") ≡ Err (NumberTooBig 5)
+port_past_limit = refl
 
-fault_5 : pass_of (codes "net 10.0.0.1/8") ≡ Err (BadPrefix 13)
-fault_5 = refl
+part_past_limit : pass_of (codes "host 10.0.0.256") ≡ Err (BadAddress 5)
+part_past_limit = refl
 
-fault_6 : pass_of (codes "host 10") ≡ Err (Syntax 5)
-fault_6 = refl
+host_bits : pass_of (codes "net 10.0.0.1/8") ≡ Err (BadPrefix 13)
+host_bits = refl
 
-fault_7 : pass_of (codes "net 10.0.0.0/4294967296") ≡ Err (NumberTooBig 13)
-fault_7 = refl
+number_for_address : pass_of (codes "host 10") ≡ Err (Syntax 5)
+number_for_address = refl
 
-fault_8 : pass_of (codes "net 1.2.3.256/99") ≡ Err (BadAddress 4)
-fault_8 = refl
+bits_past_every_limit : pass_of (codes "net 10.0.0.0/4294967296") ≡ Err (NumberTooBig 13)
+bits_past_every_limit = refl
 
-fault_9 : pass_of (codes "ip[0:3] = 1") ≡ Err (Syntax 5)
-fault_9 = refl
+address_before_bits : pass_of (codes "net 1.2.3.256/99") ≡ Err (BadAddress 4)
+address_before_bits = refl
 
-fault_10 : pass_of (codes "ip[0:4294967296] = 1") ≡ Err (Syntax 5)
-fault_10 = refl
+size_three : pass_of (codes "ip[0:3] = 1") ≡ Err (Syntax 5)
+size_three = refl
 
-fault_11 : pass_of (codes "1 + (ip) = 2") ≡ Err (Syntax 7)
-fault_11 = refl
+size_past_every_limit : pass_of (codes "ip[0:4294967296] = 1") ≡ Err (Syntax 5)
+size_past_every_limit = refl
 
-fault_12 : pass_of (codes "(1 + 2) and ip") ≡ Err (Syntax 8)
-fault_12 = refl
+name_in_number : pass_of (codes "1 + (ip) = 2") ≡ Err (Syntax 7)
+name_in_number = refl
 
-fault_13 : pass_of (codes "(1=1)=1") ≡ Err (Syntax 5)
-fault_13 = refl
+number_before_and : pass_of (codes "(1 + 2) and ip") ≡ Err (Syntax 8)
+number_before_and = refl
 
-fault_14 : pass_of (codes "portrange 1-70000") ≡ Err (NumberTooBig 12)
-fault_14 = refl
+relation_of_relation : pass_of (codes "(1=1)=1") ≡ Err (Syntax 5)
+relation_of_relation = refl
 
-fault_15 : pass_of (codes "udp and ") ≡ Err (Syntax 8)
-fault_15 = refl
+relation_in_brackets : pass_of (codes "((1) = 2) = 3") ≡ Err (Syntax 10)
+relation_in_brackets = refl
 
-fault_16 : pass_of (codes "1.2 = 3") ≡ Err (Syntax 0)
-fault_16 = refl
+second_port_past_limit : pass_of (codes "portrange 1-70000") ≡ Err (NumberTooBig 12)
+second_port_past_limit = refl
 
-fault_17 : pass_of (codes "1_0 = 1") ≡ Err (Syntax 1)
-fault_17 = refl
+address_for_number : pass_of (codes "1.2 = 3") ≡ Err (Syntax 0)
+address_for_number = refl
 
-fault_18 : pass_of (codes "0X10 = 1") ≡ Err (Syntax 0)
-fault_18 = refl
+underscore_ends_number : pass_of (codes "1_0 = 1") ≡ Err (Syntax 1)
+underscore_ends_number = refl
 
-fault_19 : pass_of (codes "src || dst host 1.2.3.4") ≡ Err (Syntax 4)
-fault_19 = refl
+capital_x : pass_of (codes "0X10 = 1") ≡ Err (Syntax 0)
+capital_x = refl
 
-fault_20 : pass_of (codes "dst or src host 1.2.3.4") ≡ Err (Syntax 4)
-fault_20 = refl
+letters_in_number : pass_of (codes "1a = 1") ≡ Err (Syntax 0)
+letters_in_number = refl
 
-fault_21 : pass_of (codes "src or host 1.2.3.4") ≡ Err (Syntax 7)
-fault_21 = refl
+direction_by_sign : pass_of (codes "src || dst host 1.2.3.4") ≡ Err (Syntax 4)
+direction_by_sign = refl
 
-fault_22 : pass_of (codes "tcp host 1.2.3.4") ≡ Err (Syntax 4)
-fault_22 = refl
+direction_exchanged : pass_of (codes "dst or src host 1.2.3.4") ≡ Err (Syntax 4)
+direction_exchanged = refl
 
-fault_23 : pass_of (codes "((1) = 2) = 3") ≡ Err (Syntax 10)
-fault_23 = refl
+direction_cut_short : pass_of (codes "src or host 1.2.3.4") ≡ Err (Syntax 7)
+direction_cut_short = refl
 
-fault_24 : pass_of (codes "ip proto 256") ≡ Err (NumberTooBig 9)
-fault_24 = refl
+tcp_host : pass_of (codes "tcp host 1.2.3.4") ≡ Err (Syntax 4)
+tcp_host = refl
 
-fault_25 : pass_of (codes "len") ≡ Err (Syntax 3)
-fault_25 = refl
+protocol_past_limit : pass_of (codes "ip proto 256") ≡ Err (NumberTooBig 9)
+protocol_past_limit = refl
 
-fault_26 : pass_of (codes "1a = 1") ≡ Err (Syntax 0)
-fault_26 = refl
+length_alone : pass_of (codes "len") ≡ Err (Syntax 3)
+length_alone = refl
 
-fault_27 : pass_of (codes "host 1.2.3.4 or 5.6.7.8") ≡ Err (Syntax 16)
-fault_27 = refl
+implied_qualifier : pass_of (codes "host 1.2.3.4 or 5.6.7.8") ≡ Err (Syntax 16)
+implied_qualifier = refl
 
-fault_28 : pass_of (codes "ip < 3") ≡ Err (Syntax 3)
-fault_28 = refl
+name_in_relation : pass_of (codes "ip < 3") ≡ Err (Syntax 3)
+name_in_relation = refl
+
+-- trees
+and_and_or_alike : pass_of (codes "udp or ip and port 53") ≡ Ok (with_tree (conjunction (disjunction (primitive (Proto 17)) (primitive Ip)) (primitive (Port Unnamed Either 53))) [])
+and_and_or_alike = refl
+
+not_before_or : pass_of (codes "not udp or ip and port 53") ≡ Ok (with_tree (conjunction (disjunction (negation (primitive (Proto 17))) (primitive Ip)) (primitive (Port Unnamed Either 53))) [])
+not_before_or = refl
+
+products_before_sums : pass_of (codes "1+2*len == ip[0 : 2]") ≡ Ok (with_tree (relation (operation (number 1) Add (operation (number 2) Multiply packet_length)) Equal (accessor IpData (number 0) Two)) [])
+products_before_sums = refl
+
+left_to_right : pass_of (codes "1 - 2 - 3 = 4") ≡ Ok (with_tree (relation (operation (operation (number 1) Subtract (number 2)) Subtract (number 3)) Equal (number 4)) [])
+left_to_right = refl
+
+number_in_brackets : pass_of (codes "((1) + 2) = 3") ≡ Ok (with_tree (relation (operation (number 1) Add (number 2)) Equal (number 3)) [])
+number_in_brackets = refl
+
+relation_alone_in_brackets : pass_of (codes "((1) = 2)") ≡ Ok (with_tree (relation (number 1) Equal (number 2)) [])
+relation_alone_in_brackets = refl
+
+either_direction : pass_of (codes "src or dst net 10.0.0.0 / 8") ≡ Ok (with_tree (primitive (Net Either (record { address = 167772160; bits = 8 }))) [])
+either_direction = refl
+
+ports_as_written : pass_of (codes "tcp src portrange 0x10 - 9") ≡ Ok (with_tree (primitive (PortRange Tcp Source 16 9)) [])
+ports_as_written = refl

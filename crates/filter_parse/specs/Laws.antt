@@ -4,13 +4,18 @@ use Rattle.filter_tree.specs.Measure.{depth_of}
 use Rattle.filter_tree.specs.Text.{printed}
 use Rattle.filter_tree.specs.Tree.{IsInRange, Tree}
 use Rattle.filter_parse.specs.declared.TheConstants.{MAX_DEPTH}
+use Rattle.filter_parse.specs.declared.fault.ParseFault.{ParseFault}
 use Rattle.filter_parse.specs.declared.token.Token.{Token}
-use Rattle.filter_parse.specs.Fault.{HasTree}
+use Rattle.filter_parse.specs.Fault.{HasFault, HasTree}
 use Rattle.filter_parse.specs.Grammar.{Spells}
 
 -- no tokens spell two trees
 abbrev pub IsUnambiguous : Type 0
 IsUnambiguous = (tokens : List Token) (one other : Tree) → Spells tokens one → Spells tokens other → one ≡ other
+
+-- a text with a tree has no fault
+abbrev pub ExcludesFaults : Type 0
+ExcludesFaults = (text : List ℕ) (tree : Tree) (fault : ParseFault) → HasTree text tree → ¬ HasFault text fault
 
 -- the text that a tree is printed as has that tree
 abbrev pub ReadsBack : Type 0
