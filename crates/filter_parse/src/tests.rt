@@ -153,7 +153,7 @@ fn printed_trees_and_their_measures(rt: HostRuntime) -> Result<(), Fail> {
                 );
                 let copy = tree.clone_in(rt.alloc())?;
                 assert_eq!(rt; copy.print(rt.alloc())?.as_str(), printed);
-                assert_eq!(rt; fault_of(rt.alloc(), printed.as_bytes()), None, "{printed}");
+                assert_eq!(rt; fault_of(rt.alloc(), printed.as_bytes()), None);
             }
             Err(fault) => assert!(rt; false, "{text}: {fault:?}"),
         }
