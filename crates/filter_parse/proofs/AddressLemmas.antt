@@ -1,5 +1,5 @@
 -- An address that is printed is read as it was.
-use Rattle.std.proofs.Common.{◌≡◌, ◌<◌, ◌≤◌, ◌+◌, ◌-◌, ◌*◌, ◌/◌, ◌%◌, ◌^◌, ◌∙◌, ◌∷◌, ◌++◌, ◌&&◌, ◌||◌, Bool, List, None, Option, Some, [], ap, append_assoc, arith, codes, cond, drop, false, length, nat_eq, nat_le, not, option_and_then, option_map, refl, subst, suc, sym, take, true, unwrap_or, ℕ}
+use Rattle.std.proofs.Common.{◌≡◌, ◌<◌, ◌+◌, ◌*◌, ◌/◌, ◌%◌, ◌^◌, ◌∙◌, ◌∷◌, ◌++◌, ◌&&◌, ◌||◌, Bool, List, None, Some, [], ap, append_assoc, arith, codes, cond, drop, false, length, nat_eq, nat_le, not, option_and_then, option_map, refl, subst, sym, take, true, unwrap_or, ℕ}
 use Rattle.std.proofs.Math.Seq.{drop-append_seam, take-append_seam}
 use Rattle.std.proofs.lemmas.Bool.{eq-eqb, le-leb}
 use Rattle.std.proofs.lemmas.Bool.Decides.{nat_tests}
@@ -7,12 +7,12 @@ use Rattle.std.proofs.lemmas.List.{length-append}
 use Rattle.std.proofs.lemmas.List.Folds.{prefix_len-append}
 use Rattle.std.specs.Char.{is_ascii_digit}
 use Rattle.std.specs.Fmt.{decimal}
-use Rattle.std.specs.List.{list_all, list_any, position_or_len, prefix_len}
+use Rattle.std.specs.List.{list_all, list_any, prefix_len}
 use Rattle.filter_tree.specs.Text.{printed_address}
 use Rattle.filter_parse.specs.declared.token.TheConstants.{TOO_BIG}
 use Rattle.filter_parse.specs.declared.token.Token.{Token}
 use Rattle.filter_parse.specs.declared.token.Token.TheVariants.{Address}
-use Rattle.filter_parse.specs.Token.{address_of, first_dot, first_octet, is_decimal, is_dot, is_number_part, number_or_address, number_token, octet_of, value_of}
+use Rattle.filter_parse.specs.Token.{address_of, first_dot, first_octet, is_dot, is_number_part, number_token, octet_of, value_of}
 use Rattle.filter_parse.proofs.LexLemmas.{IsRun, Lexes, all-prefix, and-parts, decimal-run, digit-dark, digit-no_dot, digit-no_word, digit-part, lexes-digits, longest, run-decimal}
 
 no-dot-part : (c : ℕ) → is_ascii_digit c ≡ true → not (is_dot c) ≡ true
@@ -43,7 +43,7 @@ part-read : (n : ℕ) (ds rest : List ℕ) → n < 256 → IsRun n ds → first_
 part-read n ds rest small r =
     let text : List ℕ = ds ++ 46 ∷ rest in
     let dot : first_dot text ≡ length ds =
-          longest _ ds (46 ∷ rest) (all-prefix is_ascii_digit _ no-dot-part ds (run-all n ds r)) refl in
+    longest _ ds (46 ∷ rest) (all-prefix is_ascii_digit _ no-dot-part ds (run-all n ds r)) refl in
     let inside : nat_eq (length ds) (length text) ≡ false = apart-eqb (length ds) (length text) (simp length-append (omega arith)) in
     let behind : drop (length ds + 1) text ≡ rest = behind-dot ds rest in
     ap (λ k. cond (nat_eq k (length text)) None (option_map (λ octet. (octet, drop (k + 1) text)) (octet_of (take k text)))) dot
@@ -60,13 +60,13 @@ parts-read : (n m k l : ℕ) (ds es fs gs : List ℕ) → n < 256 → m < 256 �
     address_of (ds ++ 46 ∷ (es ++ 46 ∷ (fs ++ 46 ∷ gs))) ≡ Some (n * 2 ^ 24 + m * 2 ^ 16 + k * 2 ^ 8 + l)
 parts-read n m k l ds es fs gs sn sm sk sl rn rm rk rl =
     ap (λ o. option_and_then (λ (a : ℕ × List ℕ). option_and_then (λ (b : ℕ × List ℕ). option_and_then (λ (c : ℕ × List ℕ).
-          option_map (λ d. a.0 * 2 ^ 24 + b.0 * 2 ^ 16 + c.0 * 2 ^ 8 + d) (octet_of c.1)) (first_octet b.1)) (first_octet a.1)) o)
-        (part-read n ds (es ++ 46 ∷ (fs ++ 46 ∷ gs)) sn rn)
+    option_map (λ d. a.0 * 2 ^ 24 + b.0 * 2 ^ 16 + c.0 * 2 ^ 8 + d) (octet_of c.1)) (first_octet b.1)) (first_octet a.1)) o)
+    (part-read n ds (es ++ 46 ∷ (fs ++ 46 ∷ gs)) sn rn)
     ∙ ap (λ o. option_and_then (λ (b : ℕ × List ℕ). option_and_then (λ (c : ℕ × List ℕ).
-          option_map (λ d. n * 2 ^ 24 + b.0 * 2 ^ 16 + c.0 * 2 ^ 8 + d) (octet_of c.1)) (first_octet b.1)) o)
-        (part-read m es (fs ++ 46 ∷ gs) sm rm)
+    option_map (λ d. n * 2 ^ 24 + b.0 * 2 ^ 16 + c.0 * 2 ^ 8 + d) (octet_of c.1)) (first_octet b.1)) o)
+    (part-read m es (fs ++ 46 ∷ gs) sm rm)
     ∙ ap (λ o. option_and_then (λ (c : ℕ × List ℕ). option_map (λ d. n * 2 ^ 24 + m * 2 ^ 16 + c.0 * 2 ^ 8 + d) (octet_of c.1)) o)
-        (part-read k fs gs sk rk)
+    (part-read k fs gs sk rk)
     ∙ ap (λ o. option_map (λ d. n * 2 ^ 24 + m * 2 ^ 16 + k * 2 ^ 8 + d) o) (octet-run l gs sl rl)
 
 full-append : (p : ℕ → Bool) (xs ys : List ℕ) → prefix_len p xs ≡ length xs → prefix_len p ys ≡ length ys → prefix_len p (xs ++ ys) ≡ length (xs ++ ys)
@@ -98,11 +98,11 @@ lexes-parts a n m k l (c ∷ w) es fs gs rest tokens sn sm sk sl rn rm rk rl val
     let digit = (and-parts (is_ascii_digit c) (list_all is_ascii_digit w) rn.0).0 in
     let text : List ℕ = (c ∷ w) ++ 46 ∷ (es ++ 46 ∷ (fs ++ 46 ∷ gs)) in
     lexes-digits c (w ++ 46 ∷ (es ++ 46 ∷ (fs ++ 46 ∷ gs))) rest (Address a) tokens (digit-dark c digit) (digit-no_word c digit) digit
-        (dotted (c ∷ w) _ (run-full n (c ∷ w) rn) (dotted es _ (run-full m es rm) (dotted fs gs (run-full k fs rk) (run-full l gs rl))))
-        (ap (λ t. cond t (Address (unwrap_or (address_of text) TOO_BIG)) (number_token text)) (any-behind is_dot (c ∷ w) (46 ∷ (es ++ 46 ∷ (fs ++ 46 ∷ gs))) refl)
-        ∙ ap (λ o. Address (unwrap_or o TOO_BIG)) (parts-read n m k l (c ∷ w) es fs gs sn sm sk sl rn rm rk rl)
-        ∙ ap Address value)
-        apart h
+    (dotted (c ∷ w) _ (run-full n (c ∷ w) rn) (dotted es _ (run-full m es rm) (dotted fs gs (run-full k fs rk) (run-full l gs rl))))
+    (ap (λ t. cond t (Address (unwrap_or (address_of text) TOO_BIG)) (number_token text)) (any-behind is_dot (c ∷ w) (46 ∷ (es ++ 46 ∷ (fs ++ 46 ∷ gs))) refl)
+    ∙ ap (λ o. Address (unwrap_or o TOO_BIG)) (parts-read n m k l (c ∷ w) es fs gs sn sm sk sl rn rm rk rl)
+    ∙ ap Address value)
+    apart h
 
 regroup-address : (a b c d rest : List ℕ) → ((((((a ++ codes ".") ++ b) ++ codes ".") ++ c) ++ codes ".") ++ d) ++ rest ≡ (a ++ 46 ∷ (b ++ 46 ∷ (c ++ 46 ∷ d))) ++ rest
 regroup-address a b c d rest = simp append_assoc
@@ -112,8 +112,8 @@ pub lexes-address : (a : ℕ) (rest : List ℕ) (tokens : List Token) → a < 2 
     Lexes (printed_address a ++ rest) (Address a ∷ tokens)
 lexes-address a rest tokens small apart h =
     subst (λ t. Lexes t (Address a ∷ tokens))
-        (sym (regroup-address (decimal (a / 2 ^ 24)) (decimal (a / 2 ^ 16 % 256)) (decimal (a / 2 ^ 8 % 256)) (decimal (a % 256)) rest))
-        (lexes-parts a (a / 2 ^ 24) (a / 2 ^ 16 % 256) (a / 2 ^ 8 % 256) (a % 256) _ _ _ _ rest tokens
-            (omega arith) (omega arith) (omega arith) (omega arith)
-            (decimal-run (a / 2 ^ 24) (omega arith)) (decimal-run (a / 2 ^ 16 % 256) (omega arith)) (decimal-run (a / 2 ^ 8 % 256) (omega arith)) (decimal-run (a % 256) (omega arith))
-            (address-value a small) apart h)
+    (sym (regroup-address (decimal (a / 2 ^ 24)) (decimal (a / 2 ^ 16 % 256)) (decimal (a / 2 ^ 8 % 256)) (decimal (a % 256)) rest))
+    (lexes-parts a (a / 2 ^ 24) (a / 2 ^ 16 % 256) (a / 2 ^ 8 % 256) (a % 256) _ _ _ _ rest tokens
+    (omega arith) (omega arith) (omega arith) (omega arith)
+    (decimal-run (a / 2 ^ 24) (omega arith)) (decimal-run (a / 2 ^ 16 % 256) (omega arith)) (decimal-run (a / 2 ^ 8 % 256) (omega arith)) (decimal-run (a % 256) (omega arith))
+    (address-value a small) apart h)

@@ -1,34 +1,29 @@
 -- Whatever the pass has read can go on to a whole expression.
-use Rattle.std.proofs.Common.{◌≡◌, ◌<◌, ◌≤◌, ◌+◌, ◌∙◌, ◌∷◌, ◌++◌, ◌&&◌, Bool, List, None, Option, Some, [], ap, arith, cond, false, nat_eq, nat_le, option_and_then, refl, subst, suc, sym, true, ℕ}
-use Rattle.filter_tree.specs.declared.arithmetic.Operator.{Operator}
-use Rattle.filter_tree.specs.declared.arithmetic.Operator.TheVariants.{Add, And as BitAnd, Divide, ExclusiveOr, Modulo, Multiply, Or as BitOr, ShiftLeft, ShiftRight, Subtract}
+use Rattle.std.proofs.Common.{◌≡◌, ◌≤◌, ◌∙◌, ◌∷◌, ◌++◌, ◌&&◌, Bool, List, None, Option, Some, [], ap, arith, cond, false, nat_le, option_and_then, refl, sym, true, ℕ}
+use Rattle.filter_tree.specs.declared.arithmetic.Operator.TheVariants.{Divide, Subtract}
 use Rattle.filter_tree.specs.declared.arithmetic.Protocol.{Protocol}
-use Rattle.filter_tree.specs.declared.arithmetic.Protocol.TheVariants.{Icmp, Ip as IpName, Tcp as TcpName, Udp as UdpName}
+use Rattle.filter_tree.specs.declared.arithmetic.Protocol.TheVariants.{Ip as IpName, Tcp as TcpName, Udp as UdpName}
 use Rattle.filter_tree.specs.declared.arithmetic.Size.{Size}
-use Rattle.filter_tree.specs.declared.arithmetic.Size.TheVariants.{Four, One, Two}
+use Rattle.filter_tree.specs.declared.arithmetic.Size.TheVariants.{One}
 use Rattle.filter_tree.specs.declared.primitive.Direction.{Direction}
-use Rattle.filter_tree.specs.declared.primitive.Direction.TheVariants.{Both, Destination as ToDestination, Either, Source as FromSource}
-use Rattle.filter_tree.specs.declared.primitive.Primitive.{Primitive}
+use Rattle.filter_tree.specs.declared.primitive.Direction.TheVariants.{Either, Source as FromSource}
 use Rattle.filter_tree.specs.declared.primitive.Primitive.TheVariants.{AtLeast, AtMost, Host as IsHost, Net as IsNet, Port as IsPort, PortRange as IsPortRange, Proto as IsProto}
 use Rattle.filter_tree.specs.declared.primitive.Transport.{Transport}
 use Rattle.filter_tree.specs.declared.primitive.Transport.TheVariants.{Tcp, Udp, Unnamed}
-use Rattle.filter_tree.specs.Tree.{ArithTree, Tree, accessor, conjunction, disjunction, negation, number, operation, packet_length, primitive, relation}
 use Rattle.filter_parse.specs.declared.item.Item.{Item}
-use Rattle.filter_parse.specs.declared.item.Item.TheVariants.{Access, Length as PushLength, Negate, Number as PushNumber, Operate, Primitive as PushPrimitive, Relate}
+use Rattle.filter_parse.specs.declared.item.Item.TheVariants.{Access, Negate, Number as PushNumber, Operate, Primitive as PushPrimitive, Relate}
 use Rattle.filter_parse.specs.declared.state.Control.{Control}
 use Rattle.filter_parse.specs.declared.state.Control.TheVariants.{Directed, Expects, Named as HasNamed, Number as HasNumber, Truth as HasTruth, WantsAddress, WantsBits, WantsDash, WantsEnd, WantsFirst, WantsLast, WantsLeast, WantsMost, WantsNetwork, WantsPort, WantsProtocol, WantsSize, WantsSlash, Widened}
 use Rattle.filter_parse.specs.declared.state.Frame.{Frame}
 use Rattle.filter_parse.specs.declared.state.Frame.TheVariants.{Bracket, Compared, Index, Left, Negated, Operand}
-use Rattle.filter_parse.specs.declared.token.Connective.{Connective}
-use Rattle.filter_parse.specs.declared.token.Connective.TheVariants.{And, AndSign, Or, OrSign}
+use Rattle.filter_parse.specs.declared.token.Connective.TheVariants.{And, Or}
 use Rattle.filter_parse.specs.declared.token.Token.{Token}
-use Rattle.filter_parse.specs.declared.token.Token.TheVariants.{Address, Close, CloseIndex, Colon, Compares, Connects, Destination, Greater, Host, Length, Less, Named, Net, Not, Number, Open, OpenIndex, Operates, Port, PortRange, Proto, Source, Stray}
+use Rattle.filter_parse.specs.declared.token.Token.TheVariants.{Address, Close, CloseIndex, Colon, Compares, Connects, Destination, Greater, Host, Length, Less, Named, Net, Not, Number, Open, OpenIndex, Operates, Port, PortRange, Proto, Source}
 use Rattle.filter_tree.specs.declared.expression.Relation.{Relation}
 use Rattle.filter_tree.specs.declared.expression.Relation.TheVariants.{Equal}
-use Rattle.filter_parse.specs.Grammar.{IsViable, Spells, level_of, named}
-use Rattle.filter_parse.specs.Pass.{Reading, accepted, after_name, after_number, after_protocol, after_source, after_truth, begins, begins_direction, begins_truth, compared, completed, declared_name, ends, in_direction, in_primitive, is_numeric, junction_of, looseness, negation_of, reading, reduced, run, settled, size_of_number, sized_by, taken, with_arith, with_tree}
-use Rattle.filter_parse.proofs.RunLemmas.{next_of, reduced-operand, run-settled, run-spelt, settled-completed}
-use Rattle.filter_parse.proofs.SpeltLemmas.{IsSpelt, spelt-run}
+use Rattle.filter_parse.specs.Grammar.{level_of, named}
+use Rattle.filter_parse.specs.Pass.{Reading, after_name, after_number, after_protocol, after_source, after_truth, begins, begins_direction, begins_truth, compared, completed, declared_name, ends, in_direction, in_primitive, is_numeric, junction_of, looseness, negation_of, reading, reduced, run, settled, size_of_number, sized_by, taken}
+use Rattle.filter_parse.proofs.RunLemmas.{next_of, reduced-operand, run-settled, settled-completed}
 
 -- nothing waits for the end of an expression without `and` and `or`
 abbrev pub IsBase : List Frame → Type 0

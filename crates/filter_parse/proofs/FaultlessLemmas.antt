@@ -1,30 +1,25 @@
 -- No token of a printed tree is at fault, and so it reads back.
-use Rattle.std.proofs.Common.{◌≡◌, ◌<◌, ◌≤◌, ◌+◌, ◌-◌, ◌%◌, ◌^◌, ◌∙◌, ◌∷◌, ◌&&◌, Bool, List, None, Option, Some, [], ap, arith, cond, false, max, nat_eq, nat_le, nat_lt, pred, refl, subst, suc, sym, true, ℕ}
+use Rattle.std.proofs.Common.{◌≡◌, ◌<◌, ◌≤◌, ◌+◌, ◌-◌, ◌%◌, ◌^◌, ◌∙◌, ◌∷◌, ◌&&◌, List, None, Some, [], ap, arith, cond, nat_eq, nat_le, pred, refl, subst, suc, sym, ℕ}
 use Rattle.std.proofs.lemmas.Bool.{eq-eqb, le-leb, lt-ltb}
 use Rattle.filter_tree.specs.declared.arithmetic.Operator.{Operator}
-use Rattle.filter_tree.specs.declared.arithmetic.Operator.TheVariants.{Add, And as BitAnd, Divide, ExclusiveOr, Modulo, Multiply, Or as BitOr, ShiftLeft, ShiftRight, Subtract}
-use Rattle.filter_tree.specs.declared.arithmetic.Protocol.{Protocol}
-use Rattle.filter_tree.specs.declared.arithmetic.Protocol.TheVariants.{Icmp, Ip as IpName, Tcp as TcpName, Udp as UdpName}
+use Rattle.filter_tree.specs.declared.arithmetic.Operator.TheVariants.{Divide, Subtract}
+use Rattle.filter_tree.specs.declared.arithmetic.Protocol.TheVariants.{Ip as IpName, Tcp as TcpName, Udp as UdpName}
 use Rattle.filter_tree.specs.declared.arithmetic.Size.{Size}
 use Rattle.filter_tree.specs.declared.arithmetic.Size.TheVariants.{Four, One, Two}
-use Rattle.filter_tree.specs.declared.expression.Relation.{Relation}
-use Rattle.filter_tree.specs.declared.expression.Relation.TheVariants.{Equal, Greater as GreaterThan, GreaterOrEqual, Less as LessThan, LessOrEqual, NotEqual}
 use Rattle.filter_tree.specs.declared.primitive.Direction.{Direction}
 use Rattle.filter_tree.specs.declared.primitive.Direction.TheVariants.{Both, Destination as ToDestination, Either, Source as FromSource}
 use Rattle.filter_tree.specs.declared.primitive.Primitive.{Primitive}
 use Rattle.filter_tree.specs.declared.primitive.Primitive.TheVariants.{AtLeast, AtMost, Host as IsHost, Ip, Net as IsNet, Port as IsPort, PortRange as IsPortRange, Proto as IsProto}
 use Rattle.filter_tree.specs.declared.primitive.Transport.{Transport}
 use Rattle.filter_tree.specs.declared.primitive.Transport.TheVariants.{Tcp, Udp, Unnamed}
-use Rattle.filter_parse.specs.declared.token.Connective.TheVariants.{And, AndSign, Or, OrSign}
+use Rattle.filter_parse.specs.declared.token.Connective.TheVariants.{And, Or}
 use Rattle.filter_parse.specs.declared.token.Token.{Token}
 use Rattle.filter_parse.specs.declared.token.Token.TheVariants.{Address, Close, CloseIndex, Colon, Compares, Connects, Destination, Greater, Host, Length, Less, Named, Net, Not, Number, Open, OpenIndex, Operates, Port, PortRange, Proto, Source}
-use Rattle.filter_parse.specs.declared.fault.ParseFault.{ParseFault}
 use Rattle.filter_parse.specs.declared.fault.ParseFault.TheVariants.{BadAddress, BadPrefix, NumberTooBig, TooDeep}
 use Rattle.filter_tree.specs.Measure.{depth_of, depth_of_arith}
-use Rattle.filter_tree.specs.Prefix.{IsPrefix}
 use Rattle.filter_tree.specs.Text.{printed}
 use Rattle.filter_tree.specs.Tree.{ArithTree, IsArithInRange, IsInRange, IsPrimitiveInRange, Tree, accessor, conjunction, disjunction, negation, number, operation, packet_length, primitive, relation}
-use Rattle.filter_parse.specs.Fault.{HasTree, IsFaultless, bracket_fault, limit_after, network_after, open_brackets, own_fault, prefix_fault}
+use Rattle.filter_parse.specs.Fault.{IsFaultless, bracket_fault, network_after, open_brackets, own_fault, prefix_fault}
 use Rattle.filter_parse.specs.Grammar.{Spells}
 use Rattle.filter_parse.specs.Laws.{ReadsBack}
 use Rattle.filter_parse.specs.Token.{Placed, kinds, tokens_of}
@@ -92,18 +87,24 @@ sound-arith : (a : ArithTree) → IsArithInRange a → (before rest : List Token
 sound-arith (number n) range before rest f room s = (λ at. sound-number before n at f range, s)
 sound-arith packet_length range before rest f room s = (λ at. refl, s)
 sound-arith (accessor p index size) range before rest f room s =
-    let deep : 1 ≤ depth_of_arith index = depth-some index in
-    (λ at. refl, (λ at. sound-bracket (open_brackets before) at (omega arith),
-      sound-arith index range (OpenIndex ∷ Named p ∷ before) (Colon ∷ size_token size ∷ CloseIndex ∷ rest) (refl, refl) (omega arith)
-        (sound-close size (arith_before index (OpenIndex ∷ Named p ∷ before)) rest s)))
+    let deep : 1 ≤ depth_of_arith index = depth-some index in (
+      λ at. refl,
+      (
+        λ at. sound-bracket (open_brackets before) at (omega arith),
+        sound-arith index range (OpenIndex ∷ Named p ∷ before) (Colon ∷ size_token size ∷ CloseIndex ∷ rest) (refl, refl) (omega arith)
+            (sound-close size (arith_before index (OpenIndex ∷ Named p ∷ before)) rest s),
+      ),
+    )
 sound-arith (operation left operator right) (range-left, range-right) before rest f room s =
     let deep : 1 ≤ depth_of_arith left = depth-some left in
-    let same : open_brackets (arith_before left (Open ∷ before)) ≡ suc (open_brackets before) = open-arith left (Open ∷ before) in
-    (λ at. sound-bracket (open_brackets before) at (omega arith),
-      sound-arith left range-left (Open ∷ before) (Operates operator ∷ arith_tokens right (Close ∷ rest)) (refl, refl) (omega arith)
-        (λ at. refl,
-          sound-arith right range-right (Operates operator ∷ arith_before left (Open ∷ before)) (Close ∷ rest)
-            (free-arith left (Open ∷ before) (refl, refl) operator) (omega arith) (λ at. refl, s)))
+    let same : open_brackets (arith_before left (Open ∷ before)) ≡ suc (open_brackets before) = open-arith left (Open ∷ before) in (
+      λ at. sound-bracket (open_brackets before) at (omega arith),
+      sound-arith left range-left (Open ∷ before) (Operates operator ∷ arith_tokens right (Close ∷ rest)) (refl, refl) (omega arith) (
+        λ at. refl,
+        sound-arith right range-right (Operates operator ∷ arith_before left (Open ∷ before)) (Close ∷ rest)
+            (free-arith left (Open ∷ before) (refl, refl) operator) (omega arith) (λ at. refl, s),
+      ),
+    )
 
 abbrev direction_before : Direction → List Token → List Token
 direction_before FromSource before = Source ∷ before
@@ -195,14 +196,19 @@ sound-primitive (IsProto n) range before rest s = (λ at. refl, (λ at. refl, (�
 sound-primitive (IsHost direction a) range before rest s =
     sound-direction direction before _ (λ at. refl, (λ at. sound-address (Host ∷ direction_before direction before) a at range, s))
 sound-primitive (IsNet direction prefix) range before rest s =
-    sound-direction direction before _ (λ at. refl, (λ at. sound-address (Net ∷ direction_before direction before) prefix.address at range.0,
-      (λ at. refl, (λ at. sound-bits prefix.address prefix.bits at range.1.not_too_long range.1.no_host_bits, s))))
+    sound-direction direction before _ (
+      λ at. refl,
+      (
+        λ at. sound-address (Net ∷ direction_before direction before) prefix.address at range.0,
+        (λ at. refl, (λ at. sound-bits prefix.address prefix.bits at range.1.not_too_long range.1.no_host_bits, s)),
+      ),
+    )
 sound-primitive (IsPort transport direction n) range before rest s =
     sound-transport transport before _ (sound-direction direction (transport_before transport before) _
-      (λ at. refl, (λ at. sound-limit 65535 n at (omega arith), s)))
+    (λ at. refl, (λ at. sound-limit 65535 n at (omega arith), s)))
 sound-primitive (IsPortRange transport direction n m) range before rest s =
     sound-transport transport before _ (sound-direction direction (transport_before transport before) _
-      (λ at. refl, (λ at. sound-limit 65535 n at (omega (arith, range.0)), (λ at. refl, (λ at. sound-limit 65535 m at (omega (arith, range.1)), s)))))
+    (λ at. refl, (λ at. sound-limit 65535 n at (omega (arith, range.0)), (λ at. refl, (λ at. sound-limit 65535 m at (omega (arith, range.1)), s)))))
 sound-primitive (AtMost n) range before rest s = (λ at. refl, (λ at. sound-limit 4294967295 n at (omega arith), s))
 sound-primitive (AtLeast n) range before rest s = (λ at. refl, (λ at. sound-limit 4294967295 n at (omega arith), s))
 
@@ -219,20 +225,22 @@ sound-tree (primitive p) range before rest f room s = sound-primitive p range be
 sound-tree (relation left relator right) (range-left, range-right) before rest f room s =
     let same : open_brackets (arith_before left before) ≡ open_brackets before = open-arith left before in
     sound-arith left range-left before (Compares relator ∷ arith_tokens right rest) f (omega arith)
-      (λ at. refl, sound-arith right range-right (Compares relator ∷ arith_before left before) rest (refl, refl) (omega arith) s)
+    (λ at. refl, sound-arith right range-right (Compares relator ∷ arith_before left before) rest (refl, refl) (omega arith) s)
 sound-tree (negation tree) range before rest f room s = (λ at. refl, sound-tree tree range (Not ∷ before) rest (refl, refl) (omega arith) s)
 sound-tree (conjunction left right) (range-left, range-right) before rest f room s =
     let deep : 1 ≤ depth_of left = depth-tree left in
-    let same : open_brackets (tree_before left (Open ∷ before)) ≡ suc (open_brackets before) = open-tree left (Open ∷ before) in
-    (λ at. sound-bracket (open_brackets before) at (omega arith),
+    let same : open_brackets (tree_before left (Open ∷ before)) ≡ suc (open_brackets before) = open-tree left (Open ∷ before) in (
+      λ at. sound-bracket (open_brackets before) at (omega arith),
       sound-tree left range-left (Open ∷ before) (Connects And ∷ tree_tokens right (Close ∷ rest)) (refl, refl) (omega arith)
-        (λ at. refl, sound-tree right range-right (Connects And ∷ tree_before left (Open ∷ before)) (Close ∷ rest) (refl, refl) (omega arith) (λ at. refl, s)))
+          (λ at. refl, sound-tree right range-right (Connects And ∷ tree_before left (Open ∷ before)) (Close ∷ rest) (refl, refl) (omega arith) (λ at. refl, s)),
+    )
 sound-tree (disjunction left right) (range-left, range-right) before rest f room s =
     let deep : 1 ≤ depth_of left = depth-tree left in
-    let same : open_brackets (tree_before left (Open ∷ before)) ≡ suc (open_brackets before) = open-tree left (Open ∷ before) in
-    (λ at. sound-bracket (open_brackets before) at (omega arith),
+    let same : open_brackets (tree_before left (Open ∷ before)) ≡ suc (open_brackets before) = open-tree left (Open ∷ before) in (
+      λ at. sound-bracket (open_brackets before) at (omega arith),
       sound-tree left range-left (Open ∷ before) (Connects Or ∷ tree_tokens right (Close ∷ rest)) (refl, refl) (omega arith)
-        (λ at. refl, sound-tree right range-right (Connects Or ∷ tree_before left (Open ∷ before)) (Close ∷ rest) (refl, refl) (omega arith) (λ at. refl, s)))
+          (λ at. refl, sound-tree right range-right (Connects Or ∷ tree_before left (Open ∷ before)) (Close ∷ rest) (refl, refl) (omega arith) (λ at. refl, s)),
+    )
 
 pub read-back : ReadsBack
 read-back tree range shallow =

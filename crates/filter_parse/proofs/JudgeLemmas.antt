@@ -1,13 +1,11 @@
 -- What the pass over the tokens of a text makes of them is what the definitions say of the text.
-use Rattle.std.proofs.Common.{◌≡◌, ◌<◌, ◌≤◌, ◌+◌, ◌∙◌, ◌∷◌, ◌++◌, Bool, Err, List, None, Ok, Option, Result, Some, [], ap, append_assoc, arith, length, map, option_and_then, refl, reverse, subst, sym, ℕ}
+use Rattle.std.proofs.Common.{◌≡◌, ◌∙◌, ◌∷◌, ◌++◌, Err, List, None, Ok, Option, Result, Some, [], ap, append_assoc, length, option_and_then, refl, reverse, subst, sym, ℕ}
 use Rattle.std.proofs.lemmas.List.{append-nil, map-append, reverse-append}
-use Rattle.filter_tree.specs.Tree.{Tree}
 use Rattle.filter_parse.specs.declared.fault.ParseFault.{ParseFault}
-use Rattle.filter_parse.specs.declared.fault.ParseFault.TheVariants.{Syntax}
 use Rattle.filter_parse.specs.declared.item.Item.{Item}
 use Rattle.filter_parse.specs.declared.state.Control.TheVariants.{Expects}
 use Rattle.filter_parse.specs.declared.token.Token.{Token}
-use Rattle.filter_parse.specs.Fault.{HasFault, IsFaultless, open_after, open_brackets, own_fault, unexpected, faulty, unfinished}
+use Rattle.filter_parse.specs.Fault.{HasFault, IsFaultless, open_brackets, own_fault, unexpected, faulty, unfinished}
 use Rattle.filter_parse.specs.Grammar.{IsViable, Spells}
 use Rattle.filter_parse.specs.Pass.{Reading, accepted, at_end, control_of, fault_in, judged_by, pass, passed_on, reading, run, settled, taken, with_tree}
 use Rattle.filter_parse.specs.Token.{Placed, kinds, tokens_of}

@@ -1,19 +1,19 @@
 -- The tokens of a text that is put together of texts of tokens.
-use Rattle.std.proofs.Common.{◌≡◌, ◌<◌, ◌≤◌, ◌+◌, ◌-◌, ◌*◌, ◌/◌, ◌%◌, ◌^◌, ◌∙◌, ◌∷◌, ◌++◌, ◌&&◌, ◌||◌, Bool, List, None, Option, Some, [], ap, append_assoc, arith, cond, drop, false, length, nat_eq, nat_le, nat_lt, refl, subst, suc, sym, take, true, unwrap_or, zero, ℕ}
+use Rattle.std.proofs.Common.{◌≡◌, ◌<◌, ◌≤◌, ◌+◌, ◌-◌, ◌*◌, ◌/◌, ◌%◌, ◌^◌, ◌∙◌, ◌∷◌, ◌++◌, ◌&&◌, ◌||◌, Bool, List, None, [], ap, arith, cond, drop, false, length, nat_eq, refl, take, true, unwrap_or, ℕ}
 use Rattle.std.proofs.Math.Seq.{drop-append_seam, take-append_seam}
 use Rattle.std.proofs.lemmas.Bool.{eq-eqb, lt-ltb}
 use Rattle.std.proofs.lemmas.Bool.Decides.{nat_tests}
 use Rattle.std.proofs.lemmas.Fmt.{decimal_by_steps}
 use Rattle.std.proofs.lemmas.List.Folds.{list_all-append, prefix_len-append}
 use Rattle.std.proofs.lemmas.List.Sums.{fold-append}
-use Rattle.std.specs.Char.{digit_value, is_ascii_alphanumeric, is_ascii_digit}
+use Rattle.std.specs.Char.{digit_value, is_ascii_digit}
 use Rattle.std.specs.Fmt.{decimal}
-use Rattle.std.specs.List.{fold, list_all, list_any, prefix_len}
+use Rattle.std.specs.List.{list_all, list_any, prefix_len}
 use Rattle.filter_parse.specs.declared.token.Lexeme.{Lexeme}
 use Rattle.filter_parse.specs.declared.token.TheConstants.{TOO_BIG}
 use Rattle.filter_parse.specs.declared.token.Token.{Token}
 use Rattle.filter_parse.specs.declared.token.Token.TheVariants.{Address, Number, Stray}
-use Rattle.filter_parse.specs.Token.{Placed, address_of, begins_word, capped, is_blank, is_decimal, is_dot, is_hexadecimal, is_number_part, is_word_part, kinds, lexeme, mark, number_or_address, number_token, pair_sign, sign, sign_lexeme, sign_or, tokens_from, value_of, word_token}
+use Rattle.filter_parse.specs.Token.{address_of, begins_word, capped, is_blank, is_decimal, is_dot, is_hexadecimal, is_number_part, is_word_part, kinds, lexeme, number_or_address, number_token, pair_sign, sign, sign_lexeme, sign_or, tokens_from, value_of, word_token}
 use Rattle.filter_parse.proofs.TokenLemmas.{tokens_from-inside}
 
 -- the tokens of a text, wherever it stands
@@ -22,13 +22,15 @@ pub record Lexes (text : List ℕ) (tokens : List Token) : Type 0 where
 
 pub lexes-one : (c : ℕ) (text rest : List ℕ) (l : Lexeme) (tokens : List Token) → is_blank c ≡ false → lexeme c text ≡ l → drop (l.len - 1) text ≡ rest →
     Lexes rest tokens → Lexes (c ∷ text) (l.token ∷ tokens)
-lexes-one c text rest l tokens dark is behind h = record { same = λ place.
-    ap (λ t. kinds (cond t (tokens_from 0 (place + 1) text) (record { token = (lexeme c text).token; place = place } ∷ tokens_from ((lexeme c text).len - 1) (place + 1) text))) dark
-    ∙ ap (λ (m : Lexeme). m.token ∷ kinds (tokens_from (m.len - 1) (place + 1) text)) is
-    ∙ ap (λ ts. l.token ∷ ts)
-        (ap kinds (tokens_from-inside (l.len - 1) (place + 1) text)
-        ∙ ap (λ r. kinds (tokens_from 0 ((place + 1) + (l.len - 1)) r)) behind
-        ∙ h.same ((place + 1) + (l.len - 1))) }
+lexes-one c text rest l tokens dark is behind h = record {
+  same = λ place.
+      ap (λ t. kinds (cond t (tokens_from 0 (place + 1) text) (record { token = (lexeme c text).token; place = place } ∷ tokens_from ((lexeme c text).len - 1) (place + 1) text))) dark
+      ∙ ap (λ (m : Lexeme). m.token ∷ kinds (tokens_from (m.len - 1) (place + 1) text)) is
+      ∙ ap (λ ts. l.token ∷ ts)
+      (ap kinds (tokens_from-inside (l.len - 1) (place + 1) text)
+      ∙ ap (λ r. kinds (tokens_from 0 ((place + 1) + (l.len - 1)) r)) behind
+      ∙ h.same ((place + 1) + (l.len - 1)));
+}
 
 pub lexes-space : (rest : List ℕ) (tokens : List Token) → Lexes rest tokens → Lexes (32 ∷ rest) tokens
 lexes-space rest tokens h = record { same = λ place. h.same (place + 1) }
@@ -45,25 +47,25 @@ pub lexes-word : (c : ℕ) (w rest : List ℕ) (token : Token) (tokens : List To
     Lexes rest tokens → Lexes ((c ∷ w) ++ rest) (token ∷ tokens)
 lexes-word c w rest token tokens dark begins full is apart h =
     lexes-one c (w ++ rest) rest (record { token = token; len = length (c ∷ w) }) tokens dark
-        (ap (λ t. cond t (record { token = word_token (take (prefix_len is_word_part (c ∷ w ++ rest)) (c ∷ w ++ rest)); len = prefix_len is_word_part (c ∷ w ++ rest) })
-              (cond (is_ascii_digit c) (record { token = number_or_address (take (prefix_len is_number_part (c ∷ w ++ rest)) (c ∷ w ++ rest)); len = prefix_len is_number_part (c ∷ w ++ rest) }) (sign_lexeme c (w ++ rest)))) begins
-        ∙ ap (λ n. record { token = word_token (take n (c ∷ w ++ rest)); len = n }) (longest is_word_part (c ∷ w) rest full apart)
-        ∙ ap (λ x. record { token = word_token x; len = length (c ∷ w) }) (take-append_seam (c ∷ w) rest)
-        ∙ ap (λ k. record { token = k; len = length (c ∷ w) }) is)
-        (ap (λ n. drop n (w ++ rest)) (omega arith) ∙ drop-append_seam w rest) h
+    (ap (λ t. cond t (record { token = word_token (take (prefix_len is_word_part (c ∷ w ++ rest)) (c ∷ w ++ rest)); len = prefix_len is_word_part (c ∷ w ++ rest) })
+    (cond (is_ascii_digit c) (record { token = number_or_address (take (prefix_len is_number_part (c ∷ w ++ rest)) (c ∷ w ++ rest)); len = prefix_len is_number_part (c ∷ w ++ rest) }) (sign_lexeme c (w ++ rest)))) begins
+    ∙ ap (λ n. record { token = word_token (take n (c ∷ w ++ rest)); len = n }) (longest is_word_part (c ∷ w) rest full apart)
+    ∙ ap (λ x. record { token = word_token x; len = length (c ∷ w) }) (take-append_seam (c ∷ w) rest)
+    ∙ ap (λ k. record { token = k; len = length (c ∷ w) }) is)
+    (ap (λ n. drop n (w ++ rest)) (omega arith) ∙ drop-append_seam w rest) h
 
 pub lexes-digits : (c : ℕ) (w rest : List ℕ) (token : Token) (tokens : List Token) → is_blank c ≡ false → begins_word c ≡ false → is_ascii_digit c ≡ true →
     prefix_len is_number_part (c ∷ w) ≡ length (c ∷ w) → number_or_address (c ∷ w) ≡ token → prefix_len is_number_part rest ≡ 0 →
     Lexes rest tokens → Lexes ((c ∷ w) ++ rest) (token ∷ tokens)
 lexes-digits c w rest token tokens dark no_word begins full is apart h =
     lexes-one c (w ++ rest) rest (record { token = token; len = length (c ∷ w) }) tokens dark
-        (ap (λ t. cond t (record { token = word_token (take (prefix_len is_word_part (c ∷ w ++ rest)) (c ∷ w ++ rest)); len = prefix_len is_word_part (c ∷ w ++ rest) })
-              (cond (is_ascii_digit c) (record { token = number_or_address (take (prefix_len is_number_part (c ∷ w ++ rest)) (c ∷ w ++ rest)); len = prefix_len is_number_part (c ∷ w ++ rest) }) (sign_lexeme c (w ++ rest)))) no_word
-        ∙ ap (λ t. cond t (record { token = number_or_address (take (prefix_len is_number_part (c ∷ w ++ rest)) (c ∷ w ++ rest)); len = prefix_len is_number_part (c ∷ w ++ rest) }) (sign_lexeme c (w ++ rest))) begins
-        ∙ ap (λ n. record { token = number_or_address (take n (c ∷ w ++ rest)); len = n }) (longest is_number_part (c ∷ w) rest full apart)
-        ∙ ap (λ x. record { token = number_or_address x; len = length (c ∷ w) }) (take-append_seam (c ∷ w) rest)
-        ∙ ap (λ k. record { token = k; len = length (c ∷ w) }) is)
-        (ap (λ n. drop n (w ++ rest)) (omega arith) ∙ drop-append_seam w rest) h
+    (ap (λ t. cond t (record { token = word_token (take (prefix_len is_word_part (c ∷ w ++ rest)) (c ∷ w ++ rest)); len = prefix_len is_word_part (c ∷ w ++ rest) })
+    (cond (is_ascii_digit c) (record { token = number_or_address (take (prefix_len is_number_part (c ∷ w ++ rest)) (c ∷ w ++ rest)); len = prefix_len is_number_part (c ∷ w ++ rest) }) (sign_lexeme c (w ++ rest)))) no_word
+    ∙ ap (λ t. cond t (record { token = number_or_address (take (prefix_len is_number_part (c ∷ w ++ rest)) (c ∷ w ++ rest)); len = prefix_len is_number_part (c ∷ w ++ rest) }) (sign_lexeme c (w ++ rest))) begins
+    ∙ ap (λ n. record { token = number_or_address (take n (c ∷ w ++ rest)); len = n }) (longest is_number_part (c ∷ w) rest full apart)
+    ∙ ap (λ x. record { token = number_or_address x; len = length (c ∷ w) }) (take-append_seam (c ∷ w) rest)
+    ∙ ap (λ k. record { token = k; len = length (c ∷ w) }) is)
+    (ap (λ n. drop n (w ++ rest)) (omega arith) ∙ drop-append_seam w rest) h
 
 -- no sign of two bytes begins where this one stands
 abbrev pub IsAlone : ℕ → List ℕ → Type 0
@@ -78,11 +80,11 @@ pub lexes-sign : (c : ℕ) (rest : List ℕ) (tokens : List Token) → is_blank 
     Lexes rest tokens → Lexes (c ∷ rest) (sign c ∷ tokens)
 lexes-sign c rest tokens dark no_word no_digit alone h =
     lexes-one c rest rest (record { token = sign c; len = 1 }) tokens dark
-        (ap (λ t. cond t (record { token = word_token (take (prefix_len is_word_part (c ∷ rest)) (c ∷ rest)); len = prefix_len is_word_part (c ∷ rest) })
-              (cond (is_ascii_digit c) (record { token = number_or_address (take (prefix_len is_number_part (c ∷ rest)) (c ∷ rest)); len = prefix_len is_number_part (c ∷ rest) }) (sign_lexeme c rest))) no_word
-        ∙ ap (λ t. cond t (record { token = number_or_address (take (prefix_len is_number_part (c ∷ rest)) (c ∷ rest)); len = prefix_len is_number_part (c ∷ rest) }) (sign_lexeme c rest)) no_digit
-        ∙ sign-alone c rest alone)
-        refl h
+    (ap (λ t. cond t (record { token = word_token (take (prefix_len is_word_part (c ∷ rest)) (c ∷ rest)); len = prefix_len is_word_part (c ∷ rest) })
+    (cond (is_ascii_digit c) (record { token = number_or_address (take (prefix_len is_number_part (c ∷ rest)) (c ∷ rest)); len = prefix_len is_number_part (c ∷ rest) }) (sign_lexeme c rest))) no_word
+    ∙ ap (λ t. cond t (record { token = number_or_address (take (prefix_len is_number_part (c ∷ rest)) (c ∷ rest)); len = prefix_len is_number_part (c ∷ rest) }) (sign_lexeme c rest)) no_digit
+    ∙ sign-alone c rest alone)
+    refl h
 
 -- a decimal digit
 pub digit-part : (c : ℕ) → is_ascii_digit c ≡ true → is_number_part c ≡ true
@@ -117,11 +119,13 @@ run-one n h = (ap (λ t. t && true) (digit-of n h), omega (arith, digit_value-of
 run-more : (n : ℕ) (ds : List ℕ) → 10 ≤ n → IsRun (n / 10) ds → IsRun n (ds ++ (48 + n % 10) ∷ [])
 run-more n [] h r = absurd r
 run-more n (c ∷ w) h r =
-    let last : n % 10 < 10 = omega arith in
-    (list_all-append is_ascii_digit (c ∷ w) ((48 + n % 10) ∷ []) ∙ ap (λ t. t && (is_ascii_digit (48 + n % 10) && true)) r.0 ∙ ap (λ t. t && true) (digit-of (n % 10) last),
+    let last : n % 10 < 10 = omega arith in (
+      list_all-append is_ascii_digit (c ∷ w) ((48 + n % 10) ∷ []) ∙ ap (λ t. t && (is_ascii_digit (48 + n % 10) && true)) r.0 ∙ ap (λ t. t && true) (digit-of (n % 10) last),
       fold-append (λ m d. m * 10 + digit_value d) 0 (c ∷ w) ((48 + n % 10) ∷ [])
-      ∙ ap (λ m. m * 10 + digit_value (48 + n % 10)) r.1 ∙ ap (λ d. n / 10 * 10 + d) (digit_value-of (n % 10) last) ∙ omega arith,
-      λ above. r.2 (omega arith), no_zero c w (48 + n % 10) (r.2 (omega arith)))
+          ∙ ap (λ m. m * 10 + digit_value (48 + n % 10)) r.1 ∙ ap (λ d. n / 10 * 10 + d) (digit_value-of (n % 10) last) ∙ omega arith,
+      λ above. r.2 (omega arith),
+      no_zero c w (48 + n % 10) (r.2 (omega arith)),
+    )
 
 pub decimal-run : (n : ℕ) → n < 2 ^ 64 → IsRun n (decimal n)
 decimal-run n h = decimal_by_steps IsRun run-one run-more n h
@@ -165,7 +169,7 @@ lexes-run n [] rest tokens small r apart h = absurd r
 lexes-run n (c ∷ w) rest tokens small r apart h =
     let digit = (and-parts (is_ascii_digit c) (list_all is_ascii_digit w) r.0).0 in
     lexes-digits c w rest (Number n) tokens (digit-dark c digit) (digit-no_word c digit) digit
-        (all-prefix is_ascii_digit is_number_part digit-part (c ∷ w) r.0) (run-token n (c ∷ w) small r) apart h
+    (all-prefix is_ascii_digit is_number_part digit-part (c ∷ w) r.0) (run-token n (c ∷ w) small r) apart h
 
 -- a number as it is printed
 pub lexes-decimal : (n : ℕ) (rest : List ℕ) (tokens : List Token) → n < 2 ^ 32 → prefix_len is_number_part rest ≡ 0 → Lexes rest tokens →

@@ -1,5 +1,5 @@
 -- A text has a tree or a fault, and never both.
-use Rattle.std.proofs.Common.{◌≡◌, ◌<◌, ◌≤◌, ◌∙◌, ◌∷◌, ◌++◌, Err, List, None, Ok, Option, Result, Some, [], ap, append_assoc, arith, length, map, min, option_map, refl, reverse, subst, sym, ℕ}
+use Rattle.std.proofs.Common.{◌≡◌, ◌<◌, ◌≤◌, ◌∙◌, ◌∷◌, ◌++◌, Err, List, None, Ok, Some, [], ap, append_assoc, arith, length, min, reverse, subst, sym, ℕ}
 use Rattle.std.proofs.lemmas.List.{append-nil, map-append, reverse-append}
 use Rattle.filter_tree.specs.Measure.{depth_of}
 use Rattle.filter_tree.specs.Tree.{Tree}
@@ -8,10 +8,10 @@ use Rattle.filter_parse.specs.declared.fault.ParseFault.TheVariants.{TooDeep}
 use Rattle.filter_parse.specs.declared.item.Item.{Item}
 use Rattle.filter_parse.specs.declared.token.Token.{Token}
 use Rattle.filter_parse.specs.Fault.{HasFault, HasTree, IsFaultless, deep, faulty, own_fault, unexpected, unfinished}
-use Rattle.filter_parse.specs.Grammar.{IsViable, Spells}
+use Rattle.filter_parse.specs.Grammar.{Spells}
 use Rattle.filter_parse.specs.Laws.{IsUnambiguous}
 use Rattle.filter_parse.specs.Pass.{pass_of, with_tree}
-use Rattle.filter_parse.specs.Postfix.{Growth, built, depths_of, first_depth, truth}
+use Rattle.filter_parse.specs.Postfix.{built, depths_of, first_depth, truth}
 use Rattle.filter_parse.specs.Token.{Placed, kinds, tokens_of}
 use Rattle.filter_parse.proofs.RunLemmas.{run-spelt}
 use Rattle.filter_parse.proofs.SpeltLemmas.{IsSpelt, spelt-run}

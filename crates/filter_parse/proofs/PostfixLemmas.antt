@@ -1,5 +1,5 @@
 -- The parts of a tree build that tree, and tell its depth.
-use Rattle.std.proofs.Common.{◌≡◌, ◌≤◌, ◌+◌, ◌∙◌, ◌∷◌, ◌++◌, ◌<◌, List, None, Option, Some, [], ap, arith, drop, get_or, length, max, min, option_and_then, option_map, refl, subst, suc, sym, ℕ}
+use Rattle.std.proofs.Common.{◌≡◌, ◌+◌, ◌∙◌, ◌∷◌, ◌++◌, ◌<◌, List, None, Option, Some, [], ap, arith, drop, get_or, length, max, min, option_and_then, option_map, refl, subst, suc, sym, ℕ}
 use Rattle.std.proofs.Math.Seq.{drop-cons}
 use Rattle.filter_tree.specs.declared.arithmetic.Operator.{Operator}
 use Rattle.filter_tree.specs.declared.arithmetic.Protocol.{Protocol}
@@ -10,7 +10,7 @@ use Rattle.filter_tree.specs.Tree.{ArithTree, Tree, accessor, conjunction, disju
 use Rattle.filter_parse.specs.declared.item.Item.{Item}
 use Rattle.filter_parse.specs.declared.item.Item.TheVariants.{Access, Conjoin, Disjoin, Length, Negate, Number, Operate, Primitive, Relate}
 use Rattle.filter_parse.specs.Pass.{with_arith, with_tree}
-use Rattle.filter_parse.specs.Postfix.{Growth, Takes, arithmetic, built, deepened, deeper, depths_of, first_depth, grown, other_depths, over_two, truth}
+use Rattle.filter_parse.specs.Postfix.{Growth, Takes, arithmetic, built, deepened, deeper, depths_of, grown, over_two, truth}
 
 -- what can be built takes its next part
 takes-case : (items : List Item) (found : Option (List Growth)) (whole : List Growth) → option_and_then (built items) found ≡ Some whole →

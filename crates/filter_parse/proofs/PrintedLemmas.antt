@@ -1,5 +1,5 @@
 -- The tokens of a printed tree, and that they spell it.
-use Rattle.std.proofs.Common.{◌≡◌, ◌<◌, ◌≤◌, ◌+◌, ◌^◌, ◌∙◌, ◌∷◌, ◌++◌, ◌&&◌, Bool, List, None, Option, Some, [], ap, append_assoc, arith, codes, cond, false, length, nat_eq, refl, subst, suc, sym, true, ℕ}
+use Rattle.std.proofs.Common.{◌≡◌, ◌<◌, ◌∙◌, ◌∷◌, ◌++◌, ◌&&◌, Bool, List, None, Some, [], ap, append_assoc, arith, codes, cond, false, length, nat_eq, refl, subst, sym, true, ℕ}
 use Rattle.std.proofs.lemmas.Bool.Decides.{nat_tests}
 use Rattle.std.proofs.lemmas.List.{append-nil}
 use Rattle.std.specs.Char.{is_ascii_digit}
@@ -24,8 +24,8 @@ use Rattle.filter_tree.specs.Tree.{ArithTree, IsArithInRange, IsInRange, IsPrimi
 use Rattle.filter_parse.specs.declared.token.Connective.TheVariants.{And, AndSign, Or, OrSign}
 use Rattle.filter_parse.specs.declared.token.Token.{Token}
 use Rattle.filter_parse.specs.declared.token.Token.TheVariants.{Address, Close, CloseIndex, Colon, Compares, Connects, Destination, Greater, Host, Length, Less, Named, Net, Not, Number, Open, OpenIndex, Operates, Port, PortRange, Proto, Source}
-use Rattle.filter_parse.specs.Grammar.{Spells, SpellsArith, SpellsDirection, SpellsExpr, SpellsOperand, SpellsPrimitive, SpellsSize, SpellsTransport, SpellsUnary, bracketed, bytes_at, combined, destination, enclosed, four, greater, host, junction, len, less, level_of, literal, negated, net, one, operand, port, portrange, proto, protocol, related, simple, source, source_and_destination, tcp, two, udp, unary, undirected, unnamed}
-use Rattle.filter_parse.specs.Token.{begins_word, is_blank, is_number_part, is_word_part, kinds, pair_sign, sign, tokens_of, word_token}
+use Rattle.filter_parse.specs.Grammar.{Spells, SpellsDirection, SpellsOperand, SpellsPrimitive, SpellsSize, SpellsTransport, SpellsUnary, bracketed, bytes_at, combined, destination, enclosed, four, greater, host, junction, len, less, literal, negated, net, one, operand, port, portrange, proto, protocol, related, simple, source, source_and_destination, tcp, two, udp, unary, undirected, unnamed}
+use Rattle.filter_parse.specs.Token.{begins_word, is_blank, is_number_part, is_word_part, kinds, pair_sign, tokens_of, word_token}
 use Rattle.filter_parse.proofs.AddressLemmas.{lexes-address}
 use Rattle.filter_parse.proofs.LexLemmas.{and-parts, IsAlone, IsRun, Lexes, decimal-run, lexes-decimal, lexes-digits, lexes-one, lexes-sign, lexes-space, lexes-word}
 
@@ -84,7 +84,7 @@ arith-spelt (accessor p index size) rest =
     bytes_at (size_token size) (size-spelt size) (operand (arith-spelt index (Colon ∷ size_token size ∷ CloseIndex ∷ rest)))
 arith-spelt (operation left operator right) rest =
     bracketed (combined operator (omega arith)
-        (operand (arith-spelt left (Operates operator ∷ arith_tokens right (Close ∷ rest)))) (operand (arith-spelt right (Close ∷ rest))))
+    (operand (arith-spelt left (Operates operator ∷ arith_tokens right (Close ∷ rest)))) (operand (arith-spelt right (Close ∷ rest))))
 
 direction-spelt : (direction : Direction) (rest : List Token) → SpellsDirection (direction_tokens direction rest) rest direction
 direction-spelt FromSource rest = source
@@ -106,7 +106,7 @@ primitive-spelt (IsPort transport direction n) rest =
     port (transport-spelt transport (direction_tokens direction (Port ∷ Number n ∷ rest))) (direction-spelt direction (Port ∷ Number n ∷ rest))
 primitive-spelt (IsPortRange transport direction n m) rest =
     portrange (transport-spelt transport (direction_tokens direction (PortRange ∷ Number n ∷ Operates Subtract ∷ Number m ∷ rest)))
-        (direction-spelt direction (PortRange ∷ Number n ∷ Operates Subtract ∷ Number m ∷ rest))
+    (direction-spelt direction (PortRange ∷ Number n ∷ Operates Subtract ∷ Number m ∷ rest))
 primitive-spelt (AtMost n) rest = less
 primitive-spelt (AtLeast n) rest = greater
 
@@ -267,27 +267,27 @@ lexes-arith g (number n) range rest tokens apart h = lexes-decimal n rest tokens
 lexes-arith g packet_length range rest tokens apart h = lexes-word 108 (101 ∷ 110 ∷ []) rest Length tokens refl refl refl refl apart.1 h
 lexes-arith {gap} g (accessor p index size) range rest tokens apart h =
     subst (λ t. Lexes t (Named p ∷ OpenIndex ∷ arith_tokens index (Colon ∷ size_token size ∷ CloseIndex ∷ tokens)))
-        (sym (regroup-accessor (printed_protocol p) (printed_arith [] index) (printed_size size) rest))
-        (lexes-protocol p _ _ refl (lexes-open_index _ _
-          (lexes-arith closed index range _ _ (refl, refl) (lexes-colon _ _
-            (lexes-size size _ _ refl (lexes-close_index rest tokens h))))))
+    (sym (regroup-accessor (printed_protocol p) (printed_arith [] index) (printed_size size) rest))
+    (lexes-protocol p _ _ refl (lexes-open_index _ _
+    (lexes-arith closed index range _ _ (refl, refl) (lexes-colon _ _
+    (lexes-size size _ _ refl (lexes-close_index rest tokens h))))))
 lexes-arith {gap} g (operation left o right) (range-left, range-right) rest tokens apart h =
     let b = gap-beside o g in
     let behind : List ℕ = gap ++ 41 ∷ rest in
     let h-behind : Lexes behind (Close ∷ tokens) = lexes-gap g (41 ∷ rest) (Close ∷ tokens) (lexes-close rest tokens h) in
     let right-text : List ℕ = printed_arith gap right ++ behind in
     let h-right : Lexes right-text (arith_tokens right (Close ∷ tokens)) =
-          lexes-arith g right range-right behind (Close ∷ tokens) (apart-gap g (41 ∷ rest) (refl, refl)) h-behind in
+    lexes-arith g right range-right behind (Close ∷ tokens) (apart-gap g (41 ∷ rest) (refl, refl)) h-behind in
     let h-operator : Lexes (printed_operator o ++ (beside o gap ++ right-text)) (Operates o ∷ arith_tokens right (Close ∷ tokens)) =
-          lexes-operator o (beside o gap ++ right-text) (arith_tokens right (Close ∷ tokens))
-            (alone-gap 38 refl b right-text (alone-arith 38 alone-and gap right behind range-right))
-            (alone-gap 124 refl b right-text (alone-arith 124 alone-or gap right behind range-right))
-            (lexes-gap b right-text _ h-right) in
+    lexes-operator o (beside o gap ++ right-text) (arith_tokens right (Close ∷ tokens))
+    (alone-gap 38 refl b right-text (alone-arith 38 alone-and gap right behind range-right))
+    (alone-gap 124 refl b right-text (alone-arith 124 alone-or gap right behind range-right))
+    (lexes-gap b right-text _ h-right) in
     subst (λ t. Lexes t (Open ∷ arith_tokens left (Operates o ∷ arith_tokens right (Close ∷ tokens))))
-        (sym (regroup-operation gap (printed_arith gap left) (beside o gap) (printed_operator o) (printed_arith gap right) rest))
-        (lexes-open _ _ (lexes-gap g _ _
-          (lexes-arith g left range-left (beside o gap ++ (printed_operator o ++ (beside o gap ++ right-text))) _
-            (apart-gap b _ (apart-operator o (beside o gap ++ right-text))) (lexes-gap b _ _ h-operator))))
+    (sym (regroup-operation gap (printed_arith gap left) (beside o gap) (printed_operator o) (printed_arith gap right) rest))
+    (lexes-open _ _ (lexes-gap g _ _
+    (lexes-arith g left range-left (beside o gap ++ (printed_operator o ++ (beside o gap ++ right-text))) _
+    (apart-gap b _ (apart-operator o (beside o gap ++ right-text))) (lexes-gap b _ _ h-operator))))
 
 -- a word and the space behind it
 word-space : (c : ℕ) (w rest : List ℕ) (token : Token) (tokens : List Token) → is_blank c ≡ false → begins_word c ≡ true →
@@ -302,7 +302,7 @@ lexes-direction ToDestination rest tokens h = word-space 100 (115 ∷ 116 ∷ []
 lexes-direction Either rest tokens h = h
 lexes-direction Both rest tokens h =
     word-space 115 (114 ∷ 99 ∷ []) _ Source _ refl refl refl refl
-        (word-space 97 (110 ∷ 100 ∷ []) _ (Connects And) _ refl refl refl refl (word-space 100 (115 ∷ 116 ∷ []) rest Destination tokens refl refl refl refl h))
+    (word-space 97 (110 ∷ 100 ∷ []) _ (Connects And) _ refl refl refl refl (word-space 100 (115 ∷ 116 ∷ []) rest Destination tokens refl refl refl refl h))
 
 lexes-transport : (transport : Transport) (rest : List ℕ) (tokens : List Token) → Lexes rest tokens →
     Lexes (printed_transport transport ++ rest) (transport_tokens transport tokens)
@@ -327,61 +327,61 @@ lexes-primitive : (p : Primitive) → IsPrimitiveInRange p → (rest : List ℕ)
 lexes-primitive Ip range rest tokens apart h = lexes-word 105 (112 ∷ []) rest (Named IpName) tokens refl refl refl refl apart.1 h
 lexes-primitive (IsProto n) range rest tokens apart h =
     subst (λ t. Lexes t (Named IpName ∷ Proto ∷ Number n ∷ tokens)) (sym (append_assoc (codes "ip proto ") (decimal n) rest))
-        (word-space 105 (112 ∷ []) _ (Named IpName) _ refl refl refl refl
-          (word-space 112 (114 ∷ 111 ∷ 116 ∷ 111 ∷ []) _ Proto _ refl refl refl refl (lexes-decimal n rest tokens (omega arith) apart.0 h)))
+    (word-space 105 (112 ∷ []) _ (Named IpName) _ refl refl refl refl
+    (word-space 112 (114 ∷ 111 ∷ 116 ∷ 111 ∷ []) _ Proto _ refl refl refl refl (lexes-decimal n rest tokens (omega arith) apart.0 h)))
 lexes-primitive (IsHost direction a) range rest tokens apart h =
     subst (λ t. Lexes t (direction_tokens direction (Host ∷ Address a ∷ tokens)))
-        (sym (regroup-three (printed_direction direction) (codes "host ") (printed_address a) rest))
-        (lexes-direction direction _ _ (word-space 104 (111 ∷ 115 ∷ 116 ∷ []) _ Host _ refl refl refl refl (lexes-address a rest tokens range apart.0 h)))
+    (sym (regroup-three (printed_direction direction) (codes "host ") (printed_address a) rest))
+    (lexes-direction direction _ _ (word-space 104 (111 ∷ 115 ∷ 116 ∷ []) _ Host _ refl refl refl refl (lexes-address a rest tokens range apart.0 h)))
 lexes-primitive (IsNet direction prefix) range rest tokens apart h =
     subst (λ t. Lexes t (direction_tokens direction (Net ∷ Address prefix.address ∷ Operates Divide ∷ Number prefix.bits ∷ tokens)))
-        (sym (regroup-five (printed_direction direction) (codes "net ") (printed_address prefix.address) (codes "/") (decimal prefix.bits) rest))
-        (lexes-direction direction _ _ (word-space 110 (101 ∷ 116 ∷ []) _ Net _ refl refl refl refl
-          (lexes-address prefix.address _ _ range.0 refl
-            (lexes-sign 47 _ _ refl refl refl (alone 47 (λ d. refl) _)
-              (lexes-decimal prefix.bits rest tokens (omega (arith, range.1.not_too_long)) apart.0 h)))))
+    (sym (regroup-five (printed_direction direction) (codes "net ") (printed_address prefix.address) (codes "/") (decimal prefix.bits) rest))
+    (lexes-direction direction _ _ (word-space 110 (101 ∷ 116 ∷ []) _ Net _ refl refl refl refl
+    (lexes-address prefix.address _ _ range.0 refl
+    (lexes-sign 47 _ _ refl refl refl (alone 47 (λ d. refl) _)
+    (lexes-decimal prefix.bits rest tokens (omega (arith, range.1.not_too_long)) apart.0 h)))))
 lexes-primitive (IsPort transport direction n) range rest tokens apart h =
     subst (λ t. Lexes t (transport_tokens transport (direction_tokens direction (Port ∷ Number n ∷ tokens))))
-        (sym (regroup-four (printed_transport transport) (printed_direction direction) (codes "port ") (decimal n) rest))
-        (lexes-transport transport _ _ (lexes-direction direction _ _
-          (word-space 112 (111 ∷ 114 ∷ 116 ∷ []) _ Port _ refl refl refl refl (lexes-decimal n rest tokens (omega arith) apart.0 h))))
+    (sym (regroup-four (printed_transport transport) (printed_direction direction) (codes "port ") (decimal n) rest))
+    (lexes-transport transport _ _ (lexes-direction direction _ _
+    (word-space 112 (111 ∷ 114 ∷ 116 ∷ []) _ Port _ refl refl refl refl (lexes-decimal n rest tokens (omega arith) apart.0 h))))
 lexes-primitive (IsPortRange transport direction n m) range rest tokens apart h =
     subst (λ t. Lexes t (transport_tokens transport (direction_tokens direction (PortRange ∷ Number n ∷ Operates Subtract ∷ Number m ∷ tokens))))
-        (sym (regroup-six (printed_transport transport) (printed_direction direction) (codes "portrange ") (decimal n) (codes "-") (decimal m) rest))
-        (lexes-transport transport _ _ (lexes-direction direction _ _
-          (word-space 112 (111 ∷ 114 ∷ 116 ∷ 114 ∷ 97 ∷ 110 ∷ 103 ∷ 101 ∷ []) _ PortRange _ refl refl refl refl
-            (lexes-decimal n _ _ (omega (arith, range.0)) refl
-              (lexes-sign 45 _ _ refl refl refl (alone 45 (λ d. refl) _) (lexes-decimal m rest tokens (omega (arith, range.1)) apart.0 h))))))
+    (sym (regroup-six (printed_transport transport) (printed_direction direction) (codes "portrange ") (decimal n) (codes "-") (decimal m) rest))
+    (lexes-transport transport _ _ (lexes-direction direction _ _
+    (word-space 112 (111 ∷ 114 ∷ 116 ∷ 114 ∷ 97 ∷ 110 ∷ 103 ∷ 101 ∷ []) _ PortRange _ refl refl refl refl
+    (lexes-decimal n _ _ (omega (arith, range.0)) refl
+    (lexes-sign 45 _ _ refl refl refl (alone 45 (λ d. refl) _) (lexes-decimal m rest tokens (omega (arith, range.1)) apart.0 h))))))
 lexes-primitive (AtMost n) range rest tokens apart h =
     subst (λ t. Lexes t (Less ∷ Number n ∷ tokens)) (sym (append_assoc (codes "less ") (decimal n) rest))
-        (word-space 108 (101 ∷ 115 ∷ 115 ∷ []) _ Less _ refl refl refl refl (lexes-decimal n rest tokens range apart.0 h))
+    (word-space 108 (101 ∷ 115 ∷ 115 ∷ []) _ Less _ refl refl refl refl (lexes-decimal n rest tokens range apart.0 h))
 lexes-primitive (AtLeast n) range rest tokens apart h =
     subst (λ t. Lexes t (Greater ∷ Number n ∷ tokens)) (sym (append_assoc (codes "greater ") (decimal n) rest))
-        (word-space 103 (114 ∷ 101 ∷ 97 ∷ 116 ∷ 101 ∷ 114 ∷ []) _ Greater _ refl refl refl refl (lexes-decimal n rest tokens range apart.0 h))
+    (word-space 103 (114 ∷ 101 ∷ 97 ∷ 116 ∷ 101 ∷ 114 ∷ []) _ Greater _ refl refl refl refl (lexes-decimal n rest tokens range apart.0 h))
 
 lexes-tree : (tree : Tree) → IsInRange tree → (rest : List ℕ) (tokens : List Token) → IsApart rest → Lexes rest tokens →
     Lexes (printed tree ++ rest) (tree_tokens tree tokens)
 lexes-tree (primitive p) range rest tokens apart h = lexes-primitive p range rest tokens apart h
 lexes-tree (relation left relator right) range rest tokens apart h =
     subst (λ t. Lexes t (arith_tokens left (Compares relator ∷ arith_tokens right tokens)))
-        (sym (regroup-five (printed_arith (codes " ") left) (codes " ") (printed_relation relator) (codes " ") (printed_arith (codes " ") right) rest))
-        (lexes-arith spaced left range.0 _ _ (refl, refl)
-          (lexes-space _ _ (lexes-relation relator _ _ (lexes-space _ _ (lexes-arith spaced right range.1 rest tokens apart h)))))
+    (sym (regroup-five (printed_arith (codes " ") left) (codes " ") (printed_relation relator) (codes " ") (printed_arith (codes " ") right) rest))
+    (lexes-arith spaced left range.0 _ _ (refl, refl)
+    (lexes-space _ _ (lexes-relation relator _ _ (lexes-space _ _ (lexes-arith spaced right range.1 rest tokens apart h)))))
 lexes-tree (negation tree) range rest tokens apart h =
     subst (λ t. Lexes t (Not ∷ tree_tokens tree tokens)) (sym (append_assoc (codes "not ") (printed tree) rest))
-        (word-space 110 (111 ∷ 116 ∷ []) _ Not _ refl refl refl refl (lexes-tree tree range rest tokens apart h))
+    (word-space 110 (111 ∷ 116 ∷ []) _ Not _ refl refl refl refl (lexes-tree tree range rest tokens apart h))
 lexes-tree (conjunction left right) range rest tokens apart h =
     subst (λ t. Lexes t (Open ∷ tree_tokens left (Connects And ∷ tree_tokens right (Close ∷ tokens))))
-        (sym (regroup-five (codes "( ") (printed left) (codes " and ") (printed right) (codes " )") rest))
-        (lexes-open _ _ (lexes-space _ _ (lexes-tree left range.0 _ _ (refl, refl)
-          (lexes-space _ _ (word-space 97 (110 ∷ 100 ∷ []) _ (Connects And) _ refl refl refl refl
-            (lexes-tree right range.1 _ _ (refl, refl) (lexes-space _ _ (lexes-close rest tokens h))))))))
+    (sym (regroup-five (codes "( ") (printed left) (codes " and ") (printed right) (codes " )") rest))
+    (lexes-open _ _ (lexes-space _ _ (lexes-tree left range.0 _ _ (refl, refl)
+    (lexes-space _ _ (word-space 97 (110 ∷ 100 ∷ []) _ (Connects And) _ refl refl refl refl
+    (lexes-tree right range.1 _ _ (refl, refl) (lexes-space _ _ (lexes-close rest tokens h))))))))
 lexes-tree (disjunction left right) range rest tokens apart h =
     subst (λ t. Lexes t (Open ∷ tree_tokens left (Connects Or ∷ tree_tokens right (Close ∷ tokens))))
-        (sym (regroup-five (codes "( ") (printed left) (codes " or ") (printed right) (codes " )") rest))
-        (lexes-open _ _ (lexes-space _ _ (lexes-tree left range.0 _ _ (refl, refl)
-          (lexes-space _ _ (word-space 111 (114 ∷ []) _ (Connects Or) _ refl refl refl refl
-            (lexes-tree right range.1 _ _ (refl, refl) (lexes-space _ _ (lexes-close rest tokens h))))))))
+    (sym (regroup-five (codes "( ") (printed left) (codes " or ") (printed right) (codes " )") rest))
+    (lexes-open _ _ (lexes-space _ _ (lexes-tree left range.0 _ _ (refl, refl)
+    (lexes-space _ _ (word-space 111 (114 ∷ []) _ (Connects Or) _ refl refl refl refl
+    (lexes-tree right range.1 _ _ (refl, refl) (lexes-space _ _ (lexes-close rest tokens h))))))))
 
 pub printed-tokens : (tree : Tree) → IsInRange tree → kinds (tokens_of (printed tree)) ≡ tree_tokens tree []
 printed-tokens tree range =

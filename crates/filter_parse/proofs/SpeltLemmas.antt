@@ -1,31 +1,30 @@
 -- What the pass reads the grammar spells: each state tells what is spelt so far.
-use Rattle.std.proofs.Common.{◌≡◌, ◌<◌, ◌≤◌, ◌+◌, ◌∙◌, ◌∷◌, ◌++◌, ◌&&◌, Bool, List, None, Option, Some, [], ap, arith, cond, false, nat_eq, nat_le, option_and_then, refl, subst, suc, sym, true, ℕ}
+use Rattle.std.proofs.Common.{◌≡◌, ◌<◌, ◌≤◌, ◌∙◌, ◌∷◌, ◌++◌, ◌&&◌, Bool, List, None, Option, Some, [], ap, arith, cond, false, nat_eq, nat_le, option_and_then, refl, subst, suc, sym, true, ℕ}
 use Rattle.std.proofs.lemmas.Bool.{eqb-true, leb-true, leb-false}
 use Rattle.filter_tree.specs.declared.arithmetic.Operator.{Operator}
 use Rattle.filter_tree.specs.declared.arithmetic.Operator.TheVariants.{Add, And as BitAnd, Divide, ExclusiveOr, Modulo, Multiply, Or as BitOr, ShiftLeft, ShiftRight, Subtract}
 use Rattle.filter_tree.specs.declared.arithmetic.Protocol.{Protocol}
-use Rattle.filter_tree.specs.declared.arithmetic.Protocol.TheVariants.{Icmp, Ip as IpName, Tcp as TcpName, Udp as UdpName}
+use Rattle.filter_tree.specs.declared.arithmetic.Protocol.TheVariants.{Ip as IpName, Tcp as TcpName, Udp as UdpName}
 use Rattle.filter_tree.specs.declared.arithmetic.Size.{Size}
 use Rattle.filter_tree.specs.declared.arithmetic.Size.TheVariants.{Four, One, Two}
 use Rattle.filter_tree.specs.declared.primitive.Direction.{Direction}
-use Rattle.filter_tree.specs.declared.primitive.Direction.TheVariants.{Both, Destination as ToDestination, Either, Source as FromSource}
+use Rattle.filter_tree.specs.declared.primitive.Direction.TheVariants.{Either, Source as FromSource}
 use Rattle.filter_tree.specs.declared.primitive.Primitive.{Primitive}
 use Rattle.filter_tree.specs.declared.primitive.Transport.{Transport}
 use Rattle.filter_tree.specs.declared.primitive.Transport.TheVariants.{Tcp, Udp, Unnamed}
-use Rattle.filter_tree.specs.Tree.{ArithTree, Tree, accessor, conjunction, disjunction, negation, number, operation, packet_length, primitive, relation}
+use Rattle.filter_tree.specs.Tree.{ArithTree, Tree, accessor, negation, number, operation, packet_length, primitive, relation}
 use Rattle.filter_parse.specs.declared.item.Item.{Item}
 use Rattle.filter_parse.specs.declared.item.Item.TheVariants.{Access, Negate, Operate, Primitive as PushPrimitive, Relate}
 use Rattle.filter_parse.specs.declared.state.Control.{Control}
 use Rattle.filter_parse.specs.declared.state.Control.TheVariants.{Directed, Expects, Named as HasNamed, Number as HasNumber, Truth as HasTruth, WantsAddress, WantsBits, WantsDash, WantsEnd, WantsFirst, WantsLast, WantsLeast, WantsMost, WantsNetwork, WantsPort, WantsProtocol, WantsSize, WantsSlash, Widened}
 use Rattle.filter_parse.specs.declared.state.Frame.{Frame}
 use Rattle.filter_parse.specs.declared.state.Frame.TheVariants.{Bracket, Compared, Index, Left, Negated, Operand}
-use Rattle.filter_parse.specs.declared.token.Connective.{Connective}
-use Rattle.filter_parse.specs.declared.token.Connective.TheVariants.{And, AndSign, Or, OrSign}
+use Rattle.filter_parse.specs.declared.token.Connective.TheVariants.{And, Or}
 use Rattle.filter_parse.specs.declared.token.Token.{Token}
-use Rattle.filter_parse.specs.declared.token.Token.TheVariants.{Address, Close, CloseIndex, Colon, Compares, Connects, Destination, Greater, Host, Length, Less, Named, Net, Not, Number, Open, OpenIndex, Operates, Port, PortRange, Proto, Source, Stray}
-use Rattle.filter_parse.specs.Grammar.{Spells, SpellsArith, SpellsDirection, SpellsExpr, SpellsOperand, SpellsPrimitive, SpellsSize, SpellsTransport, SpellsUnary, bracketed, byte_at, bytes_at, combined, destination, enclosed, four, greater, host, joined, junction, len, less, level_of, literal, named, negated, net, one, operand, port, portrange, proto, protocol, related, simple, source, source_and_destination, source_or_destination, tcp, two, udp, unary, undirected, unnamed}
+use Rattle.filter_parse.specs.declared.token.Token.TheVariants.{Address, Close, CloseIndex, Colon, Compares, Connects, Destination, Greater, Host, Length, Less, Named, Net, Not, Number, Open, OpenIndex, Operates, Port, PortRange, Proto, Source}
+use Rattle.filter_parse.specs.Grammar.{Spells, SpellsArith, SpellsDirection, SpellsExpr, SpellsPrimitive, SpellsSize, SpellsTransport, SpellsUnary, bracketed, byte_at, bytes_at, combined, destination, enclosed, four, greater, host, joined, junction, len, less, level_of, literal, named, negated, net, one, operand, port, portrange, proto, protocol, related, simple, source, source_and_destination, source_or_destination, tcp, two, udp, unary, undirected, unnamed}
 use Rattle.filter_parse.specs.Pass.{Reading, accepted, after_name, after_number, after_protocol, after_source, after_truth, begins, begins_direction, begins_truth, compared, completed, declared_name, ends, in_direction, in_primitive, is_numeric, junction_of, looseness, negation_of, reading, reduced, run, settled, size_of_number, sized_by, taken, with_arith, with_tree}
-use Rattle.filter_parse.proofs.RunLemmas.{next_of, with_tree-joined}
+use Rattle.filter_parse.proofs.RunLemmas.{with_tree-joined}
 
 -- an operator that waits on top binds less tightly than a level says
 abbrev pub TopBelow : ℕ → List Frame → Type 0

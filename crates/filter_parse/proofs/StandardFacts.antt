@@ -1,5 +1,5 @@
 -- Worked texts, with their trees and faults (docs/EXPRESSIONS.md), so that a slip in a definition does not check.
-use Rattle.std.specs.Prelude.{◌≡◌, ◌∷◌, Err, Ok, [], codes, refl}
+use Rattle.std.specs.Prelude.{◌≡◌, Err, Ok, [], codes, refl}
 use Rattle.filter_tree.specs.declared.arithmetic.Operator.TheVariants.{Add, Multiply, Subtract}
 use Rattle.filter_tree.specs.declared.arithmetic.Protocol.TheVariants.{Ip as IpData}
 use Rattle.filter_tree.specs.declared.arithmetic.Size.TheVariants.{Two}

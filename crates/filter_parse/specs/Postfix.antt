@@ -1,5 +1,5 @@
 -- Trees and their depths out of parts in postfix order.
-use Rattle.std.specs.Prelude.{◌≡◌, ◌+◌, ◌∷◌, List, None, Option, Some, [], map, max, min, option_and_then, ℕ}
+use Rattle.std.specs.Prelude.{◌≡◌, ◌+◌, ◌∷◌, List, None, Option, Some, [], max, min, option_and_then, ℕ}
 use Rattle.filter_tree.specs.Tree.{ArithTree, Tree, accessor, conjunction, disjunction, negation, number, operation, packet_length, primitive, relation}
 use Rattle.filter_tree.specs.View.{arith_tree_of, tree_of}
 use Rattle.filter_parse.specs.declared.build.Part.{Part}

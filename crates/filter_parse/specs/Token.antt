@@ -1,5 +1,5 @@
 -- The tokens of a text (pcap-filter(7); docs/EXPRESSIONS.md, "Tokens").
-use Rattle.std.specs.Prelude.{◌+◌, ◌-◌, ◌*◌, ◌/◌, ◌^◌, ◌==◌, ◌&&◌, ◌||◌, ◌∷◌, Bool, List, None, Option, Some, [], codes, drop, false, if◌then◌else◌, length, min, nat_le, nat_lt, option_and_then, option_map, pred, suc, take, unwrap_or, map, ℕ}
+use Rattle.std.specs.Prelude.{◌+◌, ◌-◌, ◌*◌, ◌^◌, ◌==◌, ◌&&◌, ◌||◌, ◌∷◌, Bool, List, None, Option, Some, [], codes, drop, false, if◌then◌else◌, length, min, nat_le, nat_lt, option_and_then, option_map, suc, take, unwrap_or, map, ℕ}
 use Prim.Native.Nat.{zero}
 use Rattle.std.specs.Char.{digit_value, is_ascii_alphabetic, is_ascii_alphanumeric, is_ascii_digit, is_ascii_hexdigit}
 use Rattle.std.specs.List.{fold, list_all, list_any, position_or_len, prefix_len}

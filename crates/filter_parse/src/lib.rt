@@ -61,15 +61,13 @@ pub fn parse<A: Allocator + Clone>(alloc: A, text: &[u8]) -> Result<Expr<A>, Par
 pub fn one_value()
     ensures one_value { IsUnambiguous }
     ensures no_fault { ExcludesFaults }
-{
-}
+{}
 
 /// The text that a tree of at most `MAX_DEPTH` is printed as has that tree. Of the texts that `Expr::print` gives this is
 /// what `parse` reads.
 pub fn reads_back()
     ensures reads_back { ReadsBack }
-{
-}
+{}
 
 #[cfg(test)]
 mod tests;

@@ -1,4 +1,4 @@
-use Rattle.std.proofs.Common.{◌≡◌, ◌⊎◌, ◌∙◌, Some, ap, inl, inr, sym, ℕ}
+use Rattle.std.proofs.Common.{◌≡◌, ◌∙◌, Some, ap, inl, inr, sym, ℕ}
 use Rattle.filter_parse.specs.declared.token.Token.{Token}
 use Rattle.filter_parse.specs.Pass.{Reading, control_of, fault_in, judged, judged_by, reading_of, settled, taken}
 use Rattle.filter_parse.proofs.pass.Pass.read.Goals as goal
