@@ -11,3 +11,4 @@ mod LexLemmas
 mod PrintedLemmas
 mod AddressLemmas
 mod FaultlessLemmas
+mod FaultLemmas

@@ -28,7 +28,7 @@ pub fault-says : (text : List ℕ) (fault : ParseFault) → pass_of text ≡ Err
 fault-says text fault h = subst (Says text) h (pass_of-says text)
 
 -- no token of a faultless list is at fault
-faultless-at : (start : List Token) (front more : List Placed) (next : Placed) → IsFaultless start (front ++ next ∷ more) →
+pub faultless-at : (start : List Token) (front more : List Placed) (next : Placed) → IsFaultless start (front ++ next ∷ more) →
     own_fault (reverse (kinds front) ++ start) next.token next.place ≡ None
 faultless-at start [] more next f = f.0
 faultless-at start (first ∷ front) more next f =
@@ -36,7 +36,7 @@ faultless-at start (first ∷ front) more next f =
     (sym (ap (λ b. b ++ start) (reverse-append (first.token ∷ []) (kinds front)) ∙ append_assoc (reverse (kinds front)) (first.token ∷ []) start))
     (faultless-at (first.token ∷ start) front more next f.1)
 
-kinds-split : (front more : List Placed) (next : Placed) → kinds (front ++ next ∷ more) ≡ (kinds front ++ next.token ∷ []) ++ kinds more
+pub kinds-split : (front more : List Placed) (next : Placed) → kinds (front ++ next ∷ more) ≡ (kinds front ++ next.token ∷ []) ++ kinds more
 kinds-split front more next =
     map-append (λ (x : Placed). x.token) front (next ∷ more) ∙ sym (append_assoc (kinds front) (next.token ∷ []) (kinds more))
 

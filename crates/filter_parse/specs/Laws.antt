@@ -17,6 +17,10 @@ IsUnambiguous = (tokens : List Token) (one other : Tree) → Spells tokens one �
 abbrev pub ExcludesFaults : Type 0
 ExcludesFaults = (text : List ℕ) (tree : Tree) (fault : ParseFault) → HasTree text tree → ¬ HasFault text fault
 
+-- a text has at most one fault
+abbrev pub HasOneFault : Type 0
+HasOneFault = (text : List ℕ) (one other : ParseFault) → HasFault text one → HasFault text other → one ≡ other
+
 -- the text that a tree is printed as has that tree
 abbrev pub ReadsBack : Type 0
 ReadsBack = (tree : Tree) → IsInRange tree → depth_of tree ≤ MAX_DEPTH → HasTree (printed tree) tree

@@ -8,7 +8,7 @@ ghost use Rattle.std.specs.Prelude.{◌≡◌, ◌⊎◌, IfErr, IfOk};
 ghost use Rattle.filter_tree.specs.Tree.{Tree};
 ghost use Rattle.filter_tree.specs.View.{tree_of};
 ghost use Rattle.filter_parse.specs.Fault.{HasFault, HasTree};
-ghost use Rattle.filter_parse.specs.Laws.{ExcludesFaults, IsUnambiguous, ReadsBack};
+ghost use Rattle.filter_parse.specs.Laws.{ExcludesFaults, HasOneFault, IsUnambiguous, ReadsBack};
 
 mod build;
 mod depth;
@@ -57,10 +57,11 @@ pub fn parse<A: Allocator + Clone>(alloc: A, text: &[u8]) -> Result<Expr<A>, Par
     Ok(build(alloc, &items)?)
 }
 
-/// No tokens spell two trees, so a text has at most one; and a text with a tree has no fault.
+/// No tokens spell two trees, so a text has at most one. A text with a tree has no fault, and each other text at most one.
 pub fn one_value()
     ensures one_value { IsUnambiguous }
     ensures no_fault { ExcludesFaults }
+    ensures one_fault { HasOneFault }
 {}
 
 /// The text that a tree of at most `MAX_DEPTH` is printed as has that tree. Of the texts that `Expr::print` gives this is
@@ -69,5 +70,7 @@ pub fn reads_back()
     ensures reads_back { ReadsBack }
 {}
 
+#[cfg(test)]
+mod plain;
 #[cfg(test)]
 mod tests;
