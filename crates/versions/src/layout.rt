@@ -43,7 +43,8 @@ pub(crate) fn is_in_row(row: usize, place: usize) -> bool
     place >= ROWS_BEGIN && (place - ROWS_BEGIN) / ROW_WORDS == row
 }
 
-pub(crate) fn row_word<A: Allocator>(config: &Config<A>, i: usize) -> u64
+/// Tells word `i` of the row of a configuration, counted from 0: a word of its image, and 0 behind that.
+pub fn row_word<A: Allocator>(config: &Config<A>, i: usize) -> u64
     requires { i < ROW_WORDS }
     ensures { result ≡ slice_index (row config.now) i }
 {

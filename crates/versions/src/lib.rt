@@ -18,11 +18,11 @@ mod view;
 mod world;
 
 pub use fault::StepFault;
-pub use freedom::free_versions;
-pub use layout::{CHARGE_LIMIT, LAST_NUMBER, ROWS, ROWS_BEGIN, TABLE_WORDS, WORKERS};
+pub use freedom::{clear_below, free_versions, least};
+pub use layout::{CHARGE_LIMIT, LAST_NUMBER, ROWS, ROWS_BEGIN, TABLE_WORDS, WORKERS, row_word};
 pub use step::{Entry, Event, Step};
 pub use view::{OperatorView, Stage, WorkerView};
-pub use world::World;
+pub use world::{World, opening_words};
 
 /// Law: in every legal trace each load of `current` gives the version published last, each worker has seen the versions up to
 /// its last load, no version that a worker holds is reclaimed, each fetch gives the published word, each scan tells a log of its

@@ -46,7 +46,9 @@ impl<A: Allocator> Model for World<A> {
     ghost invariant = { λ w. IsWorld w.opening w.events.items w.words.items w.progress w.proposal };
 }
 
-fn opening_words<A: Allocator + Clone>(config: &Config<A>) -> Result<Vec<u64, A>, AllocError>
+/// Makes the words of a table that opens with a configuration, in its memory: it is version 0, in row 0, all read words are
+/// 0, and so are the words of the other rows.
+pub fn opening_words<A: Allocator + Clone>(config: &Config<A>) -> Result<Vec<u64, A>, AllocError>
     ensures words { IfOk result (λ words. words.items ≡ (opened_with config.now).words) }
 {
     let mut words = Vec::with_capacity(config.allocator().clone()?, TABLE_WORDS)?;
