@@ -34,6 +34,7 @@ open_after Close n = pred n
 open_after CloseIndex n = pred n
 open_after _ n = n
 
+-- the brackets that are open behind them
 abbrev pub open_brackets : List Token → ℕ
 open_brackets [] = 0
 open_brackets (token ∷ before) = open_after token (open_brackets before)
@@ -43,10 +44,11 @@ abbrev pub prefix_fault : Option ℕ → ℕ → ℕ → Option ParseFault
 prefix_fault None n at = None
 prefix_fault (Some a) n at = if nat_le n 32 && a % 2 ^ (32 - n) == 0 then None else Some (BadPrefix at)
 
--- the fault of a token at a place by what it says, where an expression may go on with it
+-- a bracket that opens where so many are open
 abbrev pub bracket_fault : ℕ → ℕ → Option ParseFault
 bracket_fault count at = if nat_lt count MAX_DEPTH then None else Some (TooDeep at)
 
+-- the fault of a token at a place by what it says, where an expression may go on with it
 abbrev pub own_fault : List Token → Token → ℕ → Option ParseFault
 own_fault before (Number n) at = if nat_le n (limit_after before) then prefix_fault (network_after before) n at else Some (NumberTooBig at)
 own_fault before (Address a) at = if nat_le a 4294967295 then None else Some (BadAddress at)

@@ -41,6 +41,7 @@ with_arith packet_length items = items ++ PushLength ∷ []
 with_arith (accessor protocol index size) items = with_arith index items ++ Access protocol size ∷ []
 with_arith (operation left operator right) items = with_arith right (with_arith left items) ++ Operate operator ∷ []
 
+-- the same of an expression
 abbrev pub with_tree : Tree → List Item → List Item
 with_tree (primitive p) items = items ++ PushPrimitive p ∷ []
 with_tree (relation left relator right) items = with_arith right (with_arith left items) ++ Relate relator ∷ []
@@ -98,6 +99,7 @@ abbrev pub declared_name : Bool → Protocol → List Frame → List Item → Re
 declared_name true protocol frames items = completed frames (items ++ PushPrimitive (named protocol) ∷ [])
 declared_name false protocol frames items = reading (HasNamed protocol) frames items
 
+-- not
 abbrev pub negation_of : Bool → Bool
 negation_of true = false
 negation_of false = true
@@ -136,6 +138,7 @@ begins_truth Less frames items = Some (reading WantsMost frames items)
 begins_truth Greater frames items = Some (reading WantsLeast frames items)
 begins_truth token frames items = begins_direction Unnamed token frames items
 
+-- what begins an expression or an arithmetic one
 abbrev pub begins : Token → List Frame → List Item → Option Reading
 begins (Number n) frames items = Some (reading HasNumber frames (items ++ PushNumber n ∷ []))
 begins Length frames items = Some (reading HasNumber frames (items ++ PushLength ∷ []))
@@ -143,6 +146,7 @@ begins (Named protocol) frames items = Some (reading (HasNamed protocol) frames 
 begins Open frames items = Some (reading Expects (Bracket (is_numeric frames) ∷ frames) items)
 begins token frames items = if is_numeric frames then None else begins_truth token frames items
 
+-- what follows an arithmetic expression
 abbrev pub after_number : Token → List Frame → List Item → Option Reading
 after_number (Operates operator) frames items = Some (reading Expects (Operand operator ∷ frames) items)
 after_number (Compares relator) frames items =
@@ -152,6 +156,7 @@ after_number CloseIndex (Index protocol ∷ frames) items = Some (reading HasNum
 after_number Colon (Index protocol ∷ frames) items = Some (reading (WantsSize protocol) frames items)
 after_number _ _ _ = None
 
+-- what follows an expression
 abbrev pub after_truth : Token → List Frame → List Item → Option Reading
 after_truth (Connects word) frames items = Some (reading Expects (Left word ∷ frames) items)
 after_truth Close (Bracket numeric ∷ frames) items = Some (completed frames items)
@@ -164,10 +169,12 @@ after_protocol TcpName token frames items = begins_direction Tcp token frames it
 after_protocol UdpName token frames items = begins_direction Udp token frames items
 after_protocol _ _ _ _ = None
 
+-- what follows a protocol's name
 abbrev pub after_name : Protocol → Token → List Frame → List Item → Option Reading
 after_name protocol OpenIndex frames items = Some (reading Expects (Index protocol ∷ frames) items)
 after_name protocol token frames items = if is_numeric frames then None else after_protocol protocol token frames items
 
+-- what follows inside a primitive
 abbrev pub in_primitive : Control → Token → List Frame → List Item → Option Reading
 in_primitive (Directed transport FromSource) token frames items = after_source transport token frames items
 in_primitive (Directed transport direction) token frames items = in_direction token transport direction frames items
@@ -195,6 +202,7 @@ in_primitive _ _ _ _ = None
 abbrev pub size_of_number : ℕ → Option Size
 size_of_number n = if n == 1 then Some One else (if n == 2 then Some Two else (if n == 4 then Some Four else None))
 
+-- an accessor behind its size
 abbrev pub sized_by : Protocol → Option Size → List Frame → List Item → Option Reading
 sized_by protocol None frames items = None
 sized_by protocol (Some size) frames items = Some (reading (WantsEnd protocol size) frames items)
@@ -228,6 +236,7 @@ limit_in (WantsFirst transport direction) = 65535
 limit_in (WantsLast transport direction n) = 65535
 limit_in _ = 4294967295
 
+-- the address whose prefix bits stand next
 abbrev pub network_in : Control → Option ℕ
 network_in (WantsBits direction a) = Some a
 network_in _ = None
@@ -240,6 +249,7 @@ fault_in control count Open at = bracket_fault count at
 fault_in control count OpenIndex at = bracket_fault count at
 fault_in control count _ at = None
 
+-- what has just been read
 abbrev pub control_of : Reading → Control
 control_of (reading control frames items) = control
 
@@ -249,14 +259,17 @@ judged_by own at None = Err (Syntax at)
 judged_by (Some fault) at (Some state) = Err fault
 judged_by None at (Some state) = Ok state
 
+-- what a token at a place makes of a state, where so many brackets are open
 abbrev pub judged : Token → ℕ → ℕ → Reading → Result Reading ParseFault
 judged token at count state =
     judged_by (fault_in (control_of (settled (Some token) state)) count token at) at (taken token (settled (Some token) state))
 
+-- a fault ends the pass
 abbrev pub passed_on : (Reading → Result (List Item) ParseFault) → Result Reading ParseFault → Result (List Item) ParseFault
 passed_on more (Ok state) = more state
 passed_on more (Err fault) = Err fault
 
+-- what is not whole at the end lacks something there
 abbrev pub at_end : ℕ → Option (List Item) → Result (List Item) ParseFault
 at_end end (Some items) = Ok items
 at_end end None = Err (Syntax end)
@@ -280,6 +293,7 @@ abbrev pub top_of : List Frame → Option Frame
 top_of [] = None
 top_of (frame ∷ frames) = Some frame
 
+-- what is open around the innermost
 abbrev pub below_top : List Frame → List Frame
 below_top [] = []
 below_top (frame ∷ frames) = frames

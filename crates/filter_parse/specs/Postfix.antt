@@ -25,6 +25,7 @@ grown Conjoin (truth right ∷ truth left ∷ trees) = Some (truth (conjunction 
 grown Disjoin (truth right ∷ truth left ∷ trees) = Some (truth (disjunction left right) ∷ trees)
 grown _ _ = None
 
+-- what some parts make of them, one behind the other
 abbrev pub built : List Item → List Growth → Option (List Growth)
 built [] trees = Some trees
 built (item ∷ items) trees = option_and_then (built items) (grown item trees)
@@ -33,10 +34,12 @@ built (item ∷ items) trees = option_and_then (built items) (grown item trees)
 abbrev pub Takes : Item → List Growth → Type 0
 Takes item trees = (more : List Growth) × (grown item trees ≡ Some more)
 
+-- the last tree is an arithmetic expression
 abbrev pub IsArithmeticFirst : List Growth → Type 0
 IsArithmeticFirst (arithmetic a ∷ trees) = Unit {0}
 IsArithmeticFirst _ = ⊥
 
+-- the last tree is an expression
 abbrev pub IsTruthFirst : List Growth → Type 0
 IsTruthFirst (truth e ∷ trees) = Unit {0}
 IsTruthFirst _ = ⊥
@@ -50,14 +53,17 @@ growth_of (Truth e) = truth (tree_of e)
 abbrev pub deeper : ℕ → ℕ
 deeper depth = min (depth + 1) 65
 
+-- the depth of the last tree
 abbrev pub first_depth : List ℕ → ℕ
 first_depth [] = 0
 first_depth (depth ∷ depths) = depth
 
+-- the depths of the trees before it
 abbrev pub other_depths : List ℕ → List ℕ
 other_depths [] = []
 other_depths (depth ∷ depths) = depths
 
+-- the depth of a tree over the last two
 abbrev pub over_two : List ℕ → List ℕ
 over_two depths = deeper (max (first_depth (other_depths depths)) (first_depth depths)) ∷ other_depths (other_depths depths)
 
@@ -73,6 +79,7 @@ deepened (Relate relator) depths = over_two depths
 deepened Conjoin depths = over_two depths
 deepened Disjoin depths = over_two depths
 
+-- what some parts make of the depths, one behind the other
 abbrev pub depths_of : List Item → List ℕ → List ℕ
 depths_of [] depths = depths
 depths_of (item ∷ items) depths = depths_of items (deepened item depths)

@@ -21,6 +21,7 @@ is_blank c = c == 32 || c == 9
 abbrev pub begins_word : ℕ → Bool
 begins_word c = is_ascii_alphabetic c || c == 95
 
+-- what a word goes on with
 abbrev pub is_word_part : ℕ → Bool
 is_word_part c = is_ascii_alphanumeric c || c == 95
 
@@ -28,6 +29,7 @@ is_word_part c = is_ascii_alphanumeric c || c == 95
 abbrev pub is_dot : ℕ → Bool
 is_dot c = c == 46
 
+-- what a number or an address goes on with
 abbrev pub is_number_part : ℕ → Bool
 is_number_part c = is_ascii_alphanumeric c || c == 46
 
@@ -58,6 +60,7 @@ qualifier_token word =
     else (if bytes_eq word (codes "greater") then Greater
     else Stray))))))))
 
+-- a word; any other is no token of the language
 abbrev pub word_token : List ℕ → Token
 word_token word = unwrap_or (name_token word) (qualifier_token word)
 
@@ -80,6 +83,7 @@ abbrev pub is_hexadecimal : List ℕ → Bool
 is_hexadecimal (c ∷ d ∷ e ∷ digits) = c == 48 && d == 120 && list_all is_ascii_hexdigit (e ∷ digits)
 is_hexadecimal _ = false
 
+-- a number; a misspelt one is no token of the language
 abbrev pub number_token : List ℕ → Token
 number_token text =
     if is_decimal text then Number (capped (value_of 10 text))
@@ -105,6 +109,7 @@ address_of text =
     option_and_then (λ a. option_and_then (λ b. option_and_then (λ c. option_map (λ d. a.0 * 2 ^ 24 + b.0 * 2 ^ 16 + c.0 * 2 ^ 8 + d)
     (octet_of c.1)) (first_octet b.1)) (first_octet a.1)) (first_octet text)
 
+-- a run with a dot is an address, well formed or not
 abbrev pub number_or_address : List ℕ → Token
 number_or_address text = if list_any is_dot text then Address (unwrap_or (address_of text) TOO_BIG) else number_token text
 
@@ -153,6 +158,7 @@ abbrev pub sign_or : ℕ → Option Token → Lexeme
 sign_or c (Some token) = record { token = token; len = 2 }
 sign_or c None = record { token = sign c; len = 1 }
 
+-- a sign: of two bytes where they are one
 abbrev pub sign_lexeme : ℕ → List ℕ → Lexeme
 sign_lexeme c [] = record { token = sign c; len = 1 }
 sign_lexeme c (d ∷ rest) = sign_or c (pair_sign c d)

@@ -20,7 +20,7 @@ pub struct Pass<A: Allocator> {
     pub control: Control,
     pub frames: VecDeque<Frame, A>,
     pub items: Vec<Item, A>,
-    pub open: usize,
+    pub brackets: usize,
 }
 
 pub fn level_of(operator: Operator) -> u32
@@ -152,7 +152,7 @@ impl<A: Allocator> Pass<A> {
     /// Settles how far what came last reaches, by the token that is next.
     pub fn settle(&mut self, next: Option<Token>) -> Result<(), OutOfMemory>
         ensures settled { OnOk result (reading_of self.new ≡ settled next (reading_of self.old)) }
-        ensures open { self.new.open ≡ self.old.open }
+        ensures brackets { self.new.brackets ≡ self.old.brackets }
     {
         match self.control {
             Control::Number => self.settle_number(next),
@@ -164,7 +164,7 @@ impl<A: Allocator> Pass<A> {
     fn settle_number(&mut self, next: Option<Token>) -> Result<(), OutOfMemory>
         requires { self.old.control ≡ Number }
         ensures settled { OnOk result (reading_of self.new ≡ settled next (reading_of self.old)) }
-        ensures open { self.new.open ≡ self.old.open }
+        ensures brackets { self.new.brackets ≡ self.old.brackets }
     {
         reduce(&mut self.frames, &mut self.items, looseness(next))?;
         if ends(next)
@@ -181,7 +181,7 @@ impl<A: Allocator> Pass<A> {
     fn settle_name(&mut self, protocol: Protocol, next: Option<Token>) -> Result<(), OutOfMemory>
         requires { self.old.control ≡ Named protocol }
         ensures settled { OnOk result (reading_of self.new ≡ settled next (reading_of self.old)) }
-        ensures open { self.new.open ≡ self.old.open }
+        ensures brackets { self.new.brackets ≡ self.old.brackets }
     {
         if ends(next) && !is_numeric(&self.frames) {
             self.put_primitive(named(protocol))?;
@@ -192,7 +192,7 @@ impl<A: Allocator> Pass<A> {
     pub fn put_primitive(&mut self, primitive: Primitive) -> Result<(), OutOfMemory>
         ensures put { OnOk result (reading_of self.new
             ≡ completed self.old.frames.items (self.old.items.items ++ PutPrimitive primitive ∷ [])) }
-        ensures open { self.new.open ≡ self.old.open }
+        ensures brackets { self.new.brackets ≡ self.old.brackets }
     {
         self.items.push(Item::Primitive(primitive))?;
         complete(&mut self.frames, &mut self.items)?;

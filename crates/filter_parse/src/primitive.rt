@@ -28,7 +28,7 @@ impl<A: Allocator> Pass<A> {
     fn take_size(&mut self, protocol: Protocol, n: u64, at: usize) -> Result<(), ParseFault>
         ensures met { Meets (judged_by None at
             (sized_by protocol (size_of_number n) self.old.frames.items self.old.items.items)) result (reading_of self.new) }
-        ensures count { self.new.open ≡ self.old.open }
+        ensures brackets { self.new.brackets ≡ self.old.brackets }
     {
         match size_of_number(n) {
             Some(size) => {
@@ -40,9 +40,9 @@ impl<A: Allocator> Pass<A> {
     }
 
     pub fn go_in_primitive(&mut self, token: Token, at: usize) -> Result<(), ParseFault>
-        ensures met { Meets (judged_by (fault_in self.old.control self.old.open token at) at
+        ensures met { Meets (judged_by (fault_in self.old.control self.old.brackets token at) at
             (in_primitive self.old.control token self.old.frames.items self.old.items.items)) result (reading_of self.new) }
-        ensures count { self.new.open ≡ self.old.open }
+        ensures brackets { self.new.brackets ≡ self.old.brackets }
     {
         match (self.control, token) {
             (Control::Directed(transport, Direction::Source), _) => self.after_source(
@@ -100,9 +100,9 @@ impl<A: Allocator> Pass<A> {
 
     /// Takes the next token, at a place. What came last has been settled by it.
     pub fn take(&mut self, token: Token, at: usize) -> Result<(), ParseFault>
-        ensures met { Meets (judged_by (fault_in self.old.control self.old.open token at) at
+        ensures met { Meets (judged_by (fault_in self.old.control self.old.brackets token at) at
             (taken token (reading_of self.old))) result (reading_of self.new) }
-        ensures count { self.new.open ≡ self.old.open }
+        ensures brackets { self.new.brackets ≡ self.old.brackets }
     {
         match (self.control, token) {
             (Control::Expects, _) => self.begin(token, at),

@@ -19,18 +19,18 @@ use std::collections::VecDeque;
 impl<A: Allocator> Pass<A> {
     /// Reads the next token, at a place.
     fn read(&mut self, token: Token, at: usize) -> Result<(), ParseFault>
-        requires { self.old.open ≤ MAX_DEPTH }
-        ensures met { Meets (judged token at self.old.open (reading_of self.old)) result (reading_of self.new) }
-        ensures count { OnOk result (self.new.open ≡ open_after token self.old.open) }
-        ensures shallow { OnOk result (self.new.open ≤ MAX_DEPTH) }
+        requires { self.old.brackets ≤ MAX_DEPTH }
+        ensures met { Meets (judged token at self.old.brackets (reading_of self.old)) result (reading_of self.new) }
+        ensures brackets { OnOk result (self.new.brackets ≡ open_after token self.old.brackets) }
+        ensures shallow { OnOk result (self.new.brackets ≤ MAX_DEPTH) }
     {
         self.settle(Some(token))?;
         if let Err(fault) = self.take(token, at) {
             return Err(fault);
         }
         match token {
-            Token::Open | Token::OpenIndex => self.open += 1,
-            Token::Close | Token::CloseIndex => self.open = self.open.saturating_sub(1),
+            Token::Open | Token::OpenIndex => self.brackets += 1,
+            Token::Close | Token::CloseIndex => self.brackets = self.brackets.saturating_sub(1),
             _ => {}
         }
         Ok(())
@@ -60,7 +60,7 @@ pub fn recognize<A: Allocator + Clone>(alloc: A, text: &[u8]) -> Result<Vec<Item
         control: Control::Expects,
         frames: VecDeque::new(alloc.clone()?),
         items: Vec::new(alloc),
-        open: 0,
+        brackets: 0,
     };
     let mut at = 0;
     while let Some(found) = next_token(text, at) {

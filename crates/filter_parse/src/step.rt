@@ -85,10 +85,10 @@ fn one_more_bracket(count: usize, at: usize) -> Result<(), ParseFault>
 
 impl<A: Allocator> Pass<A> {
     fn open_frame(&mut self, frame: Frame) -> Result<(), ParseFault>
-        ensures open { MatchResult result
+        ensures opened { MatchResult result
             (λ _. reading_of self.new ≡ reading Expects (frame ∷ self.old.frames.items) self.old.items.items)
             (λ fault. fault ≡ OutOfMemory) }
-        ensures count { self.new.open ≡ self.old.open }
+        ensures brackets { self.new.brackets ≡ self.old.brackets }
     {
         self.frames.push_front(frame)?;
         self.control = Control::Expects;
@@ -99,7 +99,7 @@ impl<A: Allocator> Pass<A> {
         ensures put { MatchResult result
             (λ _. reading_of self.new ≡ reading Number self.old.frames.items (self.old.items.items ++ item ∷ []))
             (λ fault. fault ≡ OutOfMemory) }
-        ensures count { self.new.open ≡ self.old.open }
+        ensures brackets { self.new.brackets ≡ self.old.brackets }
     {
         self.items.push(item)?;
         self.control = Control::Number;
@@ -110,16 +110,16 @@ impl<A: Allocator> Pass<A> {
         ensures put { MatchResult result
             (λ _. reading_of self.new ≡ completed self.old.frames.items (self.old.items.items ++ PutPrimitive primitive ∷ []))
             (λ fault. fault ≡ OutOfMemory) }
-        ensures count { self.new.open ≡ self.old.open }
+        ensures brackets { self.new.brackets ≡ self.old.brackets }
     {
         self.put_primitive(primitive)?;
         Ok(())
     }
 
     pub fn begin(&mut self, token: Token, at: usize) -> Result<(), ParseFault>
-        ensures met { Meets (judged_by (fault_in Expects self.old.open token at) at
+        ensures met { Meets (judged_by (fault_in Expects self.old.brackets token at) at
             (begins token self.old.frames.items self.old.items.items)) result (reading_of self.new) }
-        ensures count { self.new.open ≡ self.old.open }
+        ensures brackets { self.new.brackets ≡ self.old.brackets }
     {
         match token {
             Token::Number(n) => self.put_operand(Item::Number(number_to_u32(n, at)?)),
@@ -129,7 +129,7 @@ impl<A: Allocator> Pass<A> {
                 Ok(())
             }
             Token::Open => {
-                one_more_bracket(self.open, at)?;
+                one_more_bracket(self.brackets, at)?;
                 let numeric = is_numeric(&self.frames);
                 self.open_frame(Frame::Bracket(numeric))
             }
@@ -141,7 +141,7 @@ impl<A: Allocator> Pass<A> {
     fn begin_truth(&mut self, token: Token, at: usize) -> Result<(), ParseFault>
         ensures met { Meets (judged_by None at
             (begins_truth token self.old.frames.items self.old.items.items)) result (reading_of self.new) }
-        ensures count { self.new.open ≡ self.old.open }
+        ensures brackets { self.new.brackets ≡ self.old.brackets }
     {
         match token {
             Token::Not => self.open_frame(Frame::Negated),
@@ -165,7 +165,7 @@ impl<A: Allocator> Pass<A> {
     ) -> Result<(), ParseFault>
         ensures met { Meets (judged_by None at
             (begins_direction transport token self.old.frames.items self.old.items.items)) result (reading_of self.new) }
-        ensures count { self.new.open ≡ self.old.open }
+        ensures brackets { self.new.brackets ≡ self.old.brackets }
     {
         match token {
             Token::Source => self.control = Control::Directed(transport, Direction::Source),
@@ -187,7 +187,7 @@ impl<A: Allocator> Pass<A> {
     ) -> Result<(), ParseFault>
         ensures met { Meets (judged_by None at
             (in_direction token transport direction self.old.frames.items self.old.items.items)) result (reading_of self.new) }
-        ensures count { self.new.open ≡ self.old.open }
+        ensures brackets { self.new.brackets ≡ self.old.brackets }
     {
         self.control = match (token, transport) {
             (Token::Host, Transport::Unnamed) => Control::WantsAddress(direction),
@@ -207,7 +207,7 @@ impl<A: Allocator> Pass<A> {
     ) -> Result<(), ParseFault>
         ensures met { Meets (judged_by None at
             (after_source transport token self.old.frames.items self.old.items.items)) result (reading_of self.new) }
-        ensures count { self.new.open ≡ self.old.open }
+        ensures brackets { self.new.brackets ≡ self.old.brackets }
     {
         match token {
             Token::Connects(Connective::Or) => self.control = Control::Widened(
@@ -226,7 +226,7 @@ impl<A: Allocator> Pass<A> {
     pub fn after_number(&mut self, token: Token, at: usize) -> Result<(), ParseFault>
         ensures met { Meets (judged_by None at
             (after_number token self.old.frames.items self.old.items.items)) result (reading_of self.new) }
-        ensures count { self.new.open ≡ self.old.open }
+        ensures brackets { self.new.brackets ≡ self.old.brackets }
     {
         match (token, top(&self.frames)) {
             (Token::Operates(operator), _) => self.open_frame(Frame::Operand(operator)),
@@ -257,7 +257,7 @@ impl<A: Allocator> Pass<A> {
     pub fn after_truth(&mut self, token: Token, at: usize) -> Result<(), ParseFault>
         ensures met { Meets (judged_by None at
             (after_truth token self.old.frames.items self.old.items.items)) result (reading_of self.new) }
-        ensures count { self.new.open ≡ self.old.open }
+        ensures brackets { self.new.brackets ≡ self.old.brackets }
     {
         match (token, top(&self.frames)) {
             (Token::Connects(word), _) => self.open_frame(Frame::Left(word)),
@@ -279,7 +279,7 @@ impl<A: Allocator> Pass<A> {
     ) -> Result<(), ParseFault>
         ensures met { Meets (judged_by None at
             (after_protocol protocol token self.old.frames.items self.old.items.items)) result (reading_of self.new) }
-        ensures count { self.new.open ≡ self.old.open }
+        ensures brackets { self.new.brackets ≡ self.old.brackets }
     {
         match (protocol, token) {
             (Protocol::Ip, Token::Proto) => {
@@ -298,13 +298,13 @@ impl<A: Allocator> Pass<A> {
         token: Token,
         at: usize,
     ) -> Result<(), ParseFault>
-        ensures met { Meets (judged_by (fault_in (Named protocol) self.old.open token at) at
+        ensures met { Meets (judged_by (fault_in (Named protocol) self.old.brackets token at) at
             (after_name protocol token self.old.frames.items self.old.items.items)) result (reading_of self.new) }
-        ensures count { self.new.open ≡ self.old.open }
+        ensures brackets { self.new.brackets ≡ self.old.brackets }
     {
         match token {
             Token::OpenIndex => {
-                one_more_bracket(self.open, at)?;
+                one_more_bracket(self.brackets, at)?;
                 self.open_frame(Frame::Index(protocol))
             }
             _ if is_numeric(&self.frames) => Err(ParseFault::Syntax { at }),

@@ -7,8 +7,8 @@ use Rattle.filter_parse.proofs.recognize.recognize.Given as goal
 abbrev pub invariant-loop-found : goal.invariant-loop-found
 invariant-loop-found g l = record {
   within : l.at ≤ length l.text;
-  shallow : l.pass.open ≤ MAX_DEPTH;
-  rest : pass (tokens_from 0 l.at (drop l.at l.text)) (length l.text) l.pass.open (reading_of l.pass) ≡ pass_of l.text;
+  shallow : l.pass.brackets ≤ MAX_DEPTH;
+  rest : pass (tokens_from 0 l.at (drop l.at l.text)) (length l.text) l.pass.brackets (reading_of l.pass) ≡ pass_of l.text;
 }
 
 abbrev pub decreases-loop-found : goal.decreases-loop-found

@@ -3,14 +3,14 @@ use Rattle.filter_parse.specs.declared.token.Token.{Token}
 use Rattle.filter_parse.specs.Pass.{Reading, control_of, fault_in, judged, judged_by, reading_of, settled, taken}
 use Rattle.filter_parse.proofs.pass.Pass.read.Goals as goal
 
-judged-settled : (token : Token) (at count open' : ℕ) (state next : Reading) → next ≡ settled (Some token) state → open' ≡ count →
-    judged_by (fault_in (control_of next) open' token at) at (taken token next) ≡ judged token at count state
-judged-settled token at count open' state next e f =
-    ap (λ (s : Reading). judged_by (fault_in (control_of s) open' token at) at (taken token s)) e
+judged-settled : (token : Token) (at count brackets : ℕ) (state next : Reading) → next ≡ settled (Some token) state → brackets ≡ count →
+    judged_by (fault_in (control_of next) brackets token at) at (taken token next) ≡ judged token at count state
+judged-settled token at count brackets state next e f =
+    ap (λ (s : Reading). judged_by (fault_in (control_of s) brackets token at) at (taken token s)) e
     ∙ ap (λ n. judged_by (fault_in (control_of (settled (Some token) state)) n token at) at (taken token (settled (Some token) state))) f
 
 pub returns-in-Err-clause-met : goal.returns-in-Err-clause-met
 returns-in-Err-clause-met g c =
-    let same = judged-settled c.args.token c.args.at c.args.self.now.open c.settle.new.self.open (reading_of c.args.self.now) (reading_of c.settle.new.self)
-    c.in_ok-settle.ensures.settled c.in_ok-settle.ensures.open in
+    let same = judged-settled c.args.token c.args.at c.args.self.now.brackets c.settle.new.self.brackets (reading_of c.args.self.now) (reading_of c.settle.new.self)
+    c.in_ok-settle.ensures.settled c.in_ok-settle.ensures.brackets in
     elim c.in-Err.ensures.met [ inl e ↦ inl e | inr e ↦ inr (sym same ∙ e) ]
