@@ -1,1 +1,12 @@
-pub mod RowLemmas
+mod ListLemmas
+mod RuleLemmas
+mod WorkerKept
+mod OperatorKept
+mod SeatKept
+mod WorkerSeatLemmas
+mod OperatorSeatLemmas
+mod MeetingLemmas
+mod OpeningLemmas
+pub mod SectionLemmas
+mod EnterLemmas
+mod KeeperLemmas

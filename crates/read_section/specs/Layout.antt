@@ -1,22 +1,27 @@
--- Where each word of the table lies, and what `current` says (docs/TABLE.md).
-use Rattle.std.specs.Prelude.{◌+◌, ◌*◌, ◌/◌, ◌%◌, List, slice_range, ℕ}
-use Rattle.read_section.specs.declared.layout.TheConstants.{FIRST_ROW, NUMBER_UNIT, ROW_WORDS}
+-- Which configurations a row takes, and from where on a row is known to be 0.
+use Rattle.std.specs.Prelude.{◌≡◌, ◌*◌, ◌+◌, ◌<◌, ◌==◌, ◌≤◌, List, if◌then◌else◌, max, slice_index, ℕ}
+use Rattle.config_image.specs.Image.{Group}
+use Rattle.member_group.specs.Charge.{charge_of}
+use Rattle.member_group.specs.Group.{IsConfig}
+use Rattle.versions.specs.declared.layout.TheConstants.{CHARGE_LIMIT}
+use Rattle.versions.specs.declared.view.OperatorView.{OperatorView}
+use Rattle.versions.specs.Table.{the_shape}
 
--- the place of the first word of a row
-abbrev pub row_place : ℕ → ℕ
-row_place r = FIRST_ROW + ROW_WORDS * r
+-- a configuration whose image fits a row
+abbrev pub IsPublishable : List Group → Type 0
+IsPublishable config = IsConfig config × (charge_of config ≤ CHARGE_LIMIT)
 
--- the words of a row
-abbrev pub row_at : List ℕ → ℕ → List ℕ
-row_at table r = slice_range table (row_place r) (row_place r + ROW_WORDS)
+-- the row of the operator's words holds the configuration's
+abbrev pub Holds : OperatorView (List Group) → ℕ → List Group → Type 0
+Holds view row config =
+    (i : ℕ) → i < the_shape.row_words → slice_index view.row_words (row * the_shape.row_words + i) ≡ slice_index (the_shape.row config) i
 
--- `current` for a version's number and its row
-abbrev pub current_word : ℕ → ℕ → ℕ
-current_word number r = NUMBER_UNIT * number + r
+-- the words of a row are 0 from a place on
+abbrev pub IsZeroFrom : OperatorView (List Group) → ℕ → ℕ → Type 0
+IsZeroFrom view row from =
+    (i : ℕ) → from ≤ i → i < the_shape.row_words → slice_index view.row_words (row * the_shape.row_words + i) ≡ 0
 
--- the number, and the row, that `current` names
-abbrev pub number_in : ℕ → ℕ
-number_in current = current / NUMBER_UNIT
-
-abbrev pub row_in : ℕ → ℕ
-row_in current = current % NUMBER_UNIT
+-- where the zeros of a row begin, after a word was stored at a place: behind another word than 0, and one place earlier where
+-- a 0 was stored right before them
+abbrev pub zeros_after : ℕ → ℕ → ℕ → ℕ
+zeros_after place word from = if word == 0 then (if place + 1 == from then place else from) else max from (place + 1)

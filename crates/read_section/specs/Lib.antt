@@ -1,6 +1,9 @@
-pub mod Config
 pub mod Layout
-pub mod Operator
+pub mod View
+pub mod Rule
+pub mod Plays
+pub mod Worker
+pub mod Steps
 pub mod Section
-pub use Rattle.bpf_verify.specs.Path
-pub use Rattle.bpf_verify.specs.Program
+pub mod Operator
+pub mod Seat

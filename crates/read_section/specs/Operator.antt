@@ -1,35 +1,115 @@
--- What a contract sees of an Operator: the current version.
-use Rattle.std.specs.Prelude.{◌≡◌, ◌+◌, ◌<◌, ◌≤◌, IsErrAnd, List, Result, length, slice_index, ℕ}
-use Rattle.bpf_verify.specs.Program.{IsProgram}
-use Rattle.read_section.specs.declared.layout.TheConstants.{CURRENT, FIRST_READ_WORD, LAST_NUMBER, ROWS, TABLE_WORDS, WORKERS}
-use Rattle.read_section.specs.Config.{ConfigValue, row}
-use Rattle.read_section.specs.Layout.{number_in, row_at, row_in}
+-- What a contract sees of an Operator: what it knows, what it reported, and where the zeros of its rows begin.
+use Rattle.std.specs.Prelude.{◌≡◌, ◌+◌, ◌++◌, ◌-◌, ◌*◌, ◌<◌, ◌≤◌, ◌↔◌, ◌∷◌, List, None, Option, Some, [], length, replicate, slice_index, slice_set, suc, ℕ}
+use mathlib.Core.Option.{some}
+use lib.ListN.{get_elem?}
+use Rattle.atomic_table.specs.Seated.{TableId}
+use Rattle.config_image.specs.Image.{Group, image}
+use Rattle.versions.specs.declared.progress.Progress.{Progress}
+use Rattle.versions.specs.declared.step.Entry.{Entry}
+use Rattle.versions.specs.declared.view.OperatorView.{OperatorView}
+use Rattle.versions.specs.Layout.{current_word, row_begin, rows_begin}
+use Rattle.versions.specs.View.{after_fill, after_peek, after_proposal, after_publish, after_scan, new_worker, read_word_after}
+use Rattle.versions.specs.Free.{IsFree, number_after}
+use Rattle.versions.specs.State.{new_operator}
+use Rattle.versions.specs.Mirror.{IsBook}
+use Rattle.versions.specs.World.{opening_rows}
+use Rattle.versions.specs.Table.{the_shape}
+use Rattle.read_section.specs.declared.book.Book.{Book}
+use Rattle.read_section.specs.declared.rule.SeatView.{SeatView}
+use Rattle.read_section.specs.Layout.{IsZeroFrom, zeros_after}
+use Rattle.read_section.specs.View.{Shows}
+use Rattle.read_section.specs.Worker.{WorkerValue, steps}
 
+-- the table whose operator it is, what it knows, how many versions it reported as free, and for each row a place from which on
+-- its words are 0
 pub record OperatorValue : Type 0 where
-  pub current : ConfigValue
-  pub number : ℕ
+  pub table : TableId
+  pub view : OperatorView (List Group)
+  pub reported : ℕ
+  pub zeros : List ℕ
 
-abbrev pub first_version : ConfigValue → OperatorValue
-first_version c = record { current = c; number = 0 }
+-- the table and the view that the operator's seat has
+pub record OperatorSeatValue : Type 0 where
+  pub table : TableId
+  pub view : OperatorView (List Group)
 
--- a configuration, as the version after the current one
-abbrev pub next_version : OperatorValue → ConfigValue → OperatorValue
-next_version o c = record { current = c; number = o.number + 1 }
+abbrev pub operator_or_none : Option (OperatorView (List Group)) → OperatorView (List Group)
+operator_or_none None = record { log = []; published = []; version_rows = []; proposal = None; row_words = []; scanned_logs = [] }
+operator_or_none (Some view) = view
 
--- the call refused, and this is the fault that it named
-abbrev pub IsRefusedAs : {T F C : Type 0} → F → Result T (F × C) → Type 0
-IsRefusedAs fault r = IsErrAnd r (λ refusal. refusal.0 ≡ fault)
+abbrev pub operator_at : TableId → SeatView (List Group) → OperatorSeatValue
+operator_at table seat = record { table = table; view = operator_or_none seat.operator }
 
--- no worker is in a section: each read word is 0
-abbrev pub IsOutside : List ℕ → Type 0
-IsOutside table = (w : ℕ) → w < WORKERS → slice_index table (FIRST_READ_WORD + w) ≡ 0
+-- the operator's seat after steps of its own
+abbrev pub acts : (OperatorView (List Group) → OperatorView (List Group)) → OperatorSeatValue → OperatorSeatValue
+acts after seat = record seat { view = after seat.view }
 
--- `current` names the version's number and a row, that row is the configuration's, and the workers are outside
-pub record IsTableOf (version : OperatorValue) (table : List ℕ) : Type 0 where
-  pub whole : length table ≡ TABLE_WORDS
-  pub in_range : version.number ≤ LAST_NUMBER
-  pub accepted : IsProgram version.current.program
-  pub number : number_in (slice_index table CURRENT) ≡ version.number
-  pub has_row : row_in (slice_index table CURRENT) < ROWS
-  pub holds : row_at table (row_in (slice_index table CURRENT)) ≡ row version.current
-  pub outside : IsOutside table
+-- the configuration was published last
+abbrev pub IsCurrent : OperatorView (List Group) → List Group → Type 0
+IsCurrent view config = (older : List (List Group)) × (view.published ≡ older ++ config ∷ [])
+
+-- the operator after each of its single steps: a fill of a place of a row, the publication of a configuration from a row, a
+-- scan of worker w that told this log
+abbrev pub filled : ℕ → ℕ → ℕ → OperatorValue → OperatorValue
+filled row place word operator = record operator {
+  view = after_fill (rows_begin the_shape) (row_begin the_shape row + place) word operator.view;
+  zeros = slice_set operator.zeros row (zeros_after place word (slice_index operator.zeros row));
+}
+
+abbrev pub put_in : ℕ → List Group → OperatorView (List Group) → OperatorView (List Group)
+put_in row config view = after_publish row (current_word the_shape (number_after view.log + 1) row) (after_proposal config view)
+
+abbrev pub published_from : ℕ → List Group → OperatorValue → OperatorValue
+published_from row config operator = record operator { view = put_in row config operator.view }
+
+abbrev pub scanned : ℕ → ℕ → List Entry → OperatorValue → OperatorValue
+scanned w x log operator = record operator { view = after_scan w x log operator.view }
+
+-- the versions from `first` on, `count` of them, are free and were not reported before, and no later one is free
+pub record IsReport (view : OperatorView (List Group)) (reported first count : ℕ) : Type 0 where
+  pub from : first ≡ reported
+  pub free : (m : ℕ) → first ≤ m → IsFree the_shape m view.log ↔ (m < first + count)
+
+-- a worker peeks, which shows it all that is published, and the operator then scans it, which tells the worker's whole log
+pub record Meets (worker worker' : WorkerValue) (operator operator' : OperatorValue) : Type 0 where
+  pub peeked : ℕ
+  pub word : ℕ
+  pub shows : Shows the_shape peeked operator.view.published worker.view.seen
+  pub one_peek : worker' ≡ steps (after_peek the_shape.rows peeked operator.view.published) worker
+  pub read : word ≡ read_word_after worker'.view.log
+  pub one_scan : operator' ≡ scanned worker.view.number word worker'.view.log operator
+
+-- the book's numbers, as those of a world
+abbrev pub progress_of : Book → Progress
+progress_of book = record { stages = []; number = book.number; last = book.last; cleared = book.cleared }
+
+pub record IsBookAtStart (book : Book) : Type 0 where
+  pub number : book.number ≡ 0
+  pub last : book.last ≡ slice_set (replicate the_shape.rows 0) 0 1
+  pub cleared : book.cleared ≡ replicate the_shape.workers 0
+
+-- what the operator keeps tells what its steps did
+pub record IsKeptBy (view : OperatorView (List Group)) (config : List Group) (book : Book) (reported : ℕ) (zeros : List ℕ) : Type 0 where
+  pub steps_told : IsBook the_shape view (progress_of book)
+  pub number_limited : book.number ≤ the_shape.last_number
+  pub published_length : length view.published ≡ suc (number_after view.log)
+  pub version_rows_length : length view.version_rows ≡ suc (number_after view.log)
+  pub row_words_length : length view.row_words ≡ the_shape.rows * the_shape.row_words
+  pub current : IsCurrent view config
+  pub reported_free : (m : ℕ) → m < reported → IsFree the_shape m view.log
+  pub zeros_length : length zeros ≡ the_shape.rows
+  pub zeros_limited : (row : ℕ) → row < the_shape.rows → slice_index zeros row ≤ the_shape.row_words
+  pub zeros_stand : (row : ℕ) → row < the_shape.rows → IsZeroFrom view row (slice_index zeros row)
+
+-- the operator and the workers of a table that opens with a configuration: nobody made a step
+abbrev pub opened_operator : TableId → List Group → OperatorValue
+opened_operator table config = record {
+  table = table;
+  view = new_operator the_shape config (opening_rows config);
+  reported = 0;
+  zeros = length (image config) ∷ replicate (the_shape.rows - 1) 0;
+}
+
+pub record AreOpenedWorkers (table : TableId) (config : List Group) (workers : List WorkerValue) : Type 0 where
+  pub count : length workers ≡ the_shape.workers
+  pub each : (w : ℕ) → w < the_shape.workers → get_elem? workers w ≡ some (record { table = table; view = new_worker config w })

@@ -1,4 +1,4 @@
-//! Why a table is not opened, and why a configuration is not published.
+//! Why a table is not opened.
 
 ghost use Rattle.std.specs.Prelude.{◌≡◌};
 ghost use Rattle.read_section.specs.declared.fault.OpenFault.TheVariants.{OutOfMemory};
@@ -20,15 +20,4 @@ impl From<AllocError> for OpenFault {
     fn from(_: AllocError) -> OpenFault {
         OpenFault::OutOfMemory
     }
-}
-
-/// Why `publish` published nothing.
-#[derive(Clone, Copy, Debug, PartialEq, Eq)]
-pub enum PublishFault {
-    /// B1: the configuration's charge is above `CHARGE_LIMIT`.
-    TooBig,
-    /// B3: the current version has the last number.
-    Exhausted,
-    /// B2: no row is free.
-    Busy,
 }

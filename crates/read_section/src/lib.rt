@@ -1,51 +1,55 @@
-//! The table of versions: an operator publishes configurations, and a worker reads, in a read-side critical section,
-//! the row of the version that is current when it enters (docs/TABLE.md).
+//! The shared table of versions: an operator publishes configurations by single stores, and workers read them by single
+//! loads, each in a read-side critical section, without a lock and without waiting (Desnoyers et al. 2012, "User-Level
+//! Implementations of Read-Copy Update"; docs/TABLE.md).
 //!
-//! `open` makes a table at version 0, its operator and its workers. The table is a vector that the operator owns, so a
-//! section borrows the operator, and no publication comes inside it. No call but `open` takes memory.
+//! `open` makes a table at version 0, its operator and its workers. All that they do to the table are the eight kinds of
+//! step of `versions`; the rule on the table says that its words are what a legal trace of such steps left, and contracts say
+//! which steps a call makes. No call but `open` takes memory.
 #![tactic(auto)]
 
-ghost use Rattle.std.specs.Prelude.{◌≡◌, ◌<◌, ◌↔◌, IfOk, length, slice_index, vec_len, ℕ};
-ghost use Rattle.read_section.specs.Config.{charge_of};
-ghost use Rattle.read_section.specs.Operator.{first_version};
+ghost use Rattle.std.specs.Prelude.{◌≡◌, ◌<◌, ◌≤◌, ◌↔◌, Err, IfOk};
+ghost use Rattle.member_group.specs.Charge.{charge_of};
+ghost use Rattle.versions.specs.declared.layout.TheConstants.{CHARGE_LIMIT};
+ghost use Rattle.read_section.specs.declared.fault.OpenFault.TheVariants as open_fault;
+ghost use Rattle.read_section.specs.Operator.{AreOpenedWorkers, opened_operator};
 
-mod config;
+mod book;
 mod fault;
-mod layout;
 mod operator;
+mod plays;
+mod rule;
+mod seat;
 mod section;
 #[cfg(test)]
 mod tests;
 mod worker;
 
-pub use config::{Config, program_stands_in_row};
-pub use fault::{OpenFault, PublishFault};
-use layout::TABLE_WORDS;
-pub use layout::{CHARGE_LIMIT, LAST_NUMBER, PROGRAM_PLACE, ROW_WORDS, WORKERS};
-pub use operator::Operator;
-pub use section::Section;
-use std::alloc::{AllocError, Global};
+use crate::seat::open_table;
+pub use config_image::ROW_WORDS;
+use config_image::image_len;
+pub use fault::OpenFault;
+use member_group::Config;
+pub use operator::{Operator, Reclaimed};
+pub use rule::{Rule, SeatView};
+pub use section::{Section, sections_are_whole};
+use versions::opening_words;
+pub use versions::{CHARGE_LIMIT, LAST_NUMBER, ROWS, WORKERS};
 pub use worker::Worker;
 
-/// Opens a table at version 0, which is `config`, with its operator and its workers.
-///
-/// Takes the memory of the table and of the vector of workers from the configuration's allocator.
+/// Opens a table at version 0, which is `config`, with its operator and its workers. Takes their memory from the
+/// configuration's allocator.
 pub fn open(config: Config) -> Result<(Operator, Vec<Worker>), OpenFault>
-    ensures opened { IfOk result (λ parts. parts.0 ≡ first_version config) }
-    ensures workers { IfOk result (λ parts. vec_len parts.1 ≡ WORKERS) }
-    ensures too_big { (result ≡ Err OpenFault.TooBig) ↔ (CHARGE_LIMIT < charge_of config) }
+    ensures opened { IfOk result (λ parts. parts.0 ≡ opened_operator parts.0.table config) }
+    ensures workers { IfOk result (λ parts. AreOpenedWorkers parts.0.table config parts.1.items) }
+    ensures within { IfOk result (λ parts. charge_of config ≤ CHARGE_LIMIT) }
+    ensures too_big { (result ≡ Err open_fault.TooBig) ↔ (CHARGE_LIMIT < charge_of config) }
 {
     if config.charge() > CHARGE_LIMIT {
         return Err(OpenFault::TooBig);
     }
-    let words = zeros(config.alloc(), TABLE_WORDS)?;
-    let workers = Worker::all(config.alloc())?;
-    Ok((Operator::new(words, config), workers))
-}
-
-fn zeros(alloc: Global, count: usize) -> Result<Vec<u64>, AllocError>
-    ensures count { IfOk result (λ words. length words.items ≡ count) }
-    ensures zero { IfOk result (λ words. (i : ℕ) → i < count → slice_index words.items i ≡ 0) }
-{
-    vec![in alloc; 0; count]
+    let alloc = *config.allocator();
+    let words = opening_words(&config)?;
+    let (seat, workers) = open_table(alloc, &words, &config)?;
+    let image_len = image_len(&config);
+    Ok((Operator::opened(seat, config, image_len), workers))
 }

@@ -1,140 +1,171 @@
-//! The operator: the one that publishes.
+//! The operator: the one that fills rows, publishes and reclaims, by single steps.
 
-ghost use Rattle.std.specs.Prelude.{◌≡◌, ◌+◌, ◌<◌, ◌≤◌, ◌↔◌, IfErr, IfOk, OnErr, OnOk, length};
-ghost use Rattle.bpf_verify.specs.Program.{IsProgram};
-ghost use Rattle.read_section.specs.Config.{charge_of, row};
-ghost use Rattle.read_section.specs.Layout.{row_at};
-ghost use Rattle.read_section.specs.Operator.{IsOutside, IsRefusedAs, IsTableOf, first_version, next_version};
+ghost use Rattle.std.specs.Prelude.{◌≡◌, ◌+◌, ◌*◌, ◌<◌, ◌≤◌, ◌↔◌, IsTrue, List, length, slice_index, ℕ};
+ghost use Rattle.config_image.specs.Image.{Group, image};
+ghost use Rattle.versions.specs.declared.step.Entry.{Entry};
+ghost use Rattle.versions.specs.Free.{IsFreeRow, number_after};
+ghost use Rattle.versions.specs.Legal.{MayPeek};
+ghost use Rattle.versions.specs.Table.{the_shape};
+ghost use Rattle.read_section.specs.Layout.{Holds, IsPublishable, IsZeroFrom, zeros_after};
+ghost use Rattle.read_section.specs.Operator.{IsCurrent, IsReport, Meets, filled, opened_operator, published_from, scanned};
+ghost use Rattle.read_section.specs.View.{TellsLog};
 
-use crate::config::Config;
-use crate::fault::PublishFault;
-use crate::layout::{
-    CHARGE_LIMIT, CURRENT, FIRST_ROW, LAST_NUMBER, PROGRAM_PLACE, ROW_WORDS, ROWS, TABLE_WORDS,
-    current_of, row_of,
-};
+use crate::book::Book;
+use crate::seat::{OperatorSeat, WorkerSeat};
+use config_image::ROW_WORDS;
+use member_group::Config;
 use std::marker::Model;
+use versions::{ROWS, WORKERS};
 
-/// The updater of a table, and the owner of its words.
+/// The versions from `first` on, `count` of them, may be reused.
+#[derive(Clone, Copy, Debug, PartialEq, Eq)]
+pub struct Reclaimed {
+    pub first: u64,
+    pub count: u64,
+}
+
+/// The updater of a table.
+///
+/// Contracts see its table, its log with what it published, how many versions it reported, and where the zeros of its rows
+/// begin.
 #[derive(Drop)]
 pub struct Operator {
-    words: Vec<u64>,
-    number: u64,
+    seat: OperatorSeat,
     config: Config,
+    book: Book,
+    reported: u64,
+    zeros: [usize; ROWS],
 }
 
 impl Model for Operator {
-    ghost use Rattle.read_section.specs.Operator.{IsTableOf, OperatorValue};
+    ghost use Rattle.read_section.specs.Operator.{IsKeptBy, OperatorValue};
 
     ghost Value = { OperatorValue };
 
-    ghost view = { λ o. record { current = o.config; number = o.number } };
+    ghost view = { λ o. record { table = o.seat.table; view = o.seat.view; reported = o.reported; zeros = o.zeros } };
 
-    ghost invariant = { λ o. IsTableOf (record { current = o.config; number = o.number }) o.words.items };
+    ghost invariant = { λ o. IsKeptBy o.seat.view o.config o.book o.reported o.zeros };
+}
+
+// Where the zeros of a row begin, after a word was stored at a place.
+fn zeros_begin(from: usize, place: usize, word: u64) -> usize
+    requires { place < ROW_WORDS }
+    ensures { result ≡ zeros_after place word from }
+{
+    if word != 0 {
+        return from.max(place + 1);
+    }
+    if place + 1 == from {
+        return place;
+    }
+    from
 }
 
 impl Operator {
+    pub(crate) fn opened(seat: OperatorSeat, config: Config, image_len: usize) -> Operator
+        requires seat { seat ≡ record { table = seat.table; view = (opened_operator seat.table config).view } }
+        requires publishable { IsPublishable config }
+        requires image { image_len ≡ length (image config) }
+        ensures { result ≡ opened_operator seat.table config }
+    {
+        let mut zeros = [0; ROWS];
+        zeros[0] = image_len;
+        Operator {
+            seat,
+            config,
+            book: Book::at_start(),
+            reported: 0,
+            zeros,
+        }
+    }
+
     /// Lends the configuration of the current version.
     pub fn config(&self) -> &Config
-        ensures current_configuration { result.now ≡ self.now.current }
+        ensures current_configuration { IsCurrent self.now.view result.now }
     {
         &self.config
     }
 
     /// Tells the number of the current version, counted from 0.
     pub fn number(&self) -> u64
-        ensures { result ≡ self.now.number }
+        ensures number { result ≡ number_after self.now.view.log }
+        ensures limited { result ≤ the_shape.last_number }
     {
-        self.number
+        self.book.number
     }
 
-    /// Publishes a configuration as the next version, and answers its number.
+    /// Tests whether a row is free: it was never used, or its last version is. No step; false where there is no such row.
+    pub fn is_free(&self, row: usize) -> bool
+        ensures free_row_exact { IsTrue result ↔ IsFreeRow the_shape self.now.view row }
+    {
+        self.book.is_free(row)
+    }
+
+    /// Tells a place of a row from which on its words are 0. No step.
     ///
-    /// Fills the row that is not current, then stores `current`. Takes no memory.
-    pub fn publish(&mut self, config: Config) -> Result<u64, (PublishFault, Config)>
-        ensures published_exactly { OnOk result (self.new ≡ next_version self.old config) }
-        ensures new_number { IfOk result (λ number. number ≡ self.old.number + 1) }
-
-        // Tested in this order. The other row is always free, since no section outlives a publication.
-        ensures too_big { IsRefusedAs PublishFault.TooBig result ↔ (CHARGE_LIMIT < charge_of config) }
-        ensures exhausted { IsRefusedAs PublishFault.Exhausted result
-            ↔ ((charge_of config ≤ CHARGE_LIMIT) × (self.old.number ≡ LAST_NUMBER)) }
-        ensures busy { ¬ IsRefusedAs PublishFault.Busy result }
-
-        // A refusal hands the configuration back and publishes nothing.
-        ensures handed_back { IfErr result (λ refusal. refusal.1 ≡ config) }
-        ensures kept { OnErr result (self.new ≡ self.old) }
+    /// It is where the image ended that the row opened with, and 0 in the other rows; `fill` moves it.
+    pub fn zeros_from(&self, row: usize) -> usize
+        requires { row < the_shape.rows }
+        ensures zeros { IsZeroFrom self.now.view row result }
+        ensures place { result ≡ slice_index self.now.zeros row }
+        ensures within { result ≤ the_shape.row_words }
     {
-        if config.charge() > CHARGE_LIMIT {
-            return Err((PublishFault::TooBig, config));
-        }
-        if self.number == LAST_NUMBER {
-            return Err((PublishFault::Exhausted, config));
-        }
-        let current = self.words[CURRENT];
-        let free_row = (row_of(current) + 1) % ROWS;
-        self.number += 1;
-        store_version(&mut self.words, &config, self.number, free_row);
+        self.zeros[row]
+    }
+
+    /// Makes one fill: stores a word at a place of a free row, counted from 0 in the row. Takes no memory.
+    pub fn fill(&mut self, row: usize, place: usize, word: u64)
+        requires free { IsFreeRow the_shape self.old.view row }
+        requires place { place < the_shape.row_words }
+        ensures one_fill { self.new ≡ filled row place word self.old }
+        ensures whole_rows { length self.old.view.row_words ≡ the_shape.rows * the_shape.row_words }
+    {
+        self.seat.fill(row, place, word);
+        self.zeros[row] = zeros_begin(self.zeros[row], place, word);
+    }
+
+    /// Publishes, by one store of `current`, a configuration whose row a free row holds. Takes no memory.
+    pub fn put(&mut self, row: usize, config: Config)
+        requires free { IsFreeRow the_shape self.old.view row }
+        requires holds { Holds self.old.view row config }
+        requires publishable { IsPublishable config }
+        requires number { number_after self.old.view.log < the_shape.last_number }
+        ensures one_publish { self.new ≡ published_from row config self.old }
+    {
+        self.seat.publish(&config, row, self.book.number + 1);
+        self.book.count_version(row);
         self.config = config;
-        Ok(self.number)
     }
 
-    // Version 0 is in row 0 of a table of zeros.
-    pub(crate) fn new(mut words: Vec<u64>, config: Config) -> Operator
-        requires whole { length words.items ≡ TABLE_WORDS }
-        requires outside { IsOutside words.items }
-        requires charge { charge_of config ≤ CHARGE_LIMIT }
-        ensures { result ≡ first_version config }
+    /// Makes one scan of a worker's read word, and answers it. Takes no memory.
+    pub fn scan(&mut self, worker: usize) -> u64
+        requires { worker < the_shape.workers }
+        ensures one_scan { (log : List Entry) × TellsLog the_shape self.old.view worker result log × (self.new ≡ scanned worker result log self.old) }
     {
-        store_version(&mut words, &config, 0, 0);
-        Operator {
-            words,
-            number: 0,
-            config,
-        }
+        let word = self.seat.scan(worker);
+        self.book.take_scan(worker, word);
+        word
     }
 
-    pub(crate) fn table(&self) -> &[u64]
-        ensures { IsTableOf self.now result.now }
+    /// Tells which versions are free by the scans so far and were not reported before, and counts them as reported. No step.
+    pub fn report(&mut self) -> Reclaimed
+        ensures report_exact { IsReport self.old.view self.old.reported result.first result.count }
+        ensures reported { self.new ≡ record self.old { reported = result.first + result.count } }
     {
-        &self.words
+        let first = self.reported;
+        let count = self.book.free_versions() - first;
+        self.reported = first + count;
+        Reclaimed { first, count }
     }
-}
 
-fn store_version(table: &mut [u64], config: &Config, number: u64, free_row: usize)
-    requires whole { length table.old ≡ TABLE_WORDS }
-    requires outside { IsOutside table.old }
-    requires charge { charge_of config.now ≤ CHARGE_LIMIT }
-    requires number { number ≤ LAST_NUMBER }
-    requires free_row { free_row < ROWS }
-    ensures { IsTableOf (record { current = config.now; number = number }) table.new }
-{
-    fill_row(table, free_row, config);
-    table[CURRENT] = current_of(number, free_row);
-}
-
-fn fill_row(table: &mut [u64], free_row: usize, config: &Config)
-    requires whole { length table.old ≡ TABLE_WORDS }
-    requires free_row { free_row < ROWS }
-    requires charge { charge_of config.now ≤ CHARGE_LIMIT }
-    ensures filled { row_at table.new free_row ≡ row config.now }
-    ensures accepted { IsProgram config.now.program }
-    ensures outside_kept { IsOutside table.old → IsOutside table.new }
-{
-    let place = FIRST_ROW + ROW_WORDS * free_row;
-    fill(&mut table[place..place + ROW_WORDS], config);
-}
-
-// The whole row, so that no word of a longer image stays behind.
-#[tactic(auto, using(crate::proofs::RowLemmas::filled_is_row))]
-fn fill(words: &mut [u64], config: &Config)
-    requires size { length words.old ≡ ROW_WORDS }
-    requires charge { charge_of config.now ≤ CHARGE_LIMIT }
-    ensures filled { words.new ≡ row config.now }
-    ensures accepted { IsProgram config.now.program }
-{
-    let program = config.program().words();
-    let end = PROGRAM_PLACE + program.len();
-    words[0] = program.len() as u64;
-    words[PROGRAM_PLACE..end].copy_from_slice(program);
-    words[end..].fill(0);
+    // One peek of a worker, and one scan of it.
+    pub(crate) fn meet(&mut self, worker: &mut WorkerSeat)
+        requires table { worker.old.table ≡ self.old.table }
+        requires stage { MayPeek worker.old.view.stage }
+        ensures { Meets worker.old worker.new self.old self.new }
+    {
+        let number = worker.number();
+        let word = self.seat.meet(worker);
+        self.book.take_scan(number, word);
+    }
 }

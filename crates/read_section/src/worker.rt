@@ -1,36 +1,129 @@
 //! Workers: the readers of the table.
 
-ghost use Rattle.std.specs.Prelude.{◌≡◌, IfOk, vec_len};
-ghost use Rattle.bpf_verify.specs.Program.{IsProgram};
-ghost use Rattle.read_section.specs.Config.{row};
+ghost use Rattle.std.specs.Prelude.{◌≡◌, ◌<◌, List, length, slice_index, suc, ℕ};
+ghost use Rattle.config_image.specs.Image.{Group};
+ghost use Rattle.versions.specs.View.{IsTold, after_peek};
+ghost use Rattle.versions.specs.Table.{the_shape};
+ghost use Rattle.read_section.specs.Section.{FetchedSincePin, HoldsLastSeen, borrow_of, fetched, held_version, held_words, worker_of};
+ghost use Rattle.read_section.specs.View.{Shows};
+ghost use Rattle.read_section.specs.Worker.{Enters, IsOutside, left, steps};
+ghost use Rattle.read_section.specs.Operator.{Meets};
 
-use crate::layout::{CURRENT, WORKERS, number_of, row_of, row_words};
 use crate::operator::Operator;
+use crate::seat::WorkerSeat;
 use crate::section::Section;
-use std::alloc::{AllocError, Global};
+use std::marker::Model;
+use versions::ROWS;
+
+/// What a worker holds inside a section.
+#[derive(Clone, Copy, Debug)]
+pub(crate) struct Held {
+    pub(crate) version: u64,
+    pub(crate) row: usize,
+}
 
 /// A reader of the table. There are as many as `open` made.
+///
+/// Contracts see its table, its log, and the versions that it has seen.
 #[derive(Drop)]
-pub struct Worker(());
+pub struct Worker {
+    seat: WorkerSeat,
+    held: Option<Held>,
+}
+
+impl Model for Worker {
+    ghost use Rattle.read_section.specs.Seat.{IsAt};
+    ghost use Rattle.read_section.specs.Worker.{WorkerValue};
+
+    ghost Value = { WorkerValue };
+
+    ghost view = { λ w. w.seat };
+
+    ghost invariant = { λ w. IsAt w.held w.seat.view.stage };
+}
 
 impl Worker {
-    /// Begins a read-side critical section on the current version.
-    ///
-    /// The section holds the worker and the operator: until it is left, no version is published, and the worker enters
-    /// no other. Takes no memory.
-    pub fn enter<'a>(&'a mut self, operator: &'a Operator) -> Section<'a>
-        ensures section_row { result.words ≡ row operator.now.current }
-        ensures accepted { IsProgram operator.now.current.program }
-        ensures number { result.number ≡ operator.now.number }
+    pub(crate) fn new(seat: WorkerSeat) -> Worker
+        requires { IsOutside seat.view.stage }
+        ensures { result ≡ seat }
     {
-        let table = operator.table();
-        let current = table[CURRENT];
-        Section::new(row_words(table, row_of(current)), number_of(current))
+        Worker { seat, held: None }
     }
 
-    pub(crate) fn all(alloc: Global) -> Result<Vec<Worker>, AllocError>
-        ensures { IfOk result (λ workers. vec_len workers ≡ WORKERS) }
+    /// Begins a read-side critical section on the version that is current at its pin.
+    ///
+    /// Makes three steps and no other: peek, announce, pin; where an abandoned section left the worker inside, a leave comes
+    /// before them. It never waits, never retries and takes no memory. Until the section's leave its version is not
+    /// reclaimed (`versions::every_trace`).
+    pub fn enter(&mut self) -> Section<'_>
+        ensures same_worker { borrow_of result ≡ self.entry.ghost_name }
+        ensures entered_by_three_steps { Enters self.old (worker_of result) }
+        ensures seen_grows { IsTold self.old.view.seen (worker_of result).view }
+        ensures number_is_seen { length (worker_of result).view.seen ≡ suc (held_version (worker_of result)) }
+        ensures section_row { HoldsLastSeen (worker_of result) }
     {
-        (0..WORKERS).map(|_| Worker(())).collect(alloc)
+        self.leave();
+        let peeked = self.seat.peek();
+        self.seat.announce(peeked / ROWS as u64);
+        let pinned = self.seat.pin();
+        self.held = Some(Held {
+            version: pinned / ROWS as u64,
+            row: (pinned % ROWS as u64) as usize,
+        });
+        Section::of(self)
+    }
+
+    /// Makes one peek, and the operator then one scan of this worker: what the operator published so far the worker has
+    /// seen, and each later pin of it gives the operator's current version, or a later one. The operator has its whole log.
+    pub fn meet(&mut self, operator: &mut Operator)
+        requires { self.old.table ≡ operator.old.table }
+        ensures meets_by_two_steps { Meets self.old self.new operator.old operator.new }
+        ensures told_all { self.new.view.seen ≡ operator.old.view.published }
+    {
+        operator.meet(&mut self.seat);
+    }
+
+    /// Makes one peek: what the other worker has seen this one has seen then, and each later pin of it gives the newest
+    /// version of these, or a later one. The other makes no step.
+    pub fn meet_worker(&mut self, other: &mut Worker)
+        requires { self.old.table ≡ other.old.table }
+        ensures meets_by_one_step { (x : ℕ) × (seen : List (List Group)) × Shows the_shape x seen self.old.view.seen × (self.new ≡ steps (after_peek the_shape.rows x seen) self.old) }
+        ensures told_by_worker { IsTold other.old.view.seen self.new.view }
+        ensures other_kept { other.new ≡ other.old }
+    {
+        self.seat.peek_told(&mut other.seat);
+    }
+
+    // A word of the held version, by one fetch; 0 without a step where none is held.
+    pub(crate) fn fetch(&mut self, i: usize) -> u64
+        requires { i < the_shape.row_words }
+        ensures word { result ≡ slice_index (held_words self.old) i }
+        ensures one_fetch { self.new ≡ fetched i result self.old }
+    {
+        match self.held {
+            Some(held) => self.seat.fetch(held.version, held.row, i),
+            None => 0,
+        }
+    }
+
+    pub(crate) fn held_version(&self) -> u64
+        ensures { result ≡ held_version self.now }
+    {
+        match self.held {
+            Some(held) => held.version,
+            None => 0,
+        }
+    }
+
+    // One leave step where a version is held.
+    pub(crate) fn leave(&mut self)
+        ensures left { self.new ≡ steps left self.old }
+        ensures fetched_since_pin { FetchedSincePin self.old }
+    {
+        if self.held.is_none() {
+            return;
+        }
+        self.seat.leave();
+        self.held = None;
     }
 }

@@ -1,8 +1,8 @@
 -- The two programs of `first` are accepted, stand in their rows, and end as its lines say.
-use Rattle.std.proofs.Common.{◌≡◌, ◌∙◌, ◌∷◌, ◌+◌, ◌<◌, ◌≤◌, List, Ok, Some, [], ap, arith, length, lit<, lit≤, refl, subst, suc, sym, zero, ℕ}
-use Rattle.std.specs.Prelude.{min, slice_get, slice_index}
+use Rattle.std.proofs.Common.{◌≡◌, ◌∙◌, ◌∷◌, ◌<◌, ◌≤◌, List, [], ap, arith, length, lit<, lit≤, refl, subst, suc, sym, zero, ℕ}
+use Rattle.std.specs.Prelude.{min}
 use Rattle.switchd.specs.declared.first_path.Line.{Line}
-use Rattle.std.proofs.lemmas.Option.{get_or_from_slice_get, slice_get_within}
+use Rattle.std.proofs.lemmas.Option.{slice_get_within}
 use Rattle.bpf_insn.specs.declared.instruction.Insn.{Insn}
 use Rattle.bpf_insn.specs.declared.instruction.Insn.TheVariants.{JumpIf, LoadAbsolute, ReturnConstant}
 use Rattle.bpf_insn.specs.declared.instruction.Size.TheVariants.{Byte}
@@ -10,14 +10,10 @@ use Rattle.bpf_insn.specs.declared.instruction.Operand.TheVariants.{K}
 use Rattle.bpf_insn.specs.declared.instruction.Test.TheVariants.{Equal}
 use Rattle.bpf_insn.specs.Table.{table, uses_of}
 use Rattle.bpf_insn.specs.Word.{instruction_of}
-use Rattle.bpf_verify.specs.Path.{IsAt, Loads, LoadsAt, program_at}
+use Rattle.bpf_verify.specs.Path.{IsAt, Loads, LoadsAt}
 use Rattle.bpf_verify.specs.Accepted.{IsAccepted, IsFaultless}
-use Rattle.bpf_verify.specs.Program.{IsProgram}
 use Rattle.bpf_verify.proofs.PlaceLemmas.{IsAt-unique}
-use Rattle.bpf_machine.specs.Meaning.{Ending, Ret, cost_of, ending_of, run_after}
-use Rattle.read_section.specs.Config.{ConfigValue, row}
-use Rattle.read_section.specs.declared.layout.TheConstants.{ROW_WORDS}
-use Rattle.read_section.proofs.RowLemmas.{stands_in_row}
+use Rattle.bpf_machine.specs.Meaning.{Ret, cost_of, ending_of, run_after}
 
 -- ---- the programs
 
@@ -80,32 +76,6 @@ second_accepted =
       ends_in_return = (ReturnConstant 0, (_, refl, refl), tt);
       stores_before = λ pc cell loads. absurd (second_loads pc cell loads);
     }
-
--- ---- a row and its program
-
--- the words are the row of a configuration, of which word 0 was read
-pub record IsRowRead (words : List ℕ) (len : ℕ) (c : ConfigValue) : Type 0 where
-  pub not_empty : 0 < length words
-  pub within : 1 + len ≤ length words
-  pub program : program_at words 1 len ≡ c.program.words
-
-pub row_not_empty : (words : List ℕ) (c : ConfigValue) → words ≡ row c → IsProgram c.program → 0 < length words
-row_not_empty words c is_row is_program = let whole = (stands_in_row c is_program).whole in rw (is_row, whole) (lit< tt)
-
-pub row_read : (words : List ℕ) (len : ℕ) (c : ConfigValue) → words ≡ row c → IsProgram c.program → slice_get words 0 ≡ Some len → IsRowRead words len c
-row_read words len c is_row is_program read =
-    let stands = stands_in_row c is_program in
-    let is_length : length c.program.words ≡ len = sym stands.length_word ∙ ap (λ ws. slice_index ws 0) (sym is_row) ∙ get_or_from_slice_get words 0 len 0 read in
-    let room = stands.has_room in
-    let whole : length words ≡ ROW_WORDS = rw is_row stands.whole in
-    record {
-      not_empty = row_not_empty words c is_row is_program;
-      within = omega arith;
-      program = rw (is_row, ← is_length) stands.program;
-    }
-
-pub accepted_there : (words : List ℕ) (len : ℕ) (c : ConfigValue) → IsRowRead words len c → IsProgram c.program → IsAccepted (program_at words 1 len)
-accepted_there words len c is_read is_program = rw is_read.program is_program.accepted
 
 -- ---- how the programs end
 

@@ -2,3 +2,4 @@ mod CommandLineLemmas
 mod StandardFacts
 mod WriteLemmas
 pub mod FirstLemmas
+mod TableLemmas

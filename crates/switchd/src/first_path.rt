@@ -1,18 +1,27 @@
 //! The command `first`: one packet through two versions.
 
-ghost use Rattle.std.specs.Prelude.{◌≡◌, ◌+◌, ◌++◌, IfOk, OnOk, Some, codes, length, min, vec_len};
+ghost use Rattle.std.specs.Prelude.{◌≡◌, ◌+◌, ◌++◌, ◌<◌, IfOk, List, None, OnOk, Some, codes, length, ℕ};
 ghost use Rattle.bpf_verify.specs.Accepted.{IsAccepted};
-ghost use Rattle.bpf_machine.specs.Meaning.{Ret, cost_of, ending_of};
-ghost use Rattle.read_section.specs.Config.{charge_of};
-ghost use Rattle.read_section.specs.declared.layout.TheConstants.{WORKERS};
+ghost use Rattle.config_image.specs.Image.{Group};
+ghost use Rattle.config_image.specs.Lookup.{BeginsWithImage};
+ghost use Rattle.member_group.specs.Command.{after};
+ghost use Rattle.member_group.specs.Refusal.{first_refusal};
+ghost use Rattle.retire.specs.Publish.{HasFreeRow};
 ghost use Rattle.std.specs.Io.KnownBytes.{Appends};
 ghost use Rattle.switchd.specs.FirstPath.{first_lines, first_text, line_text};
+ghost use Rattle.switchd.specs.FirstTable.{IsLineOf, IsOpenedWith, IsRunOf, KeepsVersions, PublishesProgram, RunsInSection, Selects, SelectsNow};
+ghost use Rattle.versions.specs.Free.{number_after};
+ghost use Rattle.versions.specs.declared.layout.TheConstants.{LAST_NUMBER};
 
 use crate::ending::{Failure, Status};
 use bpf_insn::Words;
 use bpf_machine::{Outcome, run};
 use bpf_verify::Program;
-use read_section::{Config, OpenFault, Operator, PROGRAM_PLACE, Worker, open};
+use config_image::{find_group, selector_of};
+use ipv4_fields::Endpoint;
+use member_group::{Command, Config, Refusal};
+use read_section::{OpenFault, Operator, Worker, open};
+use retire::Retire;
 use std::alloc::{AllocError, Global};
 use std::fmt;
 use std::io::Write;
@@ -61,34 +70,71 @@ impl fmt::Display for Line {
     }
 }
 
+// 10.0.0.2:53, where the sample packet goes.
+const SAMPLE_GROUP: Endpoint = Endpoint {
+    address: 0x0a00_0002,
+    port: 53,
+};
+
 // The words are a program (`accepted`), so it is made of them but for want of memory.
-fn configuration(alloc: Global, words: &[u64]) -> Result<Config, AllocError>
+fn program(alloc: Global, words: &[u64]) -> Result<Program<Global>, AllocError>
     requires accepted { IsAccepted words.now }
-    ensures program { IfOk result (λ config. config.program.words ≡ words.now) }
-    ensures charge { IfOk result (λ config. charge_of config ≡ length words.now + 1) }
+    ensures words { IfOk result (λ program. program.words ≡ words.now) }
+    ensures charge { IfOk result (λ program. program.charge ≡ length words.now) }
 {
     match Program::new(Vec::from_slice(alloc, words)?) {
-        Ok(program) => Ok(Config::new(alloc, program)),
+        Ok(program) => Ok(program),
         Err(_) => unreachable!(),
     }
 }
 
-fn open_first(alloc: Global) -> Result<(Operator, Vec<Worker>), AllocError>
-    ensures version { IfOk result (λ parts. parts.0.number ≡ 0) }
-    ensures program { IfOk result (λ parts. parts.0.current.program.words ≡ FIRST_PROGRAM.now) }
-    ensures workers { IfOk result (λ parts. vec_len parts.1 ≡ WORKERS) }
+// No command that is applied here is refused, but for want of memory.
+fn applied(config: &Config, command: &Command) -> Result<Config, AllocError>
+    requires { first_refusal command.now config.now ≡ None }
+    ensures { IfOk result (λ next. next ≡ after command.now config.now) }
 {
-    match open(configuration(alloc, FIRST_PROGRAM)?) {
-        Ok(parts) => Ok(parts),
-        Err(OpenFault::OutOfMemory) => Err(AllocError),
+    match config.apply(command) {
+        Ok(next) => Ok(next),
+        Err(Refusal::OutOfMemory) => Err(AllocError),
+        Err(_) => unreachable!(),
+    }
+}
+
+// The sample group alone, without members; the words are its selector.
+fn configuration(alloc: Global, words: &[u64]) -> Result<Config, AllocError>
+    requires accepted { IsAccepted words.now }
+    ensures selects { IfOk result (Selects words.now) }
+{
+    let key = SAMPLE_GROUP;
+    let selector = program(alloc, words)?;
+    let empty = Config::new(alloc);
+    let added = applied(&empty, &Command::AddGroup { key })?;
+    let select = Command::SetSelector {
+        key,
+        program: selector,
+    };
+    applied(&added, &select)
+}
+
+// The operator of a new table, and one of its workers.
+fn open_first(alloc: Global) -> Result<(Operator, Worker), AllocError>
+    ensures opened { IfOk result (λ parts. IsOpenedWith FIRST_PROGRAM.now parts.0 parts.1) }
+{
+    let mut parts = match open(configuration(alloc, FIRST_PROGRAM)?) {
+        Ok(parts) => parts,
+        Err(OpenFault::OutOfMemory) => return Err(AllocError),
         Err(OpenFault::TooBig) => unreachable!(),
+    };
+    match parts.1.pop() {
+        Some(worker) => Ok((parts.0, worker)),
+        None => unreachable!(),
     }
 }
 
 fn publish_second(alloc: Global, operator: &mut Operator) -> Result<(), AllocError>
-    requires version { operator.old.number ≡ 0 }
-    ensures version { OnOk result (operator.new.number ≡ 1) }
-    ensures program { OnOk result (operator.new.current.program.words ≡ SECOND_PROGRAM.now) }
+    requires free { HasFreeRow operator.old }
+    requires number { number_after operator.old.view.log < LAST_NUMBER }
+    ensures published { OnOk result (PublishesProgram SECOND_PROGRAM.now operator.old operator.new) }
 {
     match operator.publish(configuration(alloc, SECOND_PROGRAM)?) {
         Ok(_) => Ok(()),
@@ -96,18 +142,47 @@ fn publish_second(alloc: Global, operator: &mut Operator) -> Result<(), AllocErr
     }
 }
 
-// Runs the current version's program on the sample packet, from its row.
-fn run_current(worker: &mut Worker, operator: &Operator) -> Line
-    ensures version { result.version ≡ operator.now.number }
-    ensures value { ending_of operator.now.current.program.words SAMPLE_PACKET.now ≡ Ret result.value }
-    ensures steps { result.steps ≡ cost_of operator.now.current.program.words SAMPLE_PACKET.now }
-    ensures kept { result.kept ≡ min result.value (length SAMPLE_PACKET.now) }
+// Runs the sample group's selector on the sample packet, from words that begin with an image. `None` where there is none.
+fn run_selector<W: Words>(words: &mut W) -> Option<Outcome>
+    requires { (config : List Group) × BeginsWithImage (W.words words.old) config }
+    ensures runs { (config : List Group) (selector : List ℕ) → BeginsWithImage (W.words words.old) config → Selects selector config → IsRunOf selector result }
+    ensures words_kept { W.words words.new ≡ W.words words.old }
+    ensures rest_kept { W.rest words.new ≡ W.rest words.old }
 {
-    let mut section = worker.enter(operator);
-    let len = section.word(0) as usize;
-    let Outcome { value, steps } = run(&mut section, PROGRAM_PLACE, len, SAMPLE_PACKET);
+    let Some(group) = find_group(words, SAMPLE_GROUP) else {
+        return None;
+    };
+    let Some(place) = selector_of(words, group.index) else {
+        return None;
+    };
+    Some(run(words, place.from, place.len, SAMPLE_PACKET))
+}
+
+// The same in a section, with the section's version.
+fn run_in_section(worker: &mut Worker) -> (u64, Option<Outcome>)
+    ensures { RunsInSection worker.old worker.new result.0 result.1 }
+{
+    let mut section = worker.enter();
+    let outcome = run_selector(&mut section);
     let version = section.number();
     section.leave();
+    (version, outcome)
+}
+
+// Runs the current version's program. The worker meets the operator before and after, so no other version came between.
+fn run_current(worker: &mut Worker, operator: &mut Operator) -> Line
+    requires table { worker.old.table ≡ operator.old.table }
+    requires selects { (selector : List ℕ) × SelectsNow selector operator.old.view }
+    ensures line { (selector : List ℕ) → SelectsNow selector operator.old.view → IsLineOf selector operator.old.view result }
+    ensures versions_kept { KeepsVersions operator.old operator.new }
+    ensures table_kept { worker.new.table ≡ worker.old.table }
+{
+    worker.meet(operator);
+    let (version, outcome) = run_in_section(worker);
+    worker.meet(operator);
+    let Some(Outcome { value, steps }) = outcome else {
+        unreachable!();
+    };
     Line {
         version,
         value,
@@ -119,11 +194,10 @@ fn run_current(worker: &mut Worker, operator: &Operator) -> Line
 fn lines(alloc: Global) -> Result<[Line; 2], AllocError>
     ensures { IfOk result (λ lines. lines ≡ first_lines) }
 {
-    let (mut operator, mut workers) = open_first(alloc)?;
-    let worker = &mut workers[0];
-    let at_first = run_current(worker, &operator);
+    let (mut operator, mut worker) = open_first(alloc)?;
+    let at_first = run_current(&mut worker, &mut operator);
     publish_second(alloc, &mut operator)?;
-    let at_second = run_current(worker, &operator);
+    let at_second = run_current(&mut worker, &mut operator);
     Ok([at_first, at_second])
 }
 

@@ -1,6 +1,7 @@
 //! The program's commands over writers in memory.
 
 use crate::ending::{Failure, Status};
+use crate::first_path::run_first;
 use crate::refuse_arguments;
 use crate::tool::tool;
 use std::alloc::{AllocError, Global};
@@ -77,6 +78,16 @@ fn first_program_keeps_k(rt: HostRuntime) -> Result<(), Fail> {
     assert_eq!(rt; run(rt.alloc(), &["first"], &mut out, &mut errs)?, Some(0));
     assert_eq!(rt; out.text(), Some(FIRST));
     assert_eq!(rt; errs.text(), Some(""));
+    Ok(())
+}
+
+// The group 10.0.0.2:53 has the program as its selector, and it runs where the image says.
+#[test]
+fn first_runs_the_selector(rt: HostRuntime) -> Result<(), Fail> {
+    let mut out = Sink::open(rt.alloc());
+    let status = run_first(rt.alloc(), &mut out);
+    assert!(rt; matches!(status, Ok(Status::Done)));
+    assert_eq!(rt; out.text(), Some(FIRST));
     Ok(())
 }
 

@@ -1,26 +1,17 @@
-use Rattle.std.proofs.Common.{◌∙◌, ap, sym}
-use Rattle.bpf_machine.specs.Meaning.{cost_of, ending_of}
-use Rattle.switchd.proofs.FirstLemmas.{IsRowRead, accepted_there, row_not_empty, row_read, sample_packet}
+use Rattle.std.proofs.Common.{subst}
+use Rattle.switchd.specs.FirstTable.{IsRunOf}
+use Rattle.switchd.proofs.TableLemmas.{nothing_published, runs_now, same_table, version_now}
 use Rattle.switchd.proofs.first_path.run_current.Goals as goal
 
-pub word-len-requires : goal.word-len-requires
-word-len-requires c = row_not_empty _ _ c.enter-section.ensures.section_row c.enter-section.ensures.accepted
+pub unreachable-requires : goal.unreachable-requires
+unreachable-requires c = let now = c.requires.selects in subst (IsRunOf now.0) c.in_default.is (runs_now c.args.worker.now c.meet.new.self c.run_in_section-version.new.worker c.meet-2.new.self c.args.operator.now c.meet.new.operator c.meet-2.new.operator _ _ c.meet.ensures.meets_by_two_steps c.run_in_section-version.ensures c.meet-2.ensures.meets_by_two_steps now.0 now.1)
 
-pub run-value-requires-clause-within : goal.run-value-requires-clause-within
-run-value-requires-clause-within c =
-    rw c.word-len.ensures.words_kept ((row_read _ _ _ c.enter-section.ensures.section_row c.enter-section.ensures.accepted c.word-len.ensures.value).within)
+pub returns-clause-line : goal.returns-clause-line
+returns-clause-line c = λ selector now. let run = subst (IsRunOf selector) c.in-Some.is (runs_now c.args.worker.now c.meet.new.self c.run_in_section-version.new.worker c.meet-2.new.self c.args.operator.now c.meet.new.operator c.meet-2.new.operator _ _ c.meet.ensures.meets_by_two_steps c.run_in_section-version.ensures c.meet-2.ensures.meets_by_two_steps selector now) in
+    record { version = version_now c.args.worker.now c.meet.new.self c.run_in_section-version.new.worker c.meet-2.new.self c.args.operator.now c.meet.new.operator c.meet-2.new.operator _ _ c.meet.ensures.meets_by_two_steps c.run_in_section-version.ensures c.meet-2.ensures.meets_by_two_steps; value = run.0; steps = run.1; kept = c.min.ensures }
 
-pub run-value-requires-clause-accepted : goal.run-value-requires-clause-accepted
-run-value-requires-clause-accepted c =
-    let is_read = row_read _ _ _ c.enter-section.ensures.section_row c.enter-section.ensures.accepted c.word-len.ensures.value in
-    rw c.word-len.ensures.words_kept (accepted_there _ _ _ is_read c.enter-section.ensures.accepted)
+pub returns-clause-versions_kept : goal.returns-clause-versions_kept
+returns-clause-versions_kept c = nothing_published c.args.worker.now c.meet.new.self c.run_in_section-version.new.worker c.meet-2.new.self c.args.operator.now c.meet.new.operator c.meet-2.new.operator _ _ c.meet.ensures.meets_by_two_steps c.run_in_section-version.ensures c.meet-2.ensures.meets_by_two_steps
 
-pub returns-clause-value : goal.returns-clause-value
-returns-clause-value c =
-    let is_read = row_read _ _ _ c.enter-section.ensures.section_row c.enter-section.ensures.accepted c.word-len.ensures.value in
-    ap (λ program. ending_of program sample_packet) (sym is_read.program) ∙ rw c.word-len.ensures.words_kept at c.run-value.ensures.value
-
-pub returns-clause-steps : goal.returns-clause-steps
-returns-clause-steps c =
-    let is_read = row_read _ _ _ c.enter-section.ensures.section_row c.enter-section.ensures.accepted c.word-len.ensures.value in
-    (rw c.word-len.ensures.words_kept at c.run-value.ensures.steps) ∙ ap (λ program. cost_of program sample_packet) is_read.program
+pub returns-clause-table_kept : goal.returns-clause-table_kept
+returns-clause-table_kept c = same_table c.args.worker.now c.meet.new.self c.run_in_section-version.new.worker c.meet-2.new.self c.args.operator.now c.meet.new.operator c.meet-2.new.operator _ _ c.meet.ensures.meets_by_two_steps c.run_in_section-version.ensures c.meet-2.ensures.meets_by_two_steps

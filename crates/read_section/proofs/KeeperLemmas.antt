@@ -1,0 +1,198 @@
+-- What the operator keeps stays true after each of its steps.
+use Rattle.std.proofs.Common.{Bool, true, false, ◌↔◌, ◌≡◌, ◌≢◌, ◌⊎◌, ℕ, zero, suc, ◌+◌, ◌-◌, ◌*◌, ◌<◌, ◌≤◌, ◌==◌, if◌then◌else◌, List, [], ◌∷◌, ap, arith, get_or, get_or-set_other, get_or-set_same, inl, inr, length, length-append, length-set, max, refl, replicate, set, slice_index, slice_set, subst, suc-mul, sym, ◌∙◌, ⊎_elim}
+use Rattle.std.proofs.lemmas.List.{get_or-append_right, get_or_append_left, length-replicate}
+use Rattle.std.proofs.lemmas.Bool.{ne_eqb}
+use Rattle.std.proofs.lemmas.Bool.Decides.{eqb_tells}
+use mathlib.Core.Logic.{dite}
+use native.Mathlib.Decide.{ℕ_discrete}
+use Rattle.config_image.specs.Image.{Group, image}
+use Rattle.config_image.proofs.LengthLemmas.{within_charge}
+use Rattle.member_group.specs.Charge.{charge_of}
+use Rattle.versions.specs.declared.step.Entry.{Entry}
+use Rattle.versions.specs.declared.layout.TheConstants.{WORKERS}
+use Rattle.versions.specs.declared.view.OperatorView.{OperatorView}
+use Rattle.versions.specs.declared.step.Step.TheVariants.{Publish, Scan}
+use Rattle.versions.specs.Layout.{current_word, row_begin, rows_begin}
+use Rattle.versions.specs.Step.{entry}
+use Rattle.versions.specs.View.{after_fill, after_proposal, after_scan}
+use Rattle.versions.specs.Free.{IsFree, number_after}
+use Rattle.versions.specs.declared.view.Stage.TheVariants.{Outside}
+use Rattle.versions.specs.State.{new_operator}
+use Rattle.versions.specs.Mirror.{IsCleared}
+use Rattle.versions.specs.World.{opened_with, opening_rows}
+use Rattle.versions.specs.Table.{the_shape}
+use Rattle.versions.proofs.ListLemmas.{row_inside, same_row}
+use Rattle.versions.proofs.LogLemmas.{IsFree-on}
+use Rattle.versions.proofs.MirrorLemmas.{IsBook-filled, IsBook-proposed, IsBook-published, IsBook-scanned}
+use Rattle.versions.proofs.RowLemmas.{length-row, row_behind_image}
+use Rattle.versions.proofs.ShapeLemmas.{row_is, row_words_is, rows_is, workers_is}
+use Rattle.versions.proofs.WorldLemmas.{IsMirror-opened, IsOpening-rows, light}
+use Rattle.read_section.specs.declared.book.Book.{Book}
+use Rattle.read_section.specs.Layout.{IsPublishable, IsZeroFrom, zeros_after}
+use Rattle.read_section.specs.Operator.{IsBookAtStart, IsKeptBy, IsReport, progress_of, put_in}
+
+abbrev pub View : Type 0
+View = OperatorView (List Group)
+
+zeros_after-other : (place word from : ℕ) → zeros_after place (suc word) from ≡ max from (place + 1)
+zeros_after-other place word from = ap (λ (b : Bool). if b then (if place + 1 == from then place else from) else max from (place + 1)) (ne_eqb (suc word) 0 (λ e. omega arith))
+
+-- where zeros begin after a word is stored
+pub zeros_after-limited : (n place word from : ℕ) → place < n → from ≤ n → zeros_after place word from ≤ n
+zeros_after-limited n place zero from low fits = go (place + 1 == from)
+  where
+    go : (b : Bool) → (if b then place else from) ≤ n
+    go true = omega arith
+    go false = fits
+zeros_after-limited n place (suc word) from low fits = let e = zeros_after-other place word from in omega arith
+
+-- behind there a place is the one that was stored, by 0, or another where a zero stood
+pub zeros_after-tells : (place word from i : ℕ) → zeros_after place word from ≤ i → ((i ≡ place) × (word ≡ 0)) ⊎ ((i ≢ place) × (from ≤ i))
+zeros_after-tells place zero from i up = dite (ℕ_discrete i place) (λ e. inl (e, refl)) (λ other. inr (other, go (eqb_tells (place + 1) from) other))
+  where
+    go : ((place + 1 == from) ≡ true) × (place + 1 ≡ from) ⊎ (((place + 1 == from) ≡ false) × (place + 1 ≢ from)) → i ≢ place → from ≤ i
+    go (inl t) other = let low : place ≤ i = subst (λ b. (if b then place else from) ≤ i) t.0 up in let e = t.1 in lt_of_ne low other e
+      where
+        lt_of_ne : place ≤ i → i ≢ place → place + 1 ≡ from → from ≤ i
+        lt_of_ne low other e = omega arith
+    go (inr t) other = subst (λ b. (if b then place else from) ≤ i) t.0 up
+zeros_after-tells place (suc word) from i up = let is = zeros_after-other place word from in inr ((λ e. omega arith), omega arith)
+
+-- a place of a row among the words of all rows
+pub place_in_rows : (row place : ℕ) → (row_begin the_shape row + place) - rows_begin the_shape ≡ row * the_shape.row_words + place
+place_in_rows row place = let r = row * the_shape.row_words in omega arith
+
+module _ (view : View) (config : List Group) (book : Book) (reported : ℕ) (zeros : List ℕ) (h : IsKeptBy view config book reported zeros) where
+  zeros_stand-filled : (row place word from : ℕ) → row < the_shape.rows → place < the_shape.row_words → from ≡ zeros_after place word (slice_index zeros row)
+      → (q : ℕ) → q < the_shape.rows → IsZeroFrom (after_fill (rows_begin the_shape) (row_begin the_shape row + place) word view) q (slice_index (set zeros row from) q)
+  zeros_stand-filled row place word from low small is q low' i up inside =
+      let p = (row_begin the_shape row + place) - rows_begin the_shape in let p_is = place_in_rows row place in let inside_all = row_inside row the_shape.rows place the_shape.row_words low small in let all = h.row_words_length in let many = h.zeros_length in
+      dite (ℕ_discrete q row)
+      (λ same. let from_is : get_or (set zeros row from) q 0 ≡ from = ap (λ (k : ℕ). get_or (set zeros row from) k 0) same ∙ get_or-set_same zeros row from 0 (omega arith) in
+      let same_begin : q * the_shape.row_words ≡ row * the_shape.row_words = ap (λ (k : ℕ). k * the_shape.row_words) same in
+      ⊎_elim
+      (λ t. let e = t.0 in ap (λ (k : ℕ). get_or (set view.row_words p word) k 0) (let g : q * the_shape.row_words + i ≡ p = omega arith in g) ∙ (get_or-set_same view.row_words p word 0 (omega arith) ∙ t.1))
+      (λ t. let ne = t.0 in get_or-set_other view.row_words p (q * the_shape.row_words + i) word 0 (λ e. ne (omega arith))
+      ∙ (ap (λ (k : ℕ). get_or view.row_words (k + i) 0) same_begin ∙ h.zeros_stand row low i t.1 inside))
+      (zeros_after-tells place word (slice_index zeros row) i (omega arith)))
+      (λ other. let from_is : get_or (set zeros row from) q 0 ≡ get_or zeros q 0 = get_or-set_other zeros row q from 0 other in
+      get_or-set_other view.row_words p (q * the_shape.row_words + i) word 0 (λ e. other (same_row the_shape.row_words q row i place inside small (omega arith))) ∙ h.zeros_stand q low' i (omega arith) inside)
+
+  pub IsKeptBy-filled : (row place word from : ℕ) → row < the_shape.rows → place < the_shape.row_words → from ≡ zeros_after place word (slice_index zeros row)
+      → IsKeptBy (after_fill (rows_begin the_shape) (row_begin the_shape row + place) word view) config book reported (set zeros row from)
+  IsKeptBy-filled row place word from low small is = record {
+    steps_told = IsBook-filled the_shape view (progress_of book) h.steps_told (rows_begin the_shape) (row_begin the_shape row + place) word;
+    number_limited = h.number_limited;
+    published_length = h.published_length;
+    version_rows_length = h.version_rows_length;
+    row_words_length = length-set view.row_words ((row_begin the_shape row + place) - rows_begin the_shape) word ∙ h.row_words_length;
+    current = h.current;
+    reported_free = h.reported_free;
+    zeros_length = length-set zeros row from ∙ h.zeros_length;
+    zeros_limited = λ q low'. dite (ℕ_discrete q row)
+        (λ same. let many = h.zeros_length in let here : get_or (set zeros row from) q 0 ≡ from = ap (λ (k : ℕ). get_or (set zeros row from) k 0) same ∙ get_or-set_same zeros row from 0 (omega arith) in
+        let fits = zeros_after-limited the_shape.row_words place word (slice_index zeros row) small (h.zeros_limited row low) in omega arith)
+        (λ other. let here : get_or (set zeros row from) q 0 ≡ get_or zeros q 0 = get_or-set_other zeros row q from 0 other in let was = h.zeros_limited q low' in omega arith);
+    zeros_stand = zeros_stand-filled row place word from low small is;
+  }
+
+  pub IsKeptBy-published : (row : ℕ) (new : List Group) (book' : Book) → row < the_shape.rows → book.number < the_shape.last_number → book' ≡ record book { number = book.number + 1; last = slice_set book.last row (book.number + 2) }
+      → IsKeptBy (put_in row new view) new book' reported zeros
+  IsKeptBy-published row new book' low number is = subst (λ (b : Book). IsKeptBy (put_in row new view) new b reported zeros) (sym is) record {
+    steps_told = IsBook-published the_shape (after_proposal new view) (progress_of book) (IsBook-proposed the_shape view (progress_of book) h.steps_told new) row _ low h.version_rows_length;
+    number_limited = omega arith;
+    published_length = omega (arith, length-append view.published (new ∷ []), h.published_length);
+    version_rows_length = omega (arith, length-append view.version_rows (row ∷ []), h.version_rows_length);
+    row_words_length = h.row_words_length;
+    current = (view.published, refl);
+    reported_free = λ m l. IsFree-on the_shape m (entry (Publish row) (current_word the_shape (number_after view.log + 1) row)) view.log (h.reported_free m l);
+    zeros_length = h.zeros_length;
+    zeros_limited = h.zeros_limited;
+    zeros_stand = h.zeros_stand;
+  }
+
+  pub IsKeptBy-scanned : (w x : ℕ) (log : List Entry) (book' : Book) → (length book.cleared ≡ WORKERS → IsCleared w x (progress_of book) (progress_of book')) → IsKeptBy (after_scan w x log view) config book' reported zeros
+  IsKeptBy-scanned w x log book' cleared = let c = cleared (h.steps_told.cleared_length ∙ workers_is) in record {
+    steps_told = IsBook-scanned the_shape view (progress_of book) h.steps_told w x log (progress_of book') c;
+    number_limited = let same = c.number in let low = h.number_limited in omega arith;
+    published_length = h.published_length;
+    version_rows_length = h.version_rows_length;
+    row_words_length = h.row_words_length;
+    current = h.current;
+    reported_free = λ m l. IsFree-on the_shape m (entry (Scan (1 + w)) x) view.log (h.reported_free m l);
+    zeros_length = h.zeros_length;
+    zeros_limited = h.zeros_limited;
+    zeros_stand = h.zeros_stand;
+  }
+
+  module _ (free : ℕ) (tells : (m : ℕ) → IsFree the_shape m view.log ↔ (m < free)) where
+    pub reported_below : reported ≤ free
+    reported_below = go reported refl
+      where
+        go : (k : ℕ) → reported ≡ k → k ≤ free
+        go zero e = omega arith
+        go (suc m) e = let t = (tells m).0 (h.reported_free m (omega arith)) in omega arith
+
+    pub IsReport-now : IsReport view reported reported (free - reported)
+    IsReport-now = let low = reported_below in record { from = refl; free = λ m up. ((λ f. let t = (tells m).0 f in omega arith), λ l. (tells m).1 (omega arith)) }
+
+    pub IsKeptBy-reported : IsKeptBy view config book (reported + (free - reported)) zeros
+    IsKeptBy-reported = let low = reported_below in record {
+      steps_told = h.steps_told;
+      number_limited = h.number_limited;
+      published_length = h.published_length;
+      version_rows_length = h.version_rows_length;
+      row_words_length = h.row_words_length;
+      current = h.current;
+      reported_free = λ m l. (tells m).1 (omega arith);
+      zeros_length = h.zeros_length;
+      zeros_limited = h.zeros_limited;
+      zeros_stand = h.zeros_stand;
+    }
+
+zeros_everywhere : (n k : ℕ) → get_or {A = ℕ} (replicate n 0) k 0 ≡ 0
+zeros_everywhere zero k = refl
+zeros_everywhere (suc n) zero = refl
+zeros_everywhere (suc n) (suc k) = zeros_everywhere n k
+
+module _ (config : List Group) where
+  length-shape_row : length (the_shape.row config) ≡ the_shape.row_words
+  length-shape_row = ap length (row_is config) ∙ (length-row config ∙ sym row_words_is)
+
+  pub zeros_behind_image : (i : ℕ) → length (image config) ≤ i → i < the_shape.row_words → get_or (the_shape.row config) i 0 ≡ 0
+  zeros_behind_image i up low = ap (λ l. get_or l i 0) (row_is config) ∙ sym (row_behind_image config i (length (image config)) (omega (arith, row_words_is)) refl up)
+
+  -- the rows at the start: the configuration's, and zeros
+  zeros_at_start : (zeros : List ℕ) → zeros ≡ length (image config) ∷ replicate (the_shape.rows - 1) 0 → (q : ℕ) → q < the_shape.rows → IsZeroFrom (new_operator the_shape config (opening_rows config)) q (slice_index zeros q)
+  zeros_at_start zeros is zero low i up small =
+      let first : slice_index zeros 0 ≡ length (image config) = ap (λ l. slice_index l 0) is in
+      ap (λ (k : ℕ). get_or (opening_rows config) k 0) (let g : 0 * the_shape.row_words + i ≡ i = omega arith in g)
+      ∙ (get_or_append_left (the_shape.row config) (replicate ((the_shape.rows - 1) * the_shape.row_words) 0) 0 i (omega (arith, length-shape_row)) ∙ zeros_behind_image i (omega arith) small)
+  zeros_at_start zeros is (suc q) low i up small =
+      let later : the_shape.row_words ≤ suc q * the_shape.row_words = omega (arith, suc-mul q the_shape.row_words) in
+      get_or-append_right (the_shape.row config) (replicate ((the_shape.rows - 1) * the_shape.row_words) 0) the_shape.row_words (suc q * the_shape.row_words + i) 0 length-shape_row (omega arith)
+      ∙ zeros_everywhere ((the_shape.rows - 1) * the_shape.row_words) ((suc q * the_shape.row_words + i) - the_shape.row_words)
+
+  pub IsKeptBy-opened : (book : Book) (zeros : List ℕ) → IsPublishable config → IsBookAtStart book → zeros ≡ length (image config) ∷ replicate (the_shape.rows - 1) 0
+      → IsKeptBy (new_operator the_shape config (opening_rows config)) config book 0 zeros
+  IsKeptBy-opened book zeros publishable start is =
+      let mirror = IsMirror-opened config (opened_with config).words (record (progress_of book) { stages = replicate the_shape.workers Outside }) refl record { stages = refl; number = start.number; last = start.last; cleared = start.cleared } in
+      let told = mirror.book in let rows = rows_is in record {
+        steps_told = record { number = told.number; last_length = told.last_length; cleared_length = told.cleared_length; cleared = told.cleared; below_last = told.below_last; last_there = told.last_there };
+        number_limited = let none = start.number in omega arith;
+        published_length = refl;
+        version_rows_length = refl;
+        row_words_length = (IsOpening-rows config (light config (charge_of config) refl publishable.1)).whole;
+        current = ([], refl);
+        reported_free = λ m low. absurd (omega arith);
+        zeros_length = ap length is ∙ (let n = length-replicate {A = ℕ} (the_shape.rows - 1) 0 in omega arith);
+        zeros_limited = λ q low. limited q;
+        zeros_stand = zeros_at_start zeros is;
+      }
+    where
+      limited : (q : ℕ) → slice_index zeros q ≤ the_shape.row_words
+      limited q = subst (λ l. slice_index l q ≤ the_shape.row_words) (sym is) (go q)
+        where
+          go : (q : ℕ) → slice_index (length (image config) ∷ replicate (the_shape.rows - 1) 0) q ≤ the_shape.row_words
+          go zero = let within = within_charge config publishable.0 in let charge = publishable.1 in omega (arith, row_words_is)
+          go (suc q) = let e = zeros_everywhere (the_shape.rows - 1) q in omega arith

@@ -1,0 +1,150 @@
+-- What a worker knows inside a section.
+use Rattle.std.proofs.Common.{Contains, ◌≡◌, ℕ, zero, suc, ◌+◌, ◌/◌, ◌%◌, ◌<◌, List, [], ◌∷◌, ◌++◌, None, Option, Some, ap, arith, false, length, refl, slice_get, slice_index, slice_index_or, subst, sym, true, ◌∙◌, ⊎_elim}
+use Rattle.std.proofs.lemmas.List.{length-replicate}
+use Rattle.std.specs.Option.{is_some}
+use Rattle.config_image.specs.Image.{Group}
+use Rattle.versions.specs.declared.step.Step.{Step}
+use Rattle.versions.specs.declared.step.Step.TheVariants.{Announce, Fetch, Fill, Leave, Peek, Pin, Publish, Scan}
+use Rattle.versions.specs.declared.step.Entry.{Entry}
+use Rattle.versions.specs.declared.view.Stage.{Stage}
+use Rattle.versions.specs.declared.view.Stage.TheVariants.{Announced, Inside, Outside, Peeked}
+use Rattle.versions.specs.declared.view.WorkerView.{WorkerView}
+use Rattle.versions.specs.Layout.{IsInRow}
+use Rattle.versions.specs.View.{after_leave, next_stage, read_word_of, stage_after}
+use Rattle.versions.specs.Legal.{IsInOrder, IsLogOf}
+use Rattle.versions.specs.Step.{IsStepOf, entry}
+use Rattle.versions.specs.Table.{the_shape}
+use Rattle.versions.proofs.ListLemmas.{contains_first}
+use Rattle.versions.proofs.RowLemmas.{length-row}
+use Rattle.versions.proofs.ShapeLemmas.{row_is, row_words_is}
+use Rattle.read_section.specs.declared.worker.Held.{Held}
+use Rattle.read_section.specs.Seat.{IsAt}
+use Rattle.read_section.specs.Section.{FetchedSincePin, IsFetchIn, IsWholeSection, SectionsAreWhole, at_pin, before_fetches, held_words, words_in}
+use Rattle.read_section.specs.Steps.{IsOwnLogOf}
+use Rattle.read_section.specs.Worker.{Enters, IsInside, IsOutside, WorkerValue, left, left_from, steps}
+
+-- the fetches that a log ends with
+module _ (w r : ℕ) where
+  abbrev IsFetched : List Entry → Type 0
+  IsFetched log = (fetches : List Entry) × (log ≡ fetches ++ before_fetches log) × ((entry : Entry) → Contains fetches entry → IsFetchIn w r entry.step)
+
+  none_fetched : (log : List Entry) → before_fetches log ≡ log → IsFetched log
+  none_fetched log e = ([], sym e, λ entry c. absurd (let l = c.1 in omega arith))
+
+  one_more_fetched : (newest : Entry) (older : List Entry) (place : ℕ) → newest.step ≡ Fetch w place → IsInRow the_shape r place → before_fetches (newest ∷ older) ≡ before_fetches older → IsFetched older → IsFetched (newest ∷ older)
+  one_more_fetched newest older place is inside same (fetches, all, each) = (
+    newest ∷ fetches,
+    ap (λ l. newest ∷ l) (all ∙ ap (λ l. fetches ++ l) (sym same)),
+    λ entry c. ⊎_elim (λ e. subst (λ (y : Entry). IsFetchIn w r y.step) e (place, is, inside)) (λ later. each entry later) (contains_first newest entry fetches c),
+  )
+
+inside_row : (j m q k n r : ℕ) → Inside j m q ≡ Inside k n r → q ≡ r
+inside_row j m q k n r e = cc
+
+module _ (w k n r : ℕ) where
+  -- the log of a worker inside a section of row r ends with fetches in row r, back to its pin
+  fetched_log : (log : List Entry) → IsLogOf the_shape w log → stage_after the_shape.rows log ≡ Inside k n r → IsFetched w r log
+  fetched_log [] own stage = none_fetched w r [] refl
+  fetched_log (newest ∷ older) own stage = go newest.step newest.word own stage (λ inside. fetched_log older own.0 inside)
+    where
+      go : (step : Step) (x : ℕ) → IsLogOf the_shape w older × IsStepOf w step × IsInOrder the_shape (stage_after the_shape.rows older) step x → next_stage the_shape.rows (stage_after the_shape.rows older) step x ≡ Inside k n r
+          → (stage_after the_shape.rows older ≡ Inside k n r → IsFetched w r older) → IsFetched w r (entry step x ∷ older)
+      go (Peek v) x own stage before = none_fetched w r (entry (Peek v) x ∷ older) refl
+      go (Announce v) x own stage before = none_fetched w r (entry (Announce v) x ∷ older) refl
+      go (Pin v) x own stage before = none_fetched w r (entry (Pin v) x ∷ older) refl
+      go (Fetch v place) x own stage before =
+          let order = own.2 in let same : order.2 ≡ r = inside_row order.0 order.1 order.2 k n r (sym order.3 ∙ stage) in
+          one_more_fetched w r (entry (Fetch v place) x) older place (ap (λ (u : ℕ). Fetch u place) own.1) (subst (λ q. IsInRow the_shape q place) same order.4) refl (before stage)
+      go (Leave v) x own stage before = none_fetched w r (entry (Leave v) x ∷ older) refl
+      go (Fill p y) x own stage before = none_fetched w r (entry (Fill p y) x ∷ older) refl
+      go (Publish q) x own stage before = none_fetched w r (entry (Publish q) x ∷ older) refl
+      go (Scan p) x own stage before = none_fetched w r (entry (Scan p) x ∷ older) refl
+
+-- any log
+front_fetches : (log : List Entry) → (fetches : List Entry) × (log ≡ fetches ++ before_fetches log)
+front_fetches [] = ([], refl)
+front_fetches (newest ∷ older) = go newest.step newest.word (front_fetches older)
+  where
+    go : (step : Step) (x : ℕ) → (fetches : List Entry) × (older ≡ fetches ++ before_fetches older) → (fetches : List Entry) × (entry step x ∷ older ≡ fetches ++ before_fetches (entry step x ∷ older))
+    go (Fetch v place) x t = (entry (Fetch v place) x ∷ t.0, ap (λ l. entry (Fetch v place) x ∷ l) t.1)
+    go (Peek v) x t = ([], refl)
+    go (Announce v) x t = ([], refl)
+    go (Pin v) x t = ([], refl)
+    go (Leave v) x t = ([], refl)
+    go (Fill p y) x t = ([], refl)
+    go (Publish q) x t = ([], refl)
+    go (Scan p) x t = ([], refl)
+
+outside_inside : (stage : Stage) → IsOutside stage → (k n r : ℕ) → stage ≡ Inside k n r → ⊥
+outside_inside stage out k n r e = subst IsOutside e out
+
+pub FetchedSincePin-outside : (worker : WorkerValue) → IsOutside worker.view.stage → FetchedSincePin worker
+FetchedSincePin-outside worker out = let t = front_fetches worker.view.log in record { fetches = t.0; log = t.1; each = λ k n r e stage c. absurd (outside_inside worker.view.stage out k n r stage) }
+
+pub FetchedSincePin-inside : (worker : WorkerValue) (n r : ℕ) → IsInside worker.view.stage n r → IsOwnLogOf worker → FetchedSincePin worker
+FetchedSincePin-inside worker n r inside own =
+    let k = read_word_of worker.view.stage in let t = fetched_log worker.view.number k n r worker.view.log own.order (sym own.stage ∙ inside) in
+    record { fetches = t.0; log = t.1; each = λ j m q e stage c. subst (λ (p : ℕ). IsFetchIn worker.view.number p e.step) (inside_row k n r j m q (sym inside ∙ stage)) (t.2 e c) }
+
+-- what a worker keeps of its section tells whether it is inside
+pub outside_of_none : (held : Option Held) (stage : Stage) → is_some held ≡ false → IsAt held stage → IsOutside stage
+outside_of_none None stage e at = at
+outside_of_none (Some h) stage e at = absurd (true_false e)
+  where
+    true_false : true ≡ false → ⊥
+    true_false e = cc
+
+pub inside_of_some : (held : Option Held) (stage : Stage) → is_some held ≡ true → IsAt held stage → (n : ℕ) × (r : ℕ) × IsInside stage n r
+inside_of_some None stage e at = absurd (false_true e)
+  where
+    false_true : false ≡ true → ⊥
+    false_true e = cc
+inside_of_some (Some h) stage e at = (h.version, h.row, at.0)
+
+length-shape_row : (config : List Group) → length (the_shape.row config) ≡ the_shape.row_words
+length-shape_row config = ap length (row_is config) ∙ (length-row config ∙ sym row_words_is)
+
+-- a section has as many words as a row
+pub length-held_words : (worker : WorkerValue) → length (held_words worker) ≡ the_shape.row_words
+length-held_words worker = go worker.view.stage
+  where
+    go : (stage : Stage) → length (words_in stage worker.view.seen) ≡ the_shape.row_words
+    go Outside = length-replicate the_shape.row_words 0
+    go (Peeked n) = length-replicate the_shape.row_words 0
+    go (Announced k) = length-replicate the_shape.row_words 0
+    go (Inside k n r) = length-shape_row (slice_index_or worker.view.seen n [])
+
+pub word_there : (words : List ℕ) (i x : ℕ) → i < length words → x ≡ slice_index words i → slice_get words i ≡ Some x
+word_there [] i x low e = absurd (omega arith)
+word_there (w ∷ words) zero x low e = ap Some (sym e)
+word_there (w ∷ words) (suc i) x low e = word_there words i x (omega arith) e
+
+module _ (before inside last after : WorkerValue) (entered : Enters before inside) (same : at_pin last ≡ at_pin inside) (since : FetchedSincePin last) (e : after ≡ steps left last) where
+  -- right after the pin there is no fetch yet
+  pinned_log : (at_pin inside).view.log ≡ inside.view.log
+  pinned_log = subst (λ (w : WorkerValue). (at_pin w).view.log ≡ w.view.log) (sym entered.three_steps) refl
+
+  inside_stage : inside.view.stage ≡ Inside (entered.peeked / the_shape.rows + 1) (entered.pinned / the_shape.rows) (entered.pinned % the_shape.rows)
+  inside_stage = ap (λ (w : WorkerValue). w.view.stage) entered.three_steps
+
+  last_stage : last.view.stage ≡ inside.view.stage
+  last_stage = ap (λ (w : WorkerValue). w.view.stage) same
+
+  left_is : left last.view ≡ after_leave last.view
+  left_is = ap (λ (stage : Stage). left_from stage last.view) (last_stage ∙ inside_stage)
+
+  whole_section : IsWholeSection before inside after
+  whole_section = let number = ap (λ (w : WorkerValue). w.view.number) same in let after_is : after.view ≡ after_leave last.view = ap (λ (w : WorkerValue). w.view) e ∙ left_is in record {
+    entered = entered;
+    fetches = since.fetches;
+    each = λ k n r newest stage c. subst (λ (w : ℕ). IsFetchIn w r newest.step) number (since.each k n r newest (last_stage ∙ stage) c);
+    log = ap (λ (v : WorkerView (List Group)). v.log) after_is
+        ∙ ((λ i. entry (Leave (number i)) 0 ∷ last.view.log) ∙ ap (λ l. entry (Leave inside.view.number) 0 ∷ l) (since.log ∙ ap (λ l. since.fetches ++ l) (ap (λ (w : WorkerValue). w.view.log) same ∙ pinned_log)));
+    outside = ap (λ (v : WorkerView (List Group)). v.stage) after_is;
+    seen = ap (λ (v : WorkerView (List Group)). v.seen) after_is ∙ ap (λ (w : WorkerValue). w.view.seen) same;
+    number = ap (λ (v : WorkerView (List Group)). v.number) after_is ∙ number;
+    table = ap (λ (w : WorkerValue). w.table) e ∙ (ap (λ (w : WorkerValue). w.table) same ∙ ap (λ (w : WorkerValue). w.table) entered.three_steps);
+  }
+
+pub sections_are_whole : SectionsAreWhole
+sections_are_whole before inside last after entered same since e = whole_section before inside last after entered same since e

@@ -1,0 +1,8 @@
+use Rattle.std.proofs.Common.{subst, sym}
+use Rattle.read_section.specs.Operator.{IsKeptBy}
+use Rattle.read_section.proofs.KeeperLemmas.{IsKeptBy-scanned}
+use Rattle.read_section.proofs.operator.Operator.scan.Goals as goal
+
+pub invariant_of-self : goal.invariant_of-self
+invariant_of-self c = let t = c.scan-word.ensures in subst (λ o. IsKeptBy o.view c.self.inside.config c.take_scan.new.self c.self.inside.reported c.self.inside.zeros) (sym t.2)
+    (IsKeptBy-scanned _ _ _ _ _ c.self.invariant c.args.worker c.scan-word.result t.0 c.take_scan.new.self c.take_scan.ensures)

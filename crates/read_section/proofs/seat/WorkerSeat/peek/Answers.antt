@@ -1,0 +1,17 @@
+use Rattle.std.proofs.Common.{ap, refl, subst, sym, ◌<◌, ◌∙◌}
+use Rattle.atomic_table.specs.Seated.{TableId}
+use Rattle.versions.specs.View.{after_peek}
+use Rattle.versions.specs.Table.{the_shape}
+use Rattle.read_section.proofs.WorkerSeatLemmas.{IsSeatAt-on, IsWorkerSeat-on, may_peek, sees, some_word, worker_after}
+use Rattle.read_section.proofs.seat.WorkerSeat.peek.Goals as goal
+
+pub load-requires : goal.load-requires
+load-requires c = let h = c.self.invariant in let shared = c.deref.result.now.shared in let own = h.1.same_table ∙ sym (ap (λ t. t.shared.table_id) c.deref.ensures) in
+    (own, subst (λ (t : TableId). 0 < t.words) own (some_word _ _ _ h.1), may_peek _ _ h.0 _ _ shared.key shared.table_id.slots c.self.inside.seat.id c.args.self.now c.self.view_is c.requires)
+
+pub invariant_of-self : goal.invariant_of-self
+invariant_of-self c = let h = c.self.invariant in let t = (c.load.ensures.2 _ h.0.knows).1 in (IsWorkerSeat-on _ _ h.0 _ _ _ refl t.2, IsSeatAt-on _ _ _ h.1 _ _ _ c.load.ensures.0 t.2)
+
+pub returns : goal.returns
+returns c = let h = c.self.invariant in let t = (c.load.ensures.2 _ h.0.knows).1 in
+    (t.0, sees _ _ h.0 _ t.0 c.load.result c.args.self.now c.self.view_is t.1, worker_after _ _ h.0 _ _ (after_peek the_shape.rows c.load.result t.0) _ _ c.args.self.now c.self.view_is c.load.ensures.0 t.2)

@@ -1,0 +1,5 @@
+use Rattle.read_section.proofs.SectionLemmas as section
+use Rattle.read_section.proofs.section.sections_are_whole.Goals as goal
+
+pub returns : goal.returns
+returns c = section.sections_are_whole

@@ -1,0 +1,15 @@
+use Rattle.std.proofs.Common.{arith, below_more, false, sym, true, ◌≡◌, ◌∙◌}
+use Rattle.versions.proofs.ShapeLemmas.{rows_is}
+use Rattle.retire.proofs.row.free_row.Goals as goal
+
+true_false : true ≡ false → ⊥
+true_false e = cc
+
+pub returns-then-is_free-clause-some : goal.returns-then-is_free-clause-some
+returns-then-is_free-clause-some c = c.is_free.ensures.free_row_exact.0 c.if-is_free.true
+
+pub loop-row-preserved : goal.loop-row-preserved
+loop-row-preserved c = below_more _ _ c.loop-row.invariant (λ free. true_false (sym (c.is_free.ensures.free_row_exact.1 free) ∙ c.if-is_free.false))
+
+pub returns-clause-none : goal.returns-clause-none
+returns-clause-none c = λ found. let low = found.1.0 in let stop = c.loop-row-test.false in c.loop-row.invariant found.0 (omega (arith, rows_is)) found.1

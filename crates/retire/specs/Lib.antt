@@ -1,0 +1,3 @@
+pub mod Publish
+pub mod Filling
+pub mod Sweep

@@ -1,0 +1,82 @@
+-- What a publication does: scans where no row is free, fills of one free row, and one store of `current`.
+use Rattle.std.specs.Prelude.{◌≡◌, ◌+◌, ◌++◌, ◌<◌, ◌≤◌, ◌⊎◌, ◌∷◌, IsErrAnd, List, None, Result, [], length, slice_index, ℕ}
+use Rattle.std.specs.List.{Contains}
+use Rattle.config_image.specs.Image.{Group}
+use Rattle.versions.specs.declared.step.Step.TheVariants.{Fill, Publish}
+use Rattle.versions.specs.declared.step.Entry.{Entry}
+use Rattle.versions.specs.Layout.{current_word, row_begin}
+use Rattle.versions.specs.Step.{entry}
+use Rattle.versions.specs.Free.{IsFree, IsFreeRow, IsReplaced, number_after}
+use Rattle.versions.specs.Table.{the_shape}
+use Rattle.read_section.specs.Layout.{Holds}
+use Rattle.read_section.specs.View.{TellsLog}
+use Rattle.read_section.specs.Operator.{OperatorValue, scanned}
+
+-- the call refused, and this is the fault that it named
+abbrev pub IsRefusedAs : {T F C : Type 0} → F → Result T (F × C) → Type 0
+IsRefusedAs fault result = IsErrAnd result (λ refusal. refusal.0 ≡ fault)
+
+-- what a scan gave and told
+pub record Scanned : Type 0 where
+  pub word : ℕ
+  pub log : List Entry
+
+-- the operator after a scan of each worker from 0 on; the last scan comes first
+abbrev pub after_scans : List Scanned → OperatorValue → OperatorValue
+after_scans [] operator = operator
+after_scans (last ∷ earlier) operator = scanned (length earlier) last.word last.log (after_scans earlier operator)
+
+-- each scan told a log of its worker
+abbrev pub TellLogs : List Scanned → OperatorValue → Type 0
+TellLogs [] operator = Unit {0}
+TellLogs (last ∷ earlier) operator =
+    TellLogs earlier operator × TellsLog the_shape (after_scans earlier operator).view (length earlier) last.word last.log
+
+-- the read word of each worker was scanned, once, and nothing else was done
+pub record ScansEach (before after : OperatorValue) : Type 0 where
+  pub scans : List Scanned
+  pub each : length scans ≡ the_shape.workers
+  pub tell : TellLogs scans before
+  pub no_more : after ≡ after_scans scans before
+
+abbrev pub HasFreeRow : OperatorValue → Type 0
+HasFreeRow operator = (row : ℕ) × IsFreeRow the_shape operator.view row
+
+-- where a row is free nothing is scanned; else the read word of each worker is, once
+abbrev pub LooksForRow : OperatorValue → OperatorValue → Type 0
+LooksForRow before after = (HasFreeRow before × (after ≡ before)) ⊎ ((HasFreeRow before → ⊥) × ScansEach before after)
+
+-- a fill of a place of the row by the word that the configuration has there
+abbrev pub IsFillOf : ℕ → List Group → Entry → Type 0
+IsFillOf row config newest =
+    (i : ℕ) × (i < the_shape.row_words) × (newest ≡ entry (Fill (row_begin the_shape row + i) (slice_index (the_shape.row config) i)) (slice_index (the_shape.row config) i))
+
+-- a configuration is published: a free row is looked for, filled until it holds the configuration's, and stored in `current`
+-- as the next version
+pub record Publishes (before after : OperatorValue) (config : List Group) : Type 0 where
+  pub found : OperatorValue
+  pub looked : LooksForRow before found
+  pub row : ℕ
+  pub free : IsFreeRow the_shape found.view row
+  pub fills : List Entry
+  pub filled : (newest : Entry) → Contains fills newest → IsFillOf row config newest
+  pub holds : Holds after.view row config
+  pub log : after.view.log ≡ entry (Publish row) (current_word the_shape (number_after before.view.log + 1) row) ∷ (fills ++ found.view.log)
+  pub published : after.view.published ≡ before.view.published ++ config ∷ []
+  pub version_rows : after.view.version_rows ≡ before.view.version_rows ++ row ∷ []
+  pub proposal : after.view.proposal ≡ None
+  pub scanned_logs : after.view.scanned_logs ≡ found.view.scanned_logs
+  pub table : after.table ≡ before.table
+  pub reported : after.reported ≡ before.reported
+
+-- some scan gave a word from 1 to m + 1
+abbrev pub HoldsBack : ℕ → List Scanned → Type 0
+HoldsBack m scans = (scan : Scanned) × Contains scans scan × (0 < scan.word) × (scan.word ≤ m + 1)
+
+-- no row was free, each read word was scanned, and still no row is free: a word that was scanned holds back each replaced
+-- version that is not free
+pub record IsBusy (before after : OperatorValue) : Type 0 where
+  pub none_before : HasFreeRow before → ⊥
+  pub scanned : ScansEach before after
+  pub none : HasFreeRow after → ⊥
+  pub held_back : (m : ℕ) → IsReplaced m after.view.log → (IsFree the_shape m after.view.log → ⊥) → HoldsBack m scanned.scans

@@ -1,0 +1,72 @@
+//! Free rows: how one is found, and how it is filled.
+
+ghost use Rattle.std.specs.Prelude.{◌≡◌, ◌≤◌, IfNone, IfSome};
+ghost use Rattle.member_group.specs.Charge.{charge_of};
+ghost use Rattle.versions.specs.Free.{IsFreeRow};
+ghost use Rattle.versions.specs.Table.{the_shape};
+ghost use Rattle.read_section.specs.Layout.{Holds};
+ghost use Rattle.retire.specs.Publish.{HasFreeRow, IsBusy, LooksForRow, ScansEach};
+ghost use Rattle.retire.specs.Filling.{FillsImage, FillsRow};
+
+use config_image::image_len;
+use member_group::Config;
+use read_section::Operator;
+use versions::{CHARGE_LIMIT, ROWS, WORKERS, row_word};
+
+pub(crate) fn scan_each(operator: &mut Operator)
+    ensures { ScansEach operator.old operator.new }
+{
+    for worker in 0..WORKERS {
+        operator.scan(worker);
+    }
+}
+
+fn free_row(operator: &Operator) -> Option<usize>
+    ensures some { IfSome result (λ row. IsFreeRow the_shape operator.now.view row) }
+    ensures none { IfNone result (HasFreeRow operator.now → ⊥) }
+{
+    for row in 0..ROWS {
+        if operator.is_free(row) {
+            return Some(row);
+        }
+    }
+    None
+}
+
+// The least free row. Where there is none at first, each read word is scanned once.
+pub(crate) fn look_for_row(operator: &mut Operator) -> Option<usize>
+    ensures some { IfSome result (λ row. IsFreeRow the_shape operator.new.view row) }
+    ensures looked { IfSome result (λ row. LooksForRow operator.old operator.new) }
+    ensures none { IfNone result (IsBusy operator.old operator.new) }
+{
+    if let Some(row) = free_row(operator) {
+        return Some(row);
+    }
+    scan_each(operator);
+    free_row(operator)
+}
+
+fn fill_image(operator: &mut Operator, row: usize, config: &Config, len: usize)
+    requires free { IsFreeRow the_shape operator.old.view row }
+    requires len { len ≤ the_shape.row_words }
+    ensures { FillsImage operator.old operator.new row config.now len }
+{
+    for place in 0..len {
+        operator.fill(row, place, row_word(config, place));
+    }
+}
+
+// Fills a row until it holds the configuration's, zeros that stand already left alone.
+pub(crate) fn fill_row(operator: &mut Operator, row: usize, config: &Config)
+    requires free { IsFreeRow the_shape operator.old.view row }
+    requires charge { charge_of config.now ≤ CHARGE_LIMIT }
+    ensures fills { FillsRow operator.old operator.new row config.now }
+    ensures holds { Holds operator.new.view row config.now }
+{
+    let len = image_len(config);
+    fill_image(operator, row, config, len);
+    let end = operator.zeros_from(row);
+    for place in len..end {
+        operator.fill(row, end - 1 - (place - len), 0);
+    }
+}
