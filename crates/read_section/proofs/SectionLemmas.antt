@@ -19,7 +19,7 @@ use Rattle.versions.proofs.RowLemmas.{length-row}
 use Rattle.versions.proofs.ShapeLemmas.{row_is, row_words_is}
 use Rattle.read_section.specs.declared.worker.Held.{Held}
 use Rattle.read_section.specs.Seat.{IsAt}
-use Rattle.read_section.specs.Section.{FetchedSincePin, IsFetchIn, IsWholeSection, SectionsAreWhole, at_pin, before_fetches, held_words, words_in}
+use Rattle.read_section.specs.Section.{EndsInFetches, IsFetchIn, IsWholeSection, SectionsAreWhole, at_pin, before_fetches, held_words, words_in}
 use Rattle.read_section.specs.Steps.{IsOwnLogOf}
 use Rattle.read_section.specs.Worker.{Enters, IsInside, IsOutside, WorkerValue, left, left_from, steps}
 
@@ -78,11 +78,11 @@ front_fetches (newest ∷ older) = go newest.step newest.word (front_fetches old
 outside_inside : (stage : Stage) → IsOutside stage → (k n r : ℕ) → stage ≡ Inside k n r → ⊥
 outside_inside stage out k n r e = subst IsOutside e out
 
-pub FetchedSincePin-outside : (worker : WorkerValue) → IsOutside worker.view.stage → FetchedSincePin worker
-FetchedSincePin-outside worker out = let t = front_fetches worker.view.log in record { fetches = t.0; log = t.1; each = λ k n r e stage c. absurd (outside_inside worker.view.stage out k n r stage) }
+pub EndsInFetches-outside : (worker : WorkerValue) → IsOutside worker.view.stage → EndsInFetches worker
+EndsInFetches-outside worker out = let t = front_fetches worker.view.log in record { fetches = t.0; log = t.1; each = λ k n r e stage c. absurd (outside_inside worker.view.stage out k n r stage) }
 
-pub FetchedSincePin-inside : (worker : WorkerValue) (n r : ℕ) → IsInside worker.view.stage n r → IsOwnLogOf worker → FetchedSincePin worker
-FetchedSincePin-inside worker n r inside own =
+pub EndsInFetches-inside : (worker : WorkerValue) (n r : ℕ) → IsInside worker.view.stage n r → IsOwnLogOf worker → EndsInFetches worker
+EndsInFetches-inside worker n r inside own =
     let k = read_word_of worker.view.stage in let t = fetched_log worker.view.number k n r worker.view.log own.order (sym own.stage ∙ inside) in
     record { fetches = t.0; log = t.1; each = λ j m q e stage c. subst (λ (p : ℕ). IsFetchIn worker.view.number p e.step) (inside_row k n r j m q (sym inside ∙ stage)) (t.2 e c) }
 
@@ -119,7 +119,7 @@ word_there [] i x low e = absurd (omega arith)
 word_there (w ∷ words) zero x low e = ap Some (sym e)
 word_there (w ∷ words) (suc i) x low e = word_there words i x (omega arith) e
 
-module _ (before inside last after : WorkerValue) (entered : Enters before inside) (same : at_pin last ≡ at_pin inside) (since : FetchedSincePin last) (e : after ≡ steps left last) where
+module _ (before inside last after : WorkerValue) (entered : Enters before inside) (same : at_pin last ≡ at_pin inside) (since : EndsInFetches last) (e : after ≡ steps left last) where
   -- right after the pin there is no fetch yet
   pinned_log : (at_pin inside).view.log ≡ inside.view.log
   pinned_log = subst (λ (w : WorkerValue). (at_pin w).view.log ≡ w.view.log) (sym entered.three_steps) refl

@@ -8,7 +8,7 @@ use Rattle.versions.specs.declared.progress.Progress.{Progress}
 use Rattle.versions.specs.declared.step.Entry.{Entry}
 use Rattle.versions.specs.declared.view.OperatorView.{OperatorView}
 use Rattle.versions.specs.Layout.{current_word, row_begin, rows_begin}
-use Rattle.versions.specs.View.{after_fill, after_peek, after_proposal, after_publish, after_scan, new_worker, read_word_after}
+use Rattle.versions.specs.View.{after_fill, after_peek, after_proposal, after_publish, after_scan, new_worker}
 use Rattle.versions.specs.Free.{IsFree, number_after}
 use Rattle.versions.specs.State.{new_operator}
 use Rattle.versions.specs.Mirror.{IsBook}
@@ -17,7 +17,7 @@ use Rattle.versions.specs.Table.{the_shape}
 use Rattle.read_section.specs.declared.book.Book.{Book}
 use Rattle.read_section.specs.declared.rule.SeatView.{SeatView}
 use Rattle.read_section.specs.Layout.{IsZeroFrom, zeros_after}
-use Rattle.read_section.specs.View.{Shows}
+use Rattle.read_section.specs.View.{Shows, TellsLog}
 use Rattle.read_section.specs.Worker.{WorkerValue, steps}
 
 -- the table whose operator it is, what it knows, how many versions it reported as free, and for each row a place from which on
@@ -70,13 +70,14 @@ pub record IsReport (view : OperatorView (List Group)) (reported first count : �
   pub from : first ≡ reported
   pub free : (m : ℕ) → first ≤ m → IsFree the_shape m view.log ↔ (m < first + count)
 
--- a worker peeks, which shows it all that is published, and the operator then scans it, which tells the worker's whole log
+-- a worker peeks, which shows it all that is published, and the operator then scans it, which tells the worker's whole log: its
+-- own, in the order of its steps, and going on from the log of the operator's scan before
 pub record Meets (worker worker' : WorkerValue) (operator operator' : OperatorValue) : Type 0 where
   pub peeked : ℕ
   pub word : ℕ
   pub shows : Shows the_shape peeked operator.view.published worker.view.seen
   pub one_peek : worker' ≡ steps (after_peek the_shape.rows peeked operator.view.published) worker
-  pub read : word ≡ read_word_after worker'.view.log
+  pub told : TellsLog the_shape operator.view worker.view.number word worker'.view.log
   pub one_scan : operator' ≡ scanned worker.view.number word worker'.view.log operator
 
 -- the book's numbers, as those of a world

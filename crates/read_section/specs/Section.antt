@@ -74,8 +74,8 @@ fetched i x worker = fetched_in worker.view.stage i x worker
 abbrev pub IsFetchIn : ℕ → ℕ → Step → Type 0
 IsFetchIn w r step = (place : ℕ) × (step ≡ Fetch w place) × IsInRow the_shape r place
 
--- since its pin a worker made fetches in the row that it holds, and no other step
-pub record FetchedSincePin (worker : WorkerValue) : Type 0 where
+-- the fetches that a worker's log ends with are in the row that it holds
+pub record EndsInFetches (worker : WorkerValue) : Type 0 where
   pub fetches : List Entry
   pub log : worker.view.log ≡ fetches ++ (at_pin worker).view.log
   pub each : (read_word n r : ℕ) (entry : Entry) → worker.view.stage ≡ Inside read_word n r → Contains fetches entry → IsFetchIn worker.view.number r entry.step
@@ -104,4 +104,4 @@ pub record IsWholeSection (before inside after : WorkerValue) : Type 0 where
 -- what `enter`, reads that leave the section's rest, and `leave` say is together a whole section
 abbrev pub SectionsAreWhole : Type 0
 SectionsAreWhole =
-    (before inside last after : WorkerValue) → Enters before inside → at_pin last ≡ at_pin inside → FetchedSincePin last → after ≡ steps left last → IsWholeSection before inside after
+    (before inside last after : WorkerValue) → Enters before inside → at_pin last ≡ at_pin inside → EndsInFetches last → after ≡ steps left last → IsWholeSection before inside after

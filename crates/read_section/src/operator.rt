@@ -1,6 +1,6 @@
 //! The operator: the one that fills rows, publishes and reclaims, by single steps.
 
-ghost use Rattle.std.specs.Prelude.{◌≡◌, ◌+◌, ◌*◌, ◌<◌, ◌≤◌, ◌↔◌, IsTrue, List, length, slice_index, ℕ};
+ghost use Rattle.std.specs.Prelude.{◌≡◌, ◌+◌, ◌*◌, ◌<◌, ◌≤◌, ◌↔◌, IsTrue, List, length, slice_index, suc, ℕ};
 ghost use Rattle.config_image.specs.Image.{Group, image};
 ghost use Rattle.versions.specs.declared.step.Entry.{Entry};
 ghost use Rattle.versions.specs.Free.{IsFreeRow, number_after};
@@ -90,6 +90,7 @@ impl Operator {
     pub fn number(&self) -> u64
         ensures number { result ≡ number_after self.now.view.log }
         ensures limited { result ≤ the_shape.last_number }
+        ensures last { length self.now.view.published ≡ suc result }
     {
         self.book.number
     }

@@ -254,7 +254,7 @@ impl OperatorSeat {
         requires stage { MayPeek worker.old.view.stage }
         ensures worker { (x : ℕ) × Sees worker.old x self.old.view.published × (worker.new ≡ steps (after_peek the_shape.rows x self.old.view.published) worker.old) }
         ensures operator { self.new ≡ acts (after_scan worker.old.view.number result worker.new.view.log) self.old }
-        ensures read { result ≡ read_word_after worker.new.view.log }
+        ensures told { TellsLog the_shape self.old.view worker.old.view.number result worker.new.view.log }
     {
         let table = &self.table;
         let shared = &table.shared;

@@ -1,7 +1,7 @@
 //! Read-side critical sections.
 
 ghost use Rattle.std.specs.Prelude.{◌≡◌, ◌<◌, Some, length, slice_get};
-ghost use Rattle.read_section.specs.Section.{FetchedSincePin, SectionRest, SectionsAreWhole, borrow_of, fetched, held_version, held_words, section_rest, worker_of};
+ghost use Rattle.read_section.specs.Section.{EndsInFetches, SectionRest, SectionsAreWhole, borrow_of, fetched, held_version, held_words, section_rest, worker_of};
 ghost use Rattle.read_section.specs.Worker.{left, steps};
 
 use crate::worker::Worker;
@@ -57,7 +57,7 @@ impl<'a> Section<'a> {
     /// Ends the section by one leave step.
     pub fn leave(self)
         ensures left_by_one_step { self.exit.0.now ≡ steps left (worker_of self.entry) }
-        ensures fetched_since_pin { FetchedSincePin (worker_of self.entry) }
+        ensures ends_in_fetches { EndsInFetches (worker_of self.entry) }
     {
         let Section { worker } = self;
         worker.leave();

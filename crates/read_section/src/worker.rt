@@ -4,7 +4,7 @@ ghost use Rattle.std.specs.Prelude.{◌≡◌, ◌<◌, List, length, slice_inde
 ghost use Rattle.config_image.specs.Image.{Group};
 ghost use Rattle.versions.specs.View.{IsTold, after_peek};
 ghost use Rattle.versions.specs.Table.{the_shape};
-ghost use Rattle.read_section.specs.Section.{FetchedSincePin, HoldsLastSeen, borrow_of, fetched, held_version, held_words, worker_of};
+ghost use Rattle.read_section.specs.Section.{EndsInFetches, HoldsLastSeen, borrow_of, fetched, held_version, held_words, worker_of};
 ghost use Rattle.read_section.specs.View.{Shows};
 ghost use Rattle.read_section.specs.Worker.{Enters, IsOutside, left, steps};
 ghost use Rattle.read_section.specs.Operator.{Meets};
@@ -61,6 +61,7 @@ impl Worker {
         ensures seen_grows { IsTold self.old.view.seen (worker_of result).view }
         ensures number_is_seen { length (worker_of result).view.seen ≡ suc (held_version (worker_of result)) }
         ensures section_row { HoldsLastSeen (worker_of result) }
+        ensures ends_in_fetches { EndsInFetches self.old }
     {
         self.leave();
         let peeked = self.seat.peek();
@@ -118,7 +119,7 @@ impl Worker {
     // One leave step where a version is held.
     pub(crate) fn leave(&mut self)
         ensures left { self.new ≡ steps left self.old }
-        ensures fetched_since_pin { FetchedSincePin self.old }
+        ensures ends_in_fetches { EndsInFetches self.old }
     {
         if self.held.is_none() {
             return;

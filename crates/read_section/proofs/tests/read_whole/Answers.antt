@@ -8,6 +8,6 @@ returns c = record {
   whole = (
     worker_of c.enter-section.result,
     section.sections_are_whole c.args.worker.now (worker_of c.enter-section.result) (worker_of c.differing-wrong.new.words) _ c.enter-section.ensures.entered_by_three_steps
-        (ap (λ (rest : SectionRest). rest.pinned) c.differing-wrong.ensures.rest_kept) c.leave.ensures.fetched_since_pin (search rules),
+        (ap (λ (rest : SectionRest). rest.pinned) c.differing-wrong.ensures.rest_kept) c.leave.ensures.ends_in_fetches (search rules),
   );
 }

@@ -1,13 +1,13 @@
-use Rattle.std.proofs.Common.{List, ap, arith, refl, subst, sym, ◌+◌, ◌<◌, ◌∙◌}
+use Rattle.std.proofs.Common.{List, ap, arith, refl, subst, sym, ◌+◌, ◌<◌, ◌∙◌, ℕ}
 use Rattle.atomic_table.specs.Seated.{TableId}
 use Rattle.config_image.specs.Image.{Group}
+use Rattle.versions.specs.declared.step.Entry.{Entry}
 use Rattle.versions.specs.declared.view.WorkerView.{WorkerView}
-use Rattle.versions.specs.View.{read_word_after}
 use Rattle.versions.specs.Legal.{MayPeek}
 use Rattle.versions.specs.Table.{the_shape}
-use Rattle.read_section.specs.Operator.{OperatorSeatValue}
+use Rattle.read_section.specs.Operator.{OperatorSeatValue, operator_or_none}
 use Rattle.read_section.specs.Steps.{Sees}
-use Rattle.read_section.specs.View.{worker_alone}
+use Rattle.read_section.specs.View.{TellsLog, worker_alone}
 use Rattle.read_section.specs.Worker.{WorkerValue}
 use Rattle.read_section.proofs.MeetingLemmas.{IsOperatorSeat-again, IsWorkerSeat-again, may_give, may_give_back, may_peek_both, may_scan_both, may_take, operator_is, operator_met, peeked, scanned_both, taken, worker_is, worker_met}
 use Rattle.read_section.proofs.WorkerSeatLemmas.{IsSeatAt-on, Seated, few_words, read_word_inside, some_word}
@@ -78,8 +78,10 @@ returns-clause-operator c = let h = c.self.invariant in let k = c.worker.invaria
     operator_met c.self.inside.seat.table_id c.split_seat.new.seat.table_id c.split_seat.new.seat.me.0 _ _ c.worker.inside.number c.args.worker.now.view.number c.load-word.result u.0 _ c.args.self.now (q.0 ∙ same)
     (operator_is _ c.split_seat.new.seat.me _ _ three left) refl (k.0.numbered ∙ ap (λ (w : WorkerValue). w.view.number) c.worker.view_is) log_is c.self.view_is
 
-pub returns-clause-read : goal.returns-clause-read
-returns-clause-read c = let h = c.self.invariant in let k = c.worker.invariant in let shared = c.deref.result.now.shared in let own = h.1.same_table ∙ sym (ap (λ t. t.shared.table_id) c.deref.ensures) in
+pub returns-clause-told : goal.returns-clause-told
+returns-clause-told c = let h = c.self.invariant in let k = c.worker.invariant in let shared = c.deref.result.now.shared in let own = h.1.same_table ∙ sym (ap (λ t. t.shared.table_id) c.deref.ensures) in
     let worker_own = ap (λ (w : WorkerValue). w.table) c.worker.view_is ∙ (c.requires.table ∙ (sym (ap (λ (o : OperatorSeatValue). o.table) c.self.view_is) ∙ own)) in
     let e = c.split_seat-moved.ensures in let j = c.join_seat.ensures in let one = taken _ _ c.worker.inside.number c.join_seat.new.seat.me c.split_seat-moved.result.me _ h.0 k.0 (ap (λ (m : Seated). m.0) e.4) j.2 in let t = (c.load.ensures.2 _ one.worker_known).1 in let two = peeked _ c.load.new.seat.me _ _ _ one t.2 in let u = c.load-word.ensures.2 _ two.operator_known c.worker.inside.number refl in let three = scanned_both _ c.load-word.new.seat.me _ _ _ two u.3 in let same = c.load-word.ensures.0 ∙ (c.load.ensures.0 ∙ j.0) in let q = c.split_seat.ensures in let left = ap (λ (m : Seated). m.0) q.2 in let back = ap (λ (m : Seated). m.0) q.4 in let log_is = u.2 _ two.worker_known (sym k.0.numbered) ∙ ap (λ (y : WorkerView (List Group)). y.log) (sym (worker_is _ c.split_seat.result.me _ _ three back)) in
-    u.1.read ∙ ap read_word_after log_is
+    subst (λ (l : List Entry). TellsLog the_shape c.args.self.now.view c.args.worker.now.view.number c.load-word.result l) log_is
+    (subst (λ (o : OperatorSeatValue). TellsLog the_shape o.view c.args.worker.now.view.number c.load-word.result u.0) c.self.view_is
+    (subst (λ (w : ℕ). TellsLog the_shape (operator_or_none c.self.inside.seat.me.0.operator) w c.load-word.result u.0) (k.0.numbered ∙ ap (λ (w : WorkerValue). w.view.number) c.worker.view_is) u.1))
