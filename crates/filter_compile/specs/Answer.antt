@@ -6,11 +6,10 @@ use Rattle.filter_tree.specs.declared.truth.Truth.{Truth}
 use Rattle.filter_tree.specs.declared.truth.Truth.TheVariants.{Fails, No, Yes}
 use Rattle.filter_tree.specs.Tree.{Tree}
 use Rattle.filter_tree.specs.Truth.{truth_of}
-use Rattle.filter_compile.specs.declared.TheConstants.{ACCEPTED}
 
--- a packet is accepted where the expression is true of it, and not where it is false or fails
+-- a packet is accepted, the whole of it kept, where the expression is true of it, and not where it is false or fails
 abbrev pub answer_of : Truth → ℕ
-answer_of Yes = ACCEPTED
+answer_of Yes = 65535
 answer_of No = 0
 answer_of Fails = 0
 
