@@ -22,7 +22,8 @@ use Rattle.filter_parse.specs.declared.token.Token.TheVariants.{Address, Close, 
 use Rattle.filter_tree.specs.declared.expression.Relation.{Relation}
 use Rattle.filter_tree.specs.declared.expression.Relation.TheVariants.{Equal}
 use Rattle.filter_parse.specs.Grammar.{level_of, named}
-use Rattle.filter_parse.specs.Pass.{Reading, after_name, after_number, after_protocol, after_source, after_truth, begins, begins_direction, begins_truth, compared, completed, declared_name, ends, in_direction, in_primitive, is_numeric, junction_of, looseness, negation_of, reading, reduced, run, settled, size_of_number, sized_by, taken}
+use Rattle.filter_parse.specs.Pass.{Reading, after_name, after_number, after_protocol, after_source, after_truth, begins, begins_direction, begins_truth, compared, completed, declared_name, ends, in_direction, in_primitive, is_numeric, junction_of, looseness, negation_of, reading, reduced, settled, size_of_number, sized_by, taken}
+use Rattle.filter_parse.proofs.Gathered.{run}
 use Rattle.filter_parse.proofs.RunLemmas.{next_of, reduced-operand, run-settled, settled-completed}
 
 -- nothing waits for the end of an expression without `and` and `or`

@@ -7,7 +7,8 @@ use Rattle.filter_parse.specs.declared.state.Control.TheVariants.{Expects}
 use Rattle.filter_parse.specs.declared.token.Token.{Token}
 use Rattle.filter_parse.specs.Fault.{HasFault, IsFaultless, open_brackets, own_fault, unexpected, faulty, unfinished}
 use Rattle.filter_parse.specs.Grammar.{IsViable, Spells}
-use Rattle.filter_parse.specs.Pass.{Reading, accepted, at_end, control_of, fault_in, judged_by, pass, passed_on, reading, run, settled, taken, with_tree}
+use Rattle.filter_parse.specs.Pass.{Reading, accepted, at_end, control_of, fault_in, judged_by, pass, passed_on, reading, settled, taken}
+use Rattle.filter_parse.proofs.Gathered.{run, with_tree}
 use Rattle.filter_parse.specs.Token.{Placed, kinds, tokens_of}
 use Rattle.filter_parse.proofs.RunLemmas.{run-spelt}
 use Rattle.filter_parse.proofs.SpeltLemmas.{spelt-run}

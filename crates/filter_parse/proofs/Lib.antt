@@ -1,3 +1,4 @@
+mod Gathered
 mod RunLemmas
 mod SpeltLemmas
 mod CloseLemmas

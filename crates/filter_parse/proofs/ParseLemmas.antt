@@ -10,7 +10,8 @@ use Rattle.filter_parse.specs.declared.token.Token.{Token}
 use Rattle.filter_parse.specs.Fault.{HasFault, HasTree, IsFaultless, deep, faulty, own_fault, unexpected, unfinished}
 use Rattle.filter_parse.specs.Grammar.{Spells}
 use Rattle.filter_parse.specs.Laws.{IsUnambiguous}
-use Rattle.filter_parse.specs.Pass.{pass_of, with_tree}
+use Rattle.filter_parse.specs.Pass.{pass_of}
+use Rattle.filter_parse.proofs.Gathered.{with_tree}
 use Rattle.filter_parse.specs.Postfix.{built, depths_of, first_depth, truth}
 use Rattle.filter_parse.specs.Token.{Placed, kinds, tokens_of}
 use Rattle.filter_parse.proofs.RunLemmas.{run-spelt}

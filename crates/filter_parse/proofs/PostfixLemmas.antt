@@ -9,7 +9,7 @@ use Rattle.filter_tree.specs.Measure.{depth_of, depth_of_arith}
 use Rattle.filter_tree.specs.Tree.{ArithTree, Tree, accessor, conjunction, disjunction, negation, number, operation, packet_length, primitive, relation}
 use Rattle.filter_parse.specs.declared.item.Item.{Item}
 use Rattle.filter_parse.specs.declared.item.Item.TheVariants.{Access, Conjoin, Disjoin, Length, Negate, Number, Operate, Primitive, Relate}
-use Rattle.filter_parse.specs.Pass.{with_arith, with_tree}
+use Rattle.filter_parse.proofs.Gathered.{with_arith, with_tree}
 use Rattle.filter_parse.specs.Postfix.{Growth, Takes, arithmetic, built, deepened, deeper, depths_of, grown, over_two, truth}
 
 -- what can be built takes its next part

@@ -19,7 +19,8 @@ use Rattle.filter_parse.specs.declared.token.Connective.TheVariants.{And, AndSig
 use Rattle.filter_parse.specs.declared.token.Token.{Token}
 use Rattle.filter_parse.specs.declared.token.Token.TheVariants.{Compares, Connects, Destination, Host, Net, Number, Operates, Port, PortRange, Source}
 use Rattle.filter_parse.specs.Grammar.{Spells, SpellsArith, SpellsDirection, SpellsExpr, SpellsOperand, SpellsPrimitive, SpellsTransport, SpellsUnary, bracketed, byte_at, bytes_at, combined, destination, enclosed, four, greater, host, junction, len, less, level_of, literal, named, negated, net, one, operand, port, portrange, proto, protocol, related, simple, source, source_and_destination, source_or_destination, tcp, two, udp, unary, undirected, unnamed, joined}
-use Rattle.filter_parse.specs.Pass.{Reading, accepted, begins_direction, compared, completed, declared_name, ends, in_direction, is_numeric, junction_of, looseness, negation_of, reading, reduced, run, settled, taken, with_arith, with_tree}
+use Rattle.filter_parse.specs.Pass.{Reading, accepted, begins_direction, compared, completed, declared_name, ends, in_direction, is_numeric, junction_of, looseness, negation_of, reading, reduced, settled, taken}
+use Rattle.filter_parse.proofs.Gathered.{run, with_arith, with_tree}
 
 -- the next of some tokens
 abbrev pub next_of : List Token → Option Token

@@ -23,7 +23,8 @@ use Rattle.filter_parse.specs.declared.token.Connective.TheVariants.{And, Or}
 use Rattle.filter_parse.specs.declared.token.Token.{Token}
 use Rattle.filter_parse.specs.declared.token.Token.TheVariants.{Address, Close, CloseIndex, Colon, Compares, Connects, Destination, Greater, Host, Length, Less, Named, Net, Not, Number, Open, OpenIndex, Operates, Port, PortRange, Proto, Source}
 use Rattle.filter_parse.specs.Grammar.{Spells, SpellsArith, SpellsDirection, SpellsExpr, SpellsPrimitive, SpellsSize, SpellsTransport, SpellsUnary, bracketed, byte_at, bytes_at, combined, destination, enclosed, four, greater, host, joined, junction, len, less, level_of, literal, named, negated, net, one, operand, port, portrange, proto, protocol, related, simple, source, source_and_destination, source_or_destination, tcp, two, udp, unary, undirected, unnamed}
-use Rattle.filter_parse.specs.Pass.{Reading, accepted, after_name, after_number, after_protocol, after_source, after_truth, begins, begins_direction, begins_truth, compared, completed, declared_name, ends, in_direction, in_primitive, is_numeric, junction_of, looseness, negation_of, reading, reduced, run, settled, size_of_number, sized_by, taken, with_arith, with_tree}
+use Rattle.filter_parse.specs.Pass.{Reading, accepted, after_name, after_number, after_protocol, after_source, after_truth, begins, begins_direction, begins_truth, compared, completed, declared_name, ends, in_direction, in_primitive, is_numeric, junction_of, looseness, negation_of, reading, reduced, settled, size_of_number, sized_by, taken}
+use Rattle.filter_parse.proofs.Gathered.{run, with_arith, with_tree}
 use Rattle.filter_parse.proofs.RunLemmas.{with_tree-joined}
 
 -- an operator that waits on top binds less tightly than a level says

@@ -1,5 +1,5 @@
 -- Worked texts, with their trees and faults (docs/EXPRESSIONS.md), so that a slip in a definition does not check.
-use Rattle.std.specs.Prelude.{◌≡◌, Err, Ok, [], codes, refl}
+use Rattle.std.specs.Prelude.{◌≡◌, Err, None, Ok, Some, [], codes, refl}
 use Rattle.filter_tree.specs.declared.arithmetic.Operator.TheVariants.{Add, Multiply, Subtract}
 use Rattle.filter_tree.specs.declared.arithmetic.Protocol.TheVariants.{Ip as IpData}
 use Rattle.filter_tree.specs.declared.arithmetic.Size.TheVariants.{Two}
@@ -8,8 +8,11 @@ use Rattle.filter_tree.specs.declared.primitive.Direction.TheVariants.{Either, S
 use Rattle.filter_tree.specs.declared.primitive.Primitive.TheVariants.{Ip, Net, Port, PortRange, Proto}
 use Rattle.filter_tree.specs.declared.primitive.Transport.TheVariants.{Tcp, Unnamed}
 use Rattle.filter_tree.specs.Tree.{accessor, conjunction, disjunction, negation, number, operation, packet_length, primitive, relation}
-use Rattle.filter_parse.specs.declared.fault.ParseFault.TheVariants.{BadAddress, BadPrefix, NumberTooBig, Syntax}
-use Rattle.filter_parse.specs.Pass.{pass_of, with_tree}
+use Rattle.filter_parse.specs.declared.fault.ParseFault.TheVariants.{BadAddress, BadPrefix, NumberTooBig, Syntax, TooDeep}
+use Rattle.filter_parse.specs.declared.TheConstants.{MAX_DEPTH}
+use Rattle.filter_parse.specs.Fault.{bracket_fault}
+use Rattle.filter_parse.specs.Pass.{pass_of}
+use Rattle.filter_parse.proofs.Gathered.{with_tree}
 
 -- faults and their places
 empty : pass_of (codes "") ≡ Err (Syntax 0)
@@ -123,3 +126,13 @@ either_direction = refl
 
 ports_as_written : pass_of (codes "tcp src portrange 0x10 - 9") ≡ Ok (with_tree (primitive (PortRange Tcp Source 16 9)) [])
 ports_as_written = refl
+
+-- as many brackets as may be open, and one more
+sixty_fourth_bracket : bracket_fault 63 9 ≡ None
+sixty_fourth_bracket = refl
+
+sixty_fifth_bracket : bracket_fault 64 9 ≡ Some (TooDeep 9)
+sixty_fifth_bracket = refl
+
+greatest_depth : MAX_DEPTH ≡ 64
+greatest_depth = refl

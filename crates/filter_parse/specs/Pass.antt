@@ -34,21 +34,6 @@ use Rattle.filter_parse.specs.Token.{Placed, tokens_of}
 pub data Reading : Type 0 where
   reading : Control → List Frame → List Item → Reading
 
--- a tree's parts behind other parts, each behind its own
-abbrev pub with_arith : ArithTree → List Item → List Item
-with_arith (number n) items = items ++ PushNumber n ∷ []
-with_arith packet_length items = items ++ PushLength ∷ []
-with_arith (accessor protocol index size) items = with_arith index items ++ Access protocol size ∷ []
-with_arith (operation left operator right) items = with_arith right (with_arith left items) ++ Operate operator ∷ []
-
--- the same of an expression
-abbrev pub with_tree : Tree → List Item → List Item
-with_tree (primitive p) items = items ++ PushPrimitive p ∷ []
-with_tree (relation left relator right) items = with_arith right (with_arith left items) ++ Relate relator ∷ []
-with_tree (negation tree) items = with_tree tree items ++ Negate ∷ []
-with_tree (conjunction left right) items = with_tree right (with_tree left items) ++ Conjoin ∷ []
-with_tree (disjunction left right) items = with_tree right (with_tree left items) ++ Disjoin ∷ []
-
 -- the part that stands for `and`, `&&`, `or` and `||`
 abbrev pub junction_of : Connective → Item
 junction_of And = Conjoin
@@ -223,12 +208,7 @@ abbrev pub accepted : Reading → Option (List Item)
 accepted (reading HasTruth [] items) = Some items
 accepted _ = None
 
--- the parts of the expression that the tokens left make whole
-abbrev pub run : List Token → Reading → Option (List Item)
-run [] state = accepted (settled None state)
-run (token ∷ rest) state = option_and_then (run rest) (taken token (settled (Some token) state))
-
--- the greatest number that may stand next, and the address whose prefix bits do
+-- the greatest number that may stand next
 abbrev pub limit_in : Control → ℕ
 limit_in WantsProtocol = 255
 limit_in (WantsPort transport direction) = 65535

@@ -25,11 +25,10 @@ begins_word c = is_ascii_alphabetic c || c == 95
 abbrev pub is_word_part : ℕ → Bool
 is_word_part c = is_ascii_alphanumeric c || c == 95
 
--- a number or an address is a longest run of letters, digits and dots that begins with a digit
 abbrev pub is_dot : ℕ → Bool
 is_dot c = c == 46
 
--- what a number or an address goes on with
+-- a number or an address is a longest run of letters, digits and dots that begins with a digit: what it goes on with
 abbrev pub is_number_part : ℕ → Bool
 is_number_part c = is_ascii_alphanumeric c || c == 46
 

@@ -41,16 +41,14 @@ pub const MAX_DEPTH: u32 = 64;
 /// Reads a filter expression: the tree that the grammar gives the text, with its parts placed by clones of `alloc`.
 ///
 /// `Err` is the fault at the least place, of those at one place first that the token does not fit there; a tree that is too
-/// deep is answered only where nothing else is wrong. The text may be any bytes.
+/// deep is answered only where nothing else is wrong. It is `OutOfMemory` where memory was refused, whatever the text. The text
+/// may be any bytes.
 pub fn parse<A: Allocator + Clone>(alloc: A, text: &[u8]) -> Result<Expr<A>, ParseFault>
     ensures parses { IfOk result (λ e. HasTree text.now (tree_of e)) }
     ensures fault { IfErr result (λ fault. (fault ≡ ParseFault.OutOfMemory) ⊎ HasFault text.now fault) }
     ensures every_tree { (tree : Tree) → HasTree text.now tree → IfErr result (λ fault. fault ≡ ParseFault.OutOfMemory) }
 {
-    let items = match recognize(alloc.clone()?, text) {
-        Ok(items) => items,
-        Err(fault) => return Err(fault),
-    };
+    let items = recognize(alloc.clone()?, text)?;
     if depth_of(alloc.clone()?, &items)? > MAX_DEPTH {
         return Err(ParseFault::TooDeep { at: text.len() });
     }
@@ -64,13 +62,11 @@ pub fn one_value()
     ensures one_fault { HasOneFault }
 {}
 
-/// The text that a tree of at most `MAX_DEPTH` is printed as has that tree. Of the texts that `Expr::print` gives this is
-/// what `parse` reads.
+/// The text that a tree of depth at most `MAX_DEPTH` is printed as has that tree, where the tree's numbers are in their ranges.
+/// `Expr::print` says by `in_range` that its tree is such a one, so `parse` reads back what it printed.
 pub fn reads_back()
     ensures reads_back { ReadsBack }
 {}
 
-#[cfg(test)]
-mod plain;
 #[cfg(test)]
 mod tests;

@@ -25,9 +25,7 @@ impl<A: Allocator> Pass<A> {
         ensures shallow { OnOk result (self.new.brackets ≤ MAX_DEPTH) }
     {
         self.settle(Some(token))?;
-        if let Err(fault) = self.take(token, at) {
-            return Err(fault);
-        }
+        self.take(token, at)?;
         match token {
             Token::Open | Token::OpenIndex => self.brackets += 1,
             Token::Close | Token::CloseIndex => self.brackets = self.brackets.saturating_sub(1),

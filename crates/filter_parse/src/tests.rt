@@ -1,6 +1,8 @@
 //! Texts of the grammar and others, long and hostile ones, and parsing under refused growths.
 
-use crate::plain::fault_of_text;
+mod alike;
+mod plain;
+
 use crate::{ParseFault, parse};
 use linked_list_allocator::LocalHeap;
 use std::alloc::{AllocError, Global};
@@ -131,6 +133,14 @@ fn fault_of(alloc: Global, text: &[u8]) -> Option<ParseFault> {
     }
 }
 
+// How the tree of a text is printed.
+fn printed_again(alloc: Global, text: &str) -> Result<String, Fail> {
+    match parse(alloc, text.as_bytes()) {
+        Ok(tree) => Ok(tree.print(alloc)?),
+        Err(_) => Err(Fail::from("a printed text is read")),
+    }
+}
+
 // A text that begins with one part so many times over, and ends with another.
 fn repeated(alloc: Global, part: &str, times: usize, end: &str) -> Result<Vec<u8>, AllocError> {
     let mut text = Vec::new(alloc);
@@ -154,7 +164,7 @@ fn printed_trees_and_their_measures(rt: HostRuntime) -> Result<(), Fail> {
                 );
                 let copy = tree.clone_in(rt.alloc())?;
                 assert_eq!(rt; copy.print(rt.alloc())?.as_str(), printed);
-                assert_eq!(rt; fault_of(rt.alloc(), printed.as_bytes()), None);
+                assert_eq!(rt; printed_again(rt.alloc(), printed)?.as_str(), printed);
             }
             Err(fault) => assert!(rt; false, "{text}: {fault:?}"),
         }
@@ -214,7 +224,7 @@ fn depth_within_the_limit(rt: HostRuntime) -> Result<(), Fail> {
     Ok(())
 }
 
-// The same for texts of 262,144 bytes and more: deep, long, and no text at all.
+// The same for texts of 262,144 bytes and more.
 const LONG: [(&str, usize, &str, Option<ParseFault>); 11] = [
     ("(", 262144, "", Some(ParseFault::TooDeep { at: 64 })),
     ("not ", 65536, "", Some(ParseFault::Syntax { at: 262144 })),
@@ -259,6 +269,11 @@ fn longest_texts(rt: HostRuntime) -> Result<(), Fail> {
             "{times} times {part:?} and {end:?}"
         );
     }
+    let no_text = vec![in rt.alloc(); 0xff; 262144]?;
+    assert_eq!(rt;
+        fault_of(rt.alloc(), &no_text),
+        Some(ParseFault::Syntax { at: 0 })
+    );
     Ok(())
 }
 
@@ -285,151 +300,5 @@ fn each_allocation_refused_in_turn(rt: HostRuntime) -> Result<(), Fail> {
         size = size.saturating_add(16);
     }
     assert!(rt; read);
-    Ok(())
-}
-
-#[test]
-fn plain_recogniser_on_the_worked_texts(rt: HostRuntime) -> Result<(), Fail> {
-    for (text, _, _) in ACCEPTED {
-        assert_eq!(rt; fault_of_text(rt.alloc(), text.as_bytes())?, None);
-    }
-    for (text, fault) in REFUSED {
-        assert_eq!(rt; fault_of_text(rt.alloc(), text.as_bytes())?, Some(fault));
-    }
-    Ok(())
-}
-
-const TEXTS: [&[&str]; 6] = [
-    &[
-        "not", "(", "udp", "[", "1", "+", "2", "]", "=", "3", "or", "net", "10.0.0.0", "/", "8",
-        ")",
-    ],
-    &[
-        "(", "(", "1", ")", "+", "2", ")", ">", "ip", "[", "0", ":", "2", "]", "and", "ip",
-    ],
-    &[
-        "tcp",
-        "src",
-        "or",
-        "dst",
-        "portrange",
-        "1",
-        "-",
-        "65535",
-        "||",
-        "less",
-        "28",
-    ],
-    &[
-        "src", "and", "dst", "host", "10.0.0.1", "&&", "!", "ip", "proto", "17",
-    ],
-    &[
-        "(", "ip", "or", "(", "1", "=", "len", ")", ")", "and", "greater", "9",
-    ],
-    &[
-        "len", "*", "(", "2", "<<", "tcp", "[", "12", "]", ")", "!=", "0",
-    ],
-];
-
-const PARTS: [&str; 48] = [
-    "ip",
-    "tcp",
-    "udp",
-    "icmp",
-    "proto",
-    "host",
-    "net",
-    "port",
-    "portrange",
-    "less",
-    "greater",
-    "len",
-    "src",
-    "dst",
-    "and",
-    "or",
-    "not",
-    "&&",
-    "||",
-    "!",
-    "<<",
-    ">=",
-    "=",
-    "==",
-    "<",
-    "(",
-    ")",
-    "[",
-    "]",
-    ":",
-    "/",
-    "-",
-    "+",
-    "|",
-    "&",
-    "0",
-    "1",
-    "2",
-    "3",
-    "33",
-    "256",
-    "65536",
-    "4294967296",
-    "010",
-    "10.0.0.0",
-    "10.0.0.256",
-    "ports",
-    "#",
-];
-
-// The next number of a sequence without a pattern (Knuth's linear congruential generator).
-fn next_random(state: u64) -> u64 {
-    state
-        .wrapping_mul(6364136223846793005)
-        .wrapping_add(1442695040888963407)
-}
-
-// One of a list's texts, by a number.
-fn picked<'a>(parts: &'a [&'a str], number: u64) -> &'a str {
-    let count = parts.len() as u64;
-    if count == 0 {
-        return "";
-    }
-    match parts.get(((number >> 33) % count) as usize) {
-        Some(part) => part,
-        None => "",
-    }
-}
-
-// A worked text in which one token, by a number, is left out, exchanged for another or has another before it.
-fn changed(alloc: Global, parts: &[&str], number: u64) -> Result<Vec<u8>, AllocError> {
-    let place = (number >> 40) % 17;
-    let part = picked(&PARTS, next_random(number));
-    let mut text = Vec::new(alloc);
-    for (index, old) in parts.iter().enumerate() {
-        let here = index as u64 == place;
-        if here && (number >> 60) % 4 != 0 {
-            text.extend_from_slice(part.as_bytes())?;
-            text.push(b' ')?;
-        }
-        if !here || (number >> 60) % 4 == 1 {
-            text.extend_from_slice(old.as_bytes())?;
-            text.push(b' ')?;
-        }
-    }
-    Ok(text)
-}
-
-#[test]
-fn parser_and_plain_recogniser_agree(rt: HostRuntime) -> Result<(), Fail> {
-    let mut number = 1;
-    for _ in 0..500 {
-        for parts in TEXTS {
-            number = next_random(number);
-            let text = changed(rt.alloc(), parts, number)?;
-            let fault = fault_of_text(rt.alloc(), &text)?;
-            assert_eq!(rt; fault_of(rt.alloc(), &text), fault);
-        }
-    }
     Ok(())
 }

@@ -1,4 +1,4 @@
-//! Reading the tokens of a filter expression (pcap-filter(7); docs/EXPRESSIONS.md, "Tokens").
+//! The tokens of a filter expression (pcap-filter(7); docs/EXPRESSIONS.md, "Tokens").
 
 use filter_tree::{Operator, Protocol, Relation};
 
