@@ -1,6 +1,6 @@
 -- How far the parser's one pass has come: what has just been read, what is open around it, and the parts of the expression
 -- that are known, in postfix order. The pass looks at one token beyond what it has read.
-use Rattle.std.specs.Prelude.{◌≡◌, ◌⊎◌, ◌∷◌, ◌++◌, ◌==◌, ◌&&◌, Bool, List, None, Option, Some, [], false, if◌then◌else◌, length, nat_le, option_and_then, true, Result, Ok, Err, ℕ}
+use Rattle.std.specs.Prelude.{◌≡◌, ◌⊎◌, ◌∷◌, ◌++◌, ◌==◌, ◌&&◌, Bool, List, None, Option, Some, [], false, if◌then◌else◌, length, nat_le, true, Result, Ok, Err, ℕ}
 use Rattle.filter_tree.specs.declared.arithmetic.Operator.{Operator}
 use Rattle.filter_tree.specs.declared.arithmetic.Operator.TheVariants.{Divide, Subtract}
 use Rattle.filter_tree.specs.declared.arithmetic.Protocol.{Protocol}
@@ -12,7 +12,6 @@ use Rattle.filter_tree.specs.declared.primitive.Direction.TheVariants.{Both, Des
 use Rattle.filter_tree.specs.declared.primitive.Primitive.TheVariants.{AtLeast, AtMost, Host as IsHost, Net as IsNet, Port as IsPort, PortRange as IsPortRange, Proto as IsProto}
 use Rattle.filter_tree.specs.declared.primitive.Transport.{Transport}
 use Rattle.filter_tree.specs.declared.primitive.Transport.TheVariants.{Tcp, Udp, Unnamed}
-use Rattle.filter_tree.specs.Tree.{ArithTree, Tree, accessor, conjunction, disjunction, negation, number, operation, packet_length, primitive, relation}
 use Rattle.filter_parse.specs.declared.fault.ParseFault.{ParseFault}
 use Rattle.filter_parse.specs.declared.fault.ParseFault.TheVariants.{BadAddress, NumberTooBig, OutOfMemory, Syntax}
 use Rattle.filter_parse.specs.declared.item.Item.{Item}
