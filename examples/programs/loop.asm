@@ -1,0 +1,3 @@
+again:  ldb [0]
+        ja again
+        ret #0
