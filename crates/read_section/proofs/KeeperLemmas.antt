@@ -1,8 +1,6 @@
 -- What the operator keeps stays true after each of its steps.
-use Rattle.std.proofs.Common.{Bool, true, false, ◌↔◌, ◌≡◌, ◌≢◌, ◌⊎◌, ℕ, zero, suc, ◌+◌, ◌-◌, ◌*◌, ◌<◌, ◌≤◌, ◌==◌, if◌then◌else◌, List, [], ◌∷◌, ap, arith, get_or, get_or-set_other, get_or-set_same, inl, inr, length, length-append, length-set, max, refl, replicate, set, slice_index, slice_set, subst, suc-mul, sym, ◌∙◌, ⊎_elim}
+use Rattle.std.proofs.Common.{◌↔◌, ◌≡◌, ℕ, zero, suc, ◌+◌, ◌-◌, ◌*◌, ◌<◌, ◌≤◌, List, [], ◌∷◌, ap, arith, get_or, get_or-set_other, get_or-set_same, length, length-append, length-set, refl, replicate, set, slice_index, slice_set, subst, suc-mul, sym, ◌∙◌}
 use Rattle.std.proofs.lemmas.List.{get_or-append_right, get_or_append_left, length-replicate}
-use Rattle.std.proofs.lemmas.Bool.{ne_eqb}
-use Rattle.std.proofs.lemmas.Bool.Decides.{eqb_tells}
 use mathlib.Core.Logic.{dite}
 use native.Mathlib.Decide.{ℕ_discrete}
 use Rattle.config_image.specs.Image.{Group, image}
@@ -28,59 +26,34 @@ use Rattle.versions.proofs.RowLemmas.{length-row, row_behind_image}
 use Rattle.versions.proofs.ShapeLemmas.{row_is, row_words_is, rows_is, workers_is}
 use Rattle.versions.proofs.WorldLemmas.{IsMirror-opened, IsOpening-rows, light}
 use Rattle.read_section.specs.declared.book.Book.{Book}
-use Rattle.read_section.specs.Layout.{IsPublishable, IsZeroFrom, zeros_after}
+use Rattle.read_section.specs.Layout.{IsPublishable, IsZeroFrom, KeepsZeros}
 use Rattle.read_section.specs.Operator.{IsBookAtStart, IsKeptBy, IsReport, progress_of, put_in}
 
 abbrev pub View : Type 0
 View = OperatorView (List Group)
-
-zeros_after-other : (place word from : ℕ) → zeros_after place (suc word) from ≡ max from (place + 1)
-zeros_after-other place word from = ap (λ (b : Bool). if b then (if place + 1 == from then place else from) else max from (place + 1)) (ne_eqb (suc word) 0 (λ e. omega arith))
-
--- where zeros begin after a word is stored
-pub zeros_after-limited : (n place word from : ℕ) → place < n → from ≤ n → zeros_after place word from ≤ n
-zeros_after-limited n place zero from low fits = go (place + 1 == from)
-  where
-    go : (b : Bool) → (if b then place else from) ≤ n
-    go true = omega arith
-    go false = fits
-zeros_after-limited n place (suc word) from low fits = let e = zeros_after-other place word from in omega arith
-
--- behind there a place is the one that was stored, by 0, or another where a zero stood
-pub zeros_after-tells : (place word from i : ℕ) → zeros_after place word from ≤ i → ((i ≡ place) × (word ≡ 0)) ⊎ ((i ≢ place) × (from ≤ i))
-zeros_after-tells place zero from i up = dite (ℕ_discrete i place) (λ e. inl (e, refl)) (λ other. inr (other, go (eqb_tells (place + 1) from) other))
-  where
-    go : ((place + 1 == from) ≡ true) × (place + 1 ≡ from) ⊎ (((place + 1 == from) ≡ false) × (place + 1 ≢ from)) → i ≢ place → from ≤ i
-    go (inl t) other = let low : place ≤ i = subst (λ b. (if b then place else from) ≤ i) t.0 up in let e = t.1 in lt_of_ne low other e
-      where
-        lt_of_ne : place ≤ i → i ≢ place → place + 1 ≡ from → from ≤ i
-        lt_of_ne low other e = omega arith
-    go (inr t) other = subst (λ b. (if b then place else from) ≤ i) t.0 up
-zeros_after-tells place (suc word) from i up = let is = zeros_after-other place word from in inr ((λ e. omega arith), omega arith)
 
 -- a place of a row among the words of all rows
 pub place_in_rows : (row place : ℕ) → (row_begin the_shape row + place) - rows_begin the_shape ≡ row * the_shape.row_words + place
 place_in_rows row place = let r = row * the_shape.row_words in omega arith
 
 module _ (view : View) (config : List Group) (book : Book) (reported : ℕ) (zeros : List ℕ) (h : IsKeptBy view config book reported zeros) where
-  zeros_stand-filled : (row place word from : ℕ) → row < the_shape.rows → place < the_shape.row_words → from ≡ zeros_after place word (slice_index zeros row)
+  zeros_stand-filled : (row place word from : ℕ) → row < the_shape.rows → place < the_shape.row_words → KeepsZeros place word (slice_index zeros row) from
       → (q : ℕ) → q < the_shape.rows → IsZeroFrom (after_fill (rows_begin the_shape) (row_begin the_shape row + place) word view) q (slice_index (set zeros row from) q)
-  zeros_stand-filled row place word from low small is q low' i up inside =
+  zeros_stand-filled row place word from low small keeps q low' i up inside =
       let p = (row_begin the_shape row + place) - rows_begin the_shape in let p_is = place_in_rows row place in let inside_all = row_inside row the_shape.rows place the_shape.row_words low small in let all = h.row_words_length in let many = h.zeros_length in
       dite (ℕ_discrete q row)
       (λ same. let from_is : get_or (set zeros row from) q 0 ≡ from = ap (λ (k : ℕ). get_or (set zeros row from) k 0) same ∙ get_or-set_same zeros row from 0 (omega arith) in
       let same_begin : q * the_shape.row_words ≡ row * the_shape.row_words = ap (λ (k : ℕ). k * the_shape.row_words) same in
-      ⊎_elim
-      (λ t. let e = t.0 in ap (λ (k : ℕ). get_or (set view.row_words p word) k 0) (let g : q * the_shape.row_words + i ≡ p = omega arith in g) ∙ (get_or-set_same view.row_words p word 0 (omega arith) ∙ t.1))
-      (λ t. let ne = t.0 in get_or-set_other view.row_words p (q * the_shape.row_words + i) word 0 (λ e. ne (omega arith))
-      ∙ (ap (λ (k : ℕ). get_or view.row_words (k + i) 0) same_begin ∙ h.zeros_stand row low i t.1 inside))
-      (zeros_after-tells place word (slice_index zeros row) i (omega arith)))
+      let kept = keeps i (omega arith) in dite (ℕ_discrete i place)
+      (λ here. ap (λ (k : ℕ). get_or (set view.row_words p word) k 0) (let g : q * the_shape.row_words + i ≡ p = omega arith in g) ∙ (get_or-set_same view.row_words p word 0 (omega arith) ∙ kept.0 here))
+      (λ ne. get_or-set_other view.row_words p (q * the_shape.row_words + i) word 0 (λ e. ne (omega arith))
+      ∙ (ap (λ (k : ℕ). get_or view.row_words (k + i) 0) same_begin ∙ h.zeros_stand row low i (kept.1 ne) inside)))
       (λ other. let from_is : get_or (set zeros row from) q 0 ≡ get_or zeros q 0 = get_or-set_other zeros row q from 0 other in
       get_or-set_other view.row_words p (q * the_shape.row_words + i) word 0 (λ e. other (same_row the_shape.row_words q row i place inside small (omega arith))) ∙ h.zeros_stand q low' i (omega arith) inside)
 
-  pub IsKeptBy-filled : (row place word from : ℕ) → row < the_shape.rows → place < the_shape.row_words → from ≡ zeros_after place word (slice_index zeros row)
+  pub IsKeptBy-filled : (row place word from : ℕ) → row < the_shape.rows → place < the_shape.row_words → KeepsZeros place word (slice_index zeros row) from → from ≤ the_shape.row_words
       → IsKeptBy (after_fill (rows_begin the_shape) (row_begin the_shape row + place) word view) config book reported (set zeros row from)
-  IsKeptBy-filled row place word from low small is = record {
+  IsKeptBy-filled row place word from low small keeps fits = record {
     steps_told = IsBook-filled the_shape view (progress_of book) h.steps_told (rows_begin the_shape) (row_begin the_shape row + place) word;
     number_limited = h.number_limited;
     published_length = h.published_length;
@@ -91,9 +64,9 @@ module _ (view : View) (config : List Group) (book : Book) (reported : ℕ) (zer
     zeros_length = length-set zeros row from ∙ h.zeros_length;
     zeros_limited = λ q low'. dite (ℕ_discrete q row)
         (λ same. let many = h.zeros_length in let here : get_or (set zeros row from) q 0 ≡ from = ap (λ (k : ℕ). get_or (set zeros row from) k 0) same ∙ get_or-set_same zeros row from 0 (omega arith) in
-        let fits = zeros_after-limited the_shape.row_words place word (slice_index zeros row) small (h.zeros_limited row low) in omega arith)
+        omega arith)
         (λ other. let here : get_or (set zeros row from) q 0 ≡ get_or zeros q 0 = get_or-set_other zeros row q from 0 other in let was = h.zeros_limited q low' in omega arith);
-    zeros_stand = zeros_stand-filled row place word from low small is;
+    zeros_stand = zeros_stand-filled row place word from low small keeps;
   }
 
   pub IsKeptBy-published : (row : ℕ) (new : List Group) (book' : Book) → row < the_shape.rows → book.number < the_shape.last_number → book' ≡ record book { number = book.number + 1; last = slice_set book.last row (book.number + 2) }

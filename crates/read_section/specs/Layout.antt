@@ -1,5 +1,5 @@
 -- Which configurations a row takes, and from where on a row is known to be 0.
-use Rattle.std.specs.Prelude.{◌≡◌, ◌*◌, ◌+◌, ◌<◌, ◌==◌, ◌≤◌, List, if◌then◌else◌, max, slice_index, ℕ}
+use Rattle.std.specs.Prelude.{◌≡◌, ◌*◌, ◌+◌, ◌<◌, ◌≤◌, List, slice_index, ℕ}
 use Rattle.config_image.specs.Image.{Group}
 use Rattle.member_group.specs.Charge.{charge_of}
 use Rattle.member_group.specs.Group.{IsConfig}
@@ -21,7 +21,6 @@ abbrev pub IsZeroFrom : OperatorView (List Group) → ℕ → ℕ → Type 0
 IsZeroFrom view row from =
     (i : ℕ) → from ≤ i → i < the_shape.row_words → slice_index view.row_words (row * the_shape.row_words + i) ≡ 0
 
--- where the zeros of a row begin, after a word was stored at a place: behind another word than 0, and one place earlier where
--- a 0 was stored right before them
-abbrev pub zeros_after : ℕ → ℕ → ℕ → ℕ
-zeros_after place word from = if word == 0 then (if place + 1 == from then place else from) else max from (place + 1)
+-- words that are 0 from the place `from` on are 0 from the place `to` on after a word is stored at a place of them
+abbrev pub KeepsZeros : ℕ → ℕ → ℕ → ℕ → Type 0
+KeepsZeros place word from to = (i : ℕ) → to ≤ i → (i ≡ place → word ≡ 0) × ((i ≡ place → ⊥) → from ≤ i)

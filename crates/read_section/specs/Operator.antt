@@ -1,9 +1,9 @@
--- What a contract sees of an Operator: what it knows, what it reported, and where the zeros of its rows begin.
-use Rattle.std.specs.Prelude.{◌≡◌, ◌+◌, ◌++◌, ◌-◌, ◌*◌, ◌<◌, ◌≤◌, ◌↔◌, ◌∷◌, List, None, Option, Some, [], length, replicate, slice_index, slice_set, suc, ℕ}
+-- What a contract sees of an Operator: what it knows, and what it reported.
+use Rattle.std.specs.Prelude.{◌≡◌, ◌+◌, ◌++◌, ◌*◌, ◌<◌, ◌≤◌, ◌↔◌, ◌∷◌, List, None, Option, Some, [], length, replicate, slice_index, slice_set, suc, ℕ}
 use mathlib.Core.Option.{some}
 use lib.ListN.{get_elem?}
 use Rattle.atomic_table.specs.Seated.{TableId}
-use Rattle.config_image.specs.Image.{Group, image}
+use Rattle.config_image.specs.Image.{Group}
 use Rattle.versions.specs.declared.progress.Progress.{Progress}
 use Rattle.versions.specs.declared.step.Entry.{Entry}
 use Rattle.versions.specs.declared.view.OperatorView.{OperatorView}
@@ -16,17 +16,15 @@ use Rattle.versions.specs.World.{opening_rows}
 use Rattle.versions.specs.Table.{the_shape}
 use Rattle.read_section.specs.declared.book.Book.{Book}
 use Rattle.read_section.specs.declared.rule.SeatView.{SeatView}
-use Rattle.read_section.specs.Layout.{IsZeroFrom, zeros_after}
+use Rattle.read_section.specs.Layout.{IsZeroFrom}
 use Rattle.read_section.specs.View.{Shows, TellsLog}
 use Rattle.read_section.specs.Worker.{WorkerValue, steps}
 
--- the table whose operator it is, what it knows, how many versions it reported as free, and for each row a place from which on
--- its words are 0
+-- the table whose operator it is, what it knows, and how many versions it reported as free
 pub record OperatorValue : Type 0 where
   pub table : TableId
   pub view : OperatorView (List Group)
   pub reported : ℕ
-  pub zeros : List ℕ
 
 -- the table and the view that the operator's seat has
 pub record OperatorSeatValue : Type 0 where
@@ -51,10 +49,7 @@ IsCurrent view config = (older : List (List Group)) × (view.published ≡ older
 -- the operator after each of its single steps: a fill of a place of a row, the publication of a configuration from a row, a
 -- scan of worker w that told this log
 abbrev pub filled : ℕ → ℕ → ℕ → OperatorValue → OperatorValue
-filled row place word operator = record operator {
-  view = after_fill (rows_begin the_shape) (row_begin the_shape row + place) word operator.view;
-  zeros = slice_set operator.zeros row (zeros_after place word (slice_index operator.zeros row));
-}
+filled row place word operator = record operator { view = after_fill (rows_begin the_shape) (row_begin the_shape row + place) word operator.view }
 
 abbrev pub put_in : ℕ → List Group → OperatorView (List Group) → OperatorView (List Group)
 put_in row config view = after_publish row (current_word the_shape (number_after view.log + 1) row) (after_proposal config view)
@@ -89,7 +84,7 @@ pub record IsBookAtStart (book : Book) : Type 0 where
   pub last : book.last ≡ slice_set (replicate the_shape.rows 0) 0 1
   pub cleared : book.cleared ≡ replicate the_shape.workers 0
 
--- what the operator keeps tells what its steps did
+-- what the operator keeps tells what its steps did; `zeros` has for each row a place from which on its words are 0
 pub record IsKeptBy (view : OperatorView (List Group)) (config : List Group) (book : Book) (reported : ℕ) (zeros : List ℕ) : Type 0 where
   pub steps_told : IsBook the_shape view (progress_of book)
   pub number_limited : book.number ≤ the_shape.last_number
@@ -104,12 +99,7 @@ pub record IsKeptBy (view : OperatorView (List Group)) (config : List Group) (bo
 
 -- the operator and the workers of a table that opens with a configuration: nobody made a step
 abbrev pub opened_operator : TableId → List Group → OperatorValue
-opened_operator table config = record {
-  table = table;
-  view = new_operator the_shape config (opening_rows config);
-  reported = 0;
-  zeros = length (image config) ∷ replicate (the_shape.rows - 1) 0;
-}
+opened_operator table config = record { table = table; view = new_operator the_shape config (opening_rows config); reported = 0 }
 
 pub record AreOpenedWorkers (table : TableId) (config : List Group) (workers : List WorkerValue) : Type 0 where
   pub count : length workers ≡ the_shape.workers

@@ -6,7 +6,8 @@ ghost use Rattle.versions.specs.declared.step.Entry.{Entry};
 ghost use Rattle.versions.specs.Free.{IsFreeRow, number_after};
 ghost use Rattle.versions.specs.Legal.{MayPeek};
 ghost use Rattle.versions.specs.Table.{the_shape};
-ghost use Rattle.read_section.specs.Layout.{Holds, IsPublishable, IsZeroFrom, zeros_after};
+ghost use Rattle.read_section.specs.Layout.{Holds, IsPublishable, IsZeroFrom, KeepsZeros};
+ghost use Rattle.config_image.specs.declared.TheConstants.{ROW_WORDS};
 ghost use Rattle.read_section.specs.Operator.{IsCurrent, IsReport, Meets, filled, opened_operator, published_from, scanned};
 ghost use Rattle.read_section.specs.View.{TellsLog};
 
@@ -26,14 +27,14 @@ pub struct Reclaimed {
 
 /// The updater of a table.
 ///
-/// Contracts see its table, its log with what it published, how many versions it reported, and where the zeros of its rows
-/// begin.
+/// Contracts see its table, its log with what it published, and how many versions it reported.
 #[derive(Drop)]
 pub struct Operator {
     seat: OperatorSeat,
     config: Config,
     book: Book,
     reported: u64,
+    // For each row a place from which on its words are 0.
     zeros: [usize; ROWS],
 }
 
@@ -42,15 +43,17 @@ impl Model for Operator {
 
     ghost Value = { OperatorValue };
 
-    ghost view = { λ o. record { table = o.seat.table; view = o.seat.view; reported = o.reported; zeros = o.zeros } };
+    ghost view = { λ o. record { table = o.seat.table; view = o.seat.view; reported = o.reported } };
 
     ghost invariant = { λ o. IsKeptBy o.seat.view o.config o.book o.reported o.zeros };
 }
 
 // Where the zeros of a row begin, after a word was stored at a place.
 fn zeros_begin(from: usize, place: usize, word: u64) -> usize
-    requires { place < ROW_WORDS }
-    ensures { result ≡ zeros_after place word from }
+    requires from { from ≤ ROW_WORDS }
+    requires place { place < ROW_WORDS }
+    ensures zeros { KeepsZeros place word from result }
+    ensures within { result ≤ ROW_WORDS }
 {
     if word != 0 {
         return from.max(place + 1);
@@ -102,13 +105,13 @@ impl Operator {
         self.book.is_free(row)
     }
 
-    /// Tells a place of a row from which on its words are 0. No step.
+    /// Tells a place of a row from which on its words are 0, as the operator's own fills tell it. No step.
     ///
-    /// It is where the image ended that the row opened with, and 0 in the other rows; `fill` moves it.
+    /// It need not be the least: a fill of another word than 0 moves it behind that word, and a fill of 0 moves it down to its
+    /// own place only from right behind that.
     pub fn zeros_from(&self, row: usize) -> usize
         requires { row < the_shape.rows }
         ensures zeros { IsZeroFrom self.now.view row result }
-        ensures place { result ≡ slice_index self.now.zeros row }
         ensures within { result ≤ the_shape.row_words }
     {
         self.zeros[row]
