@@ -7,7 +7,8 @@ use Rattle.config_image.specs.Image.{Group, image}
 use Rattle.config_image.proofs.LengthLemmas.{within_charge}
 use Rattle.member_group.specs.Charge.{charge_of}
 use Rattle.versions.specs.declared.step.Entry.{Entry}
-use Rattle.versions.specs.declared.layout.TheConstants.{WORKERS}
+use Rattle.config_image.specs.declared.TheConstants.{ROW_WORDS}
+use Rattle.versions.specs.declared.layout.TheConstants.{LAST_NUMBER, ROWS, WORKERS}
 use Rattle.versions.specs.declared.view.OperatorView.{OperatorView}
 use Rattle.versions.specs.declared.step.Step.TheVariants.{Publish, Scan}
 use Rattle.versions.specs.Layout.{current_word, row_begin, rows_begin}
@@ -23,7 +24,7 @@ use Rattle.versions.proofs.ListLemmas.{row_inside, same_row}
 use Rattle.versions.proofs.LogLemmas.{IsFree-on}
 use Rattle.versions.proofs.MirrorLemmas.{IsBook-filled, IsBook-proposed, IsBook-published, IsBook-scanned}
 use Rattle.versions.proofs.RowLemmas.{length-row, row_behind_image}
-use Rattle.versions.proofs.ShapeLemmas.{row_is, row_words_is, rows_is, workers_is}
+use Rattle.versions.proofs.ShapeLemmas.{all_rows_is, row_is, row_words_is, rows_is, workers_is}
 use Rattle.versions.proofs.WorldLemmas.{IsMirror-opened, IsOpening-rows, light}
 use Rattle.read_section.specs.declared.book.Book.{Book}
 use Rattle.read_section.specs.Layout.{IsPublishable, IsZeroFrom, KeepsZeros}
@@ -32,26 +33,32 @@ use Rattle.read_section.specs.Operator.{IsBookAtStart, IsKeptBy, IsReport, progr
 abbrev pub View : Type 0
 View = OperatorView (List Group)
 
+-- the words of a row, in numbers
+IsZeroFrom-shape : (view : View) (r from : ℕ) → ((i : ℕ) → from ≤ i → i < the_shape.row_words → slice_index view.row_words (r * the_shape.row_words + i) ≡ 0) → IsZeroFrom view r from
+unfolding the_shape
+IsZeroFrom-shape view r from h = h
+
 -- a place of a row among the words of all rows
-pub place_in_rows : (row place : ℕ) → (row_begin the_shape row + place) - rows_begin the_shape ≡ row * the_shape.row_words + place
-place_in_rows row place = let r = row * the_shape.row_words in omega arith
+place_in_rows : (row place : ℕ) → (row_begin the_shape row + place) - rows_begin the_shape ≡ row * ROW_WORDS + place
+unfolding the_shape
+place_in_rows row place = omega arith
 
 module _ (view : View) (config : List Group) (book : Book) (reported : ℕ) (zeros : List ℕ) (h : IsKeptBy view config book reported zeros) where
-  zeros_stand-filled : (row place word from : ℕ) → row < the_shape.rows → place < the_shape.row_words → KeepsZeros place word (slice_index zeros row) from
-      → (q : ℕ) → q < the_shape.rows → IsZeroFrom (after_fill (rows_begin the_shape) (row_begin the_shape row + place) word view) q (slice_index (set zeros row from) q)
+  zeros_stand-filled : (row place word from : ℕ) → row < ROWS → place < ROW_WORDS → KeepsZeros place word (slice_index zeros row) from
+      → (q : ℕ) → q < ROWS → IsZeroFrom (after_fill (rows_begin the_shape) (row_begin the_shape row + place) word view) q (slice_index (set zeros row from) q)
   zeros_stand-filled row place word from low small keeps q low' i up inside =
-      let p = (row_begin the_shape row + place) - rows_begin the_shape in let p_is = place_in_rows row place in let inside_all = row_inside row the_shape.rows place the_shape.row_words low small in let all = h.row_words_length in let many = h.zeros_length in
+      let p = (row_begin the_shape row + place) - rows_begin the_shape in let p_is = place_in_rows row place in let inside_all = row_inside row ROWS place ROW_WORDS low small in let all = h.row_words_length in let many = h.zeros_length in
       dite (ℕ_discrete q row)
       (λ same. let from_is : get_or (set zeros row from) q 0 ≡ from = ap (λ (k : ℕ). get_or (set zeros row from) k 0) same ∙ get_or-set_same zeros row from 0 (omega arith) in
-      let same_begin : q * the_shape.row_words ≡ row * the_shape.row_words = ap (λ (k : ℕ). k * the_shape.row_words) same in
+      let same_begin : q * ROW_WORDS ≡ row * ROW_WORDS = ap (λ (k : ℕ). k * ROW_WORDS) same in
       let kept = keeps i (omega arith) in dite (ℕ_discrete i place)
-      (λ here. ap (λ (k : ℕ). get_or (set view.row_words p word) k 0) (let g : q * the_shape.row_words + i ≡ p = omega arith in g) ∙ (get_or-set_same view.row_words p word 0 (omega arith) ∙ kept.0 here))
-      (λ ne. get_or-set_other view.row_words p (q * the_shape.row_words + i) word 0 (λ e. ne (omega arith))
+      (λ here. ap (λ (k : ℕ). get_or (set view.row_words p word) k 0) (let g : q * ROW_WORDS + i ≡ p = omega arith in g) ∙ (get_or-set_same view.row_words p word 0 (omega arith) ∙ kept.0 here))
+      (λ ne. get_or-set_other view.row_words p (q * ROW_WORDS + i) word 0 (λ e. ne (omega arith))
       ∙ (ap (λ (k : ℕ). get_or view.row_words (k + i) 0) same_begin ∙ h.zeros_stand row low i (kept.1 ne) inside)))
       (λ other. let from_is : get_or (set zeros row from) q 0 ≡ get_or zeros q 0 = get_or-set_other zeros row q from 0 other in
-      get_or-set_other view.row_words p (q * the_shape.row_words + i) word 0 (λ e. other (same_row the_shape.row_words q row i place inside small (omega arith))) ∙ h.zeros_stand q low' i (omega arith) inside)
+      get_or-set_other view.row_words p (q * ROW_WORDS + i) word 0 (λ e. other (same_row ROW_WORDS q row i place inside small (omega arith))) ∙ h.zeros_stand q low' i (omega arith) inside)
 
-  pub IsKeptBy-filled : (row place word from : ℕ) → row < the_shape.rows → place < the_shape.row_words → KeepsZeros place word (slice_index zeros row) from → from ≤ the_shape.row_words
+  pub IsKeptBy-filled : (row place word from : ℕ) → row < ROWS → place < ROW_WORDS → KeepsZeros place word (slice_index zeros row) from → from ≤ ROW_WORDS
       → IsKeptBy (after_fill (rows_begin the_shape) (row_begin the_shape row + place) word view) config book reported (set zeros row from)
   IsKeptBy-filled row place word from low small keeps fits = record {
     steps_told = IsBook-filled the_shape view (progress_of book) h.steps_told (rows_begin the_shape) (row_begin the_shape row + place) word;
@@ -69,7 +76,7 @@ module _ (view : View) (config : List Group) (book : Book) (reported : ℕ) (zer
     zeros_stand = zeros_stand-filled row place word from low small keeps;
   }
 
-  pub IsKeptBy-published : (row : ℕ) (new : List Group) (book' : Book) → row < the_shape.rows → book.number < the_shape.last_number → book' ≡ record book { number = book.number + 1; last = slice_set book.last row (book.number + 2) }
+  pub IsKeptBy-published : (row : ℕ) (new : List Group) (book' : Book) → row < the_shape.rows → book.number < LAST_NUMBER → book' ≡ record book { number = book.number + 1; last = slice_set book.last row (book.number + 2) }
       → IsKeptBy (put_in row new view) new book' reported zeros
   IsKeptBy-published row new book' low number is = subst (λ (b : Book). IsKeptBy (put_in row new view) new b reported zeros) (sym is) record {
     steps_told = IsBook-published the_shape (after_proposal new view) (progress_of book) (IsBook-proposed the_shape view (progress_of book) h.steps_told new) row _ low h.version_rows_length;
@@ -132,11 +139,12 @@ module _ (config : List Group) where
   length-shape_row : length (the_shape.row config) ≡ the_shape.row_words
   length-shape_row = ap length (row_is config) ∙ (length-row config ∙ sym row_words_is)
 
-  pub zeros_behind_image : (i : ℕ) → length (image config) ≤ i → i < the_shape.row_words → get_or (the_shape.row config) i 0 ≡ 0
+  zeros_behind_image : (i : ℕ) → length (image config) ≤ i → i < the_shape.row_words → get_or (the_shape.row config) i 0 ≡ 0
   zeros_behind_image i up low = ap (λ l. get_or l i 0) (row_is config) ∙ sym (row_behind_image config i (length (image config)) (omega (arith, row_words_is)) refl up)
 
   -- the rows at the start: the configuration's, and zeros
-  zeros_at_start : (zeros : List ℕ) → zeros ≡ length (image config) ∷ replicate (the_shape.rows - 1) 0 → (q : ℕ) → q < the_shape.rows → IsZeroFrom (new_operator the_shape config (opening_rows config)) q (slice_index zeros q)
+  zeros_at_start : (zeros : List ℕ) → zeros ≡ length (image config) ∷ replicate (the_shape.rows - 1) 0 → (q : ℕ) → q < the_shape.rows
+      → (i : ℕ) → slice_index zeros q ≤ i → i < the_shape.row_words → slice_index (opening_rows config) (q * the_shape.row_words + i) ≡ 0
   zeros_at_start zeros is zero low i up small =
       let first : slice_index zeros 0 ≡ length (image config) = ap (λ l. slice_index l 0) is in
       ap (λ (k : ℕ). get_or (opening_rows config) k 0) (let g : 0 * the_shape.row_words + i ≡ i = omega arith in g)
@@ -155,17 +163,17 @@ module _ (config : List Group) where
         number_limited = let none = start.number in omega arith;
         published_length = refl;
         version_rows_length = refl;
-        row_words_length = (IsOpening-rows config (light config (charge_of config) refl publishable.1)).whole;
+        row_words_length = (IsOpening-rows config (light config (charge_of config) refl publishable.1)).whole ∙ all_rows_is;
         current = ([], refl);
         reported_free = λ m low. absurd (omega arith);
-        zeros_length = ap length is ∙ (let n = length-replicate {A = ℕ} (the_shape.rows - 1) 0 in omega arith);
+        zeros_length = ap length is ∙ (let n = length-replicate {A = ℕ} (the_shape.rows - 1) 0 in omega (arith, rows_is));
         zeros_limited = λ q low. limited q;
-        zeros_stand = zeros_at_start zeros is;
+        zeros_stand = λ q low. IsZeroFrom-shape (new_operator the_shape config (opening_rows config)) q (slice_index zeros q) (zeros_at_start zeros is q (omega (arith, rows_is)));
       }
     where
-      limited : (q : ℕ) → slice_index zeros q ≤ the_shape.row_words
-      limited q = subst (λ l. slice_index l q ≤ the_shape.row_words) (sym is) (go q)
+      limited : (q : ℕ) → slice_index zeros q ≤ ROW_WORDS
+      limited q = subst (λ l. slice_index l q ≤ ROW_WORDS) (sym is) (go q)
         where
-          go : (q : ℕ) → slice_index (length (image config) ∷ replicate (the_shape.rows - 1) 0) q ≤ the_shape.row_words
-          go zero = let within = within_charge config publishable.0 in let charge = publishable.1 in omega (arith, row_words_is)
+          go : (q : ℕ) → slice_index (length (image config) ∷ replicate (the_shape.rows - 1) 0) q ≤ ROW_WORDS
+          go zero = let within = within_charge config publishable.0 in let charge = publishable.1 in omega arith
           go (suc q) = let e = zeros_everywhere (the_shape.rows - 1) q in omega arith

@@ -1,9 +1,7 @@
 -- The table's seats at the start.
-use Rattle.std.proofs.Common.{◌≡◌, ℕ, ◌+◌, ◌*◌, ◌<◌, List, [], ◌∷◌, ◌++◌, None, Some, ap, arith, length, length-append, refl, subst, sym, ◌∙◌}
+use Rattle.std.proofs.Common.{◌≡◌, ℕ, ◌+◌, ◌*◌, ◌<◌, List, [], ◌∷◌, ◌++◌, None, Some, ap, arith, length, length-append, refl, slice_get, subst, sym, ◌∙◌}
 use mathlib.Core.Logic.{dite}
-use mathlib.Core.Option.{some}
 use native.Mathlib.Decide.{ℕ_discrete}
-use lib.ListN.{get_elem?}
 use Rattle.atomic_table.specs.Table.{Splits, opening}
 use Rattle.atomic_table.specs.Seated.{TableId}
 use Rattle.config_image.specs.Image.{Group}
@@ -13,10 +11,8 @@ use Rattle.versions.specs.View.{new_worker}
 use Rattle.versions.specs.State.{new_operator}
 use Rattle.versions.specs.World.{opened_with, opening_rows}
 use Rattle.versions.specs.Table.{the_shape}
-use Rattle.versions.proofs.ListLemmas.{elem_end, elem_prefix}
-use Rattle.versions.proofs.ShapeLemmas.{workers_is}
 use Rattle.versions.proofs.TraceLemmas.{Rule-start}
-use Rattle.versions.proofs.WorldLemmas.{IsOpening-rows, light}
+use Rattle.versions.proofs.WorldLemmas.{IsOpening-rows, light, slice_get-end, slice_get-front}
 use Rattle.read_section.specs.Layout.{IsPublishable}
 use Rattle.read_section.specs.Operator.{AreOpenedWorkers, opened_operator, operator_at}
 use Rattle.read_section.specs.Seat.{IsOperatorSeat, IsSeating, IsWorkerSeat}
@@ -56,15 +52,16 @@ module _ (config : List Group) where
 
   -- one worker more
   pub workers_so_far : (table : TableId) → List WorkerValue → ℕ → Type 0
-  workers_so_far table workers n = (length workers ≡ n) × ((w : ℕ) → w < n → get_elem? workers w ≡ some (record { table = table; view = new_worker config w }))
+  workers_so_far table workers n = (length workers ≡ n) × ((w : ℕ) → w < n → slice_get workers w ≡ Some (record { table = table; view = new_worker config w }))
 
   pub one_worker_more : (table : TableId) (workers : List WorkerValue) (worker : WorkerValue) (n : ℕ) → workers_so_far table workers n → worker ≡ record { table = table; view = new_worker config n } → workers_so_far table (workers ++ worker ∷ []) (n + 1)
   unfolding workers_so_far
   one_worker_more table workers worker n h is = (
     omega (arith, length-append workers (worker ∷ []), h.0),
     λ w low. dite (ℕ_discrete w n)
-        (λ e. elem_end workers worker w (h.0 ∙ sym e) ∙ (ap some is ∙ ap (λ (k : ℕ). let y : WorkerValue = record { table = table; view = new_worker config k } in some y) (sym e)))
-        (λ other. elem_prefix workers (worker ∷ []) w _ (h.1 w (omega arith))),
+        (λ e. ap (slice_get (workers ++ worker ∷ [])) (e ∙ sym h.0)
+        ∙ (slice_get-end workers worker ∙ (ap Some is ∙ ap (λ (k : ℕ). let y : WorkerValue = record { table = table; view = new_worker config k } in Some y) (sym e))))
+        (λ other. slice_get-front workers (worker ∷ []) w _ (h.1 w (omega arith))),
   )
 
   pub no_workers_yet : (table : TableId) → workers_so_far table [] 0
@@ -73,4 +70,4 @@ module _ (config : List Group) where
 
   pub all_workers : (table : TableId) (workers : List WorkerValue) (n : ℕ) → workers_so_far table workers n → n ≡ WORKERS → AreOpenedWorkers table config workers
   unfolding workers_so_far
-  all_workers table workers n h e = record { count = h.0 ∙ (e ∙ sym workers_is); each = λ w low. h.1 w (omega (arith, workers_is)) }
+  all_workers table workers n h e = record { count = h.0 ∙ e; each = λ w low. h.1 w (omega arith) }

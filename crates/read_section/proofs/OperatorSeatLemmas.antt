@@ -1,5 +1,5 @@
 -- The operator's seat, and what its steps leave.
-use Rattle.std.proofs.Common.{◌≡◌, ℕ, ◌+◌, ◌*◌, ◌%◌, ◌^◌, ◌<◌, ◌≤◌, List, ap, arith, refl, subst, sym, ◌∙◌}
+use Rattle.std.proofs.Common.{◌≡◌, ℕ, ◌+◌, ◌*◌, ◌%◌, ◌^◌, ◌<◌, ◌≤◌, List, ap, arith, refl, slice_index, subst, sym, ◌∙◌}
 use Rattle.std.proofs.lemmas.Nat.{mod-mul-add}
 use mathlib.Core.Option.{none}
 use Rattle.atomic_table.specs.Table.{Allows, step}
@@ -20,6 +20,12 @@ use Rattle.read_section.specs.Seat.{IsOperatorSeat}
 use Rattle.read_section.specs.View.{TellsLog, with_operator}
 use Rattle.read_section.proofs.OperatorKept.{allows_fill, allows_publish, allows_scan}
 use Rattle.read_section.proofs.WorkerSeatLemmas.{Kept, Seated, View}
+
+-- the words of a row, as those of the shape's
+Holds-shape : (view : OperatorView (List Group)) (r : ℕ) (config : List Group) → Holds view r config
+    → (i : ℕ) → i < the_shape.row_words → slice_index view.row_words (r * the_shape.row_words + i) ≡ slice_index (the_shape.row config) i
+unfolding the_shape
+Holds-shape view r config h = h
 
 module _ (v : View) (h : IsOperatorSeat v) where
   abbrev view : OperatorView (List Group)
@@ -46,7 +52,7 @@ module _ (v : View) (h : IsOperatorSeat v) where
     may_publish r n x new free holds publishable number low e = let log_is = ap (λ (o : OperatorSeatValue). number_after o.view.log) is in
         allows_publish the_shape IsPublishable config slots' id (v, slots) view r x new (step slots' 0 x 0 none) h.knows
         (subst (λ (o : OperatorSeatValue). IsFreeRow the_shape o.view r) (sym is) free) (light new (charge_of new) refl publishable.1) publishable
-        (subst (λ (o : OperatorSeatValue). Holds o.view r new) (sym is) holds) (omega arith) (e ∙ ap (λ (k : ℕ). current_word the_shape k r) (number ∙ ap (λ (k : ℕ). k + 1) (sym log_is))) refl
+        (Holds-shape view r new (subst (λ (o : OperatorSeatValue). Holds o.view r new) (sym is) holds)) (omega arith) (e ∙ ap (λ (k : ℕ). current_word the_shape k r) (number ∙ ap (λ (k : ℕ). k + 1) (sym log_is))) refl
 
     pub may_scan : (w : ℕ) → w < the_shape.workers → Allows (Kept config) slots' id (v, slots) (1 + w) (λ x. x) (scans the_shape (step slots' (1 + w) 0 0 none) (v, slots))
     may_scan w low = allows_scan the_shape IsPublishable config slots' id (v, slots) view w (step slots' (1 + w) 0 0 none) h.knows low refl

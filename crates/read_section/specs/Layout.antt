@@ -1,11 +1,11 @@
 -- Which configurations a row takes, and from where on a row is known to be 0.
 use Rattle.std.specs.Prelude.{◌≡◌, ◌*◌, ◌+◌, ◌<◌, ◌≤◌, List, slice_index, ℕ}
-use Rattle.config_image.specs.Image.{Group}
+use Rattle.config_image.specs.declared.TheConstants.{ROW_WORDS}
+use Rattle.config_image.specs.Image.{Group, row}
 use Rattle.member_group.specs.Charge.{charge_of}
 use Rattle.member_group.specs.Group.{IsConfig}
 use Rattle.versions.specs.declared.layout.TheConstants.{CHARGE_LIMIT}
 use Rattle.versions.specs.declared.view.OperatorView.{OperatorView}
-use Rattle.versions.specs.Table.{the_shape}
 
 -- a configuration whose image fits a row
 abbrev pub IsPublishable : List Group → Type 0
@@ -13,13 +13,12 @@ IsPublishable config = IsConfig config × (charge_of config ≤ CHARGE_LIMIT)
 
 -- the row of the operator's words holds the configuration's
 abbrev pub Holds : OperatorView (List Group) → ℕ → List Group → Type 0
-Holds view row config =
-    (i : ℕ) → i < the_shape.row_words → slice_index view.row_words (row * the_shape.row_words + i) ≡ slice_index (the_shape.row config) i
+Holds view r config =
+    (i : ℕ) → i < ROW_WORDS → slice_index view.row_words (r * ROW_WORDS + i) ≡ slice_index (row config) i
 
 -- the words of a row are 0 from a place on
 abbrev pub IsZeroFrom : OperatorView (List Group) → ℕ → ℕ → Type 0
-IsZeroFrom view row from =
-    (i : ℕ) → from ≤ i → i < the_shape.row_words → slice_index view.row_words (row * the_shape.row_words + i) ≡ 0
+IsZeroFrom view r from = (i : ℕ) → from ≤ i → i < ROW_WORDS → slice_index view.row_words (r * ROW_WORDS + i) ≡ 0
 
 -- words that are 0 from the place `from` on are 0 from the place `to` on after a word is stored at a place of them
 abbrev pub KeepsZeros : ℕ → ℕ → ℕ → ℕ → Type 0

@@ -1,9 +1,9 @@
 -- What a contract sees of an Operator: what it knows, and what it reported.
-use Rattle.std.specs.Prelude.{◌≡◌, ◌+◌, ◌++◌, ◌*◌, ◌<◌, ◌≤◌, ◌↔◌, ◌∷◌, List, None, Option, Some, [], length, replicate, slice_index, slice_set, suc, ℕ}
-use mathlib.Core.Option.{some}
-use lib.ListN.{get_elem?}
+use Rattle.std.specs.Prelude.{◌≡◌, ◌+◌, ◌++◌, ◌*◌, ◌<◌, ◌≤◌, ◌↔◌, ◌∷◌, List, None, Option, Some, [], length, replicate, slice_get, slice_index, slice_set, suc, ℕ}
 use Rattle.atomic_table.specs.Seated.{TableId}
+use Rattle.config_image.specs.declared.TheConstants.{ROW_WORDS}
 use Rattle.config_image.specs.Image.{Group}
+use Rattle.versions.specs.declared.layout.TheConstants.{LAST_NUMBER, ROWS, WORKERS}
 use Rattle.versions.specs.declared.progress.Progress.{Progress}
 use Rattle.versions.specs.declared.step.Entry.{Entry}
 use Rattle.versions.specs.declared.view.OperatorView.{OperatorView}
@@ -87,20 +87,20 @@ pub record IsBookAtStart (book : Book) : Type 0 where
 -- what the operator keeps tells what its steps did; `zeros` has for each row a place from which on its words are 0
 pub record IsKeptBy (view : OperatorView (List Group)) (config : List Group) (book : Book) (reported : ℕ) (zeros : List ℕ) : Type 0 where
   pub steps_told : IsBook the_shape view (progress_of book)
-  pub number_limited : book.number ≤ the_shape.last_number
+  pub number_limited : book.number ≤ LAST_NUMBER
   pub published_length : length view.published ≡ suc (number_after view.log)
   pub version_rows_length : length view.version_rows ≡ suc (number_after view.log)
-  pub row_words_length : length view.row_words ≡ the_shape.rows * the_shape.row_words
+  pub row_words_length : length view.row_words ≡ ROWS * ROW_WORDS
   pub current : IsCurrent view config
   pub reported_free : (m : ℕ) → m < reported → IsFree the_shape m view.log
-  pub zeros_length : length zeros ≡ the_shape.rows
-  pub zeros_limited : (row : ℕ) → row < the_shape.rows → slice_index zeros row ≤ the_shape.row_words
-  pub zeros_stand : (row : ℕ) → row < the_shape.rows → IsZeroFrom view row (slice_index zeros row)
+  pub zeros_length : length zeros ≡ ROWS
+  pub zeros_limited : (row : ℕ) → row < ROWS → slice_index zeros row ≤ ROW_WORDS
+  pub zeros_stand : (row : ℕ) → row < ROWS → IsZeroFrom view row (slice_index zeros row)
 
 -- the operator and the workers of a table that opens with a configuration: nobody made a step
 abbrev pub opened_operator : TableId → List Group → OperatorValue
 opened_operator table config = record { table = table; view = new_operator the_shape config (opening_rows config); reported = 0 }
 
 pub record AreOpenedWorkers (table : TableId) (config : List Group) (workers : List WorkerValue) : Type 0 where
-  pub count : length workers ≡ the_shape.workers
-  pub each : (w : ℕ) → w < the_shape.workers → get_elem? workers w ≡ some (record { table = table; view = new_worker config w })
+  pub count : length workers ≡ WORKERS
+  pub each : (w : ℕ) → w < WORKERS → slice_get workers w ≡ Some (record { table = table; view = new_worker config w })

@@ -1,13 +1,14 @@
 //! The operator: the one that fills rows, publishes and reclaims, by single steps.
 
 ghost use Rattle.std.specs.Prelude.{◌≡◌, ◌+◌, ◌*◌, ◌<◌, ◌≤◌, ◌↔◌, IsTrue, List, length, slice_index, suc, ℕ};
+ghost use Rattle.config_image.specs.declared.TheConstants.{ROW_WORDS};
 ghost use Rattle.config_image.specs.Image.{Group, image};
+ghost use Rattle.versions.specs.declared.layout.TheConstants.{LAST_NUMBER, ROWS, WORKERS};
 ghost use Rattle.versions.specs.declared.step.Entry.{Entry};
 ghost use Rattle.versions.specs.Free.{IsFreeRow, number_after};
 ghost use Rattle.versions.specs.Legal.{MayPeek};
 ghost use Rattle.versions.specs.Table.{the_shape};
 ghost use Rattle.read_section.specs.Layout.{Holds, IsPublishable, IsZeroFrom, KeepsZeros};
-ghost use Rattle.config_image.specs.declared.TheConstants.{ROW_WORDS};
 ghost use Rattle.read_section.specs.Operator.{IsCurrent, IsReport, Meets, filled, opened_operator, published_from, scanned};
 ghost use Rattle.read_section.specs.View.{TellsLog};
 
@@ -92,7 +93,7 @@ impl Operator {
     /// Tells the number of the current version, counted from 0.
     pub fn number(&self) -> u64
         ensures number { result ≡ number_after self.now.view.log }
-        ensures limited { result ≤ the_shape.last_number }
+        ensures limited { result ≤ LAST_NUMBER }
         ensures last { length self.now.view.published ≡ suc result }
     {
         self.book.number
@@ -110,9 +111,9 @@ impl Operator {
     /// It need not be the least: a fill of another word than 0 moves it behind that word, and a fill of 0 moves it down to its
     /// own place only from right behind that.
     pub fn zeros_from(&self, row: usize) -> usize
-        requires { row < the_shape.rows }
+        requires { row < ROWS }
         ensures zeros { IsZeroFrom self.now.view row result }
-        ensures within { result ≤ the_shape.row_words }
+        ensures within { result ≤ ROW_WORDS }
     {
         self.zeros[row]
     }
@@ -120,9 +121,9 @@ impl Operator {
     /// Makes one fill: stores a word at a place of a free row, counted from 0 in the row. Takes no memory.
     pub fn fill(&mut self, row: usize, place: usize, word: u64)
         requires free { IsFreeRow the_shape self.old.view row }
-        requires place { place < the_shape.row_words }
+        requires place { place < ROW_WORDS }
         ensures one_fill { self.new ≡ filled row place word self.old }
-        ensures whole_rows { length self.old.view.row_words ≡ the_shape.rows * the_shape.row_words }
+        ensures whole_rows { length self.old.view.row_words ≡ ROWS * ROW_WORDS }
     {
         self.seat.fill(row, place, word);
         self.zeros[row] = zeros_begin(self.zeros[row], place, word);
@@ -133,7 +134,7 @@ impl Operator {
         requires free { IsFreeRow the_shape self.old.view row }
         requires holds { Holds self.old.view row config }
         requires publishable { IsPublishable config }
-        requires number { number_after self.old.view.log < the_shape.last_number }
+        requires number { number_after self.old.view.log < LAST_NUMBER }
         ensures one_publish { self.new ≡ published_from row config self.old }
     {
         self.seat.publish(&config, row, self.book.number + 1);
@@ -143,7 +144,7 @@ impl Operator {
 
     /// Makes one scan of a worker's read word, and answers it. Takes no memory.
     pub fn scan(&mut self, worker: usize) -> u64
-        requires { worker < the_shape.workers }
+        requires { worker < WORKERS }
         ensures one_scan { (log : List Entry) × TellsLog the_shape self.old.view worker result log × (self.new ≡ scanned worker result log self.old) }
     {
         let word = self.seat.scan(worker);

@@ -2,21 +2,23 @@
 use Rattle.std.proofs.Common.{IfNone, ◌≡◌, ◌≢◌, ◌⊎◌, ℕ, suc, ◌+◌, ◌*◌, ◌<◌, ◌≤◌, List, [], ◌∷◌, ◌++◌, None, Option, Some, ap, arith, get_or, get_or-set_other, get_or-set_same, inl, inr, length, refl, set, slice_index, subst, sym, ◌∙◌, ⊎_elim}
 use mathlib.Core.Logic.{dite}
 use native.Mathlib.Decide.{dec_le, ℕ_discrete}
+use Rattle.config_image.specs.declared.TheConstants.{ROW_WORDS}
 use Rattle.config_image.specs.Image.{Group, image}
+use Rattle.config_image.specs.Image as images
+use Rattle.config_image.specs.Lookup.{RowHolds}
+use Rattle.versions.specs.declared.layout.TheConstants.{ROWS}
 use Rattle.versions.specs.declared.step.Step.TheVariants.{Fill, Publish}
 use Rattle.versions.specs.declared.step.Entry.{Entry}
 use Rattle.versions.specs.Layout.{current_word, row_begin}
 use Rattle.versions.specs.Step.{entry}
 use Rattle.versions.specs.Free.{IsFree, IsFreeRow, IsReplaced, IsScannedClear, number_after}
 use Rattle.versions.specs.Table.{the_shape}
-use Rattle.versions.proofs.ListLemmas.{contains_first, row_inside}
 use Rattle.retire.specs.Filling.{FillsRow}
 use Rattle.read_section.specs.Layout.{Holds}
 use Rattle.read_section.specs.Operator.{OperatorValue, filled, published_from, scanned}
 use Rattle.retire.specs.Publish.{HasFreeRow, HoldsBack, IsBusy, IsFillOf, LooksForRow, Publishes, Scanned, ScansEach, TellLogs, after_scans}
 use Rattle.read_section.specs.View.{TellsLog}
-use Rattle.retire.proofs.RowLemmas.{contains_later}
-use Rattle.retire.proofs.RowLemmas.{place_in_rows, zeros_behind_image}
+use Rattle.retire.proofs.RowLemmas.{contains_first, contains_later, place_in_rows, place_inside, worker_inside, zeros_behind_image}
 
 -- n workers were scanned so far
 abbrev pub ScansSome : OperatorValue → OperatorValue → ℕ → Type 0
@@ -50,13 +52,13 @@ pub held_back : (before after : OperatorValue) (each : ScansEach before after) (
 held_back before after each m replaced not_free =
     let same : number_after after.view.log ≡ number_after before.view.log = ap (λ (o : OperatorValue). number_after o.view.log) each.no_more ∙ number_after-scans each.scans before in
     let many = each.each in ⊎_elim
-    (λ clear. absurd (not_free (replaced, λ w l. subst (λ (o : OperatorValue). IsScannedClear w m o.view.log) (sym each.no_more) (clear w (omega arith)))))
+    (λ clear. absurd (not_free (replaced, λ w l. let low = worker_inside w l in subst (λ (o : OperatorValue). IsScannedClear w m o.view.log) (sym each.no_more) (clear w (omega arith)))))
     (λ t. t) (clear_or_held_back m before (omega arith) each.scans)
 
 pub no_fills : (o : OperatorValue) (row : ℕ) (config : List Group) → IsFreeRow the_shape o.view row → FillsRow o o row config
 no_fills o row config free = record { fills = []; filled = λ newest c. absurd (let l = c.1 in omega arith); log = refl; still_free = free; number = refl; published = refl; version_rows = refl; scanned_logs = refl; table = refl; reported = refl }
 
-pub one_fill_more : (before now after : OperatorValue) (row place word : ℕ) (config : List Group) → FillsRow before now row config → place < the_shape.row_words → word ≡ slice_index (the_shape.row config) place → after ≡ filled row place word now → FillsRow before after row config
+pub one_fill_more : (before now after : OperatorValue) (row place word : ℕ) (config : List Group) → FillsRow before now row config → place < ROW_WORDS → word ≡ slice_index (images.row config) place → after ≡ filled row place word now → FillsRow before after row config
 one_fill_more before now after row place word config h small is e = subst (λ (o : OperatorValue). FillsRow before o row config) (sym e) record {
   fills = entry (Fill (row_begin the_shape row + place) word) word ∷ h.fills;
   filled = λ newest c. ⊎_elim
@@ -74,46 +76,46 @@ one_fill_more before now after row place word config h small is e = subst (λ (o
 }
 
 -- the words of a row after a fill of a place of it
-module _ (now after : OperatorValue) (row place word : ℕ) (low : row < the_shape.rows) (small : place < the_shape.row_words) (whole : length now.view.row_words ≡ the_shape.rows * the_shape.row_words) (e : after ≡ filled row place word now) where
-  words_are : after.view.row_words ≡ set now.view.row_words (row * the_shape.row_words + place) word
+module _ (now after : OperatorValue) (row place word : ℕ) (low : row < ROWS) (small : place < ROW_WORDS) (whole : length now.view.row_words ≡ ROWS * ROW_WORDS) (e : after ≡ filled row place word now) where
+  words_are : after.view.row_words ≡ set now.view.row_words (row * ROW_WORDS + place) word
   words_are = ap (λ (o : OperatorValue). o.view.row_words) e ∙ ap (λ (k : ℕ). set now.view.row_words k word) (place_in_rows row place)
 
-  pub word_filled : slice_index after.view.row_words (row * the_shape.row_words + place) ≡ word
-  word_filled = let inside = row_inside row the_shape.rows place the_shape.row_words low small in
-      ap (λ l. get_or l (row * the_shape.row_words + place) 0) words_are ∙ get_or-set_same now.view.row_words (row * the_shape.row_words + place) word 0 (omega arith)
+  pub word_filled : slice_index after.view.row_words (row * ROW_WORDS + place) ≡ word
+  word_filled = let inside = place_inside row place low small in
+      ap (λ l. get_or l (row * ROW_WORDS + place) 0) words_are ∙ get_or-set_same now.view.row_words (row * ROW_WORDS + place) word 0 (omega arith)
 
-  pub word_kept : (i : ℕ) → i ≢ place → slice_index after.view.row_words (row * the_shape.row_words + i) ≡ slice_index now.view.row_words (row * the_shape.row_words + i)
-  word_kept i other = ap (λ l. get_or l (row * the_shape.row_words + i) 0) words_are ∙ get_or-set_other now.view.row_words (row * the_shape.row_words + place) (row * the_shape.row_words + i) word 0 (λ k. other (omega arith))
+  pub word_kept : (i : ℕ) → i ≢ place → slice_index after.view.row_words (row * ROW_WORDS + i) ≡ slice_index now.view.row_words (row * ROW_WORDS + i)
+  word_kept i other = ap (λ l. get_or l (row * ROW_WORDS + i) 0) words_are ∙ get_or-set_other now.view.row_words (row * ROW_WORDS + place) (row * ROW_WORDS + i) word 0 (λ k. other (omega arith))
 
 abbrev pub word_at : OperatorValue → ℕ → ℕ → ℕ
-word_at o row i = slice_index o.view.row_words (row * the_shape.row_words + i)
+word_at o row i = slice_index o.view.row_words (row * ROW_WORDS + i)
 
 -- the first words of a row are the configuration's
 abbrev pub HoldsFront : OperatorValue → ℕ → List Group → ℕ → Type 0
-HoldsFront o row config n = (i : ℕ) → i < n → word_at o row i ≡ slice_index (the_shape.row config) i
+HoldsFront o row config n = (i : ℕ) → i < n → word_at o row i ≡ slice_index (images.row config) i
 
-pub one_word_more : (now after : OperatorValue) (row place word : ℕ) (config : List Group) → row < the_shape.rows → place < the_shape.row_words → length now.view.row_words ≡ the_shape.rows * the_shape.row_words → word ≡ slice_index (the_shape.row config) place
+pub one_word_more : (now after : OperatorValue) (row place word : ℕ) (config : List Group) → row < ROWS → place < ROW_WORDS → length now.view.row_words ≡ ROWS * ROW_WORDS → word ≡ slice_index (images.row config) place
     → after ≡ filled row place word now → HoldsFront now row config place → HoldsFront after row config (place + 1)
 one_word_more now after row place word config low small whole is e front i below = dite (ℕ_discrete i place)
-    (λ same. ap (word_at after row) same ∙ (word_filled now after row place word low small whole e ∙ (is ∙ ap (slice_index (the_shape.row config)) (sym same))))
+    (λ same. ap (word_at after row) same ∙ (word_filled now after row place word low small whole e ∙ (is ∙ ap (slice_index (images.row config)) (sym same))))
     (λ other. word_kept now after row place word low small whole e i other ∙ front i (omega arith))
 
 -- the words behind the image are zeros
 abbrev pub ZerosBehind : OperatorValue → ℕ → ℕ → Type 0
-ZerosBehind o row from = (i : ℕ) → from ≤ i → i < the_shape.row_words → word_at o row i ≡ 0
+ZerosBehind o row from = (i : ℕ) → from ≤ i → i < ROW_WORDS → word_at o row i ≡ 0
 
-pub one_zero_more : (now after : OperatorValue) (row from : ℕ) → row < the_shape.rows → from < the_shape.row_words → length now.view.row_words ≡ the_shape.rows * the_shape.row_words → after ≡ filled row from 0 now → ZerosBehind now row (from + 1) → ZerosBehind after row from
+pub one_zero_more : (now after : OperatorValue) (row from : ℕ) → row < ROWS → from < ROW_WORDS → length now.view.row_words ≡ ROWS * ROW_WORDS → after ≡ filled row from 0 now → ZerosBehind now row (from + 1) → ZerosBehind after row from
 one_zero_more now after row from low small whole e behind i up inside = dite (ℕ_discrete i from)
     (λ same. ap (word_at after row) same ∙ word_filled now after row from 0 low small whole e)
     (λ other. word_kept now after row from 0 low small whole e i other ∙ behind i (omega arith) inside)
 
-pub front_kept : (now after : OperatorValue) (row place n : ℕ) (config : List Group) → row < the_shape.rows → place < the_shape.row_words → length now.view.row_words ≡ the_shape.rows * the_shape.row_words → n ≤ place → after ≡ filled row place 0 now → HoldsFront now row config n → HoldsFront after row config n
+pub front_kept : (now after : OperatorValue) (row place n : ℕ) (config : List Group) → row < ROWS → place < ROW_WORDS → length now.view.row_words ≡ ROWS * ROW_WORDS → n ≤ place → after ≡ filled row place 0 now → HoldsFront now row config n → HoldsFront after row config n
 front_kept now after row place n config low small whole up e front i below = word_kept now after row place 0 low small whole e i (λ same. omega arith) ∙ front i below
 
-pub holds_all : (o : OperatorValue) (row len : ℕ) (config : List Group) → len ≡ length (image config) → HoldsFront o row config len → ZerosBehind o row len → Holds o.view row config
-holds_all o row len config is front behind i small = dite (dec_le (suc i) len)
+pub holds_all : (o : OperatorValue) (row len : ℕ) (config : List Group) → RowHolds config → len ≡ length (image config) → HoldsFront o row config len → ZerosBehind o row len → Holds o.view row config
+holds_all o row len config h is front behind i small = dite (dec_le (suc i) len)
     (λ below. front i (omega arith))
-    (λ up. behind i (omega arith) small ∙ sym (zeros_behind_image config i (omega arith) small))
+    (λ up. behind i (omega arith) small ∙ sym (zeros_behind_image config h i (omega arith) small))
 
 pub looked_keeps : {A : Type 0} → (f : OperatorValue → A) → ((w x : ℕ) (log : List Entry) (o : OperatorValue) → f (scanned w x log o) ≡ f o) → (scans : List Scanned) (o : OperatorValue) → f (after_scans scans o) ≡ f o
 looked_keeps f keeps [] o = refl

@@ -1,17 +1,43 @@
 -- Places of rows, and the words of a row behind its image.
-use Rattle.std.proofs.Common.{Contains, ◌≡◌, ◌∙◌, ◌+◌, ◌-◌, ◌*◌, ◌<◌, ◌≤◌, ◌∷◌, List, ap, arith, get_or, length, refl, suc, sym, ℕ}
-use Rattle.config_image.specs.Image.{Group, image}
-use Rattle.versions.proofs.RowLemmas.{row_behind_image}
+use Rattle.std.proofs.Common.{Contains, ◌≡◌, ◌∙◌, ◌+◌, ◌-◌, ◌*◌, ◌<◌, ◌≤◌, ◌∷◌, List, ap, arith, get_or, length, refl, replicate, inl, inr, suc, zero, ℕ, ◌⊎◌}
+use Rattle.std.proofs.lemmas.List.{get_or-append_right, get_or-replicate, get_or_append_left}
+use Rattle.config_image.specs.declared.TheConstants.{ROW_WORDS}
+use Rattle.config_image.specs.Image.{Group, image, row}
+use Rattle.config_image.specs.Lookup.{RowHolds}
+use Rattle.versions.specs.declared.layout.TheConstants.{ROWS, WORKERS}
 use Rattle.versions.specs.Layout.{row_begin, rows_begin}
 use Rattle.versions.specs.Table.{the_shape}
-use Rattle.versions.proofs.ShapeLemmas.{row_is, row_words_is}
 
 pub contains_later : {A : Type 0} → (x y : A) (xs : List A) → Contains xs y → Contains (x ∷ xs) y
 contains_later x y xs (k, inside, is) = (suc k, omega arith, is)
 
--- a place of a row among the words of all rows
-pub place_in_rows : (row place : ℕ) → (row_begin the_shape row + place) - rows_begin the_shape ≡ row * the_shape.row_words + place
-place_in_rows row place = let r = row * the_shape.row_words in omega arith
+pub contains_first : {A : Type 0} → (x y : A) (xs : List A) → Contains (x ∷ xs) y → (x ≡ y) ⊎ Contains xs y
+contains_first x y xs (zero, inside, is) = inl is
+contains_first x y xs (suc k, inside, is) = inr (k, omega arith, is)
 
-pub zeros_behind_image : (config : List Group) (i : ℕ) → length (image config) ≤ i → i < the_shape.row_words → get_or (the_shape.row config) i 0 ≡ 0
-zeros_behind_image config i up low = ap (λ l. get_or l i 0) (row_is config) ∙ sym (row_behind_image config i (length (image config)) (omega (arith, row_words_is)) refl up)
+-- what the shape says of rows and workers, in numbers
+pub row_inside : (r : ℕ) → r < the_shape.rows → r < ROWS
+unfolding the_shape
+row_inside r low = low
+
+pub worker_inside : (w : ℕ) → w < the_shape.workers → w < WORKERS
+unfolding the_shape
+worker_inside w low = low
+
+-- a place of a row among the words of all rows
+pub place_in_rows : (r place : ℕ) → (row_begin the_shape r + place) - rows_begin the_shape ≡ r * ROW_WORDS + place
+unfolding the_shape
+place_in_rows r place = omega arith
+
+pub place_inside : (r place : ℕ) → r < ROWS → place < ROW_WORDS → r * ROW_WORDS + place < ROWS * ROW_WORDS
+place_inside r place low small = omega arith
+
+-- a row is the image, and then zeros
+module _ (config : List Group) (h : RowHolds config) where
+  pub image_word_of_row : (i : ℕ) → i < length (image config) → get_or (row config) i 0 ≡ get_or (image config) i 0
+  image_word_of_row i low = ap (λ l. get_or l i 0) h.padded ∙ get_or_append_left (image config) (replicate (ROW_WORDS - length (image config)) 0) 0 i low
+
+  pub zeros_behind_image : (i : ℕ) → length (image config) ≤ i → i < ROW_WORDS → get_or (row config) i 0 ≡ 0
+  zeros_behind_image i up low =
+      ap (λ l. get_or l i 0) h.padded
+      ∙ (get_or-append_right (image config) (replicate (ROW_WORDS - length (image config)) 0) (length (image config)) i 0 refl up ∙ get_or-replicate (ROW_WORDS - length (image config)) (i - length (image config)) 0 0 (omega arith))

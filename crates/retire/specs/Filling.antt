@@ -1,7 +1,8 @@
 -- What fills of a row leave.
 use Rattle.std.specs.Prelude.{◌≡◌, ◌+◌, ◌++◌, ◌*◌, ◌<◌, List, slice_index, ℕ}
 use Rattle.std.specs.List.{Contains}
-use Rattle.config_image.specs.Image.{Group}
+use Rattle.config_image.specs.declared.TheConstants.{ROW_WORDS}
+use Rattle.config_image.specs.Image.{Group, row}
 use Rattle.versions.specs.declared.step.Entry.{Entry}
 use Rattle.versions.specs.Free.{IsFreeRow, number_after}
 use Rattle.versions.specs.Table.{the_shape}
@@ -22,6 +23,6 @@ pub record FillsRow (before after : OperatorValue) (row : ℕ) (config : List Gr
   pub reported : after.reported ≡ before.reported
 
 -- so that the first words of the row are the configuration's
-pub record FillsImage (before after : OperatorValue) (row : ℕ) (config : List Group) (len : ℕ) : Type 0 where
-  pub fills : FillsRow before after row config
-  pub holds : (i : ℕ) → i < len → slice_index after.view.row_words (row * the_shape.row_words + i) ≡ slice_index (the_shape.row config) i
+pub record FillsImage (before after : OperatorValue) (r : ℕ) (config : List Group) (len : ℕ) : Type 0 where
+  pub fills : FillsRow before after r config
+  pub holds : (i : ℕ) → i < len → slice_index after.view.row_words (r * ROW_WORDS + i) ≡ slice_index (row config) i

@@ -1,7 +1,9 @@
 -- What a publication does: scans where no row is free, fills of one free row, and one store of `current`.
 use Rattle.std.specs.Prelude.{◌≡◌, ◌+◌, ◌++◌, ◌<◌, ◌≤◌, ◌⊎◌, ◌∷◌, IsErrAnd, List, None, Result, [], length, slice_index, ℕ}
 use Rattle.std.specs.List.{Contains}
-use Rattle.config_image.specs.Image.{Group}
+use Rattle.config_image.specs.declared.TheConstants.{ROW_WORDS}
+use Rattle.config_image.specs.Image.{Group, row}
+use Rattle.versions.specs.declared.layout.TheConstants.{WORKERS}
 use Rattle.versions.specs.declared.step.Step.TheVariants.{Fill, Publish}
 use Rattle.versions.specs.declared.step.Entry.{Entry}
 use Rattle.versions.specs.Layout.{current_word, row_begin}
@@ -35,7 +37,7 @@ TellLogs (last ∷ earlier) operator =
 -- the read word of each worker was scanned, once, and nothing else was done
 pub record ScansEach (before after : OperatorValue) : Type 0 where
   pub scans : List Scanned
-  pub each : length scans ≡ the_shape.workers
+  pub each : length scans ≡ WORKERS
   pub tell : TellLogs scans before
   pub no_more : after ≡ after_scans scans before
 
@@ -48,8 +50,8 @@ LooksForRow before after = (HasFreeRow before × (after ≡ before)) ⊎ ((HasFr
 
 -- a fill of a place of the row by the word that the configuration has there
 abbrev pub IsFillOf : ℕ → List Group → Entry → Type 0
-IsFillOf row config newest =
-    (i : ℕ) × (i < the_shape.row_words) × (newest ≡ entry (Fill (row_begin the_shape row + i) (slice_index (the_shape.row config) i)) (slice_index (the_shape.row config) i))
+IsFillOf r config newest =
+    (i : ℕ) × (i < ROW_WORDS) × (newest ≡ entry (Fill (row_begin the_shape r + i) (slice_index (row config) i)) (slice_index (row config) i))
 
 -- a configuration is published: a free row is looked for, filled until it holds the configuration's, and stored in `current`
 -- as the next version

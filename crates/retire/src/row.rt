@@ -1,17 +1,17 @@
 //! Free rows: how one is found, and how it is filled.
 
 ghost use Rattle.std.specs.Prelude.{◌≡◌, ◌≤◌, IfNone, IfSome};
-ghost use Rattle.member_group.specs.Charge.{charge_of};
+ghost use Rattle.config_image.specs.declared.TheConstants.{ROW_WORDS};
 ghost use Rattle.versions.specs.Free.{IsFreeRow};
 ghost use Rattle.versions.specs.Table.{the_shape};
-ghost use Rattle.read_section.specs.Layout.{Holds};
+ghost use Rattle.read_section.specs.Layout.{Holds, IsPublishable};
 ghost use Rattle.retire.specs.Publish.{HasFreeRow, IsBusy, LooksForRow, ScansEach};
 ghost use Rattle.retire.specs.Filling.{FillsImage, FillsRow};
 
 use config_image::image_len;
 use member_group::Config;
 use read_section::Operator;
-use versions::{CHARGE_LIMIT, ROWS, WORKERS, row_word};
+use versions::{ROWS, WORKERS, row_word};
 
 pub(crate) fn scan_each(operator: &mut Operator)
     ensures { ScansEach operator.old operator.new }
@@ -48,7 +48,7 @@ pub(crate) fn look_for_row(operator: &mut Operator) -> Option<usize>
 
 fn fill_image(operator: &mut Operator, row: usize, config: &Config, len: usize)
     requires free { IsFreeRow the_shape operator.old.view row }
-    requires len { len ≤ the_shape.row_words }
+    requires len { len ≤ ROW_WORDS }
     ensures { FillsImage operator.old operator.new row config.now len }
 {
     for place in 0..len {
@@ -59,7 +59,7 @@ fn fill_image(operator: &mut Operator, row: usize, config: &Config, len: usize)
 // Fills a row until it holds the configuration's, zeros that stand already left alone.
 pub(crate) fn fill_row(operator: &mut Operator, row: usize, config: &Config)
     requires free { IsFreeRow the_shape operator.old.view row }
-    requires charge { charge_of config.now ≤ CHARGE_LIMIT }
+    requires publishable { IsPublishable config.now }
     ensures fills { FillsRow operator.old operator.new row config.now }
     ensures holds { Holds operator.new.view row config.now }
 {

@@ -1,5 +1,5 @@
 -- The configurations of `first`, their selectors in a section, and which version a section is of.
-use Rattle.std.proofs.Common.{◌≡◌, ◌∙◌, ◌∷◌, ◌++◌, ◌+◌, ◌≤◌, List, None, Option, Some, [], ap, append_assoc, arith, length, length-append, refl, subst, suc, sym, zero, ℕ}
+use Rattle.std.proofs.Common.{◌≡◌, ◌∙◌, ◌∷◌, ◌++◌, ◌+◌, ◌<◌, ◌≤◌, List, None, Option, Some, [], ap, append_assoc, arith, length, length-append, refl, subst, suc, sym, zero, ℕ}
 use Rattle.std.proofs.lemmas.List.{append-nil}
 use mathlib.Core.Option.{some, some-injective, some-ne-none}
 use lib.ListN.{get_elem?}
@@ -19,7 +19,7 @@ use Rattle.retire.specs.Publish.{HasFreeRow}
 use Rattle.read_section.specs.Worker.{WorkerValue}
 use Rattle.versions.specs.View.{BeginsWith}
 use Rattle.versions.specs.Free.{number_after}
-use Rattle.versions.proofs.ShapeLemmas.{rows_is}
+use Rattle.versions.specs.Table.{the_shape}
 use Rattle.switchd.specs.declared.first_path.TheConstants.{SAMPLE_GROUP}
 use Rattle.bpf_machine.specs.declared.Outcome.{Outcome}
 use Rattle.switchd.specs.FirstTable.{IsRunOf, KeepsVersions, RunsInSection, Selects, SelectsNow}
@@ -127,9 +127,13 @@ module _ (w0 w1 w2 w3 : WorkerValue) (o0 o1 o2 : OperatorValue) (version : ℕ) 
   pub same_table : w3.table ≡ w0.table
   same_table = ap (λ (w : WorkerValue). w.table) after.one_peek ∙ (runs.section.table ∙ ap (λ (w : WorkerValue). w.table) before.one_peek)
 
+second_row : 1 < the_shape.rows
+unfolding the_shape
+second_row = omega arith
+
 -- row 1 was never used yet
 pub second_row_free : (o : OperatorValue) → o.view.version_rows ≡ 0 ∷ [] → HasFreeRow o
-second_row_free o is = (1, (omega (arith, rows_is), λ m last. absurd (unused m (subst (λ l. get_elem? l m ≡ some 1) is last.0))))
+second_row_free o is = (1, (second_row, λ m last. absurd (unused m (subst (λ l. get_elem? l m ≡ some 1) is last.0))))
   where
     unused : (m : ℕ) → get_elem? {A = ℕ} (0 ∷ []) m ≡ some 1 → ⊥
     unused zero e = let same = some-injective 0 1 e in omega arith

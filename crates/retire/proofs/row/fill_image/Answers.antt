@@ -1,6 +1,6 @@
-use Rattle.std.proofs.Common.{arith, ap, subst, sym, ◌<◌, ◌≡◌, ◌∙◌, slice_index}
-use Rattle.versions.specs.Table.{the_shape}
-use Rattle.versions.proofs.ShapeLemmas.{row_is, row_words_is}
+use Rattle.std.proofs.Common.{arith, subst, ◌<◌, ◌≡◌}
+use Rattle.config_image.specs.declared.TheConstants.{ROW_WORDS}
+use Rattle.retire.proofs.RowLemmas.{row_inside}
 use Rattle.retire.specs.Filling.{FillsImage}
 use Rattle.retire.proofs.PublishLemmas.{no_fills, one_fill_more, one_word_more}
 use Rattle.retire.proofs.row.fill_image.Goals as goal
@@ -9,7 +9,7 @@ pub loop-place-init : goal.loop-place-init
 loop-place-init c = record { fills = no_fills _ _ _ c.requires.free; holds = λ i low. absurd (omega arith) }
 
 pub row_word-requires : goal.row_word-requires
-row_word-requires c = let low = c.loop-place-test.true in let fits = c.requires.len in omega (arith, row_words_is)
+row_word-requires c = let low = c.loop-place-test.true in let fits = c.requires.len in omega arith
 
 pub fill-requires-clause-free : goal.fill-requires-clause-free
 fill-requires-clause-free c = c.loop-place.invariant.fills.still_free
@@ -18,11 +18,10 @@ pub fill-requires-clause-place : goal.fill-requires-clause-place
 fill-requires-clause-place c = let low = c.loop-place-test.true in let fits = c.requires.len in omega arith
 
 pub loop-place-preserved : goal.loop-place-preserved
-loop-place-preserved c = let h = c.loop-place.invariant in let e = c.fill.ensures in let low = c.loop-place-test.true in let fits = c.requires.len in let small : c.loop-place.place < the_shape.row_words = omega arith in
-    let word : c.row_word.result ≡ slice_index (the_shape.row c.args.config.now) c.loop-place.place = c.row_word.ensures ∙ ap (λ l. slice_index l c.loop-place.place) (sym (row_is c.args.config.now)) in
+loop-place-preserved c = let h = c.loop-place.invariant in let e = c.fill.ensures in let low = c.loop-place-test.true in let fits = c.requires.len in let small : c.loop-place.place < ROW_WORDS = omega arith in
     record {
-      fills = one_fill_more _ _ _ c.args.row c.loop-place.place c.row_word.result c.args.config.now h.fills small word e.one_fill;
-      holds = one_word_more _ _ c.args.row c.loop-place.place c.row_word.result c.args.config.now h.fills.still_free.0 small e.whole_rows word e.one_fill h.holds;
+      fills = one_fill_more _ _ _ c.args.row c.loop-place.place c.row_word.result c.args.config.now h.fills small c.row_word.ensures e.one_fill;
+      holds = one_word_more _ _ c.args.row c.loop-place.place c.row_word.result c.args.config.now (row_inside c.args.row h.fills.still_free.0) small e.whole_rows c.row_word.ensures e.one_fill h.holds;
     }
 
 pub returns : goal.returns

@@ -1,5 +1,5 @@
 use Rattle.std.proofs.Common.{arith, below_more, false, sym, true, ◌≡◌, ◌∙◌}
-use Rattle.versions.proofs.ShapeLemmas.{rows_is}
+use Rattle.retire.proofs.RowLemmas.{row_inside}
 use Rattle.retire.proofs.row.free_row.Goals as goal
 
 true_false : true ≡ false → ⊥
@@ -12,4 +12,4 @@ pub loop-row-preserved : goal.loop-row-preserved
 loop-row-preserved c = below_more _ _ c.loop-row.invariant (λ free. true_false (sym (c.is_free.ensures.free_row_exact.1 free) ∙ c.if-is_free.false))
 
 pub returns-clause-none : goal.returns-clause-none
-returns-clause-none c = λ found. let low = found.1.0 in let stop = c.loop-row-test.false in c.loop-row.invariant found.0 (omega (arith, rows_is)) found.1
+returns-clause-none c = λ found. let low = row_inside found.0 found.1.0 in let stop = c.loop-row-test.false in c.loop-row.invariant found.0 (omega arith) found.1

@@ -1,11 +1,7 @@
-use Rattle.std.proofs.Common.{[], arith, refl, ◌≡◌, ◌∙◌, sym}
+use Rattle.std.proofs.Common.{[], arith, refl, ◌≡◌, ◌∙◌}
 use Rattle.versions.specs.declared.layout.TheConstants.{WORKERS}
-use Rattle.versions.proofs.ShapeLemmas.{workers_is}
 use Rattle.retire.proofs.PublishLemmas.{one_scan_more}
 use Rattle.retire.proofs.row.scan_each.Goals as goal
-
-pub scan-requires : goal.scan-requires
-scan-requires c = let low = c.loop-worker-test.true in omega (arith, workers_is)
 
 pub loop-worker-init : goal.loop-worker-init
 loop-worker-init c = ([], refl, tt, refl)
@@ -15,4 +11,4 @@ loop-worker-preserved c = let t = c.scan.ensures.one_scan in one_scan_more _ _ _
 
 pub returns : goal.returns
 returns c = let h = c.loop-worker.invariant in let stop = c.loop-worker-test.false in let end = c.loop-worker.auto.worker-end in let all : c.loop-worker.worker ≡ WORKERS = omega arith in
-    record { scans = h.0; each = h.1 ∙ (all ∙ sym workers_is); tell = h.2; no_more = h.3 }
+    record { scans = h.0; each = h.1 ∙ all; tell = h.2; no_more = h.3 }

@@ -7,13 +7,16 @@ use Rattle.read_section.proofs.KeeperLemmas.{IsKeptBy-published}
 use Rattle.read_section.proofs.operator.Operator.put.Goals as goal
 
 pub overflow_add-self-inside : goal.overflow_add-self-inside
-overflow_add-self-inside c = let low = c.self.invariant.number_limited in omega (arith, last_number_is)
+overflow_add-self-inside c = let low = c.self.invariant.number_limited in omega arith
 
 pub publish-requires-clause-free : goal.publish-requires-clause-free
 publish-requires-clause-free c = subst (λ (o : OperatorValue). IsFreeRow the_shape o.view c.args.row) (sym c.self.view_is) c.requires.free
 
+pub publish-requires-clause-limited : goal.publish-requires-clause-limited
+publish-requires-clause-limited c = let number = c.self.invariant.steps_told.number in let same = ap (λ (o : OperatorValue). number_after o.view.log) c.self.view_is in let low = c.requires.number in omega (arith, last_number_is)
+
 pub count_version-requires-clause-number : goal.count_version-requires-clause-number
-count_version-requires-clause-number c = let number = c.self.invariant.steps_told.number in let same = ap (λ (o : OperatorValue). number_after o.view.log) c.self.view_is in let low = c.requires.number in omega (arith, last_number_is)
+count_version-requires-clause-number c = let number = c.self.invariant.steps_told.number in let same = ap (λ (o : OperatorValue). number_after o.view.log) c.self.view_is in let low = c.requires.number in omega arith
 
 pub invariant_of-self : goal.invariant_of-self
 invariant_of-self c = let number = c.self.invariant.steps_told.number in let same = ap (λ (o : OperatorValue). number_after o.view.log) c.self.view_is in let low = c.requires.number in
