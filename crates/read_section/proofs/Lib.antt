@@ -9,4 +9,5 @@ mod MeetingLemmas
 mod OpeningLemmas
 pub mod SectionLemmas
 mod EnterLemmas
+pub mod FilledLemmas
 mod KeeperLemmas

@@ -1,0 +1,40 @@
+-- The words of rows after a fill.
+use Rattle.std.proofs.Common.{◌≡◌, ◌∙◌, ◌⊎◌, ◌≢◌, ℕ, ◌+◌, ◌-◌, ◌*◌, ◌<◌, List, ap, arith, get_or, get_or-set_other, get_or-set_same, length, set, slice_index, inr, sym, ⊎_elim}
+use mathlib.Core.Logic.{dite}
+use native.Mathlib.Decide.{ℕ_discrete}
+use Rattle.config_image.specs.declared.TheConstants.{ROW_WORDS}
+use Rattle.versions.specs.declared.layout.TheConstants.{ROWS}
+use Rattle.versions.specs.Layout.{row_begin, rows_begin}
+use Rattle.versions.specs.Table.{the_shape}
+use Rattle.read_section.specs.Operator.{OperatorValue, filled}
+
+-- what the shape says of rows, in numbers
+pub row_inside : (r : ℕ) → r < the_shape.rows → r < ROWS
+unfolding the_shape
+row_inside r low = low
+
+-- a place of a row among the words of all rows
+pub place_in_rows : (r place : ℕ) → (row_begin the_shape r + place) - rows_begin the_shape ≡ r * ROW_WORDS + place
+unfolding the_shape
+place_in_rows r place = omega arith
+
+-- a word of a row
+abbrev pub word_at : OperatorValue → ℕ → ℕ → ℕ
+word_at operator r i = slice_index operator.view.row_words (r * ROW_WORDS + i)
+
+module _ (now after : OperatorValue) (r place word : ℕ) (low : r < ROWS) (small : place < ROW_WORDS) (whole : length now.view.row_words ≡ ROWS * ROW_WORDS) (e : after ≡ filled r place word now) where
+  words_are : after.view.row_words ≡ set now.view.row_words (r * ROW_WORDS + place) word
+  words_are = ap (λ (o : OperatorValue). o.view.row_words) e ∙ ap (λ (k : ℕ). set now.view.row_words k word) (place_in_rows r place)
+
+  pub word_filled : word_at after r place ≡ word
+  word_filled = ap (λ l. get_or l (r * ROW_WORDS + place) 0) words_are ∙ get_or-set_same now.view.row_words (r * ROW_WORDS + place) word 0 (omega arith)
+
+  pub word_kept : (q i : ℕ) → i < ROW_WORDS → (q ≢ r) ⊎ (i ≢ place) → word_at after q i ≡ word_at now q i
+  word_kept q i inside other = ap (λ l. get_or l (q * ROW_WORDS + i) 0) words_are
+      ∙ get_or-set_other now.view.row_words (r * ROW_WORDS + place) (q * ROW_WORDS + i) word 0 (λ k. ⊎_elim (λ ne. ne (omega arith)) (λ ne. ne (omega arith)) other)
+
+  -- the first words of the row, where the fill is right behind them
+  pub front_filled : (words : List ℕ) → word ≡ slice_index words place → ((i : ℕ) → i < place → word_at now r i ≡ slice_index words i) → (i : ℕ) → i < place + 1 → word_at after r i ≡ slice_index words i
+  front_filled words is front i below = dite (ℕ_discrete i place)
+      (λ same. ap (word_at after r) same ∙ (word_filled ∙ (is ∙ ap (slice_index words) (sym same))))
+      (λ other. word_kept r i (omega arith) (inr other) ∙ front i (omega arith))
