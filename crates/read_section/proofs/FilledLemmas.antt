@@ -23,7 +23,7 @@ abbrev pub word_at : OperatorValue → ℕ → ℕ → ℕ
 word_at operator r i = slice_index operator.view.row_words (r * ROW_WORDS + i)
 
 module _ (now after : OperatorValue) (r place word : ℕ) (low : r < ROWS) (small : place < ROW_WORDS) (whole : length now.view.row_words ≡ ROWS * ROW_WORDS) (e : after ≡ filled r place word now) where
-  words_are : after.view.row_words ≡ set now.view.row_words (r * ROW_WORDS + place) word
+  pub words_are : after.view.row_words ≡ set now.view.row_words (r * ROW_WORDS + place) word
   words_are = ap (λ (o : OperatorValue). o.view.row_words) e ∙ ap (λ (k : ℕ). set now.view.row_words k word) (place_in_rows r place)
 
   pub word_filled : word_at after r place ≡ word

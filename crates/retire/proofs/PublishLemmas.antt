@@ -1,24 +1,21 @@
--- Scans of all workers, fills of a row, and what a publication is made of.
-use Rattle.std.proofs.Common.{IfNone, ◌≡◌, ◌≢◌, ◌⊎◌, ℕ, suc, ◌+◌, ◌*◌, ◌<◌, ◌≤◌, List, [], ◌∷◌, ◌++◌, None, Option, Some, ap, arith, get_or, get_or-set_other, get_or-set_same, inl, inr, length, refl, set, slice_index, subst, sym, ◌∙◌, ⊎_elim}
+-- Scans of all workers, and what a publication is made of.
+use Rattle.std.proofs.Common.{IfNone, ◌≡◌, ◌⊎◌, ℕ, ◌+◌, ◌*◌, ◌<◌, List, [], ◌∷◌, ◌++◌, None, Option, Some, ap, arith, inl, inr, length, refl, slice_index, subst, sym, ◌∙◌, ⊎_elim}
 use mathlib.Core.Logic.{dite}
 use native.Mathlib.Decide.{dec_le, ℕ_discrete}
 use Rattle.config_image.specs.declared.TheConstants.{ROW_WORDS}
-use Rattle.config_image.specs.Image.{Group, image}
-use Rattle.config_image.specs.Image as images
-use Rattle.config_image.specs.Lookup.{RowHolds}
-use Rattle.versions.specs.declared.layout.TheConstants.{ROWS}
-use Rattle.versions.specs.declared.step.Step.TheVariants.{Fill, Publish}
+use Rattle.config_image.specs.Image.{Group}
+use Rattle.versions.specs.declared.step.Step.TheVariants.{Publish}
 use Rattle.versions.specs.declared.step.Entry.{Entry}
-use Rattle.versions.specs.Layout.{current_word, row_begin}
+use Rattle.versions.specs.Layout.{current_word}
 use Rattle.versions.specs.Step.{entry}
-use Rattle.versions.specs.Free.{IsFree, IsFreeRow, IsReplaced, IsScannedClear, number_after}
+use Rattle.versions.specs.Free.{IsFree, IsReplaced, IsScannedClear, number_after}
 use Rattle.versions.specs.Table.{the_shape}
 use Rattle.retire.specs.Filling.{FillsRow}
 use Rattle.read_section.specs.Layout.{Holds}
-use Rattle.read_section.specs.Operator.{OperatorValue, filled, published_from, scanned}
-use Rattle.retire.specs.Publish.{HasFreeRow, HoldsBack, IsBusy, IsFillOf, LooksForRow, Publishes, Scanned, ScansEach, TellLogs, after_scans}
+use Rattle.read_section.specs.Operator.{OperatorValue, published_from, scanned}
+use Rattle.retire.specs.Publish.{HasFreeRow, HoldsBack, IsBusy, IsLeastFreeRow, LooksForRow, Publishes, Scanned, ScansEach, StandsInRow, TellLogs, after_scans}
 use Rattle.read_section.specs.View.{TellsLog}
-use Rattle.retire.proofs.RowLemmas.{contains_first, contains_later, place_in_rows, place_inside, worker_inside, zeros_behind_image}
+use Rattle.retire.proofs.RowLemmas.{contains_later, worker_inside}
 
 -- n workers were scanned so far
 abbrev pub ScansSome : OperatorValue → OperatorValue → ℕ → Type 0
@@ -55,68 +52,6 @@ held_back before after each m replaced not_free =
     (λ clear. absurd (not_free (replaced, λ w l. let low = worker_inside w l in subst (λ (o : OperatorValue). IsScannedClear w m o.view.log) (sym each.no_more) (clear w (omega arith)))))
     (λ t. t) (clear_or_held_back m before (omega arith) each.scans)
 
-pub no_fills : (o : OperatorValue) (row : ℕ) (config : List Group) → IsFreeRow the_shape o.view row → FillsRow o o row config
-no_fills o row config free = record { fills = []; filled = λ newest c. absurd (let l = c.1 in omega arith); log = refl; still_free = free; number = refl; published = refl; version_rows = refl; scanned_logs = refl; table = refl; reported = refl }
-
-pub one_fill_more : (before now after : OperatorValue) (row place word : ℕ) (config : List Group) → FillsRow before now row config → place < ROW_WORDS → word ≡ slice_index (images.row config) place → after ≡ filled row place word now → FillsRow before after row config
-one_fill_more before now after row place word config h small is e = subst (λ (o : OperatorValue). FillsRow before o row config) (sym e) record {
-  fills = entry (Fill (row_begin the_shape row + place) word) word ∷ h.fills;
-  filled = λ newest c. ⊎_elim
-      (λ same. subst (IsFillOf row config) same (place, small, λ i. entry (Fill (row_begin the_shape row + place) (is i)) (is i)))
-      (λ later. h.filled newest later)
-      (contains_first (entry (Fill (row_begin the_shape row + place) word) word) newest h.fills c);
-  log = ap (λ l. entry (Fill (row_begin the_shape row + place) word) word ∷ l) h.log;
-  still_free = h.still_free;
-  number = h.number;
-  published = h.published;
-  version_rows = h.version_rows;
-  scanned_logs = h.scanned_logs;
-  table = h.table;
-  reported = h.reported;
-}
-
--- the words of a row after a fill of a place of it
-module _ (now after : OperatorValue) (row place word : ℕ) (low : row < ROWS) (small : place < ROW_WORDS) (whole : length now.view.row_words ≡ ROWS * ROW_WORDS) (e : after ≡ filled row place word now) where
-  words_are : after.view.row_words ≡ set now.view.row_words (row * ROW_WORDS + place) word
-  words_are = ap (λ (o : OperatorValue). o.view.row_words) e ∙ ap (λ (k : ℕ). set now.view.row_words k word) (place_in_rows row place)
-
-  pub word_filled : slice_index after.view.row_words (row * ROW_WORDS + place) ≡ word
-  word_filled = let inside = place_inside row place low small in
-      ap (λ l. get_or l (row * ROW_WORDS + place) 0) words_are ∙ get_or-set_same now.view.row_words (row * ROW_WORDS + place) word 0 (omega arith)
-
-  pub word_kept : (i : ℕ) → i ≢ place → slice_index after.view.row_words (row * ROW_WORDS + i) ≡ slice_index now.view.row_words (row * ROW_WORDS + i)
-  word_kept i other = ap (λ l. get_or l (row * ROW_WORDS + i) 0) words_are ∙ get_or-set_other now.view.row_words (row * ROW_WORDS + place) (row * ROW_WORDS + i) word 0 (λ k. other (omega arith))
-
-abbrev pub word_at : OperatorValue → ℕ → ℕ → ℕ
-word_at o row i = slice_index o.view.row_words (row * ROW_WORDS + i)
-
--- the first words of a row are the configuration's
-abbrev pub HoldsFront : OperatorValue → ℕ → List Group → ℕ → Type 0
-HoldsFront o row config n = (i : ℕ) → i < n → word_at o row i ≡ slice_index (images.row config) i
-
-pub one_word_more : (now after : OperatorValue) (row place word : ℕ) (config : List Group) → row < ROWS → place < ROW_WORDS → length now.view.row_words ≡ ROWS * ROW_WORDS → word ≡ slice_index (images.row config) place
-    → after ≡ filled row place word now → HoldsFront now row config place → HoldsFront after row config (place + 1)
-one_word_more now after row place word config low small whole is e front i below = dite (ℕ_discrete i place)
-    (λ same. ap (word_at after row) same ∙ (word_filled now after row place word low small whole e ∙ (is ∙ ap (slice_index (images.row config)) (sym same))))
-    (λ other. word_kept now after row place word low small whole e i other ∙ front i (omega arith))
-
--- the words behind the image are zeros
-abbrev pub ZerosBehind : OperatorValue → ℕ → ℕ → Type 0
-ZerosBehind o row from = (i : ℕ) → from ≤ i → i < ROW_WORDS → word_at o row i ≡ 0
-
-pub one_zero_more : (now after : OperatorValue) (row from : ℕ) → row < ROWS → from < ROW_WORDS → length now.view.row_words ≡ ROWS * ROW_WORDS → after ≡ filled row from 0 now → ZerosBehind now row (from + 1) → ZerosBehind after row from
-one_zero_more now after row from low small whole e behind i up inside = dite (ℕ_discrete i from)
-    (λ same. ap (word_at after row) same ∙ word_filled now after row from 0 low small whole e)
-    (λ other. word_kept now after row from 0 low small whole e i other ∙ behind i (omega arith) inside)
-
-pub front_kept : (now after : OperatorValue) (row place n : ℕ) (config : List Group) → row < ROWS → place < ROW_WORDS → length now.view.row_words ≡ ROWS * ROW_WORDS → n ≤ place → after ≡ filled row place 0 now → HoldsFront now row config n → HoldsFront after row config n
-front_kept now after row place n config low small whole up e front i below = word_kept now after row place 0 low small whole e i (λ same. omega arith) ∙ front i below
-
-pub holds_all : (o : OperatorValue) (row len : ℕ) (config : List Group) → RowHolds config → len ≡ length (image config) → HoldsFront o row config len → ZerosBehind o row len → Holds o.view row config
-holds_all o row len config h is front behind i small = dite (dec_le (suc i) len)
-    (λ below. front i (omega arith))
-    (λ up. behind i (omega arith) small ∙ sym (zeros_behind_image config h i (omega arith) small))
-
 pub looked_keeps : {A : Type 0} → (f : OperatorValue → A) → ((w x : ℕ) (log : List Entry) (o : OperatorValue) → f (scanned w x log o) ≡ f o) → (scans : List Scanned) (o : OperatorValue) → f (after_scans scans o) ≡ f o
 looked_keeps f keeps [] o = refl
 looked_keeps f keeps (last ∷ earlier) o = keeps (length earlier) last.word last.log (after_scans earlier o) ∙ looked_keeps f keeps earlier o
@@ -127,25 +62,31 @@ found_keeps f keeps before found looked = ⊎_elim (λ t. ap f t.1) (λ t. ap f 
 pub number_found : (before found : OperatorValue) → LooksForRow before found → number_after found.view.log ≡ number_after before.view.log
 number_found = found_keeps (λ (o : OperatorValue). number_after o.view.log) (λ w x log o. refl)
 
-pub publishes : (before found full after : OperatorValue) (row : ℕ) (config : List Group) → LooksForRow before found → IsFreeRow the_shape found.view row → FillsRow found full row config → Holds full.view row config → after ≡ published_from row config full
-    → Publishes before after config
-publishes before found full after row config looked free h holds e =
+pub publishes : (before found full after : OperatorValue) (r : ℕ) (config : List Group) → LooksForRow before found → IsLeastFreeRow found r → FillsRow found full r config → after ≡ published_from r config full → Publishes before after config
+publishes before found full after r config looked least h e =
     let number = h.number ∙ number_found before found looked in subst (λ (o : OperatorValue). Publishes before o config) (sym e) record {
       found = found;
       looked = looked;
-      row = row;
-      free = free;
+      taken = r;
+      least = least;
       fills = h.fills;
       filled = h.filled;
-      holds = holds;
-      log = λ i. entry (Publish row) (current_word the_shape (number i + 1) row) ∷ h.log i;
+      log = λ i. entry (Publish r) (current_word the_shape (number i + 1) r) ∷ h.log i;
       published = ap (λ l. l ++ config ∷ []) (h.published ∙ found_keeps (λ (o : OperatorValue). o.view.published) (λ w x log o. refl) before found looked);
-      version_rows = ap (λ l. l ++ row ∷ []) (h.version_rows ∙ found_keeps (λ (o : OperatorValue). o.view.version_rows) (λ w x log o. refl) before found looked);
+      version_rows = ap (λ l. l ++ r ∷ []) (h.version_rows ∙ found_keeps (λ (o : OperatorValue). o.view.version_rows) (λ w x log o. refl) before found looked);
       proposal = refl;
       scanned_logs = h.scanned_logs;
       table = h.table ∙ found_keeps (λ (o : OperatorValue). o.table) (λ w x log o. refl) before found looked;
       reported = h.reported ∙ found_keeps (λ (o : OperatorValue). o.reported) (λ w x log o. refl) before found looked;
     }
+
+pub stands_in_row : (before found full after : OperatorValue) (r : ℕ) (config : List Group) → LooksForRow before found → FillsRow found full r config → Holds full.view r config → after ≡ published_from r config full → StandsInRow before after config
+stands_in_row before found full after r config looked h holds e = subst (λ (o : OperatorValue). StandsInRow before o config) (sym e) record {
+  taken = r;
+  version_rows = ap (λ l. l ++ r ∷ []) (h.version_rows ∙ found_keeps (λ (o : OperatorValue). o.view.version_rows) (λ w x log o. refl) before found looked);
+  holds = holds;
+  others = λ q i ne inside. h.others q i ne inside ∙ ap (λ l. slice_index l (q * ROW_WORDS + i)) (found_keeps (λ (o : OperatorValue). o.view.row_words) (λ w x log o. refl) before found looked);
+}
 
 pub busy : (before after : OperatorValue) → (HasFreeRow before → ⊥) → ScansEach before after → (HasFreeRow after → ⊥) → IsBusy before after
 busy before after none_before each none = record { none_before = none_before; scanned = each; none = none; held_back = held_back before after each }

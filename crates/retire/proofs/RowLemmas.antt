@@ -1,11 +1,10 @@
--- Places of rows, and the words of a row behind its image.
-use Rattle.std.proofs.Common.{Contains, ◌≡◌, ◌∙◌, ◌+◌, ◌-◌, ◌*◌, ◌<◌, ◌≤◌, ◌∷◌, List, ap, arith, get_or, length, refl, replicate, inl, inr, suc, zero, ℕ, ◌⊎◌}
+-- Lists, and the words of a configuration's row.
+use Rattle.std.proofs.Common.{Contains, ◌≡◌, ◌∙◌, ◌⊎◌, ◌-◌, ◌<◌, ◌≤◌, ◌∷◌, List, ap, arith, get_or, inl, inr, length, refl, replicate, suc, zero, ℕ}
 use Rattle.std.proofs.lemmas.List.{get_or-append_right, get_or-replicate, get_or_append_left}
 use Rattle.config_image.specs.declared.TheConstants.{ROW_WORDS}
 use Rattle.config_image.specs.Image.{Group, image, row}
 use Rattle.config_image.specs.Lookup.{RowHolds}
-use Rattle.versions.specs.declared.layout.TheConstants.{ROWS, WORKERS}
-use Rattle.versions.specs.Layout.{row_begin, rows_begin}
+use Rattle.versions.specs.declared.layout.TheConstants.{WORKERS}
 use Rattle.versions.specs.Table.{the_shape}
 
 pub contains_later : {A : Type 0} → (x y : A) (xs : List A) → Contains xs y → Contains (x ∷ xs) y
@@ -15,22 +14,10 @@ pub contains_first : {A : Type 0} → (x y : A) (xs : List A) → Contains (x �
 contains_first x y xs (zero, inside, is) = inl is
 contains_first x y xs (suc k, inside, is) = inr (k, omega arith, is)
 
--- what the shape says of rows and workers, in numbers
-pub row_inside : (r : ℕ) → r < the_shape.rows → r < ROWS
-unfolding the_shape
-row_inside r low = low
-
+-- what the shape says of workers, in numbers
 pub worker_inside : (w : ℕ) → w < the_shape.workers → w < WORKERS
 unfolding the_shape
 worker_inside w low = low
-
--- a place of a row among the words of all rows
-pub place_in_rows : (r place : ℕ) → (row_begin the_shape r + place) - rows_begin the_shape ≡ r * ROW_WORDS + place
-unfolding the_shape
-place_in_rows r place = omega arith
-
-pub place_inside : (r place : ℕ) → r < ROWS → place < ROW_WORDS → r * ROW_WORDS + place < ROWS * ROW_WORDS
-place_inside r place low small = omega arith
 
 -- a row is the image, and then zeros
 module _ (config : List Group) (h : RowHolds config) where

@@ -1,3 +1,4 @@
 pub mod Publish
 pub mod Filling
+pub mod Sink
 pub mod Sweep

@@ -1,5 +1,5 @@
 -- What a publication does: scans where no row is free, fills of one free row, and one store of `current`.
-use Rattle.std.specs.Prelude.{◌≡◌, ◌+◌, ◌++◌, ◌<◌, ◌≤◌, ◌⊎◌, ◌∷◌, IsErrAnd, List, None, Result, [], length, slice_index, ℕ}
+use Rattle.std.specs.Prelude.{◌≡◌, ◌+◌, ◌++◌, ◌*◌, ◌<◌, ◌≤◌, ◌⊎◌, ◌∷◌, IsErrAnd, List, None, Result, [], length, slice_index, ℕ}
 use Rattle.std.specs.List.{Contains}
 use Rattle.config_image.specs.declared.TheConstants.{ROW_WORDS}
 use Rattle.config_image.specs.Image.{Group, row}
@@ -48,28 +48,43 @@ HasFreeRow operator = (row : ℕ) × IsFreeRow the_shape operator.view row
 abbrev pub LooksForRow : OperatorValue → OperatorValue → Type 0
 LooksForRow before after = (HasFreeRow before × (after ≡ before)) ⊎ ((HasFreeRow before → ⊥) × ScansEach before after)
 
--- a fill of a place of the row by the word that the configuration has there
-abbrev pub IsFillOf : ℕ → List Group → Entry → Type 0
-IsFillOf r config newest =
-    (i : ℕ) × (i < ROW_WORDS) × (newest ≡ entry (Fill (row_begin the_shape r + i) (slice_index (row config) i)) (slice_index (row config) i))
+-- a fill of a place of row r by the word that a list has there
+abbrev pub IsFillOf : ℕ → List ℕ → Entry → Type 0
+IsFillOf r words newest = (i : ℕ) × (i < length words) × (newest ≡ entry (Fill (row_begin the_shape r + i) (slice_index words i)) (slice_index words i))
 
--- a configuration is published: a free row is looked for, filled until it holds the configuration's, and stored in `current`
--- as the next version
+-- the words of all rows but r are as they were
+abbrev pub KeepsOtherRows : ℕ → OperatorValue → OperatorValue → Type 0
+KeepsOtherRows r before after = (q i : ℕ) → (q ≡ r → ⊥) → i < ROW_WORDS
+    → slice_index after.view.row_words (q * ROW_WORDS + i) ≡ slice_index before.view.row_words (q * ROW_WORDS + i)
+
+-- the least of the rows that are free
+pub record IsLeastFreeRow (operator : OperatorValue) (r : ℕ) : Type 0 where
+  pub free : IsFreeRow the_shape operator.view r
+  pub least : (q : ℕ) → IsFreeRow the_shape operator.view q → r ≤ q
+
+-- a configuration is published: a free row is looked for, the least is filled by words of the configuration's row, and stored
+-- in `current` as that of the next version
 pub record Publishes (before after : OperatorValue) (config : List Group) : Type 0 where
   pub found : OperatorValue
   pub looked : LooksForRow before found
-  pub row : ℕ
-  pub free : IsFreeRow the_shape found.view row
+  pub taken : ℕ
+  pub least : IsLeastFreeRow found taken
   pub fills : List Entry
-  pub filled : (newest : Entry) → Contains fills newest → IsFillOf row config newest
-  pub holds : Holds after.view row config
-  pub log : after.view.log ≡ entry (Publish row) (current_word the_shape (number_after before.view.log + 1) row) ∷ (fills ++ found.view.log)
+  pub filled : (newest : Entry) → Contains fills newest → IsFillOf taken (row config) newest
+  pub log : after.view.log ≡ entry (Publish taken) (current_word the_shape (number_after before.view.log + 1) taken) ∷ (fills ++ found.view.log)
   pub published : after.view.published ≡ before.view.published ++ config ∷ []
-  pub version_rows : after.view.version_rows ≡ before.view.version_rows ++ row ∷ []
+  pub version_rows : after.view.version_rows ≡ before.view.version_rows ++ taken ∷ []
   pub proposal : after.view.proposal ≡ None
   pub scanned_logs : after.view.scanned_logs ≡ found.view.scanned_logs
   pub table : after.table ≡ before.table
   pub reported : after.reported ≡ before.reported
+
+-- the version that was published stands in a row that holds the configuration's row now; no word of another row changed
+pub record StandsInRow (before after : OperatorValue) (config : List Group) : Type 0 where
+  pub taken : ℕ
+  pub version_rows : after.view.version_rows ≡ before.view.version_rows ++ taken ∷ []
+  pub holds : Holds after.view taken config
+  pub others : KeepsOtherRows taken before after
 
 -- some scan gave a word from 1 to m + 1
 abbrev pub HoldsBack : ℕ → List Scanned → Type 0

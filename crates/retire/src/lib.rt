@@ -8,11 +8,12 @@ ghost use Rattle.std.specs.Prelude.{◌≡◌, ◌+◌, ◌<◌, ◌≤◌, ◌�
 ghost use Rattle.member_group.specs.Charge.{charge_of};
 ghost use Rattle.versions.specs.Free.{number_after};
 ghost use Rattle.read_section.specs.Operator.{OperatorValue};
-ghost use Rattle.retire.specs.Publish.{IsBusy, IsRefusedAs, Publishes};
+ghost use Rattle.retire.specs.Publish.{IsBusy, IsRefusedAs, Publishes, StandsInRow};
 ghost use Rattle.retire.specs.Sweep.{Sweeps};
 
 mod fault;
 mod row;
+mod sink;
 
 pub use fault::PublishFault;
 use member_group::Config;
@@ -30,6 +31,7 @@ pub trait Retire {
     /// scans each read word once, and answers `Busy` if that freed none: it never waits for a grace period. Takes no memory.
     fn publish(&mut self, config: Config) -> Result<u64, (PublishFault, Config)>
         ensures published_exactly { OnOk result (Publishes (operator self.old) (operator self.new) config) }
+        ensures filled_row { OnOk result (StandsInRow (operator self.old) (operator self.new) config) }
         ensures new_number { IfOk result (λ number. number ≡ number_after (operator self.old).view.log + 1) }
 
         // Tested in this order.

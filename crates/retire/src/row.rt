@@ -5,13 +5,15 @@ ghost use Rattle.config_image.specs.declared.TheConstants.{ROW_WORDS};
 ghost use Rattle.versions.specs.Free.{IsFreeRow};
 ghost use Rattle.versions.specs.Table.{the_shape};
 ghost use Rattle.read_section.specs.Layout.{Holds, IsPublishable};
-ghost use Rattle.retire.specs.Publish.{HasFreeRow, IsBusy, LooksForRow, ScansEach};
-ghost use Rattle.retire.specs.Filling.{FillsImage, FillsRow};
+ghost use Rattle.retire.specs.Publish.{HasFreeRow, IsBusy, IsLeastFreeRow, LooksForRow, ScansEach};
+ghost use Rattle.retire.specs.Filling.{FillsRow};
 
+use crate::sink::fill_image;
 use config_image::image_len;
 use member_group::Config;
 use read_section::Operator;
-use versions::{ROWS, WORKERS, row_word};
+use std::marker::Brand;
+use versions::{ROWS, WORKERS};
 
 pub(crate) fn scan_each(operator: &mut Operator)
     ensures { ScansEach operator.old operator.new }
@@ -22,7 +24,7 @@ pub(crate) fn scan_each(operator: &mut Operator)
 }
 
 fn free_row(operator: &Operator) -> Option<usize>
-    ensures some { IfSome result (λ row. IsFreeRow the_shape operator.now.view row) }
+    ensures some { IfSome result (IsLeastFreeRow operator.now) }
     ensures none { IfNone result (HasFreeRow operator.now → ⊥) }
 {
     for row in 0..ROWS {
@@ -35,7 +37,7 @@ fn free_row(operator: &Operator) -> Option<usize>
 
 // The least free row. Where there is none at first, each read word is scanned once.
 pub(crate) fn look_for_row(operator: &mut Operator) -> Option<usize>
-    ensures some { IfSome result (λ row. IsFreeRow the_shape operator.new.view row) }
+    ensures some { IfSome result (IsLeastFreeRow operator.new) }
     ensures looked { IfSome result (λ row. LooksForRow operator.old operator.new) }
     ensures none { IfNone result (IsBusy operator.old operator.new) }
 {
@@ -46,16 +48,6 @@ pub(crate) fn look_for_row(operator: &mut Operator) -> Option<usize>
     free_row(operator)
 }
 
-fn fill_image(operator: &mut Operator, row: usize, config: &Config, len: usize)
-    requires free { IsFreeRow the_shape operator.old.view row }
-    requires len { len ≤ ROW_WORDS }
-    ensures { FillsImage operator.old operator.new row config.now len }
-{
-    for place in 0..len {
-        operator.fill(row, place, row_word(config, place));
-    }
-}
-
 // Fills a row until it holds the configuration's, zeros that stand already left alone.
 pub(crate) fn fill_row(operator: &mut Operator, row: usize, config: &Config)
     requires free { IsFreeRow the_shape operator.old.view row }
@@ -64,7 +56,7 @@ pub(crate) fn fill_row(operator: &mut Operator, row: usize, config: &Config)
     ensures holds { Holds operator.new.view row config.now }
 {
     let len = image_len(config);
-    fill_image(operator, row, config, len);
+    fill_image::<Brand>(operator, row, config);
     let end = operator.zeros_from(row);
     for place in len..end {
         operator.fill(row, end - 1 - (place - len), 0);

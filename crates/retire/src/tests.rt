@@ -79,9 +79,9 @@ fn publish_up_to(
     Ok(())
 }
 
-// A worker in a section keeps its version while the next one is published.
+// A publication beside a worker in a section leaves that worker its version.
 #[test]
-fn section_keeps_its_version(rt: HostRuntime) -> Result<(), Fail> {
+fn publication_beside_a_section(rt: HostRuntime) -> Result<(), Fail> {
     let alloc = rt.alloc();
     let (mut operator, mut workers) = open(config_of(alloc, 0)?)?;
     assert_eq!(rt; workers.len(), 16);

@@ -1,12 +1,17 @@
 use Rattle.std.proofs.Common.{arith, below_more, false, sym, true, ◌≡◌, ◌∙◌}
-use Rattle.retire.proofs.RowLemmas.{row_inside}
+use mathlib.Core.Logic.{dite}
+use native.Mathlib.Decide.{dec_le}
+use Rattle.read_section.proofs.FilledLemmas.{row_inside}
 use Rattle.retire.proofs.row.free_row.Goals as goal
 
 true_false : true ≡ false → ⊥
 true_false e = cc
 
 pub returns-then-is_free-clause-some : goal.returns-then-is_free-clause-some
-returns-then-is_free-clause-some c = c.is_free.ensures.free_row_exact.0 c.if-is_free.true
+returns-then-is_free-clause-some c = record {
+  free = c.is_free.ensures.free_row_exact.0 c.if-is_free.true;
+  least = λ q free. dite (dec_le c.loop-row.row q) (λ up. up) (λ below. absurd (c.loop-row.invariant q (omega arith) free));
+}
 
 pub loop-row-preserved : goal.loop-row-preserved
 loop-row-preserved c = below_more _ _ c.loop-row.invariant (λ free. true_false (sym (c.is_free.ensures.free_row_exact.1 free) ∙ c.if-is_free.false))

@@ -1,0 +1,78 @@
+//! A row as a sink of words: the image of a configuration is written into it in one pass.
+
+ghost use Rattle.std.specs.Prelude.{◌≡◌, ◌-◌, ◌≤◌, length, ℕ};
+ghost use Rattle.config_image.specs.declared.TheConstants.{ROW_WORDS};
+ghost use Rattle.config_image.specs.Image.{image};
+ghost use Rattle.versions.specs.Free.{IsFreeRow};
+ghost use Rattle.versions.specs.Table.{the_shape};
+ghost use Rattle.read_section.specs.Operator.{OperatorValue};
+ghost use Rattle.retire.specs.Filling.{FillsFront};
+ghost use Rattle.retire.specs.Sink.{taken_by};
+
+use config_image::{ROW_WORDS, WordSink, write_image};
+use member_group::Config;
+use read_section::Operator;
+use std::marker::{Brand, Model, PhantomData};
+
+/// The operator as it was when a sink was lent it. A sink's type tells it, since whoever writes into a sink is told of it only
+/// which words it took.
+pub(crate) trait Lent {
+    ghost operator: { OperatorValue };
+}
+
+impl Lent for Brand {
+    ghost use Rattle.retire.specs.Sink.{no_operator};
+
+    ghost operator = { no_operator };
+}
+
+// Takes the words of a row by fills, from its first place on. Contracts see the operator behind the borrow, and its name.
+struct RowSink<'a, L: Lent> {
+    operator: &'a mut Operator,
+    row: usize,
+    place: usize,
+    lent: PhantomData<L>,
+}
+
+impl<'a, L: Lent> Model for RowSink<'a, L> {
+    ghost use Rattle.retire.specs.Sink.{IsFilling, SinkValue};
+
+    ghost Value = { SinkValue };
+
+    ghost view = { λ s. record { borrow = s.operator.ghost_name; operator = s.operator.now; row = s.row; place = s.place } };
+
+    ghost invariant = { λ s. IsFilling L.operator s.operator.now s.row s.place };
+}
+
+impl<L: Lent> WordSink for RowSink<'_, L> {
+    ghost taken = { taken_by };
+
+    ghost room = { λ sink. ROW_WORDS - sink.place };
+
+    fn put(&mut self, word: u64) {
+        self.operator.fill(self.row, self.place, word);
+        self.place += 1;
+    }
+}
+
+// Fills the first places of a free row by the words of a configuration's image.
+pub(crate) fn fill_image<L: Lent>(operator: &mut Operator, row: usize, config: &Config)
+    requires lent { L.operator ≡ operator.old }
+    requires free { IsFreeRow the_shape operator.old.view row }
+    requires fits { length (image config.now) ≤ ROW_WORDS }
+    ensures { FillsFront operator.old operator.new row (image config.now) }
+{
+    let mut sink = RowSink::<L> {
+        operator,
+        row,
+        place: 0,
+        lent: PhantomData,
+    };
+    write_image(config, &mut sink);
+    let RowSink {
+        operator: _operator,
+        row: _,
+        place: _,
+        lent: _,
+    } = sink;
+}
