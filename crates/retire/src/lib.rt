@@ -27,8 +27,9 @@ pub trait Retire {
 
     /// Publishes a configuration as the next version, and answers its number, counted from 0.
     ///
-    /// Fills the least free row, but for zeros that stand there already, then stores `current`. Where no row is free it first
-    /// scans each read word once, and answers `Busy` if that freed none: it never waits for a grace period. Takes no memory.
+    /// Fills the least free row and no other, but for zeros that stand there already, then stores `current`. Where no row is
+    /// free it first scans each read word once, and answers `Busy` if that freed none: it never waits for a grace period. Takes
+    /// no memory.
     fn publish(&mut self, config: Config) -> Result<u64, (PublishFault, Config)>
         ensures published_exactly { OnOk result (Publishes (operator self.old) (operator self.new) config) }
         ensures filled_row { OnOk result (StandsInRow (operator self.old) (operator self.new) config) }
