@@ -1,12 +1,13 @@
 -- Exit statuses, and the lines of failures (docs/COMMANDS.md, "Statuses").
 use Rattle.std.specs.Prelude.{◌≡◌, List, codes, ℕ}
 use Rattle.switchd.specs.declared.ending.Failure.{Failure}
-use Rattle.switchd.specs.declared.ending.Failure.TheVariants.{OutOfMemory, WriteFailed}
+use Rattle.switchd.specs.declared.ending.Failure.TheVariants.{OutOfMemory, ReadFailed, WriteFailed}
 use Rattle.switchd.specs.declared.ending.Status.{Status}
-use Rattle.switchd.specs.declared.ending.Status.TheVariants.{Done, Failed, Misused}
+use Rattle.switchd.specs.declared.ending.Status.TheVariants.{Done, Failed, Misused, Refused}
 
 abbrev pub code_of : Status → ℕ
 code_of Done = 0
+code_of Refused = 1
 code_of Misused = 2
 code_of Failed = 3
 
@@ -14,5 +15,6 @@ abbrev pub IsStatus : ℕ → Type 0
 IsStatus code = (status : Status) × (code ≡ code_of status)
 
 abbrev pub line_of : Failure → List ℕ
+line_of ReadFailed = codes "failed E1\n"
 line_of WriteFailed = codes "failed E2\n"
 line_of OutOfMemory = codes "failed E3\n"

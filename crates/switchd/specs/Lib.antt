@@ -1,4 +1,9 @@
+pub mod Answer
 pub mod CommandLine
 pub mod Ending
 pub mod FirstPath
 pub mod FirstTable
+pub mod Input
+pub mod Packet
+pub mod Refusal
+pub mod Request

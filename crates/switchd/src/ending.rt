@@ -5,21 +5,24 @@ ghost use Rattle.switchd.specs.Ending.{line_of};
 ghost use Rattle.switchd.specs.declared.ending.Failure.TheVariants.{OutOfMemory};
 
 use std::alloc::AllocError;
-use std::fmt;
 use std::io::Write;
 
 /// The exit status.
 #[derive(Clone, Copy, Debug, PartialEq, Eq)]
 pub enum Status {
     Done = 0,
+    /// The input of the command is at fault.
+    Refused = 1,
     /// The words are at fault.
     Misused = 2,
     Failed = 3,
 }
 
-/// Why a command failed. The words of the command are not to blame.
+/// Why a command failed. Neither its words nor its input are to blame.
 #[derive(Clone, Copy, Debug, PartialEq, Eq)]
 pub enum Failure {
+    /// The input could not be read.
+    ReadFailed,
     /// Results could not be written or flushed.
     WriteFailed,
     OutOfMemory,
@@ -30,6 +33,7 @@ impl Failure {
         ensures { result.now ≡ line_of self }
     {
         match self {
+            Failure::ReadFailed => "failed E1\n",
             Failure::WriteFailed => "failed E2\n",
             Failure::OutOfMemory => "failed E3\n",
         }

@@ -7,13 +7,11 @@ ghost use Rattle.config_image.specs.Lookup.{BeginsWithImage};
 ghost use Rattle.member_group.specs.Command.{after};
 ghost use Rattle.member_group.specs.Refusal.{first_refusal};
 ghost use Rattle.retire.specs.Publish.{HasFreeRow};
-ghost use Rattle.std.specs.Io.KnownBytes.{Appends};
-ghost use Rattle.switchd.specs.FirstPath.{first_lines, first_text, line_text};
+ghost use Rattle.switchd.specs.FirstPath.{first_lines, line_text};
 ghost use Rattle.switchd.specs.FirstTable.{IsLineOf, IsOpenedWith, IsRunOf, KeepsVersions, PublishesProgram, RunsInSection, Selects, SelectsNow};
 ghost use Rattle.versions.specs.Free.{number_after};
 ghost use Rattle.versions.specs.declared.layout.TheConstants.{LAST_NUMBER};
 
-use crate::ending::{Failure, Status};
 use bpf_insn::Words;
 use bpf_machine::{Outcome, run};
 use bpf_verify::Program;
@@ -24,7 +22,6 @@ use read_section::{OpenFault, Operator, Worker, open};
 use retire::Retire;
 use std::alloc::{AllocError, Global};
 use std::fmt;
-use std::io::Write;
 
 /// The sample packet: 29 bytes of UDP over IPv4 from 10.0.0.1:5000 to 10.0.0.2:53, with the payload `a`.
 pub const SAMPLE_PACKET: &[u8] = &[
@@ -191,7 +188,8 @@ fn run_current(worker: &mut Worker, operator: &mut Operator) -> Line
     }
 }
 
-fn lines(alloc: Global) -> Result<[Line; 2], AllocError>
+/// Runs the sample program on the sample packet at version 0, and its successor at version 1: a line for each.
+pub fn lines(alloc: Global) -> Result<[Line; 2], AllocError>
     ensures { IfOk result (λ lines. lines ≡ first_lines) }
 {
     let (mut operator, mut worker) = open_first(alloc)?;
@@ -199,23 +197,4 @@ fn lines(alloc: Global) -> Result<[Line; 2], AllocError>
     publish_second(alloc, &mut operator)?;
     let at_second = run_current(&mut worker, &mut operator);
     Ok([at_first, at_second])
-}
-
-fn write_line<W: Write>(line: &Line, out: &mut W) -> Result<(), Failure>
-    ensures { OnOk result
-        (Appends (W.contents out.old) (W.contents out.new) (line_text line.now ++ codes "\n")) }
-{
-    writeln!(out, "{line}").map_err(|_| Failure::WriteFailed)
-}
-
-/// Runs the sample program on the sample packet at version 0, and its successor at version 1. Writes a line for each.
-pub fn run_first<W: Write>(alloc: Global, out: &mut W) -> Result<Status, Failure>
-    ensures done { IfOk result (λ status. status ≡ Status.Done) }
-    ensures written { OnOk result (Appends (W.contents out.old) (W.contents out.new) first_text) }
-{
-    let [at_first, at_second] = lines(alloc)?;
-    write_line(&at_first, out)?;
-    write_line(&at_second, out)?;
-    out.flush().map_err(|_| Failure::WriteFailed)?;
-    Ok(Status::Done)
 }

@@ -4,9 +4,16 @@
 ghost use Rattle.std.specs.Prelude.{◌≡◌, ◌≢◌};
 ghost use Rattle.std.specs.IoError.{error_kind};
 
+mod answer;
 mod command;
 mod ending;
+mod expression_commands;
 mod first_path;
+mod help;
+mod input;
+mod packet;
+mod program_commands;
+mod refusal;
 #[cfg(test)]
 mod tests;
 mod tool;

@@ -1,15 +1,23 @@
 //! The program's commands, from the words to the output and the exit status (docs/COMMANDS.md).
 
-ghost use Rattle.std.specs.Prelude.{◌≡◌, ◌≢◌, ◌⊎◌, [], IsSome, IfSome, Ok, Err, Some, map, string_bytes};
+ghost use Rattle.std.specs.Prelude.{◌≡◌, ◌≢◌, ◌⊎◌, ◌++◌, [], IsSome, IfErr, IfOk, IfSome, OnOk, Ok, Err, Some, codes, map, string_bytes};
 ghost use Rattle.std.specs.Io.KnownBytes.{Appends};
 ghost use Rattle.clap.specs.Words.{kind_of};
-ghost use Rattle.switchd.specs.CommandLine.{AsksForText, HasMisuse, faults_in};
+ghost use Rattle.switchd.specs.Answer.{answer_text};
+ghost use Rattle.switchd.specs.CommandLine.{AsksForText, HasMisuse, faults_in, request_of};
 ghost use Rattle.switchd.specs.Ending.{IsStatus, code_of};
-ghost use Rattle.switchd.specs.FirstPath.{first_text};
+ghost use Rattle.switchd.specs.Refusal.{refusal_text};
+ghost use Rattle.switchd.specs.Request.{IsFailureOf, IsResultOf, IsStopOf, WritesAnswer, WritesAnswerTo};
 
+use crate::answer::Answer;
 use crate::command::{Subcommand, read_words};
 use crate::ending::{Failure, Status};
-use crate::first_path::run_first;
+use crate::expression_commands::{compile, judge};
+use crate::first_path;
+use crate::input::read_whole;
+use crate::packet::packet_of_hex;
+use crate::program_commands::{check, run_program};
+use crate::refusal::{Refusal, Stop};
 use clap::error::ErrorKind;
 use std::alloc::Global;
 use std::io::{Read, Write};
@@ -19,7 +27,7 @@ use std::io::{Read, Write};
 pub fn tool<R: Read + Drop, W: Write, E: Write>(
     alloc: Global,
     words: &[String],
-    _input: R,
+    input: R,
     out: &mut W,
     errs: &mut E,
 ) -> Option<u8>
@@ -28,37 +36,106 @@ pub fn tool<R: Read + Drop, W: Write, E: Write>(
 
     ensures done { result ≡ Some (code_of Status.Done)
         → (faults_in (map string_bytes words.now) ≡ []) ⊎ AsksForText (faults_in (map string_bytes words.now)) }
-    ensures first_written { result ≡ Some (code_of Status.Done) → faults_in (map string_bytes words.now) ≡ []
-        → Appends (W.contents out.old) (W.contents out.new) first_text }
+    ensures done_written { result ≡ Some (code_of Status.Done) → faults_in (map string_bytes words.now) ≡ []
+        → WritesAnswerTo (map string_bytes words.now) (R.remaining input) Status.Done (W.contents out.old) (W.contents out.new) }
+
+    ensures refused { result ≡ Some (code_of Status.Refused) → faults_in (map string_bytes words.now) ≡ [] }
+    ensures refused_written { result ≡ Some (code_of Status.Refused)
+        → WritesAnswerTo (map string_bytes words.now) (R.remaining input) Status.Refused (W.contents out.old) (W.contents out.new) }
 
     ensures misused { result ≡ Some (code_of Status.Misused) → HasMisuse (faults_in (map string_bytes words.now)) }
     ensures nothing_written { result ≡ Some (code_of Status.Misused) → out.new ≡ out.old }
 {
-    let status = match run_words(alloc, words, out, errs) {
+    let status = match run_words(alloc, words, input, out, errs) {
         Ok(status) => status,
         Err(failure) => failure.report(errs),
     };
     Some(status as u8)
 }
 
-fn run_words<W: Write, E: Write>(
+fn run_words<R: Read + Drop, W: Write, E: Write>(
     alloc: Global,
     words: &[String],
+    input: R,
     out: &mut W,
     errs: &mut E,
 ) -> Result<Status, Failure>
     ensures done { result ≡ Ok Status.Done
         → (faults_in (map string_bytes words.now) ≡ []) ⊎ AsksForText (faults_in (map string_bytes words.now)) }
-    ensures first_written { result ≡ Ok Status.Done → faults_in (map string_bytes words.now) ≡ []
-        → Appends (W.contents out.old) (W.contents out.new) first_text }
+    ensures done_written { result ≡ Ok Status.Done → faults_in (map string_bytes words.now) ≡ []
+        → WritesAnswerTo (map string_bytes words.now) (R.remaining input) Status.Done (W.contents out.old) (W.contents out.new) }
+
+    ensures refused { result ≡ Ok Status.Refused → faults_in (map string_bytes words.now) ≡ [] }
+    ensures refused_written { result ≡ Ok Status.Refused
+        → WritesAnswerTo (map string_bytes words.now) (R.remaining input) Status.Refused (W.contents out.old) (W.contents out.new) }
 
     ensures misused { result ≡ Ok Status.Misused → HasMisuse (faults_in (map string_bytes words.now)) }
     ensures nothing_written { result ≡ Ok Status.Misused → out.new ≡ out.old }
+    ensures never_failed { result ≡ Ok Status.Failed → ⊥ }
 {
     match read_words(alloc, words) {
-        Ok(Subcommand::First) => run_first(alloc, out),
+        Ok(command) => run_subcommand(alloc, command, input, out),
         Err(fault) => answer(&fault, out, errs),
     }
+}
+
+fn run_subcommand<R: Read + Drop, W: Write>(
+    alloc: Global,
+    command: Subcommand<'_>,
+    input: R,
+    out: &mut W,
+) -> Result<Status, Failure>
+    ensures answered { IfOk result (λ status. WritesAnswer (request_of command.entry) (R.remaining input) status (W.contents out.old) (W.contents out.new)) }
+{
+    match find_answer(alloc, command, input) {
+        Ok(found) => write_answer(&found, out),
+        Err(Stop::Refused(refusal)) => write_refusal(&refusal, out),
+        Err(Stop::Failed(failure)) => Err(failure),
+    }
+}
+
+fn find_answer<R: Read + Drop>(
+    alloc: Global,
+    command: Subcommand<'_>,
+    input: R,
+) -> Result<Answer, Stop>
+    ensures found { IfOk result (IsResultOf (request_of command.entry) (R.remaining input)) }
+    ensures stopped { IfErr result (IsStopOf (request_of command.entry) (R.remaining input)) }
+{
+    match command {
+        Subcommand::First => {
+            let [at_first, at_second] = first_path::lines(alloc)?;
+            Ok(Answer::Versions(at_first, at_second))
+        }
+        Subcommand::Check => check(alloc, &read_whole(alloc, input)?),
+        Subcommand::Compile { expression } => compile(alloc, expression.as_bytes()),
+        Subcommand::Run { packet } => {
+            let packet = packet_of_hex(alloc, packet)?;
+            run_program(alloc, &packet, &read_whole(alloc, input)?)
+        }
+        Subcommand::Judge { packet, expression } => {
+            let packet = packet_of_hex(alloc, packet)?;
+            judge(alloc, &packet, expression.as_bytes())
+        }
+    }
+}
+
+fn write_answer<W: Write>(found: &Answer, out: &mut W) -> Result<Status, Failure>
+    ensures done { IfOk result (λ status. status ≡ Status.Done) }
+    ensures written { OnOk result (Appends (W.contents out.old) (W.contents out.new) (answer_text found.now)) }
+{
+    write!(out, "{found}").map_err(|_| Failure::WriteFailed)?;
+    out.flush().map_err(|_| Failure::WriteFailed)?;
+    Ok(Status::Done)
+}
+
+fn write_refusal<W: Write>(refusal: &Refusal, out: &mut W) -> Result<Status, Failure>
+    ensures refused { IfOk result (λ status. status ≡ Status.Refused) }
+    ensures written { OnOk result (Appends (W.contents out.old) (W.contents out.new) (refusal_text refusal.now ++ codes "\n")) }
+{
+    writeln!(out, "{refusal}").map_err(|_| Failure::WriteFailed)?;
+    out.flush().map_err(|_| Failure::WriteFailed)?;
+    Ok(Status::Refused)
 }
 
 // Help and the version are results.
@@ -71,6 +148,7 @@ fn answer<W: Write, E: Write>(
         → (kind_of fault.now ≡ ErrorKind.DisplayHelp) ⊎ (kind_of fault.now ≡ ErrorKind.DisplayVersion) }
     ensures misused { result ≡ Ok Status.Misused
         → (kind_of fault.now ≢ ErrorKind.DisplayHelp) × (kind_of fault.now ≢ ErrorKind.DisplayVersion) }
+    ensures done_or_misused { IfOk result (λ status. (status ≡ Status.Done) ⊎ (status ≡ Status.Misused)) }
     ensures nothing_written { result ≡ Ok Status.Misused → out.new ≡ out.old }
     ensures no_memory { kind_of fault.now ≡ ErrorKind.OutOfMemory → result ≡ Err Failure.OutOfMemory }
 {

@@ -1,30 +1,25 @@
-use Rattle.std.proofs.Common.{rules, map, string_bytes, option_map, Some, codes, ◌≡◌, ◌∙◌, ap, sym, []}
-use Rattle.clap.specs.Words.{App, app_of, fault_of, is_simple, is_simple_and_free}
-use Rattle.clap.proofs.FaultLemmas.{as_kinds, failed_up}
-use Rattle.switchd.specs.CommandLine.{command_line}
-use Rattle.switchd.proofs.CommandLineLemmas.{named_first}
+use Rattle.std.proofs.Common.{map, None, Option, false, string_bytes, is_some, true, ◌≡◌, ◌∙◌, ap, sym, []}
+use Rattle.clap.specs.Words.{App, app_of, fault_of, found_of, is_simple, is_simple_and_free, rows_of}
+use Rattle.switchd.specs.CommandLine.{Request, command_line, faults_in, request_in}
+use Rattle.switchd.proofs.CommandLineLemmas.{names_command, request_is}
 use Rattle.switchd.proofs.command.read_words.Goals as goal
 
-pub returns-in_err-matches : goal.returns-in_err-matches
-returns-in_err-matches c =
+pub unreachable-requires-in-None : goal.unreachable-requires-in-None
+unreachable-requires-in-None c =
     let words = map string_bytes c.args.words.now in
     let program_is : app_of c.in_ok-program.program ≡ command_line = c.in_ok-program.ensures in
-    failed_up c.from_residual-in_err-matches.result c.in_err-matches.field-0.0 _ (fault_of command_line words) c.from_residual-in_err-matches.ensures.1
-    (as_kinds _ _ _ (ap (λ (a : App). fault_of a words) program_is) (c.in_err-matches.ensures.kinds (ap is_simple_and_free program_is)))
-
-pub unreachable-requires : goal.unreachable-requires
-unreachable-requires c =
-    let words = map string_bytes c.args.words.now in
-    let program_is : app_of c.in_ok-program.program ≡ command_line = c.in_ok-program.ensures in
-    let none : fault_of (app_of c.in_ok-program.program) words ≡ [] = c.in_ok-matches.ensures.kinds (ap is_simple_and_free program_is) in
+    let none : faults_in words ≡ [] =
+    ap (λ (a : App). fault_of a words) (sym program_is) ∙ c.in_ok-matches.ensures.kinds (ap is_simple_and_free program_is) in
     let rows = (c.in_ok-matches.ensures.matches (ap is_simple program_is)).1 in
-    let named : option_map (λ s. s.now) c.subcommand_name.result ≡ Some (codes "first") =
-    c.subcommand_name.ensures ∙ named_first (app_of c.in_ok-program.program) words c.in_ok-matches.matches program_is none rows in
-    search rules
+    let named = request_is (app_of c.in_ok-program.program) words c.in_ok-matches.matches c.in-Some.name.now (rows_of (found_of c.in-Some.found.now))
+    program_is rows c.in-Some.ensures.name c.in-Some.ensures.rows in
+    let known : is_some (request_in words) ≡ true = names_command words none in
+    let is_none : ◌≡◌ {A = Option Request} None (request_in words) = c.in-None.ensures ∙ sym named in
+    let bad : false ≡ true = ap is_some is_none ∙ known in
+    cc
 
-pub returns : goal.returns
-returns c =
+pub returns-clause-faults : goal.returns-clause-faults
+returns-clause-faults c =
     let words = map string_bytes c.args.words.now in
     let program_is : app_of c.in_ok-program.program ≡ command_line = c.in_ok-program.ensures in
-    let none : fault_of (app_of c.in_ok-program.program) words ≡ [] = c.in_ok-matches.ensures.kinds (ap is_simple_and_free program_is) in
-    ap (λ (a : App). fault_of a words) (sym program_is) ∙ none
+    ap (λ (a : App). fault_of a words) (sym program_is) ∙ c.in_ok-matches.ensures.kinds (ap is_simple_and_free program_is)

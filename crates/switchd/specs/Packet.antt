@@ -1,0 +1,23 @@
+-- The packet of `run`, as hexadecimal digits (docs/COMMANDS.md, "run").
+use Rattle.std.specs.Prelude.{◌≡◌, ◌<◌, ◌≤◌, ◌%◌, ◌*◌, List, Ok, length, ℕ}
+use Rattle.std.specs.List.{AllPass}
+use Rattle.bpf_machine.specs.declared.TheConstants.{MAX_PACKET}
+use Rattle.hex.specs.Hex.{decode_of, is_hex_digit}
+use Rattle.switchd.specs.declared.refusal.Refusal.{Refusal}
+use Rattle.switchd.specs.declared.refusal.Refusal.TheVariants.{BadHex, PacketTooLong}
+
+-- an even number of hexadecimal digits of either case, possibly none
+pub record IsHex (text : List ℕ) : Type 0 where
+  pub even : length text % 2 ≡ 0
+  pub digits : AllPass is_hex_digit text
+
+-- the digits write these bytes, two a byte, the high four bits first, of which there are no more than a packet may have
+pub record SpellsPacket (text packet : List ℕ) : Type 0 where
+  pub spells : decode_of text ≡ Ok packet
+  pub not_too_long : length packet ≤ MAX_PACKET
+
+-- why no packet is read from a text
+abbrev pub IsRefusalOfHex : List ℕ → Refusal → Type 0
+IsRefusalOfHex text BadHex = IsHex text → ⊥
+IsRefusalOfHex text PacketTooLong = IsHex text × (2 * MAX_PACKET < length text)
+IsRefusalOfHex text _ = ⊥

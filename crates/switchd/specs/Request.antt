@@ -1,0 +1,81 @@
+-- What a command makes of its arguments and its input: a result, or why there is none (docs/COMMANDS.md).
+use Rattle.std.specs.Prelude.{◌≡◌, ◌++◌, ◌⊎◌, List, Option, Some, codes, ℕ}
+use Rattle.std.specs.Io.KnownBytes.{Appends}
+use Rattle.clap.specs.Words.{Text}
+use Rattle.switchd.specs.declared.answer.Answer.{Answer}
+use Rattle.switchd.specs.declared.answer.Answer.TheVariants.{Versions}
+use Rattle.switchd.specs.declared.ending.Failure.{Failure}
+use Rattle.switchd.specs.declared.ending.Failure.TheVariants.{OutOfMemory, ReadFailed, WriteFailed}
+use Rattle.switchd.specs.declared.ending.Status.{Status}
+use Rattle.switchd.specs.declared.ending.Status.TheVariants.{Done, Refused}
+use Rattle.switchd.specs.declared.refusal.Refusal.{Refusal}
+use Rattle.switchd.specs.declared.refusal.Stop.{Stop}
+use Rattle.switchd.specs.declared.refusal.Stop.TheVariants as stop
+use Rattle.switchd.specs.Answer.{IsCheckAnswer, IsCompileAnswer, IsJudgeAnswer, IsRunAnswer, RefusesExpression, RefusesProgram, answer_text}
+use Rattle.switchd.specs.CommandLine.{Request, check, compile, first, judge, request_in, run}
+use Rattle.switchd.specs.FirstPath.{first_text}
+use Rattle.switchd.specs.Input.{IsInput}
+use Rattle.switchd.specs.Packet.{IsRefusalOfHex, SpellsPacket}
+use Rattle.switchd.specs.Refusal.{refusal_text}
+
+-- the two lines of the first path
+abbrev pub IsFirstAnswer : Answer → Type 0
+IsFirstAnswer (Versions at_first at_second) = answer_text (Versions at_first at_second) ≡ first_text
+IsFirstAnswer _ = ⊥
+
+-- the result of a command, where its input has these bytes
+abbrev pub IsResult : Request → List ℕ → Answer → Type 0
+IsResult first input answer = IsFirstAnswer answer
+IsResult check input answer = IsCheckAnswer input answer
+IsResult (compile expression) input answer = IsCompileAnswer expression answer
+IsResult (run digits) input answer = (packet : List ℕ) × SpellsPacket digits packet × IsRunAnswer packet input answer
+IsResult (judge digits expression) input answer = (packet : List ℕ) × SpellsPacket digits packet × IsJudgeAnswer packet expression answer
+
+-- why it has none; the packet is looked at before the program or the expression
+abbrev pub IsRefusal : Request → List ℕ → Refusal → Type 0
+IsRefusal first input refusal = ⊥
+IsRefusal check input refusal = RefusesProgram input refusal
+IsRefusal (compile expression) input refusal = RefusesExpression expression refusal
+IsRefusal (run digits) input refusal =
+    IsRefusalOfHex digits refusal ⊎ ((packet : List ℕ) × SpellsPacket digits packet × RefusesProgram input refusal)
+IsRefusal (judge digits expression) input refusal =
+    IsRefusalOfHex digits refusal ⊎ ((packet : List ℕ) × SpellsPacket digits packet × RefusesExpression expression refusal)
+
+-- the input is read by `check`, and by `run` without an expression where the packet is good
+abbrev pub ReadsInput : Request → Type 0
+ReadsInput check = Unit {0}
+ReadsInput (run digits) = (packet : List ℕ) × SpellsPacket digits packet
+ReadsInput _ = ⊥
+
+-- a failure before anything is written: the input could not be read, or memory was refused
+abbrev pub IsFailureOf : Request → Failure → Type 0
+IsFailureOf request ReadFailed = ReadsInput request
+IsFailureOf request WriteFailed = ⊥
+IsFailureOf request OutOfMemory = Unit {0}
+
+-- the same of an input of which the bytes may be known
+
+abbrev pub IsResultOf : Request → Option (List ℕ) → Answer → Type 0
+IsResultOf request known answer = (input : List ℕ) × IsInput known input × IsResult request input answer
+
+abbrev pub IsRefusalOf : Request → Option (List ℕ) → Refusal → Type 0
+IsRefusalOf request known refusal = (input : List ℕ) × IsInput known input × IsRefusal request input refusal
+
+abbrev pub IsStopOf : Request → Option (List ℕ) → Stop → Type 0
+IsStopOf request known (stop.Refused refusal) = IsRefusalOf request known refusal
+IsStopOf request known (stop.Failed failure) = IsFailureOf request failure
+
+-- the text that is written with a status: that of the result, or the line of the refusal
+abbrev pub IsAnswerText : Request → Option (List ℕ) → Status → List ℕ → Type 0
+IsAnswerText request known Done text = (answer : Answer) × IsResultOf request known answer × (text ≡ answer_text answer)
+IsAnswerText request known Refused text = (refusal : Refusal) × IsRefusalOf request known refusal × (text ≡ refusal_text refusal ++ codes "\n")
+IsAnswerText request known _ text = ⊥
+
+-- the command's text was written behind what stood before, and nothing else
+abbrev pub WritesAnswer : Request → Option (List ℕ) → Status → Option (List ℕ) → Option (List ℕ) → Type 0
+WritesAnswer request known status before after = (text : List ℕ) × IsAnswerText request known status text × Appends before after text
+
+-- the same of the command that the words name
+abbrev pub WritesAnswerTo : List Text → Option (List ℕ) → Status → Option (List ℕ) → Option (List ℕ) → Type 0
+WritesAnswerTo words known status before after =
+    (request : Request) × (request_in words ≡ Some request) × WritesAnswer request known status before after

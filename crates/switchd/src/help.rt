@@ -1,0 +1,73 @@
+//! What `--help` says: what each command reads, what it prints, how it ends, and an example.
+
+pub const PROGRAM: &str =
+    "A datagram switch whose classic BPF programs are replaced while traffic flows";
+
+pub const STATUSES: &str = "\
+Results go to standard output. Exit status:
+  0  done
+  1  refused: one line `refused CODE` or `refused CODE NUMBER` on standard output
+  2  wrong arguments: a message on standard error
+  3  failed: one line on standard error, `failed E1` where standard input could not be read,
+     `failed E2` where results could not be written, `failed E3` where memory ran out
+
+`dswitch help COMMAND` says what a command reads and prints, and gives an example.";
+
+pub const FIRST: &str = "Run one program on a packet, replace it, and run the next one";
+
+pub const FIRST_MORE: &str = "\
+Reads nothing. Prints one line for each of two versions, `version N value V steps S kept B`:
+the program of version N ended with V after S instructions and keeps B bytes of the packet.
+
+Example:
+  $ dswitch first
+  version 0 value 65535 steps 3 kept 29
+  version 1 value 0 steps 1 kept 0";
+
+pub const CHECK: &str = "Check a BPF program in assembly text";
+
+pub const CHECK_MORE: &str = "\
+Reads assembly text from standard input; a line feed or `;` ends a line. Prints `accepted N`
+for a program of N instructions, with status 0. Else prints `refused CODE NUMBER`, with status 1:
+  A1 to A5, and the line counted from 1, where the text is no assembly
+  V1 to V11 where its instructions are no program, and the place of the instruction at fault,
+  counted from 0 (V1, V2 and V10, which speak of the whole program, have no number)
+
+Example:
+  $ echo 'ldb [9]; jeq #17,0,1; ret #65535; ret #0' | dswitch check
+  accepted 4";
+
+pub const COMPILE: &str = "Compile a filter expression to a BPF program";
+
+pub const COMPILE_EXPRESSION: &str = "The filter expression, as one argument";
+
+pub const COMPILE_MORE: &str = "\
+Reads no input. Prints `charge C`, the most instructions that such an expression comes to, and
+then the program as assembly text, which `check` and `run` read. Else prints, with status 1:
+  refused P1 PLACE to refused P5 PLACE, the byte counted from 0 where it is no expression
+  refused F1 where it needs more than 16 scratch cells, refused F2 where C would be above 4096
+
+Example:
+  $ dswitch compile 'less 28'
+  charge 6
+  ...";
+
+pub const RUN: &str = "Run a BPF program or a filter expression on a packet";
+
+pub const RUN_PACKET: &str =
+    "The packet from the IPv4 header on: two hexadecimal digits a byte, at most 65535 bytes";
+
+pub const RUN_EXPRESSION: &str = "Tests this filter expression, and reads no program";
+
+pub const RUN_MORE: &str = "\
+Without --expr it reads assembly text from standard input and prints `value V steps S kept B`:
+the program ended with V after S instructions and keeps B bytes, the lesser of V and the packet's
+length. With --expr it prints `accept` or `reject`. Else prints, with status 1:
+  refused C1 where HEX is no even number of digits, refused C3 where it is too long
+  the codes of `check` for the program, those of `compile` for the expression
+
+Examples:
+  $ echo 'ld len; ret a' | dswitch run --packet 45000014
+  value 4 steps 2 kept 4
+  $ dswitch run --packet 45000014 --expr 'ip and less 28'
+  accept";
