@@ -1,5 +1,6 @@
 mod CommandLineLemmas
 mod StandardFacts
+mod EndingLemmas
 mod PacketLemmas
 mod RequestLemmas
 mod StopLemmas

@@ -1,5 +1,6 @@
 -- Exit statuses, and the lines of failures (docs/COMMANDS.md, "Statuses").
-use Rattle.std.specs.Prelude.{◌≡◌, List, codes, ℕ}
+use Rattle.std.specs.Prelude.{◌≡◌, ◌++◌, List, Option, codes, ℕ}
+use Rattle.std.specs.Io.KnownBytes.{Appends}
 use Rattle.switchd.specs.declared.ending.Failure.{Failure}
 use Rattle.switchd.specs.declared.ending.Failure.TheVariants.{OutOfMemory, ReadFailed, WriteFailed}
 use Rattle.switchd.specs.declared.ending.Status.{Status}
@@ -18,3 +19,7 @@ abbrev pub line_of : Failure → List ℕ
 line_of ReadFailed = codes "failed E1\n"
 line_of WriteFailed = codes "failed E2\n"
 line_of OutOfMemory = codes "failed E3\n"
+
+-- a beginning of the text was appended, the whole where the writer took it
+abbrev pub AppendsBeginning : Option (List ℕ) → Option (List ℕ) → List ℕ → Type 0
+AppendsBeginning before after text = (told left : List ℕ) × Appends before after told × (text ≡ told ++ left)

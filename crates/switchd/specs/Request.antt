@@ -13,6 +13,7 @@ use Rattle.switchd.specs.declared.refusal.Stop.{Stop}
 use Rattle.switchd.specs.declared.refusal.Stop.TheVariants as stop
 use Rattle.switchd.specs.Answer.{IsCheckAnswer, IsCompileAnswer, IsJudgeAnswer, IsRunAnswer, RefusesExpression, RefusesProgram, answer_text}
 use Rattle.switchd.specs.CommandLine.{Request, check, compile, first, judge, request_in, run}
+use Rattle.switchd.specs.Ending.{AppendsBeginning, line_of}
 use Rattle.switchd.specs.FirstPath.{first_text}
 use Rattle.switchd.specs.Input.{IsInput}
 use Rattle.switchd.specs.Packet.{IsRefusalOfHex, SpellsPacket}
@@ -79,3 +80,11 @@ WritesAnswer request known status before after = (text : List ℕ) × IsAnswerTe
 abbrev pub WritesAnswerTo : List Text → Option (List ℕ) → Status → Option (List ℕ) → Option (List ℕ) → Type 0
 WritesAnswerTo words known status before after =
     (request : Request) × (request_in words ≡ Some request) × WritesAnswer request known status before after
+
+-- the words may fail in this way: reading fails only where the command that they name reads
+abbrev pub MayFailBy : List Text → Failure → Type 0
+MayFailBy words failure = failure ≡ ReadFailed → (request : Request) × (request_in words ≡ Some request) × ReadsInput request
+
+-- of the line of such a failure a beginning was told, the whole where it could be written
+abbrev pub TellsFailure : List Text → Option (List ℕ) → Option (List ℕ) → Type 0
+TellsFailure words before after = (failure : Failure) × MayFailBy words failure × AppendsBeginning before after (line_of failure)

@@ -1,11 +1,11 @@
 //! How a run of the program ends: its exit status, and why a command failed (docs/COMMANDS.md, "Statuses").
 
 ghost use Rattle.std.specs.Prelude.{◌≡◌};
-ghost use Rattle.switchd.specs.Ending.{line_of};
+ghost use Rattle.switchd.specs.Ending.{AppendsBeginning, line_of};
 ghost use Rattle.switchd.specs.declared.ending.Failure.TheVariants.{OutOfMemory};
 
 use std::alloc::AllocError;
-use std::io::Write;
+use std::io::{ErrorKind, Write};
 
 /// The exit status.
 #[derive(Clone, Copy, Debug, PartialEq, Eq)]
@@ -41,11 +41,27 @@ impl Failure {
 
     /// Writes the line `failed CODE`. An error of `errs` changes nothing.
     pub fn report<E: Write>(self, errs: &mut E) -> Status
-        ensures { result ≡ Status.Failed }
+        ensures failed { result ≡ Status.Failed }
+        ensures told { AppendsBeginning (E.contents errs.old) (E.contents errs.new) (line_of self) }
     {
-        let _ = errs.write_all(self.line().as_bytes());
+        write_what_fits(self.line().as_bytes(), errs);
         let _ = errs.flush();
         Status::Failed
+    }
+}
+
+// `write_all`, of which it is known how much was written where the writer fails.
+fn write_what_fits<W: Write>(bytes: &[u8], out: &mut W)
+    ensures { AppendsBeginning (W.contents out.old) (W.contents out.new) bytes.now }
+{
+    let mut rest = bytes;
+    'writing: for _ in 0..u64::MAX {
+        match out.write(rest) {
+            Ok(0) => break,
+            Ok(count) => rest = rest.split_at(count).1,
+            Err(error) if error.kind() == ErrorKind::Interrupted => {}
+            Err(_) => break,
+        }
     }
 }
 

@@ -7,7 +7,7 @@ ghost use Rattle.switchd.specs.Answer.{answer_text};
 ghost use Rattle.switchd.specs.CommandLine.{AsksForText, HasMisuse, faults_in, request_of};
 ghost use Rattle.switchd.specs.Ending.{IsStatus, code_of};
 ghost use Rattle.switchd.specs.Refusal.{refusal_text};
-ghost use Rattle.switchd.specs.Request.{IsFailureOf, IsResultOf, IsStopOf, WritesAnswer, WritesAnswerTo};
+ghost use Rattle.switchd.specs.Request.{IsResultOf, IsStopOf, MayFailBy, ReadsInput, TellsFailure, WritesAnswer, WritesAnswerTo};
 
 use crate::answer::Answer;
 use crate::command::{Subcommand, read_words};
@@ -45,6 +45,10 @@ pub fn tool<R: Read + Drop, W: Write, E: Write>(
 
     ensures misused { result ≡ Some (code_of Status.Misused) → HasMisuse (faults_in (map string_bytes words.now)) }
     ensures nothing_written { result ≡ Some (code_of Status.Misused) → out.new ≡ out.old }
+
+    ensures failed { result ≡ Some (code_of Status.Failed)
+        → TellsFailure (map string_bytes words.now) (E.contents errs.old) (E.contents errs.new) }
+    ensures no_errors { (result ≡ Some (code_of Status.Done)) ⊎ (result ≡ Some (code_of Status.Refused)) → errs.new ≡ errs.old }
 {
     let status = match run_words(alloc, words, input, out, errs) {
         Ok(status) => status,
@@ -72,6 +76,9 @@ fn run_words<R: Read + Drop, W: Write, E: Write>(
     ensures misused { result ≡ Ok Status.Misused → HasMisuse (faults_in (map string_bytes words.now)) }
     ensures nothing_written { result ≡ Ok Status.Misused → out.new ≡ out.old }
     ensures never_failed { result ≡ Ok Status.Failed → ⊥ }
+
+    ensures failed { IfErr result (λ failure. MayFailBy (map string_bytes words.now) failure × (errs.new ≡ errs.old)) }
+    ensures no_errors { (result ≡ Ok Status.Done) ⊎ (result ≡ Ok Status.Refused) → errs.new ≡ errs.old }
 {
     match read_words(alloc, words) {
         Ok(command) => run_subcommand(alloc, command, input, out),
@@ -85,6 +92,7 @@ fn run_subcommand<R: Read + Drop, W: Write>(
     input: R,
     out: &mut W,
 ) -> Result<Status, Failure>
+    ensures failed { IfErr result (λ failure. failure ≡ Failure.ReadFailed → ReadsInput (request_of command.entry)) }
     ensures answered { IfOk result (λ status. WritesAnswer (request_of command.entry) (R.remaining input) status (W.contents out.old) (W.contents out.new)) }
 {
     match find_answer(alloc, command, input) {
@@ -121,6 +129,7 @@ fn find_answer<R: Read + Drop>(
 }
 
 fn write_answer<W: Write>(found: &Answer, out: &mut W) -> Result<Status, Failure>
+    ensures failed { IfErr result (λ failure. failure ≡ Failure.WriteFailed) }
     ensures done { IfOk result (λ status. status ≡ Status.Done) }
     ensures written { OnOk result (Appends (W.contents out.old) (W.contents out.new) (answer_text found.now)) }
 {
@@ -130,6 +139,7 @@ fn write_answer<W: Write>(found: &Answer, out: &mut W) -> Result<Status, Failure
 }
 
 fn write_refusal<W: Write>(refusal: &Refusal, out: &mut W) -> Result<Status, Failure>
+    ensures failed { IfErr result (λ failure. failure ≡ Failure.WriteFailed) }
     ensures refused { IfOk result (λ status. status ≡ Status.Refused) }
     ensures written { OnOk result (Appends (W.contents out.old) (W.contents out.new) (refusal_text refusal.now ++ codes "\n")) }
 {
@@ -149,6 +159,8 @@ fn answer<W: Write, E: Write>(
     ensures misused { result ≡ Ok Status.Misused
         → (kind_of fault.now ≢ ErrorKind.DisplayHelp) × (kind_of fault.now ≢ ErrorKind.DisplayVersion) }
     ensures done_or_misused { IfOk result (λ status. (status ≡ Status.Done) ⊎ (status ≡ Status.Misused)) }
+    ensures failed { IfErr result (λ failure. (failure ≢ Failure.ReadFailed) × (errs.new ≡ errs.old)) }
+    ensures no_errors { result ≡ Ok Status.Done → errs.new ≡ errs.old }
     ensures nothing_written { result ≡ Ok Status.Misused → out.new ≡ out.old }
     ensures no_memory { kind_of fault.now ≡ ErrorKind.OutOfMemory → result ≡ Err Failure.OutOfMemory }
 {
