@@ -50,7 +50,12 @@ then the program as assembly text, which `check` and `run` read. Else prints, wi
 Example:
   $ dswitch compile 'less 28'
   charge 6
-  ...";
+  ld len
+  jgt #28,0,1
+  ja +2
+  ja +0
+  ret #65535
+  ret #0";
 
 pub const RUN: &str = "Run a BPF program or a filter expression on a packet";
 

@@ -1,5 +1,6 @@
 //! The program's commands over streams in memory.
 
+mod examples;
 mod expressions;
 mod failures;
 mod packets;
