@@ -1,2 +1,4 @@
 pub mod Field
 pub mod Request
+pub mod Reason
+pub mod Reply

@@ -2,6 +2,10 @@
 #![tactic(auto)]
 
 mod field;
+mod reason;
+mod reply;
 mod request;
 
+pub use reason::Reason;
+pub use reply::{Answer, REPLY_LIMIT, Reply};
 pub use request::{ProgramText, Request, read_request};

@@ -1,0 +1,174 @@
+//! Replies: what a line is answered, and its text (docs/COMMANDS.md, "Control lines").
+
+ghost use Rattle.std.specs.Prelude.{◌≡◌, ◌≤◌, ◌<◌, ◌+◌, ◌^◌, ◌++◌, ◌∷◌, [], decimal, length};
+ghost use Rattle.control.specs.Reply.{reply_text};
+ghost use Rattle.control.specs.declared.reply.Answer.TheVariants as answer;
+
+use crate::reason::Reason;
+use read_section::Reclaimed;
+use std::marker::Model;
+
+/// The most bytes of a reply.
+pub const REPLY_LIMIT: usize = 128;
+
+// The most digits of a number of 64 bits.
+const NUMBER_LIMIT: usize = 20;
+
+/// What a line is answered.
+#[derive(Clone, Copy, Debug, PartialEq, Eq)]
+pub enum Answer {
+    /// Nothing was changed.
+    Refused(Reason),
+    /// The new configuration is this version.
+    Published {
+        version: u64,
+    },
+    /// The current configuration's version and measures.
+    Shown {
+        version: u64,
+        groups: usize,
+        members: usize,
+        charge: u64,
+    },
+    /// The versions that may be reused.
+    Swept(Reclaimed),
+}
+
+/// A reply line, without LF.
+#[derive(Drop)]
+pub struct Reply {
+    bytes: [u8; REPLY_LIMIT],
+    len: usize,
+}
+
+impl Model for Reply {
+    ghost use Rattle.std.specs.Prelude.{List, ℕ, ◌≤◌, take};
+    ghost use Rattle.control.specs.declared.reply.TheConstants.{REPLY_LIMIT};
+
+    ghost Value = { List ℕ };
+
+    ghost view = { λ reply. take reply.len reply.bytes };
+
+    ghost invariant = { λ reply. reply.len ≤ REPLY_LIMIT };
+}
+
+impl Reply {
+    /// Lends the line.
+    pub fn bytes(&self) -> &[u8]
+        ensures { result.now ≡ self.now }
+    {
+        &self.bytes[..self.len]
+    }
+
+    fn empty() -> Reply
+        ensures { result ≡ [] }
+    {
+        Reply {
+            bytes: [0; REPLY_LIMIT],
+            len: 0,
+        }
+    }
+
+    fn push(&mut self, text: &str)
+        requires { length self.old + length text.now ≤ REPLY_LIMIT }
+        ensures appended { self.new ≡ self.old ++ text.now }
+        ensures len { length self.new ≡ length self.old + length text.now }
+    {
+        let end = self.len + text.len();
+        self.bytes[self.len..end].copy_from_slice(text.as_bytes());
+        self.len = end;
+    }
+
+    fn push_number(&mut self, number: u64)
+        requires { length self.old + NUMBER_LIMIT ≤ REPLY_LIMIT }
+        ensures appended { self.new ≡ self.old ++ decimal number }
+        ensures len { length self.new ≤ length self.old + NUMBER_LIMIT }
+    {
+        self.push_digits(number);
+    }
+
+    fn push_digits(&mut self, number: u64)
+        requires { length self.old + length (decimal number) ≤ REPLY_LIMIT }
+        ensures { self.new ≡ self.old ++ decimal number }
+    {
+        if number >= 10 {
+            self.push_digits(number / 10);
+        }
+        self.push_digit(b'0' + (number % 10) as u8);
+    }
+
+    fn push_digit(&mut self, digit: u8)
+        requires { length self.old < REPLY_LIMIT }
+        ensures { self.new ≡ self.old ++ digit ∷ [] }
+    {
+        self.bytes[self.len] = digit;
+        self.len += 1;
+    }
+}
+
+impl Reply {
+    fn refused(reason: Reason) -> Reply
+        ensures { result ≡ reply_text (answer.Refused reason) }
+    {
+        let code = reason.code();
+        let mut reply = Reply::empty();
+        reply.push("refused ");
+        reply.push(code.name);
+        if let Some(number) = code.number {
+            reply.push(" ");
+            reply.push_number(number as u64);
+        }
+        reply
+    }
+
+    fn published(version: u64) -> Reply
+        ensures { result ≡ reply_text (answer.Published version) }
+    {
+        let mut reply = Reply::empty();
+        reply.push("ok version ");
+        reply.push_number(version);
+        reply
+    }
+
+    fn shown(version: u64, groups: usize, members: usize, charge: u64) -> Reply
+        ensures { result ≡ reply_text (answer.Shown version groups members charge) }
+    {
+        let mut reply = Reply::empty();
+        reply.push("version ");
+        reply.push_number(version);
+        reply.push(" groups ");
+        reply.push_number(groups as u64);
+        reply.push(" members ");
+        reply.push_number(members as u64);
+        reply.push(" charge ");
+        reply.push_number(charge);
+        reply
+    }
+
+    fn swept(reclaimed: Reclaimed) -> Reply
+        ensures { result ≡ reply_text (answer.Swept reclaimed) }
+    {
+        let mut reply = Reply::empty();
+        reply.push("reclaimed ");
+        reply.push_number(reclaimed.first);
+        reply.push(" ");
+        reply.push_number(reclaimed.count);
+        reply
+    }
+
+    pub(crate) fn of(answer: Answer) -> Reply
+        ensures { result ≡ reply_text answer }
+    {
+        match answer {
+            Answer::Refused(reason) => Reply::refused(reason),
+            Answer::Published { version } => Reply::published(version),
+            Answer::Shown {
+                version,
+                groups,
+                members,
+                charge,
+            } => Reply::shown(version, groups, members, charge),
+            Answer::Swept(reclaimed) => Reply::swept(reclaimed),
+        }
+    }
+}
