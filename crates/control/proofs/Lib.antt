@@ -1,2 +1,4 @@
 pub mod FieldLemmas
 pub mod RequestLemmas
+pub mod ProgramLemmas
+pub mod OverLemmas

@@ -2,6 +2,7 @@
 #![tactic(auto)]
 
 mod field;
+mod program;
 mod reason;
 mod reply;
 mod request;
@@ -9,3 +10,6 @@ mod request;
 pub use reason::Reason;
 pub use reply::{Answer, REPLY_LIMIT, Reply};
 pub use request::{ProgramText, Request, read_request};
+
+/// The most bytes of a control line.
+pub const LINE_LIMIT: usize = 262_144;
