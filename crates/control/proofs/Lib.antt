@@ -2,3 +2,4 @@ pub mod FieldLemmas
 pub mod RequestLemmas
 pub mod ProgramLemmas
 pub mod OverLemmas
+pub mod ChangeLemmas

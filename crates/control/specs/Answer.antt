@@ -64,9 +64,9 @@ pub data Changes (version : ℕ) (config : TextConfig) (command : Command Source
       Changes version config command (Refused (Publishing TooBig)) config
   exhausted : (next : TextConfig) → LeadsTo config command next → charge_of_text next ≤ CHARGE_LIMIT → version ≡ LAST_NUMBER →
       Changes version config command (Refused (Publishing Exhausted)) config
-  busy : (next : TextConfig) → LeadsTo config command next → charge_of_text next ≤ CHARGE_LIMIT → version < LAST_NUMBER →
+  busy : (next : TextConfig) → LeadsTo config command next → charge_of_text next ≤ CHARGE_LIMIT → ¬ (version ≡ LAST_NUMBER) →
       Changes version config command (Refused (Publishing Busy)) config
-  published : (next : TextConfig) → LeadsTo config command next → charge_of_text next ≤ CHARGE_LIMIT → version < LAST_NUMBER →
+  published : (next : TextConfig) → LeadsTo config command next → charge_of_text next ≤ CHARGE_LIMIT → ¬ (version ≡ LAST_NUMBER) →
       Changes version config command (Published (version + 1)) next
 
 -- The same of a line. Whether a change is refused as busy, and what a sweep reclaims, is the operator's to say.
@@ -91,6 +91,13 @@ Does (Published version) before after = (config : List Group) × Publishes befor
 Does (Shown version groups members charge) before after = after ≡ before
 Does (Swept reclaimed) before after = Sweeps before after reclaimed.first reclaimed.count
 
+-- nothing is published, and the current version stays
+pub record KeepsVersions (before after : OperatorValue) : Type 0 where
+  pub table : after.table ≡ before.table
+  pub published : after.view.published ≡ before.view.published
+  pub version_rows : after.view.version_rows ≡ before.view.version_rows
+  pub number : number_after after.view.log ≡ number_after before.view.log
+
 -- the reply is the text's, for a configuration that agrees with the operator's
 abbrev pub IsReplyTo : TextConfig → List ℕ → OperatorValue → OperatorValue → List ℕ → Type 0
 IsReplyTo config line before after reply =
@@ -100,3 +107,7 @@ IsReplyTo config line before after reply =
 abbrev pub LeavesConfig : TextConfig → List ℕ → OperatorValue → OperatorValue → List ℕ → Type 0
 LeavesConfig config line before after reply =
     (answer : Answer) × (next : TextConfig) × Answers (number_after before.view.log) config line answer next × (reply ≡ reply_text answer) × AgreesNow next after.view
+
+-- a reply that refuses
+abbrev pub IsRefusal : List ℕ → Type 0
+IsRefusal reply = (rest : List ℕ) × (reply ≡ codes "refused " ++ rest)

@@ -5,3 +5,4 @@ pub mod Reply
 pub mod Program
 pub mod Agrees
 pub mod Answer
+pub mod Making

@@ -13,8 +13,6 @@ use Rattle.filter_parse.specs.Fault.{HasFault, HasTree}
 use Rattle.filter_tree.specs.Measure.{cells_of, size_of}
 use Rattle.filter_tree.specs.Tree.{Tree}
 use Rattle.filter_tree.specs.Truth.{truth_of}
-use Rattle.control.specs.declared.program.Failure.{Failure}
-use Rattle.control.specs.declared.program.Failure.TheVariants.{OutOfMemory, Refused}
 use Rattle.control.specs.declared.reason.Reason.{Reason}
 use Rattle.control.specs.declared.reason.Reason.TheVariants.{Assembly, BadLine, Command, Compiling, Expression, LineTooLong, Publishing, Words}
 use Rattle.control.specs.Request.{Source, assembly, expression}
@@ -64,12 +62,3 @@ pub record Agreeing : Type 0 where
   pub program : ProgramValue
   pub charge : program.charge ≡ text_charge text
   pub ending : (packet : List ℕ) → IsPacket packet → ending_of program.words packet ≡ text_ending text packet
-
--- this program agrees with one that the text is
-abbrev pub IsMade : Source → ProgramValue → Type 0
-IsMade source program = (both : Agreeing) × IsProgramOf source both.text × (program ≡ both.program)
-
--- a text is refused for what is wrong with it; want of memory may come in its place
-abbrev pub IsFailureOf : Source → Failure → Type 0
-IsFailureOf source (Refused reason) = IsFaultOfSource source reason
-IsFailureOf source OutOfMemory = Unit {0}

@@ -1,6 +1,7 @@
 //! Control lines: one line of text in, one reply out (docs/COMMANDS.md, "Control lines").
 #![tactic(auto)]
 
+mod change;
 mod field;
 mod program;
 mod reason;

@@ -1,8 +1,8 @@
-//! Programs made of the texts of control lines.
+//! Programs and commands made of the texts of control lines.
 
 ghost use Rattle.std.specs.Prelude.{◌≡◌, MatchResult};
-ghost use Rattle.control.specs.Program.{IsFailureOf, IsMade};
-ghost use Rattle.control.specs.Request.{assembly, expression, source_of};
+ghost use Rattle.control.specs.Making.{IsFailureOf, IsFailureOfCommand, IsMade, IsMadeCommand};
+ghost use Rattle.control.specs.Request.{assembly, command_over, expression, source_of};
 ghost use Rattle.control.specs.declared.program.Failure.TheVariants.{OutOfMemory};
 
 use crate::reason::Reason;
@@ -11,6 +11,7 @@ use bpf_asm::{AsmFault, assemble};
 use bpf_verify::Program;
 use filter_compile::{CompileFault, compile};
 use filter_parse::{ParseFault, parse};
+use member_group::Command;
 use std::alloc::{AllocError, Global};
 
 /// Why nothing came of a line.
@@ -57,12 +58,41 @@ fn compiled(alloc: Global, text: &[u8]) -> Result<Program<Global>, Failure>
     }
 }
 
-/// Makes the program of a text, in the memory of `alloc`.
-pub(crate) fn program_of(alloc: Global, text: ProgramText<'_>) -> Result<Program<Global>, Failure>
+fn program_of(alloc: Global, text: ProgramText<'_>) -> Result<Program<Global>, Failure>
     ensures { MatchResult result (IsMade (source_of text.entry)) (IsFailureOf (source_of text.entry)) }
 {
     match text {
         ProgramText::Assembly(text) => assembled(alloc, text),
         ProgramText::Expression(text) => compiled(alloc, text),
+    }
+}
+
+/// Makes the command of a line, with its program in the memory of `alloc`.
+pub(crate) fn command_of(
+    alloc: Global,
+    command: Command<ProgramText<'_>>,
+) -> Result<Command, Failure>
+    ensures { MatchResult result (IsMadeCommand (command_over source_of command.entry)) (IsFailureOfCommand (command_over source_of command.entry)) }
+{
+    match command {
+        Command::AddGroup { key } => Ok(Command::AddGroup { key }),
+        Command::RemoveGroup { key } => Ok(Command::RemoveGroup { key }),
+        Command::Join { key, member, to } => Ok(Command::Join { key, member, to }),
+        Command::Leave { key, member } => Ok(Command::Leave { key, member }),
+        Command::SetSelector { key, program } => Ok(Command::SetSelector {
+            key,
+            program: program_of(alloc, program)?,
+        }),
+        Command::ClearSelector { key } => Ok(Command::ClearSelector { key }),
+        Command::SetFilter {
+            key,
+            member,
+            program,
+        } => Ok(Command::SetFilter {
+            key,
+            member,
+            program: program_of(alloc, program)?,
+        }),
+        Command::ClearFilter { key, member } => Ok(Command::ClearFilter { key, member }),
     }
 }
