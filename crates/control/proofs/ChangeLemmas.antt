@@ -51,6 +51,14 @@ pub agrees_with : (config : TextConfig) (view : OperatorView (List Group)) (real
 agrees_with config view real (older, is) (current, (others, also), agrees) =
     subst (Agrees config) (same_from_push others older current real (sym also ∙ is)).1 agrees
 
+-- they are charged alike
+pub charged_alike : (config : TextConfig) (next : List Group) → Agrees config next → charge_of next ≡ charge_of_text config
+charged_alike config next (pairs, text_is, real_is) =
+    ap charge_of real_is
+    ∙ charge_by-over (λ b. b.program) (λ program. program.charge) (λ b. text_charge b.text) (λ b. b.charge) pairs
+    ∙ sym (charge_by-over (λ b. b.text) text_charge (λ b. text_charge b.text) (λ b. refl) pairs)
+    ∙ ap charge_of_text (sym text_is)
+
 -- ---- changes
 
 module _ (before : OperatorValue) (command : Command Source) (real : List Group) (current : IsCurrent before.view real) (both : Command Agreeing) (means : Means command (command_over (λ b. b.text) both)) where
@@ -69,13 +77,6 @@ module _ (before : OperatorValue) (command : Command Source) (real : List Group)
     ap (after_command (command_over (λ b. b.text) both)) text_is ∙ after-over (λ b. b.text) both pairs,
     ap (after_command (command_over (λ b. b.program) both)) real_is ∙ after-over (λ b. b.program) both pairs,
   )
-
-  charged_alike : (config : TextConfig) (next : List Group) → Agrees config next → charge_of next ≡ charge_of_text config
-  charged_alike config next (pairs, text_is, real_is) =
-      ap charge_of real_is
-      ∙ charge_by-over (λ b. b.program) (λ program. program.charge) (λ b. text_charge b.text) (λ b. b.charge) pairs
-      ∙ sym (charge_by-over (λ b. b.text) text_charge (λ b. text_charge b.text) (λ b. refl) pairs)
-      ∙ ap charge_of_text (sym text_is)
 
   pub refused_change : (refusal : Refusal) → first_refusal (command_over (λ b. b.program) both) real ≡ Some refusal → IsChanged command before before (Refused (reason.Command refusal))
   refused_change refusal first = record {

@@ -3,3 +3,4 @@ pub mod RequestLemmas
 pub mod ProgramLemmas
 pub mod OverLemmas
 pub mod ChangeLemmas
+pub mod LineLemmas

@@ -14,7 +14,7 @@ use Rattle.control.proofs.FieldLemmas.{has_separator, lacks-append, lacks-cons, 
 -- ---- no space in a word or an endpoint
 
 -- texts that differ in a byte
-differ : (k : ℕ) {xs ys : List ℕ} → xs ≡ ys → (get_or xs k 0 == get_or ys k 0) ≡ false → ⊥
+pub differ : (k : ℕ) {xs ys : List ℕ} → xs ≡ ys → (get_or xs k 0 == get_or ys k 0) ≡ false → ⊥
 differ k {xs} {ys} same apart = false≢true (sym apart ∙ eq-eqb (get_or xs k 0) (get_or ys k 0) (ap (λ text. get_or text k 0) same))
 
 lacks-test : (s : ℕ) (text : List ℕ) → list_all (λ b. not (b == s)) text ≡ true → Lacks s text

@@ -1,13 +1,15 @@
 -- What the steps of answering a line leave: a program, a command, the next configuration, an answer.
-use Rattle.std.specs.Prelude.{◌≡◌, Err, List, None, Ok, Option, Result, Some, ℕ}
+use Rattle.std.specs.Prelude.{◌≡◌, Err, List, None, Ok, Option, Result, Some, length, ℕ}
 use Rattle.bpf_verify.specs.Program.{ProgramValue}
 use Rattle.config_image.specs.Image.{Group}
+use Rattle.member_group.specs.Charge.{charge_of, members_of}
 use Rattle.member_group.specs.Command.{after}
 use Rattle.member_group.specs.Refusal.{first_refusal}
 use Rattle.member_group.specs.declared.command.Command.{Command}
 use Rattle.member_group.specs.declared.refusal.Refusal.{Refusal}
 use Rattle.versions.specs.Free.{number_after}
-use Rattle.read_section.specs.Operator.{OperatorValue}
+use Rattle.versions.specs.declared.view.OperatorView.{OperatorView}
+use Rattle.read_section.specs.Operator.{IsCurrent, OperatorValue}
 use Rattle.control.specs.declared.program.Failure.{Failure}
 use Rattle.control.specs.declared.program.Failure.TheVariants.{OutOfMemory, Refused}
 use Rattle.control.specs.declared.reason.Reason.{Reason}
@@ -57,6 +59,11 @@ pub record IsAnswered (line : List ℕ) (before after : OperatorValue) (answer :
   pub steps : Does answer before after
   pub text : (config : TextConfig) → AgreesNow config before.view →
       (next : TextConfig) × Answers (number_after before.view.log) config line answer next × AgreesNow next after.view
+
+-- the version and the measures of the configuration that was published last
+abbrev pub IsShown : OperatorView (List Group) → Answer → Type 0
+IsShown view given =
+    (config : List Group) × IsCurrent view config × (given ≡ answer.Shown (number_after view.log) (length config) (members_of config) (charge_of config))
 
 -- an answer, or a refusal as one, or want of memory with nothing done
 abbrev pub IsOutcome : (OperatorValue → OperatorValue → Answer → Type 0) → OperatorValue → OperatorValue → Result Answer Failure → Type 0

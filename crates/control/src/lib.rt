@@ -1,5 +1,13 @@
 //! Control lines: one line of text in, one reply out (docs/COMMANDS.md, "Control lines").
+//!
+//! A line changes the configuration and publishes the next version of it, or tells of the current one, or sweeps. Its text is
+//! read, its programs are made and all memory is taken before the operator does anything.
 #![tactic(auto)]
+
+ghost use Rattle.std.specs.Prelude.{◌≡◌, IfOk, OnErr};
+ghost use Rattle.control.specs.Agrees.{AgreesNow, TextConfig};
+ghost use Rattle.control.specs.Answer.{IsRefusal, IsReplyTo, KeepsVersions, LeavesConfig};
+ghost use Rattle.control.specs.Making.{IsAnswered, IsOutcome, IsShown};
 
 mod change;
 mod field;
@@ -8,9 +16,62 @@ mod reason;
 mod reply;
 mod request;
 
-pub use reason::Reason;
-pub use reply::{Answer, REPLY_LIMIT, Reply};
-pub use request::{ProgramText, Request, read_request};
+use change::publish_change;
+use program::Failure;
+use read_section::Operator;
+use reason::Reason;
+use reply::Answer;
+pub use reply::{REPLY_LIMIT, Reply};
+use request::{Request, read_request};
+use retire::Retire;
+use std::alloc::{AllocError, Global};
+
+/// The answer of a call that was refused memory.
+pub use std::alloc::AllocError as OutOfMemory;
 
 /// The most bytes of a control line.
 pub const LINE_LIMIT: usize = 262_144;
+
+fn shown(operator: &Operator) -> Answer
+    ensures { IsShown operator.now.view result }
+{
+    let config = operator.config();
+    Answer::Shown {
+        version: operator.number(),
+        groups: config.groups().len(),
+        members: config.members(),
+        charge: config.charge(),
+    }
+}
+
+fn answer(alloc: Global, text: &[u8], operator: &mut Operator) -> Result<Answer, Failure>
+    ensures { IsOutcome (IsAnswered text.now) operator.old operator.new result }
+{
+    if text.len() > LINE_LIMIT {
+        return Err(Failure::Refused(Reason::LineTooLong));
+    }
+    match read_request(text) {
+        None => Err(Failure::Refused(Reason::BadLine)),
+        Some(Request::Change(command)) => publish_change(alloc, command, operator),
+        Some(Request::Show) => Ok(shown(operator)),
+        Some(Request::Sweep) => Ok(Answer::Swept(operator.sweep())),
+    }
+}
+
+/// Answers a control line, which stands in `text` without its LF, and does what it asks for.
+///
+/// A line that is too long is refused first, then one that is none of the table, then a program's text, then the command, then
+/// the publication. A refusal changes nothing. The text may be any bytes.
+pub fn line(alloc: Global, text: &[u8], operator: &mut Operator) -> Result<Reply, OutOfMemory>
+    ensures reply { IfOk result (λ reply. (config : TextConfig) → AgreesNow config operator.old.view → IsReplyTo config text.now operator.old operator.new reply) }
+    ensures new_configuration { IfOk result (λ reply. (config : TextConfig) → AgreesNow config operator.old.view → LeavesConfig config text.now operator.old operator.new reply) }
+
+    ensures kept { IfOk result (λ reply. IsRefusal reply → KeepsVersions operator.old operator.new) }
+    ensures unchanged { OnErr result (operator.new ≡ operator.old) }
+{
+    match answer(alloc, text, operator) {
+        Ok(answer) => Ok(Reply::of(answer)),
+        Err(Failure::Refused(reason)) => Ok(Reply::of(Answer::Refused(reason))),
+        Err(Failure::OutOfMemory) => Err(AllocError),
+    }
+}

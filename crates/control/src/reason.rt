@@ -12,7 +12,7 @@ use retire::PublishFault;
 
 /// Why a line is refused.
 #[derive(Clone, Copy, Debug, PartialEq, Eq)]
-pub enum Reason {
+pub(crate) enum Reason {
     /// C2: the line has more than `LINE_LIMIT` bytes.
     LineTooLong,
     /// C1: the line is none of the table.

@@ -16,7 +16,7 @@ const NUMBER_LIMIT: usize = 20;
 
 /// What a line is answered.
 #[derive(Clone, Copy, Debug, PartialEq, Eq)]
-pub enum Answer {
+pub(crate) enum Answer {
     /// Nothing was changed.
     Refused(Reason),
     /// The new configuration is this version.

@@ -11,14 +11,14 @@ use member_group::Command;
 
 /// The text of a program.
 #[derive(Clone, Copy)]
-pub enum ProgramText<'a> {
+pub(crate) enum ProgramText<'a> {
     Assembly(&'a [u8]),
     Expression(&'a [u8]),
 }
 
 /// What a line asks for.
 #[derive(Drop)]
-pub enum Request<'a> {
+pub(crate) enum Request<'a> {
     /// A change of the configuration, to be published.
     Change(Command<ProgramText<'a>>),
     /// The version and the measures of the current configuration.
@@ -137,7 +137,7 @@ fn read_word(line: &[u8]) -> Option<Request<'_>>
 }
 
 /// Reads what a line asks for, or nothing where it is no line of docs/COMMANDS.md, "Control lines".
-pub fn read_request(line: &[u8]) -> Option<Request<'_>>
+pub(crate) fn read_request(line: &[u8]) -> Option<Request<'_>>
     ensures { IsRead line.now result }
 {
     match split_at(b' ', line) {
