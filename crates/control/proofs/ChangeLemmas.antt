@@ -1,5 +1,5 @@
 -- A change that the operator makes is the one that the texts mean.
-use Rattle.std.proofs.Common.{◌≡◌, ◌∙◌, ◌+◌, ◌<◌, ◌≤◌, ◌⊎◌, ◌∷◌, ◌++◌, Err, List, None, Option, Some, [], ap, arith, inl, inr, refl, subst, sym, ℕ}
+use Rattle.std.proofs.Common.{◌≡◌, ◌∙◌, ◌+◌, ◌<◌, ◌≤◌, ◌⊎◌, ◌∷◌, Err, List, Some, [], ap, arith, inl, inr, refl, subst, sym, ℕ}
 use Rattle.std.specs.Prelude.{◌↔◌}
 use Rattle.std.proofs.lemmas.Bool.{cases_lt}
 use Rattle.std.proofs.lemmas.List.{same_from_push}
@@ -7,7 +7,6 @@ use Rattle.bpf_verify.specs.Program.{ProgramValue}
 use Rattle.config_image.specs.Image.{Group}
 use Rattle.member_group.specs.Charge.{charge_of}
 use Rattle.member_group.specs.Command.{after as after_command}
-use Rattle.member_group.specs.Group.{GroupOf}
 use Rattle.member_group.specs.Refusal.{first_refusal}
 use Rattle.member_group.specs.declared.command.Command.{Command}
 use Rattle.member_group.specs.declared.refusal.Refusal.{Refusal}
@@ -16,14 +15,13 @@ use Rattle.versions.specs.declared.layout.TheConstants.{CHARGE_LIMIT, LAST_NUMBE
 use Rattle.versions.specs.declared.view.OperatorView.{OperatorView}
 use Rattle.read_section.specs.Operator.{IsCurrent, OperatorValue}
 use Rattle.retire.specs.Publish.{IsBusy, Publishes, Scanned, ScansEach, after_scans}
-use Rattle.retire.specs.Sweep.{Sweeps}
 use Rattle.retire.specs.declared.fault.PublishFault.{PublishFault}
 use Rattle.retire.specs.declared.fault.PublishFault.TheVariants.{Busy, Exhausted, TooBig}
 use Rattle.control.specs.declared.reason.Reason.{Reason}
 use Rattle.control.specs.declared.reason.Reason.TheVariants.{Publishing}
 use Rattle.control.specs.declared.reason.Reason.TheVariants as reason
 use Rattle.control.specs.declared.reply.Answer.TheVariants.{Published, Refused}
-use Rattle.control.specs.Agrees.{Agrees, AgreesNow, TextConfig, config_over}
+use Rattle.control.specs.Agrees.{Agrees, AgreesNow, TextConfig}
 use Rattle.control.specs.Answer.{Changes, DoesRefused, LeadsTo, Means, bad_text, busy, charge_of_text, exhausted, published, refused, too_big}
 use Rattle.control.specs.declared.program.Failure.{Failure}
 use Rattle.control.specs.declared.program.Failure.TheVariants as failure_of

@@ -1,13 +1,13 @@
 -- What a line is answered, kind by kind, and what a refusal keeps.
-use Rattle.std.proofs.Common.{◌≡◌, ◌∙◌, ◌+◌, ◌<◌, ◌≤◌, ◌∷◌, ◌++◌, Err, List, Ok, Result, [], ap, codes, length, refl, subst, sym, ℕ}
+use Rattle.std.proofs.Common.{◌≡◌, ◌∙◌, ◌<◌, ◌≤◌, ◌∷◌, Err, List, Ok, Result, [], ap, length, refl, subst, sym, ℕ}
 use Rattle.std.proofs.lemmas.List.{length-map}
 use Rattle.config_image.specs.Image.{Group}
 use Rattle.member_group.specs.Charge.{charge_of, members_of}
 use Rattle.member_group.specs.declared.command.Command.{Command}
 use Rattle.versions.specs.Free.{number_after}
-use Rattle.read_section.specs.Operator.{IsCurrent, OperatorValue}
+use Rattle.read_section.specs.Operator.{OperatorValue}
 use Rattle.read_section.specs.declared.operator.Reclaimed.{Reclaimed}
-use Rattle.retire.specs.Publish.{IsBusy, Scanned, ScansEach, after_scans}
+use Rattle.retire.specs.Publish.{IsBusy, Scanned, after_scans}
 use Rattle.retire.specs.Sweep.{Sweeps}
 use Rattle.retire.specs.declared.fault.PublishFault.TheVariants.{Busy, Exhausted, TooBig}
 use Rattle.control.specs.declared.TheConstants.{LINE_LIMIT}
@@ -18,10 +18,9 @@ use Rattle.control.specs.declared.reason.Reason.TheVariants.{Publishing}
 use Rattle.control.specs.declared.reason.Reason.TheVariants as reason
 use Rattle.control.specs.declared.reply.Answer.{Answer}
 use Rattle.control.specs.declared.reply.Answer.TheVariants.{Published, Refused, Shown, Swept}
-use Rattle.control.specs.Agrees.{Agrees, AgreesNow, TextConfig, config_over, group_over}
+use Rattle.control.specs.Agrees.{Agrees, AgreesNow, TextConfig, group_over}
 use Rattle.control.specs.Answer.{Answers, Does, DoesRefused, IsRefusal, IsReplyTo, KeepsVersions, LeavesConfig, bad_line, changed, charge_of_text, shown, swept, too_long}
 use Rattle.control.specs.Making.{IsAnswered, IsChanged, IsOutcome, IsShown}
-use Rattle.control.specs.Program.{text_charge}
 use Rattle.control.specs.Reply.{reply_text}
 use Rattle.control.specs.Request.{Request, Source, Spells, change, show, sweep}
 use Rattle.control.proofs.ChangeLemmas.{agrees_with, charged_alike, scanned_keeps, still_agrees}

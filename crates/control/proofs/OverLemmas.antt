@@ -1,7 +1,7 @@
 -- What commands, refusals and charges make of a configuration does not look into its programs: it is the same over programs of
 -- another kind.
 use Rattle.std.proofs.Common.{◌≡◌, ◌∙◌, ◌*◌, ◌+◌, ◌-◌, ◌++◌, ◌∷◌, Bool, List, None, Option, Some, [], ap, cond, false, find, get_or, is_none, is_some, length, map, nat_le, nat_lt, refl, suc, sym, take, true, zero, ℕ}
-use Rattle.std.specs.List.{cons_option, filter, filter_map, flat_map, fold, sum_by}
+use Rattle.std.specs.List.{cons_option, filter, filter_map, fold, sum_by}
 use Rattle.std.specs.Option.{option_and_then, option_map, option_to_list}
 use Rattle.std.proofs.lemmas.List.{length-map, map-append, take-map}
 use Rattle.ipv4_fields.specs.declared.endpoint.Endpoint.{Endpoint}
@@ -15,7 +15,7 @@ use Rattle.member_group.specs.declared.command.Command.{Command}
 use Rattle.member_group.specs.declared.command.Command.TheVariants.{AddGroup, ClearFilter, ClearSelector, Join, Leave, RemoveGroup, SetFilter, SetSelector}
 use Rattle.member_group.specs.declared.member.Member.{Member}
 use Rattle.member_group.specs.declared.refusal.Refusal.{Refusal}
-use Rattle.member_group.specs.declared.refusal.Refusal.TheVariants.{GroupExists, GroupFull, MemberExists, NoGroup, NoMember, NoProgram, TooManyGroups}
+use Rattle.member_group.specs.declared.refusal.Refusal.TheVariants.{GroupExists, GroupFull, MemberExists, NoMember, NoProgram, TooManyGroups}
 use Rattle.control.specs.Agrees.{config_over, group_over, member_over}
 use Rattle.control.specs.Request.{command_over}
 

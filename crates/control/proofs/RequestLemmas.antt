@@ -1,5 +1,5 @@
 -- Lines that ask for a change: the word, the key and what stands behind them.
-use Rattle.std.proofs.Common.{◌≡◌, ◌≢◌, ◌∙◌, ◌==◌, false, ◌%◌, ◌/◌, ◌^◌, ◌<◌, ◌≤◌, ◌⊎◌, ◌∷◌, ◌++◌, List, None, Option, Some, [], ap, arith, codes, decimal, get_or, inl, inr, length, not, refl, subst, suc, sym, true, zero, ℕ}
+use Rattle.std.proofs.Common.{◌≡◌, ◌≢◌, ◌∙◌, ◌==◌, false, ◌%◌, ◌/◌, ◌^◌, ◌<◌, ◌≤◌, ◌∷◌, ◌++◌, List, None, Option, Some, [], ap, arith, codes, decimal, get_or, inl, not, refl, subst, sym, true, ℕ}
 use Rattle.std.specs.List.{list_all}
 use Rattle.std.proofs.lemmas.Bool.{and_parts, eq-eqb, false≢true}
 use Rattle.ipv4_fields.specs.declared.endpoint.Endpoint.{Endpoint}

@@ -1,5 +1,5 @@
 -- Configurations over the programs that texts mean, and when one agrees with the operator's.
-use Rattle.std.specs.Prelude.{◌≡◌, List, Option, map, option_map}
+use Rattle.std.specs.Prelude.{◌≡◌, List, map, option_map}
 use Rattle.config_image.specs.Image.{Group}
 use Rattle.member_group.specs.Group.{GroupOf}
 use Rattle.member_group.specs.declared.member.Member.{Member}

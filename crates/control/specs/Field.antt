@@ -1,5 +1,5 @@
 -- The fields of a control line (docs/COMMANDS.md, "Control lines").
-use Rattle.std.specs.Prelude.{◌≡◌, ◌≢◌, ◌+◌, ◌*◌, ◌/◌, ◌%◌, ◌^◌, ◌<◌, ◌∷◌, ◌++◌, ◌⊎◌, EachIndex, List, [], codes, decimal, length, slice_index, ℕ}
+use Rattle.std.specs.Prelude.{◌≡◌, ◌≢◌, ◌/◌, ◌%◌, ◌^◌, ◌<◌, ◌∷◌, ◌++◌, ◌⊎◌, EachIndex, List, [], codes, decimal, length, slice_index, ℕ}
 use Rattle.ipv4_fields.specs.declared.endpoint.Endpoint.{Endpoint}
 
 -- KEY and TO: the four bytes of the address with dots between them, then the port; all decimal without leading zeros

@@ -12,7 +12,6 @@ use Rattle.versions.specs.declared.view.OperatorView.{OperatorView}
 use Rattle.read_section.specs.Operator.{IsCurrent, OperatorValue}
 use Rattle.control.specs.declared.program.Failure.{Failure}
 use Rattle.control.specs.declared.program.Failure.TheVariants.{OutOfMemory, Refused}
-use Rattle.control.specs.declared.reason.Reason.{Reason}
 use Rattle.control.specs.declared.reason.Reason.TheVariants as reason
 use Rattle.control.specs.declared.reply.Answer.{Answer}
 use Rattle.control.specs.declared.reply.Answer.TheVariants as answer

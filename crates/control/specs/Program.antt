@@ -14,7 +14,7 @@ use Rattle.filter_tree.specs.Measure.{cells_of, size_of}
 use Rattle.filter_tree.specs.Tree.{Tree}
 use Rattle.filter_tree.specs.Truth.{truth_of}
 use Rattle.control.specs.declared.reason.Reason.{Reason}
-use Rattle.control.specs.declared.reason.Reason.TheVariants.{Assembly, BadLine, Command, Compiling, Expression, LineTooLong, Publishing, Words}
+use Rattle.control.specs.declared.reason.Reason.TheVariants.{Assembly, Compiling, Expression, Words}
 use Rattle.control.specs.Request.{Source, assembly, expression}
 
 pub data TextProgram : Type 0 where

@@ -1,4 +1,4 @@
-use Rattle.std.proofs.Common.{ap, subst, ◌∙◌}
+use Rattle.std.proofs.Common.{subst}
 use Rattle.control.specs.Request.{Spells, command_over, request_of, source_of}
 use Rattle.control.proofs.LineLemmas.{change_answered, is_bad_line, is_shown, is_swept, is_too_long}
 use Rattle.control.proofs.answer.Goals as goal

@@ -1,4 +1,4 @@
-use Rattle.std.proofs.Common.{◌≡◌, ◌∙◌, ◌^◌, ◌<◌, ap, arith, decimal, refl, subst, sym}
+use Rattle.std.proofs.Common.{◌≡◌, ◌∙◌, arith, refl, subst, sym}
 use Rattle.control.specs.Field.{IsPlain}
 use Rattle.control.proofs.FieldLemmas.{ascii-decimal, parsed_decimal, parsed_number, plain-decimal}
 use Rattle.control.proofs.field.read_number.Goals as goal

@@ -1,4 +1,4 @@
-use Rattle.std.proofs.Common.{arith, decimal, subst, sym, ◌++◌, ◌∷◌, ◌∙◌}
+use Rattle.std.proofs.Common.{arith, decimal, subst}
 use Rattle.control.specs.Field.{Lacks}
 use Rattle.control.proofs.FieldLemmas.{has_separator, one_part}
 use Rattle.control.proofs.field.read_part.Goals as goal

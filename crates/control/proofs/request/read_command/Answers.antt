@@ -1,5 +1,5 @@
 use Rattle.std.proofs.lemmas.Bool.{false≢true}
-use Rattle.std.proofs.Common.{ap, codes, refl, subst, sym, ◌++◌, ◌∙◌, ◌∷◌}
+use Rattle.std.proofs.Common.{ap, refl, subst, sym, ◌++◌, ◌∙◌, ◌∷◌}
 use Rattle.control.specs.Field.{endpoint_text}
 use Rattle.control.specs.Request.{IsCommandRead}
 use Rattle.control.proofs.RequestLemmas.{has_key, keyed_is, no_key}

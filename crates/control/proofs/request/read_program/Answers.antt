@@ -1,5 +1,5 @@
 use Rattle.std.proofs.lemmas.Bool.{false≢true}
-use Rattle.control.proofs.RequestLemmas.{none_programs, none_programs_alone}
+use Rattle.control.proofs.RequestLemmas.{none_programs}
 use Rattle.control.proofs.request.read_program.Goals as goal
 
 pub returns : goal.returns
