@@ -75,3 +75,6 @@ pub fn line(alloc: Global, text: &[u8], operator: &mut Operator) -> Result<Reply
         Err(Failure::OutOfMemory) => Err(AllocError),
     }
 }
+
+#[cfg(test)]
+mod tests;
