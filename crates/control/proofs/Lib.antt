@@ -4,3 +4,4 @@ pub mod ProgramLemmas
 pub mod OverLemmas
 pub mod ChangeLemmas
 pub mod LineLemmas
+pub mod OneLineLemmas

@@ -17,7 +17,7 @@ use Rattle.control.proofs.FieldLemmas.{has_separator, lacks-append, lacks-cons, 
 pub differ : (k : ℕ) {xs ys : List ℕ} → xs ≡ ys → (get_or xs k 0 == get_or ys k 0) ≡ false → ⊥
 differ k {xs} {ys} same apart = false≢true (sym apart ∙ eq-eqb (get_or xs k 0) (get_or ys k 0) (ap (λ text. get_or text k 0) same))
 
-lacks-test : (s : ℕ) (text : List ℕ) → list_all (λ b. not (b == s)) text ≡ true → Lacks s text
+pub lacks-test : (s : ℕ) (text : List ℕ) → list_all (λ b. not (b == s)) text ≡ true → Lacks s text
 lacks-test s [] all = λ k inside. absurd (omega arith)
 lacks-test s (x ∷ text) all =
     let both = and_parts (not (x == s)) (list_all (λ b. not (b == s)) text) all in
@@ -67,7 +67,7 @@ args_of (ClearSelector key) = endpoint_text key ++ 32 ∷ rest_of (ClearSelector
 args_of (SetFilter key id source) = endpoint_text key ++ 32 ∷ rest_of (SetFilter key id source)
 args_of (ClearFilter key id) = endpoint_text key ++ 32 ∷ rest_of (ClearFilter key id)
 
-lacks-word : (command : Command Source) → Lacks 32 (word_of command)
+pub lacks-word : (command : Command Source) → Lacks 32 (word_of command)
 lacks-word (AddGroup key) = lacks-test 32 (codes "add") refl
 lacks-word (RemoveGroup key) = lacks-test 32 (codes "remove") refl
 lacks-word (Join key id to) = lacks-test 32 (codes "join") refl
@@ -77,7 +77,7 @@ lacks-word (ClearSelector key) = lacks-test 32 (codes "selector") refl
 lacks-word (SetFilter key id source) = lacks-test 32 (codes "filter") refl
 lacks-word (ClearFilter key id) = lacks-test 32 (codes "filter") refl
 
-parts : (line : List ℕ) (command : Command Source) → Spells line (change command) → line ≡ word_of command ++ 32 ∷ args_of command
+pub parts : (line : List ℕ) (command : Command Source) → Spells line (change command) → line ≡ word_of command ++ 32 ∷ args_of command
 parts line (AddGroup key) (fields, is, has) = is ∙ ap spaced has.1
 parts line (RemoveGroup key) (fields, is, has) = is ∙ ap spaced has.1
 parts line (Join key id to) (fields, is, has) = is ∙ ap spaced has.3
@@ -89,7 +89,7 @@ parts line (SetFilter key id (assembly text)) (fields, is, has) = is ∙ ap spac
 parts line (SetFilter key id (expression text)) (fields, is, has) = is ∙ ap spaced has.2
 parts line (ClearFilter key id) (fields, is, has) = is ∙ ap spaced has.2
 
-key_range : (line : List ℕ) (command : Command Source) → Spells line (change command) → IsEndpoint (key_of command)
+pub key_range : (line : List ℕ) (command : Command Source) → Spells line (change command) → IsEndpoint (key_of command)
 key_range line (AddGroup key) (fields, is, has) = has.0
 key_range line (RemoveGroup key) (fields, is, has) = has.0
 key_range line (Join key id to) (fields, is, has) = has.0
@@ -105,7 +105,7 @@ key_range line (ClearFilter key id) (fields, is, has) = has.0
 pub at_word : (word args : List ℕ) (command : Command Source) → Lacks 32 word → Spells (word ++ 32 ∷ args) (change command) → (word ≡ word_of command) × (args ≡ args_of command)
 at_word word args command lacks spells = one_cut 32 word (word_of command) args (args_of command) lacks (lacks-word command) (parts _ command spells)
 
-keyed : (command : Command Source) → word_of command ≢ codes "add" → word_of command ≢ codes "remove" → args_of command ≡ endpoint_text (key_of command) ++ 32 ∷ rest_of command
+pub keyed : (command : Command Source) → word_of command ≢ codes "add" → word_of command ≢ codes "remove" → args_of command ≡ endpoint_text (key_of command) ++ 32 ∷ rest_of command
 keyed (AddGroup key) not_add not_remove = absurd (not_add refl)
 keyed (RemoveGroup key) not_add not_remove = absurd (not_remove refl)
 keyed (Join key id to) not_add not_remove = refl

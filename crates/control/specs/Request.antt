@@ -50,6 +50,10 @@ Spells line (change command) = (fields : List (List ℕ)) × (line ≡ spaced fi
 Spells line show = line ≡ codes "show"
 Spells line sweep = line ≡ codes "sweep"
 
+-- no line asks for two things
+abbrev pub AsksForOneThing : Type 0
+AsksForOneThing = (line : List ℕ) (one other : Request) → Spells line one → Spells line other → one ≡ other
+
 -- what a contract sees of a request: the texts without where they lie
 abbrev pub source_of : LentText → Source
 source_of (lent.Assembly text) = assembly text.now

@@ -34,11 +34,11 @@ pub(crate) fn publish_change(
 {
     let command = match command_of(alloc, command) {
         Ok(command) => command,
-        Err(failure) => return Err(failure),
+        Err(fault) => return Err(fault),
     };
     let next = match next_config(operator.config(), &command) {
         Ok(next) => next,
-        Err(failure) => return Err(failure),
+        Err(refusal) => return Err(refusal),
     };
     match operator.publish(next) {
         Ok(version) => Ok(Answer::Published { version }),

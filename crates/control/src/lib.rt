@@ -8,6 +8,7 @@ ghost use Rattle.std.specs.Prelude.{◌≡◌, IfOk, OnErr};
 ghost use Rattle.control.specs.Agrees.{AgreesNow, TextConfig};
 ghost use Rattle.control.specs.Answer.{IsRefusal, IsReplyTo, KeepsVersions, LeavesConfig};
 ghost use Rattle.control.specs.Making.{IsAnswered, IsOutcome, IsShown};
+ghost use Rattle.control.specs.Request.{AsksForOneThing};
 
 mod change;
 mod field;
@@ -63,8 +64,10 @@ fn answer(alloc: Global, text: &[u8], operator: &mut Operator) -> Result<Answer,
 /// A line that is too long is refused first, then one that is none of the table, then a program's text, then the command, then
 /// the publication. A refusal changes nothing. The text may be any bytes.
 pub fn line(alloc: Global, text: &[u8], operator: &mut Operator) -> Result<Reply, OutOfMemory>
-    ensures reply { IfOk result (λ reply. (config : TextConfig) → AgreesNow config operator.old.view → IsReplyTo config text.now operator.old operator.new reply) }
-    ensures new_configuration { IfOk result (λ reply. (config : TextConfig) → AgreesNow config operator.old.view → LeavesConfig config text.now operator.old operator.new reply) }
+    ensures reply { IfOk result (λ reply. (config : TextConfig) → AgreesNow config operator.old.view →
+        IsReplyTo config text.now operator.old operator.new reply) }
+    ensures new_configuration { IfOk result (λ reply. (config : TextConfig) → AgreesNow config operator.old.view →
+        LeavesConfig config text.now operator.old operator.new reply) }
 
     ensures kept { IfOk result (λ reply. IsRefusal reply → KeepsVersions operator.old operator.new) }
     ensures unchanged { OnErr result (operator.new ≡ operator.old) }
@@ -75,6 +78,12 @@ pub fn line(alloc: Global, text: &[u8], operator: &mut Operator) -> Result<Reply
         Err(Failure::OutOfMemory) => Err(AllocError),
     }
 }
+
+/// Law: no line asks for two things. It runs nothing.
+#[tactic(auto, using(crate::proofs::OneLineLemmas::one_thing))]
+pub fn one_request()
+    ensures { AsksForOneThing }
+{}
 
 #[cfg(test)]
 mod tests;

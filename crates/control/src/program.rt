@@ -52,7 +52,7 @@ fn compiled(alloc: Global, text: &[u8]) -> Result<Program<Global>, Failure>
         Err(fault) => return Err(Failure::Refused(Reason::Expression(fault))),
     };
     match compile(alloc, &tree) {
-        Ok(program) => Ok(program),
+        Ok(filter) => Ok(filter),
         Err(CompileFault::OutOfMemory) => Err(Failure::OutOfMemory),
         Err(fault) => Err(Failure::Refused(Reason::Compiling(fault))),
     }

@@ -3,12 +3,12 @@ use Rattle.control.proofs.ChangeLemmas.{is_published, is_unpublished, no_command
 use Rattle.control.proofs.change.publish_change.Goals as goal
 
 pub returns-in-Err : goal.returns-in-Err
-returns-in-Err c = no_command c.args.operator.now (command_over source_of c.args.command) c.in-Err.failure c.in-Err.ensures
+returns-in-Err c = no_command c.args.operator.now (command_over source_of c.args.command) c.in-Err.fault c.in-Err.ensures
 
 pub returns-in-Err-next_config : goal.returns-in-Err-next_config
 returns-in-Err-next_config c =
     no_next c.args.operator.now (command_over source_of c.args.command) c.config.result.now c.config.ensures.current_configuration c.in-Ok.command c.in-Ok.ensures
-    c.in-Err-next_config.failure c.in-Err-next_config.ensures
+    c.in-Err-next_config.refusal c.in-Err-next_config.ensures
 
 pub returns-in-Ok-publish : goal.returns-in-Ok-publish
 returns-in-Ok-publish c =

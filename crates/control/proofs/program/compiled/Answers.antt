@@ -6,10 +6,10 @@ use Rattle.control.proofs.program.compiled.Goals as goal
 
 pub returns-in-Ok-compile : goal.returns-in-Ok-compile
 returns-in-Ok-compile c =
-    let limits = within_limits c.compile.result c.in-Ok-compile.program _ _ c.in-Ok-compile.is c.compile.ensures.cells_exceeded c.compile.ensures.too_long in (
+    let limits = within_limits c.compile.result c.in-Ok-compile.filter _ _ c.in-Ok-compile.is c.compile.ensures.cells_exceeded c.compile.ensures.too_long in (
       record {
         text = of_tree (tree_of c.in-Ok.tree);
-        program = c.in-Ok-compile.program;
+        program = c.in-Ok-compile.filter;
         charge = c.in-Ok-compile.ensures.charge;
         ending = c.in-Ok-compile.ensures.answer;
       },
