@@ -29,6 +29,7 @@ use Rattle.versions.proofs.WorldLemmas.{IsMirror-opened, IsOpening-rows, light}
 use Rattle.read_section.specs.declared.book.Book.{Book}
 use Rattle.read_section.specs.Layout.{IsPublishable, IsZeroFrom, KeepsZeros}
 use Rattle.read_section.specs.Operator.{IsBookAtStart, IsKeptBy, IsReport, progress_of, put_in}
+use Rattle.read_section.proofs.FilledLemmas.{place_in_rows}
 
 abbrev pub View : Type 0
 View = OperatorView (List Group)
@@ -37,11 +38,6 @@ View = OperatorView (List Group)
 IsZeroFrom-shape : (view : View) (r from : ℕ) → ((i : ℕ) → from ≤ i → i < the_shape.row_words → slice_index view.row_words (r * the_shape.row_words + i) ≡ 0) → IsZeroFrom view r from
 unfolding the_shape
 IsZeroFrom-shape view r from h = h
-
--- a place of a row among the words of all rows
-place_in_rows : (row place : ℕ) → (row_begin the_shape row + place) - rows_begin the_shape ≡ row * ROW_WORDS + place
-unfolding the_shape
-place_in_rows row place = omega arith
 
 module _ (view : View) (config : List Group) (book : Book) (reported : ℕ) (zeros : List ℕ) (h : IsKeptBy view config book reported zeros) where
   zeros_stand-filled : (row place word from : ℕ) → row < ROWS → place < ROW_WORDS → KeepsZeros place word (slice_index zeros row) from

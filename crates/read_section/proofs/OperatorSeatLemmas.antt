@@ -67,8 +67,5 @@ row_of_current n r low = ap (λ (k : ℕ). k % the_shape.rows) (current_is n r) 
 pub number_fits : (n : ℕ) → n ≤ the_shape.last_number → n ≤ LAST_NUMBER
 number_fits n low = subst (λ (k : ℕ). n ≤ k) last_number_is low
 
-pub row_fits : (r : ℕ) → r < the_shape.rows → r < ROWS
-row_fits r low = subst (λ (k : ℕ). r < k) rows_is low
-
 pub worker_fits : (w : ℕ) → w < the_shape.workers → w < WORKERS
 worker_fits w low = subst (λ (k : ℕ). w < k) workers_is low

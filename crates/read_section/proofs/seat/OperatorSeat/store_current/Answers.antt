@@ -8,7 +8,8 @@ use Rattle.versions.specs.View.{after_proposal, after_publish}
 use Rattle.versions.specs.Table.{the_shape}
 use Rattle.read_section.specs.Layout.{Holds, IsPublishable}
 use Rattle.read_section.specs.Operator.{acts}
-use Rattle.read_section.proofs.OperatorSeatLemmas.{IsOperatorSeat-on, current_is, may_publish, number_fits, operator_after, row_fits, row_of_current}
+use Rattle.read_section.proofs.FilledLemmas.{row_inside}
+use Rattle.read_section.proofs.OperatorSeatLemmas.{IsOperatorSeat-on, current_is, may_publish, number_fits, operator_after, row_of_current}
 use Rattle.read_section.proofs.WorkerSeatLemmas.{IsSeatAt-on, some_word}
 use Rattle.read_section.proofs.seat.OperatorSeat.store_current.Goals as goal
 
@@ -16,7 +17,7 @@ pub overflow_mul-number : goal.overflow_mul-number
 overflow_mul-number g c = let low = number_fits c.args.number c.requires.limited in omega arith
 
 pub overflow_add-number : goal.overflow_add-number
-overflow_add-number g c = let low = number_fits c.args.number c.requires.limited in let row = row_fits c.args.row c.requires.free.0 in omega arith
+overflow_add-number g c = let low = number_fits c.args.number c.requires.limited in let row = row_inside c.args.row c.requires.free.0 in omega arith
 
 pub store-requires : goal.store-requires
 store-requires g c = let h = c.self.invariant in let shared = c.deref.result.now.shared in let own = h.1.same_table ∙ sym (ap (λ t. t.shared.table_id) c.deref.ensures) in let q = c.requires in let new : List Group = g.P.Proposal.config in let same : c.args.config.now ≡ new = sym q.proposal in (
