@@ -5,3 +5,5 @@ pub mod OverLemmas
 pub mod ChangeLemmas
 pub mod LineLemmas
 pub mod OneLineLemmas
+pub mod OneFaultLemmas
+pub mod OneAnswerLemmas

@@ -1,5 +1,5 @@
 -- What a line is answered, kind by kind, and what a refusal keeps.
-use Rattle.std.proofs.Common.{◌≡◌, ◌∙◌, ◌<◌, ◌≤◌, ◌∷◌, Err, List, Ok, Result, [], ap, length, refl, subst, sym, ℕ}
+use Rattle.std.proofs.Common.{◌≡◌, ◌∙◌, ◌<◌, ◌≤◌, ◌∷◌, Err, List, Ok, Result, [], ap, inl, inr, length, refl, subst, sym, ℕ}
 use Rattle.std.proofs.lemmas.List.{length-map}
 use Rattle.config_image.specs.Image.{Group}
 use Rattle.member_group.specs.Charge.{charge_of, members_of}
@@ -19,7 +19,7 @@ use Rattle.control.specs.declared.reason.Reason.TheVariants as reason
 use Rattle.control.specs.declared.reply.Answer.{Answer}
 use Rattle.control.specs.declared.reply.Answer.TheVariants.{Published, Refused, Shown, Swept}
 use Rattle.control.specs.Agrees.{Agrees, AgreesNow, TextConfig, group_over}
-use Rattle.control.specs.Answer.{Answers, Does, DoesRefused, IsRefusal, IsReplyTo, KeepsVersions, LeavesConfig, bad_line, changed, charge_of_text, shown, swept, too_long}
+use Rattle.control.specs.Answer.{Answers, Does, DoesNothing, DoesRefused, IsRefusal, IsReplyTo, KeepsVersions, LeavesConfig, bad_line, changed, charge_of_text, shown, swept, too_long}
 use Rattle.control.specs.Making.{IsAnswered, IsChanged, IsOutcome, IsShown}
 use Rattle.control.specs.Reply.{reply_text}
 use Rattle.control.specs.Request.{Request, Source, Spells, change, show, sweep}
@@ -90,23 +90,27 @@ scans_keep_versions (last ∷ earlier) before =
 busy_keeps : (before after : OperatorValue) → IsBusy before after → KeepsVersions before after
 busy_keeps before after is_busy = subst (KeepsVersions before) (sym is_busy.scanned.no_more) (scans_keep_versions is_busy.scanned.scans before)
 
-refused_keeps : (why : Reason) (before after : OperatorValue) → DoesRefused why before after → KeepsVersions before after
-refused_keeps reason.LineTooLong before after does = keeps_same before after does
-refused_keeps reason.BadLine before after does = keeps_same before after does
-refused_keeps (reason.Assembly fault) before after does = keeps_same before after does
-refused_keeps (reason.Words fault) before after does = keeps_same before after does
-refused_keeps (reason.Expression fault) before after does = keeps_same before after does
-refused_keeps (reason.Compiling fault) before after does = keeps_same before after does
-refused_keeps (reason.Command refusal) before after does = keeps_same before after does
-refused_keeps (Publishing TooBig) before after does = keeps_same before after does
-refused_keeps (Publishing Exhausted) before after does = keeps_same before after does
-refused_keeps (Publishing Busy) before after does = busy_keeps before after does
+nothing_keeps : (before after : OperatorValue) → DoesNothing before after → KeepsVersions before after
+nothing_keeps before after (inl same) = keeps_same before after same
+nothing_keeps before after (inr is_busy) = busy_keeps before after is_busy
 
-pub refusal_keeps : (answer : Answer) (before after : OperatorValue) → Does answer before after → (reply : List ℕ) → reply ≡ reply_text answer → IsRefusal reply → KeepsVersions before after
-refusal_keeps (Refused why) before after does reply is refusal = refused_keeps why before after does
-refusal_keeps (Published version) before after does reply is (rest, begins) = absurd (differ 0 (sym is ∙ begins) refl)
-refusal_keeps (Shown version groups members charge) before after does reply is (rest, begins) = absurd (differ 0 (sym is ∙ begins) refl)
-refusal_keeps (Swept reclaimed) before after does reply is (rest, begins) = absurd (differ 2 (sym is ∙ begins) refl)
+refused_does_nothing : (why : Reason) (before after : OperatorValue) → DoesRefused why before after → DoesNothing before after
+refused_does_nothing reason.LineTooLong before after does = inl does
+refused_does_nothing reason.BadLine before after does = inl does
+refused_does_nothing (reason.Assembly fault) before after does = inl does
+refused_does_nothing (reason.Words fault) before after does = inl does
+refused_does_nothing (reason.Expression fault) before after does = inl does
+refused_does_nothing (reason.Compiling fault) before after does = inl does
+refused_does_nothing (reason.Command refusal) before after does = inl does
+refused_does_nothing (Publishing TooBig) before after does = inl does
+refused_does_nothing (Publishing Exhausted) before after does = inl does
+refused_does_nothing (Publishing Busy) before after does = inr does
+
+pub refusal_does_nothing : (answer : Answer) (before after : OperatorValue) → Does answer before after → (reply : List ℕ) → reply ≡ reply_text answer → IsRefusal reply → DoesNothing before after
+refusal_does_nothing (Refused why) before after does reply is refusal = refused_does_nothing why before after does
+refusal_does_nothing (Published version) before after does reply is (rest, begins) = absurd (differ 0 (sym is ∙ begins) refl)
+refusal_does_nothing (Shown version groups members charge) before after does reply is (rest, begins) = absurd (differ 0 (sym is ∙ begins) refl)
+refusal_does_nothing (Swept reclaimed) before after does reply is (rest, begins) = absurd (differ 2 (sym is ∙ begins) refl)
 
 -- ---- the reply
 
@@ -117,5 +121,8 @@ module _ (line : List ℕ) (before after : OperatorValue) (answer : Answer) (ans
   pub leaves_config : (config : TextConfig) → AgreesNow config before.view → LeavesConfig config line before after reply
   leaves_config config agrees = let next = answered.text config agrees in (answer, next.0, next.1, is, next.2)
 
+  pub does_nothing : IsRefusal reply → DoesNothing before after
+  does_nothing refusal = refusal_does_nothing answer before after answered.steps reply is refusal
+
   pub keeps : IsRefusal reply → KeepsVersions before after
-  keeps refusal = refusal_keeps answer before after answered.steps reply is refusal
+  keeps refusal = nothing_keeps before after (does_nothing refusal)

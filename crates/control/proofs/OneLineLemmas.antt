@@ -1,5 +1,5 @@
 -- No line asks for two things.
-use Rattle.std.proofs.Common.{◌≡◌, ◌≢◌, ◌∙◌, ◌+◌, ◌*◌, ◌/◌, ◌%◌, ◌^◌, ◌<◌, ◌∷◌, ◌++◌, List, None, Option, Some, [], ap, arith, codes, decimal, inl, inr, refl, subst, sym, ℕ}
+use Rattle.std.proofs.Common.{◌≡◌, ◌≢◌, ◌∙◌, ◌/◌, ◌%◌, ◌^◌, ◌<◌, ◌∷◌, ◌++◌, List, None, Option, Some, ap, arith, codes, decimal, inl, inr, refl, subst, sym, ℕ}
 use Rattle.std.proofs.lemmas.Fmt.{decimal_injective}
 use Rattle.std.proofs.lemmas.List.{append_cancel_left}
 use Rattle.ipv4_fields.specs.declared.endpoint.Endpoint.{Endpoint}
@@ -8,7 +8,7 @@ use Rattle.member_group.specs.Map.{key_of}
 use Rattle.member_group.specs.declared.command.Command.{Command}
 use Rattle.member_group.specs.declared.command.Command.TheVariants.{AddGroup, ClearFilter, ClearSelector, Join, Leave, RemoveGroup, SetFilter, SetSelector}
 use Rattle.control.specs.Field.{IsNoDigit, Lacks, endpoint_text, spaced}
-use Rattle.control.specs.Request.{AsksForOneThing, Request, Source, Spells, assembly, change, expression, program_fields, show, sweep}
+use Rattle.control.specs.Request.{AsksForOneThing, Source, Spells, assembly, change, expression, program_fields, show, sweep}
 use Rattle.control.proofs.FieldLemmas.{from_fourth, from_second, from_third, has_separator, lacks-decimal, one_cut}
 use Rattle.control.proofs.RequestLemmas.{args_of, at_word, differ, key_range, keyed, lacks-endpoint, lacks-test, lacks-word, parts, rest_of, word_of}
 

@@ -15,7 +15,8 @@ abbrev pub member_over : {P Q : Type 0} → (P → Q) → Member P → Member Q
 member_over over member = record { id = member.id; to = member.to; filter = option_map over member.filter }
 
 abbrev pub group_over : {P Q : Type 0} → (P → Q) → GroupOf P → GroupOf Q
-group_over over group = record { key = group.key; selector = option_map over group.selector; members = map (member_over over) group.members }
+group_over over group =
+    record { key = group.key; selector = option_map over group.selector; members = map (member_over over) group.members }
 
 abbrev pub config_over : {P Q : Type 0} → (P → Q) → List (GroupOf P) → List (GroupOf Q)
 config_over over config = map (group_over over) config
@@ -24,7 +25,9 @@ config_over over config = map (group_over over) config
 -- and a program in the same places, with the same charge and the same ending on every packet
 abbrev pub Agrees : TextConfig → List Group → Type 0
 Agrees text config =
-    (pairs : List (GroupOf Agreeing)) × (text ≡ config_over (λ both. both.text) pairs) × (config ≡ config_over (λ both. both.program) pairs)
+    (pairs : List (GroupOf Agreeing))
+    × (text ≡ config_over (λ both. both.text) pairs)
+    × (config ≡ config_over (λ both. both.program) pairs)
 
 -- a configuration agrees with the one that the operator published last
 abbrev pub AgreesNow : TextConfig → OperatorView (List Group) → Type 0

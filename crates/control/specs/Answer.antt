@@ -1,5 +1,5 @@
 -- What a line is answered, and which configuration it leaves (docs/COMMANDS.md, "Control lines").
-use Rattle.std.specs.Prelude.{◌≡◌, ◌+◌, ◌<◌, ◌≤◌, ◌++◌, List, None, Option, Some, codes, length, ℕ}
+use Rattle.std.specs.Prelude.{◌≡◌, ◌+◌, ◌<◌, ◌≤◌, ◌++◌, ◌⊎◌, List, None, Option, Some, codes, length, ℕ}
 use Rattle.member_group.specs.Charge.{charge_by, members_of}
 use Rattle.member_group.specs.Command.{after}
 use Rattle.member_group.specs.Refusal.{first_refusal}
@@ -58,26 +58,49 @@ pub record LeadsTo (config : TextConfig) (command : Command Source) (next : Text
 pub data Changes (version : ℕ) (config : TextConfig) (command : Command Source) : Answer → TextConfig → Type 0 where
   bad_text : (source : Source) (why : Reason) → program_in command ≡ Some source → IsFaultOfSource source why →
       Changes version config command (Refused why) config
-  refused : (made : Command TextProgram) (refusal : Refusal) → Means command made → first_refusal made config ≡ Some refusal →
+  refused : (made : Command TextProgram) (refusal : Refusal) → Means command made →
+      first_refusal made config ≡ Some refusal →
       Changes version config command (Refused (reason.Command refusal)) config
   too_big : (next : TextConfig) → LeadsTo config command next → CHARGE_LIMIT < charge_of_text next →
       Changes version config command (Refused (Publishing TooBig)) config
-  exhausted : (next : TextConfig) → LeadsTo config command next → charge_of_text next ≤ CHARGE_LIMIT → version ≡ LAST_NUMBER →
+  exhausted : (next : TextConfig) → LeadsTo config command next →
+      charge_of_text next ≤ CHARGE_LIMIT → version ≡ LAST_NUMBER →
       Changes version config command (Refused (Publishing Exhausted)) config
-  busy : (next : TextConfig) → LeadsTo config command next → charge_of_text next ≤ CHARGE_LIMIT → ¬ (version ≡ LAST_NUMBER) →
+  busy : (next : TextConfig) → LeadsTo config command next →
+      charge_of_text next ≤ CHARGE_LIMIT → ¬ (version ≡ LAST_NUMBER) →
       Changes version config command (Refused (Publishing Busy)) config
-  published : (next : TextConfig) → LeadsTo config command next → charge_of_text next ≤ CHARGE_LIMIT → ¬ (version ≡ LAST_NUMBER) →
+  published : (next : TextConfig) → LeadsTo config command next →
+      charge_of_text next ≤ CHARGE_LIMIT → ¬ (version ≡ LAST_NUMBER) →
       Changes version config command (Published (version + 1)) next
 
 -- The same of a line. Whether a change is refused as busy, and what a sweep reclaims, is the operator's to say.
 pub data Answers (version : ℕ) (config : TextConfig) (line : List ℕ) : Answer → TextConfig → Type 0 where
   too_long : LINE_LIMIT < length line → Answers version config line (Refused LineTooLong) config
-  bad_line : length line ≤ LINE_LIMIT → ((request : Request) → ¬ Spells line request) → Answers version config line (Refused BadLine) config
-  changed : (command : Command Source) (answer : Answer) (next : TextConfig) → length line ≤ LINE_LIMIT → Spells line (change command) →
-      Changes version config command answer next → Answers version config line answer next
+  bad_line : length line ≤ LINE_LIMIT → ((request : Request) → ¬ Spells line request) →
+      Answers version config line (Refused BadLine) config
+  changed : (command : Command Source) (answer : Answer) (next : TextConfig) → length line ≤ LINE_LIMIT →
+      Spells line (change command) → Changes version config command answer next → Answers version config line answer next
   shown : length line ≤ LINE_LIMIT → Spells line show →
       Answers version config line (Shown version (length config) (members_of config) (charge_of_text config)) config
-  swept : (reclaimed : Reclaimed) → length line ≤ LINE_LIMIT → Spells line sweep → Answers version config line (Swept reclaimed) config
+  swept : (reclaimed : Reclaimed) → length line ≤ LINE_LIMIT → Spells line sweep →
+      Answers version config line (Swept reclaimed) config
+
+-- the operator has a say in the answer: whether a publication is busy, and what a sweep reclaims
+abbrev pub IsOperators : Answer → Type 0
+IsOperators (Published version) = Unit {0}
+IsOperators (Refused (Publishing Busy)) = Unit {0}
+IsOperators (Swept reclaimed) = Unit {0}
+IsOperators _ = ⊥
+
+-- two answers and the configurations that they leave are one, or the operator has a say in both
+abbrev pub AreOne : Answer → TextConfig → Answer → TextConfig → Type 0
+AreOne one next other also = ((one ≡ other) × (next ≡ also)) ⊎ (IsOperators one × IsOperators other)
+
+-- a line has one answer at a version and its configuration, but for what the operator has to say
+abbrev pub HasOneAnswer : Type 0
+HasOneAnswer =
+    (version : ℕ) (config : TextConfig) (line : List ℕ) (one other : Answer) (next also : TextConfig) →
+    Answers version config line one next → Answers version config line other also → AreOne one next other also
 
 -- what the operator does with a refusal: nothing, but for the scans of a publication that is busy
 abbrev pub DoesRefused : Reason → OperatorValue → OperatorValue → Type 0
@@ -101,12 +124,24 @@ pub record KeepsVersions (before after : OperatorValue) : Type 0 where
 -- the reply is the text's, for a configuration that agrees with the operator's
 abbrev pub IsReplyTo : TextConfig → List ℕ → OperatorValue → OperatorValue → List ℕ → Type 0
 IsReplyTo config line before after reply =
-    (answer : Answer) × (next : TextConfig) × Answers (number_after before.view.log) config line answer next × (reply ≡ reply_text answer) × Does answer before after
+    (answer : Answer)
+    × (next : TextConfig)
+    × Answers (number_after before.view.log) config line answer next
+    × (reply ≡ reply_text answer)
+    × Does answer before after
 
 -- and so is the configuration that it leaves
 abbrev pub LeavesConfig : TextConfig → List ℕ → OperatorValue → OperatorValue → List ℕ → Type 0
 LeavesConfig config line before after reply =
-    (answer : Answer) × (next : TextConfig) × Answers (number_after before.view.log) config line answer next × (reply ≡ reply_text answer) × AgreesNow next after.view
+    (answer : Answer)
+    × (next : TextConfig)
+    × Answers (number_after before.view.log) config line answer next
+    × (reply ≡ reply_text answer)
+    × AgreesNow next after.view
+
+-- nothing is done, but for the scans of a publication that is busy
+abbrev pub DoesNothing : OperatorValue → OperatorValue → Type 0
+DoesNothing before after = (after ≡ before) ⊎ IsBusy before after
 
 -- a reply that refuses
 abbrev pub IsRefusal : List ℕ → Type 0

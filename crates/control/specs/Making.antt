@@ -32,7 +32,9 @@ IsFailureOf source OutOfMemory = Unit {0}
 -- this command agrees with one that the texts make
 abbrev pub IsMadeCommand : Command Source → Command ProgramValue → Type 0
 IsMadeCommand command made =
-    (both : Command Agreeing) × Means command (command_over (λ program. program.text) both) × (made ≡ command_over (λ program. program.program) both)
+    (both : Command Agreeing)
+    × Means command (command_over (λ program. program.text) both)
+    × (made ≡ command_over (λ program. program.program) both)
 
 abbrev pub IsFailureOfCommand : Command Source → Failure → Type 0
 IsFailureOfCommand command (Refused why) = (source : Source) × (program_in command ≡ Some source) × IsFaultOfSource source why
@@ -62,7 +64,9 @@ pub record IsAnswered (line : List ℕ) (before after : OperatorValue) (answer :
 -- the version and the measures of the configuration that was published last
 abbrev pub IsShown : OperatorView (List Group) → Answer → Type 0
 IsShown view given =
-    (config : List Group) × IsCurrent view config × (given ≡ answer.Shown (number_after view.log) (length config) (members_of config) (charge_of config))
+    (config : List Group)
+    × IsCurrent view config
+    × (given ≡ answer.Shown (number_after view.log) (length config) (members_of config) (charge_of config))
 
 -- an answer, or a refusal as one, or want of memory with nothing done
 abbrev pub IsOutcome : (OperatorValue → OperatorValue → Answer → Type 0) → OperatorValue → OperatorValue → Result Answer Failure → Type 0

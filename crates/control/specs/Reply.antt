@@ -13,5 +13,6 @@ abbrev pub reply_text : Answer → List ℕ
 reply_text (Refused reason) = codes "refused " ++ (reason_code reason).name ++ number_text (reason_code reason).number
 reply_text (Published version) = codes "ok version " ++ decimal version
 reply_text (Shown version groups members charge) =
-    codes "version " ++ decimal version ++ codes " groups " ++ decimal groups ++ codes " members " ++ decimal members ++ codes " charge " ++ decimal charge
+    codes "version " ++ decimal version ++ codes " groups " ++ decimal groups
+    ++ codes " members " ++ decimal members ++ codes " charge " ++ decimal charge
 reply_text (Swept reclaimed) = codes "reclaimed " ++ decimal reclaimed.first ++ codes " " ++ decimal reclaimed.count

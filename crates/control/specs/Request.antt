@@ -25,8 +25,10 @@ abbrev pub HasFields : List (List ℕ) → Command Source → Type 0
 HasFields fields (AddGroup key) = IsEndpoint key × (fields ≡ codes "add" ∷ endpoint_text key ∷ [])
 HasFields fields (RemoveGroup key) = IsEndpoint key × (fields ≡ codes "remove" ∷ endpoint_text key ∷ [])
 HasFields fields (Join key id to) =
-    IsEndpoint key × (id < 2 ^ 32) × IsEndpoint to × (fields ≡ codes "join" ∷ endpoint_text key ∷ decimal id ∷ endpoint_text to ∷ [])
-HasFields fields (Leave key id) = IsEndpoint key × (id < 2 ^ 32) × (fields ≡ codes "leave" ∷ endpoint_text key ∷ decimal id ∷ [])
+    IsEndpoint key × (id < 2 ^ 32) × IsEndpoint to
+    × (fields ≡ codes "join" ∷ endpoint_text key ∷ decimal id ∷ endpoint_text to ∷ [])
+HasFields fields (Leave key id) =
+    IsEndpoint key × (id < 2 ^ 32) × (fields ≡ codes "leave" ∷ endpoint_text key ∷ decimal id ∷ [])
 HasFields fields (SetSelector key (assembly text)) =
     IsEndpoint key × (fields ≡ codes "selector" ∷ endpoint_text key ∷ codes "asm" ∷ text ∷ [])
 HasFields fields (SetSelector key (expression text)) = ⊥
@@ -77,9 +79,12 @@ request_of lent_request.Sweep = sweep
 
 -- what a line asks for, or nothing where it is no line of the table
 abbrev pub IsRead : List ℕ → Option LentRequest → Type 0
-IsRead line result = MatchOption result ((request : Request) → Spells line request → ⊥) (λ request. Spells line (request_of request))
+IsRead line result =
+    MatchOption result ((request : Request) → Spells line request → ⊥) (λ request. Spells line (request_of request))
 
 -- the same of a line that asks for a change
 abbrev pub IsCommandRead : List ℕ → Option (Command LentText) → Type 0
 IsCommandRead line result =
-    MatchOption result ((command : Command Source) → Spells line (change command) → ⊥) (λ command. Spells line (change (command_over source_of command)))
+    MatchOption result
+    ((command : Command Source) → Spells line (change command) → ⊥)
+    (λ command. Spells line (change (command_over source_of command)))

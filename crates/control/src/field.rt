@@ -35,7 +35,9 @@ fn is_plain(field: &[u8]) -> bool
 
 /// Reads a number up to a limit, decimal and without leading zeros.
 pub(crate) fn read_number(limit: u32, field: &[u8]) -> Option<u32>
-    ensures { MatchOption result ((n : ℕ) → n ≤ limit → field.now ≢ decimal n) (λ n. (n ≤ limit) × (field.now ≡ decimal n)) }
+    ensures { MatchOption result
+        ((n : ℕ) → n ≤ limit → field.now ≢ decimal n)
+        (λ n. (n ≤ limit) × (field.now ≡ decimal n)) }
 {
     if !is_plain(field) {
         return None;

@@ -6,7 +6,7 @@
 
 ghost use Rattle.std.specs.Prelude.{◌≡◌, IfOk, OnErr};
 ghost use Rattle.control.specs.Agrees.{AgreesNow, TextConfig};
-ghost use Rattle.control.specs.Answer.{IsRefusal, IsReplyTo, KeepsVersions, LeavesConfig};
+ghost use Rattle.control.specs.Answer.{DoesNothing, HasOneAnswer, IsRefusal, IsReplyTo, KeepsVersions, LeavesConfig};
 ghost use Rattle.control.specs.Making.{IsAnswered, IsOutcome, IsShown};
 ghost use Rattle.control.specs.Request.{AsksForOneThing};
 
@@ -70,6 +70,8 @@ pub fn line(alloc: Global, text: &[u8], operator: &mut Operator) -> Result<Reply
         LeavesConfig config text.now operator.old operator.new reply) }
 
     ensures kept { IfOk result (λ reply. IsRefusal reply → KeepsVersions operator.old operator.new) }
+    ensures only_scans { IfOk result (λ reply. IsRefusal reply → DoesNothing operator.old operator.new) }
+
     ensures unchanged { OnErr result (operator.new ≡ operator.old) }
 {
     match answer(alloc, text, operator) {
@@ -84,6 +86,13 @@ pub fn line(alloc: Global, text: &[u8], operator: &mut Operator) -> Result<Reply
 pub fn one_request()
     ensures { AsksForOneThing }
 {}
+
+/// Law: a line has one answer, but for whether a publication is busy and for what a sweep reclaims. It runs nothing.
+pub fn one_reply()
+    ensures { HasOneAnswer }
+{
+    filter_parse::one_value();
+}
 
 #[cfg(test)]
 mod tests;

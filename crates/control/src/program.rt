@@ -72,7 +72,8 @@ pub(crate) fn command_of(
     alloc: Global,
     command: Command<ProgramText<'_>>,
 ) -> Result<Command, Failure>
-    ensures { MatchResult result (IsMadeCommand (command_over source_of command.entry)) (IsFailureOfCommand (command_over source_of command.entry)) }
+    ensures { let asked = command_over source_of command.entry in
+        MatchResult result (IsMadeCommand asked) (IsFailureOfCommand asked) }
 {
     match command {
         Command::AddGroup { key } => Ok(Command::AddGroup { key }),
