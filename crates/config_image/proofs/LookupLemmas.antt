@@ -12,7 +12,7 @@ use Rattle.member_group.specs.declared.TheConstants.{GROUP_WORDS, HEAD_WORDS, ME
 use Rattle.member_group.specs.declared.member.Member.{Member}
 use Rattle.member_group.specs.Charge.{members_of}
 use Rattle.config_image.specs.Image.{Group, all_member_records, filter_words, group_program_words, group_records, image, members_begin, program_words, programs_begin, reference, words_of}
-use Rattle.config_image.specs.Lookup.{BeginsWithImage, HasGroup, HasMember, IsMemberFound, IsProgramFound, members_at, programs_at}
+use Rattle.config_image.specs.Lookup.{BeginsWithImage, HasGroup, HasMember, IsMemberFound, IsProgramFound, IsRecordOf, members_at, programs_at}
 use Rattle.config_image.proofs.ImageLemmas.{count_word, word_in_groups, word_in_members}
 use Rattle.config_image.proofs.LengthLemmas.{members_limited, members_of_take}
 use Rattle.config_image.proofs.PartLemmas.{IsPart, filter_part, group_part, image_part, part_first, part_of_first, part_of_rest, part_stands}
@@ -162,3 +162,17 @@ module _ (words : List ℕ) (config : List Group) (begins : BeginsWithImage word
 
   pub members_count_is : (index : ℕ) (group : Group) → HasGroup config index group → slice_get words (HEAD_WORDS + GROUP_WORDS * index + 2) ≡ Some (length group.members)
   members_count_is index group has = group_word_is words config begins index group has 2 (length group.members) (omega arith) refl
+
+-- ---- records
+
+-- a record of a member is where its place was told, also after a read
+pub record_there : (words words' : List ℕ) (config : List Group) (group index : ℕ) (member : Member ProgramValue) (entry : ℕ) → words' ≡ words
+    → BeginsWithImage words config → HasMember config group index member → entry ≡ members_at config group + MEMBER_WORDS * index → IsRecordOf words' entry member
+record_there words words' config group index member at same begins has place = record {
+  config = config;
+  begins = subst (λ (ws : List ℕ). BeginsWithImage ws config) (sym same) begins;
+  group = group;
+  index = index;
+  has = has;
+  place = place;
+}

@@ -66,3 +66,12 @@ pub record RowHolds (config : List Group) : Type 0 where
 -- so it is where the charge is not more than a row has words
 abbrev pub RowHoldsImage : Type 0
 RowHoldsImage = (config : List Group) → IsConfig config → charge_of config ≤ ROW_WORDS → RowHolds config
+
+-- the record of a member begins at a place of words that begin with an image
+pub record IsRecordOf (words : List ℕ) (entry : ℕ) (member : Member ProgramValue) : Type 0 where
+  pub config : List Group
+  pub begins : BeginsWithImage words config
+  pub group : ℕ
+  pub index : ℕ
+  pub has : HasMember config group index member
+  pub place : entry ≡ members_at config group + MEMBER_WORDS * index

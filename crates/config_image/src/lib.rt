@@ -11,7 +11,8 @@ mod word;
 mod writing;
 
 pub use lookup::{
-    FoundGroup, MemberEntry, ProgramPlace, filter_of, find_group, member_at, selector_of,
+    FoundGroup, MemberEntry, ProgramPlace, filter_of, find_group, member_at, member_with_filter,
+    selector_of,
 };
 pub use size::image_len;
 pub use word::image_word;

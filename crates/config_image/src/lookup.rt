@@ -5,7 +5,7 @@ ghost use Rattle.ipv4_fields.specs.Endpoint.{IsEndpoint, endpoint_number};
 ghost use Rattle.member_group.specs.declared.member.Member.{Member};
 ghost use Rattle.bpf_verify.specs.Program.{ProgramValue};
 ghost use Rattle.config_image.specs.Image.{Group};
-ghost use Rattle.config_image.specs.Lookup.{BeginsWithImage, HasGroup, HasMember, IsGroupFound, IsMemberFound, IsProgramFound, members_at};
+ghost use Rattle.config_image.specs.Lookup.{BeginsWithImage, HasGroup, HasMember, IsGroupFound, IsMemberFound, IsProgramFound, IsRecordOf, members_at};
 
 use crate::word::number;
 use bpf_insn::Words;
@@ -115,6 +115,37 @@ pub fn find_group<W: Words>(words: &mut W, key: Endpoint) -> Option<FoundGroup>
     None
 }
 
+// Where the record of a member begins.
+fn member_place<W: Words>(words: &mut W, group: usize, index: usize) -> usize
+    requires { (config : List Group) × (member : Member ProgramValue) × BeginsWithImage (W.words words.old) config × HasMember config group index member }
+    ensures place { (config : List Group) (member : Member ProgramValue) → BeginsWithImage (W.words words.old) config → HasMember config group index member → result ≡ members_at config group + MEMBER_WORDS * index }
+    ensures words_kept { W.words words.new ≡ W.words words.old }
+    ensures rest_kept { W.rest words.new ≡ W.rest words.old }
+{
+    members_place(words, group) + MEMBER_WORDS * index
+}
+
+// What the record of a member says of it, and where its filter stands.
+fn read_member<W: Words>(words: &mut W, entry: usize) -> MemberEntry
+    requires { (member : Member ProgramValue) × IsRecordOf (W.words words.old) entry member }
+    ensures member_found { (member : Member ProgramValue) → IsRecordOf (W.words words.old) entry member → IsMemberFound member result }
+    ensures words_kept { W.words words.new ≡ W.words words.old }
+    ensures rest_kept { W.rest words.new ≡ W.rest words.old }
+{
+    let id = words.word(entry) as u32;
+    let to = endpoint(words.word(entry + 1));
+    MemberEntry { id, to }
+}
+
+fn read_filter<W: Words>(words: &mut W, entry: usize) -> Option<ProgramPlace>
+    requires { (member : Member ProgramValue) × IsRecordOf (W.words words.old) entry member }
+    ensures filter_found { (member : Member ProgramValue) → IsRecordOf (W.words words.old) entry member → IsProgramFound (W.words words.old) member.filter result }
+    ensures words_kept { W.words words.new ≡ W.words words.old }
+    ensures rest_kept { W.rest words.new ≡ W.rest words.old }
+{
+    place(words.word(entry + 2))
+}
+
 /// Tells which member a group has at an index, in words that begin with an image.
 ///
 /// `group` and `index` are counted from 0. Reads three words. Takes no memory.
@@ -124,10 +155,8 @@ pub fn member_at<W: Words>(words: &mut W, group: usize, index: usize) -> MemberE
     ensures words_kept { W.words words.new ≡ W.words words.old }
     ensures rest_kept { W.rest words.new ≡ W.rest words.old }
 {
-    let entry = members_place(words, group) + MEMBER_WORDS * index;
-    let id = words.word(entry) as u32;
-    let to = endpoint(words.word(entry + 1));
-    MemberEntry { id, to }
+    let entry = member_place(words, group, index);
+    read_member(words, entry)
 }
 
 /// Tells where the words of a group's selector stand, in words that begin with an image.
@@ -151,6 +180,25 @@ pub fn filter_of<W: Words>(words: &mut W, group: usize, index: usize) -> Option<
     ensures words_kept { W.words words.new ≡ W.words words.old }
     ensures rest_kept { W.rest words.new ≡ W.rest words.old }
 {
-    let entry = members_place(words, group) + MEMBER_WORDS * index;
-    place(words.word(entry + 2))
+    let entry = member_place(words, group, index);
+    read_filter(words, entry)
+}
+
+/// Tells which member a group has at an index, and where the words of its filter stand: both as `member_at` and `filter_of` do.
+///
+/// Reads four words, each once. Takes no memory.
+pub fn member_with_filter<W: Words>(
+    words: &mut W,
+    group: usize,
+    index: usize,
+) -> (MemberEntry, Option<ProgramPlace>)
+    requires { (config : List Group) × (member : Member ProgramValue) × BeginsWithImage (W.words words.old) config × HasMember config group index member }
+    ensures member_found { (config : List Group) (member : Member ProgramValue) → BeginsWithImage (W.words words.old) config → HasMember config group index member → IsMemberFound member result.0 }
+    ensures filter_found { (config : List Group) (member : Member ProgramValue) → BeginsWithImage (W.words words.old) config → HasMember config group index member → IsProgramFound (W.words words.old) member.filter result.1 }
+    ensures words_kept { W.words words.new ≡ W.words words.old }
+    ensures rest_kept { W.rest words.new ≡ W.rest words.old }
+{
+    let entry = member_place(words, group, index);
+    let member = read_member(words, entry);
+    (member, read_filter(words, entry))
 }
