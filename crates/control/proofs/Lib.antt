@@ -1,9 +1,10 @@
-pub mod FieldLemmas
-pub mod RequestLemmas
-pub mod ProgramLemmas
-pub mod OverLemmas
-pub mod ChangeLemmas
-pub mod LineLemmas
-pub mod OneLineLemmas
-pub mod OneFaultLemmas
-pub mod OneAnswerLemmas
+mod FieldLemmas
+mod RequestLemmas
+mod ProgramLemmas
+mod OverLemmas
+mod ChangeLemmas
+mod LineLemmas
+mod OneLineLemmas
+mod OneFaultLemmas
+mod OneAnswerLemmas
+mod StandardFacts

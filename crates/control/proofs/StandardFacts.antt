@@ -1,0 +1,93 @@
+-- Worked examples: lines and what they ask for, replies and their texts.
+use Rattle.std.proofs.Common.{◌≡◌, ◌∷◌, [], codes, lit<, refl}
+use Rattle.std.specs.Fmt.{digits}
+use Rattle.bpf_asm.specs.declared.fault.AsmFault.TheVariants as asm
+use Rattle.bpf_verify.specs.declared.fault.Fault.TheVariants as verify
+use Rattle.ipv4_fields.specs.declared.endpoint.Endpoint.{Endpoint}
+use Rattle.ipv4_fields.specs.Endpoint.{IsEndpoint}
+use Rattle.member_group.specs.declared.command.Command.TheVariants.{AddGroup, Join, SetFilter, SetSelector}
+use Rattle.member_group.specs.declared.refusal.Refusal.TheVariants.{NoMember}
+use Rattle.retire.specs.declared.fault.PublishFault.TheVariants.{Busy}
+use Rattle.control.specs.declared.reason.Reason.TheVariants.{Assembly, BadLine, Command, Publishing, Words}
+use Rattle.control.specs.declared.reply.Answer.TheVariants.{Published, Refused, Shown, Swept}
+use Rattle.control.specs.Field.{endpoint_text}
+use Rattle.control.specs.Reply.{reply_text}
+use Rattle.control.specs.Request.{Spells, assembly, change, expression, show}
+
+-- 10.0.0.2:53 and 127.0.0.1:9001
+abbrev key : Endpoint
+key = record { address = 167772162; port = 53 }
+
+abbrev to : Endpoint
+to = record { address = 2130706433; port = 9001 }
+
+key_range : IsEndpoint key
+key_range = record { address = lit< tt; port = lit< tt }
+
+to_range : IsEndpoint to
+to_range = record { address = lit< tt; port = lit< tt }
+
+key_text : endpoint_text key ≡ codes "10.0.0.2:53"
+unfolding digits
+key_text = refl
+
+greatest_text : endpoint_text (record { address = 4294967295; port = 65535 }) ≡ codes "255.255.255.255:65535"
+unfolding digits
+greatest_text = refl
+
+-- ---- lines
+
+adds : Spells (codes "add 10.0.0.2:53") (change (AddGroup key))
+unfolding digits
+adds = (codes "add" ∷ codes "10.0.0.2:53" ∷ [], refl, (key_range, refl))
+
+joins : Spells (codes "join 10.0.0.2:53 1 127.0.0.1:9001") (change (Join key 1 to))
+unfolding digits
+joins = (codes "join" ∷ codes "10.0.0.2:53" ∷ codes "1" ∷ codes "127.0.0.1:9001" ∷ [], refl, (key_range, lit< tt, to_range, refl))
+
+-- two spaces: the second belongs to the text
+selects : Spells (codes "selector 10.0.0.2:53 asm  ret #0") (change (SetSelector key (assembly (codes " ret #0"))))
+unfolding digits
+selects = (codes "selector" ∷ codes "10.0.0.2:53" ∷ codes "asm" ∷ codes " ret #0" ∷ [], refl, (key_range, refl))
+
+-- no text at all
+filters : Spells (codes "filter 10.0.0.2:53 3 expr ") (change (SetFilter key 3 (expression [])))
+unfolding digits
+filters = (codes "filter" ∷ codes "10.0.0.2:53" ∷ codes "3" ∷ codes "expr" ∷ [] ∷ [], refl, (key_range, lit< tt, refl))
+
+shows : Spells (codes "show") show
+shows = refl
+
+-- ---- replies
+
+published : reply_text (Published 7) ≡ codes "ok version 7"
+unfolding digits
+published = refl
+
+shown : reply_text (Shown 7 1 2 28) ≡ codes "version 7 groups 1 members 2 charge 28"
+unfolding digits
+shown = refl
+
+swept : reply_text (Swept (record { first = 0; count = 7 })) ≡ codes "reclaimed 0 7"
+unfolding digits
+swept = refl
+
+bad_line : reply_text (Refused BadLine) ≡ codes "refused C1"
+bad_line = refl
+
+no_member : reply_text (Refused (Command NoMember)) ≡ codes "refused G3"
+no_member = refl
+
+busy : reply_text (Refused (Publishing Busy)) ≡ codes "refused B2"
+busy = refl
+
+syntax_fault : reply_text (Refused (Assembly (asm.Syntax 2))) ≡ codes "refused A1 2"
+unfolding digits
+syntax_fault = refl
+
+jump_outside : reply_text (Refused (Words (verify.JumpOutside 0))) ≡ codes "refused V8 0"
+unfolding digits
+jump_outside = refl
+
+unended : reply_text (Refused (Words verify.NoReturn)) ≡ codes "refused V10"
+unended = refl
