@@ -90,7 +90,10 @@ pub record IsProgramOfExpression (text : List ℕ) (program : ProgramValue) : Ty
 -- the charge and the text of the program
 abbrev pub IsCompileAnswer : List ℕ → Answer → Type 0
 IsCompileAnswer text (Compiled charge listing) =
-    (program : ProgramValue) × IsProgramOfExpression text program × (charge ≡ program.charge) × (string_bytes listing ≡ printed program.words)
+    (program : ProgramValue)
+    × IsProgramOfExpression text program
+    × (charge ≡ program.charge)
+    × (string_bytes listing ≡ printed program.words)
 IsCompileAnswer text _ = ⊥
 
 -- whether the expression is true of the packet

@@ -30,7 +30,8 @@ IsResult first input answer = IsFirstAnswer answer
 IsResult check input answer = IsCheckAnswer input answer
 IsResult (compile expression) input answer = IsCompileAnswer expression answer
 IsResult (run digits) input answer = (packet : List ℕ) × SpellsPacket digits packet × IsRunAnswer packet input answer
-IsResult (judge digits expression) input answer = (packet : List ℕ) × SpellsPacket digits packet × IsJudgeAnswer packet expression answer
+IsResult (judge digits expression) input answer =
+    (packet : List ℕ) × SpellsPacket digits packet × IsJudgeAnswer packet expression answer
 
 -- why it has none; the packet is looked at before the program or the expression
 abbrev pub IsRefusal : Request → List ℕ → Refusal → Type 0
@@ -69,7 +70,8 @@ IsStopOf request known (stop.Failed failure) = IsFailureOf request failure
 -- the text that is written with a status: that of the result, or the line of the refusal
 abbrev pub IsAnswerText : Request → Option (List ℕ) → Status → List ℕ → Type 0
 IsAnswerText request known Done text = (answer : Answer) × IsResultOf request known answer × (text ≡ answer_text answer)
-IsAnswerText request known Refused text = (refusal : Refusal) × IsRefusalOf request known refusal × (text ≡ refusal_text refusal ++ codes "\n")
+IsAnswerText request known Refused text =
+    (refusal : Refusal) × IsRefusalOf request known refusal × (text ≡ refusal_text refusal ++ codes "\n")
 IsAnswerText request known _ text = ⊥
 
 -- the command's text was written behind what stood before, and nothing else

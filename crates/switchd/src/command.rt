@@ -5,7 +5,7 @@ ghost use Rattle.std.specs.Option.{option_map};
 ghost use Rattle.clap.specs.Walk.{first_of};
 ghost use Rattle.clap.specs.Words.{FailsBy, app_of, found_of, rows_of};
 ghost use Rattle.clap.specs.declared.builder.command.Command.TheViews.{out-Command};
-ghost use Rattle.switchd.specs.CommandLine.{check_line, command_line, compile_line, faults_in, first_line, request_in, request_named, request_of, run_line, run_or_judge, value_in};
+ghost use Rattle.switchd.specs.CommandLine.{command_line, compile_line, faults_in, request_in, request_named, request_of, run_line, run_or_judge, value_in};
 
 use crate::help;
 use clap::{Arg, ArgMatches, Command, Error};
@@ -94,7 +94,8 @@ fn value_of<'a>(found: &ArgMatches<'a>, id: &str) -> &'a str
 }
 
 fn run_or_judge<'a>(found: &ArgMatches<'a>) -> Subcommand<'a>
-    ensures { request_of result ≡ run_or_judge (value_in (rows_of (found_of found.now)) (codes "packet")) (first_of (codes "expr") (rows_of (found_of found.now))) }
+    ensures { request_of result
+        ≡ run_or_judge (value_in (rows_of (found_of found.now)) (codes "packet")) (first_of (codes "expr") (rows_of (found_of found.now))) }
 {
     let packet = value_of(found, "packet");
     match found.get_str("expr") {

@@ -1,7 +1,6 @@
 //! The command `compile`, and `run` with an expression (docs/COMMANDS.md).
 
-ghost use Rattle.std.specs.Prelude.{◌≡◌, ◌≤◌, IfErr, IfOk, length};
-ghost use Rattle.bpf_machine.specs.declared.TheConstants.{MAX_PACKET};
+ghost use Rattle.std.specs.Prelude.{IfErr, IfOk};
 ghost use Rattle.filter_compile.specs.Answer.{IsPacket};
 ghost use Rattle.switchd.specs.Answer.{IsCompileAnswer, IsJudgeAnswer, IsProgramOfExpression, RefusesExpression};
 ghost use Rattle.switchd.specs.Refusal.{IsStopBy};

@@ -1,6 +1,6 @@
 //! The command `first`: one packet through two versions.
 
-ghost use Rattle.std.specs.Prelude.{◌≡◌, ◌+◌, ◌++◌, ◌<◌, IfOk, List, None, OnOk, Some, codes, length, ℕ};
+ghost use Rattle.std.specs.Prelude.{◌≡◌, ◌<◌, IfOk, List, None, OnOk, Some, length, ℕ};
 ghost use Rattle.bpf_verify.specs.Accepted.{IsAccepted};
 ghost use Rattle.config_image.specs.Image.{Group};
 ghost use Rattle.config_image.specs.Lookup.{BeginsWithImage};

@@ -1,7 +1,7 @@
 //! Why a command refuses what it is given, and the line that says so (docs/COMMANDS.md, "Refusals").
 
 ghost use Rattle.std.specs.Prelude.{◌≡◌, Some};
-ghost use Rattle.switchd.specs.Refusal.{assembly_code, code_text, compiling_code, expression_code, program_code, refusal_code, refusal_text, seen_code, stop_of_assembly, stop_of_compiling, stop_of_expression, stop_of_hex};
+ghost use Rattle.switchd.specs.Refusal.{assembly_code, compiling_code, expression_code, program_code, refusal_code, refusal_text, seen_code, stop_of_assembly, stop_of_compiling, stop_of_expression, stop_of_hex};
 ghost use Rattle.switchd.specs.declared.ending.Failure.TheVariants.{OutOfMemory};
 ghost use Rattle.switchd.specs.declared.refusal.Stop.TheVariants.{Failed};
 

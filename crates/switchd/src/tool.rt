@@ -37,18 +37,21 @@ pub fn tool<R: Read + Drop, W: Write, E: Write>(
     ensures done { result ≡ Some (code_of Status.Done)
         → (faults_in (map string_bytes words.now) ≡ []) ⊎ AsksForText (faults_in (map string_bytes words.now)) }
     ensures done_written { result ≡ Some (code_of Status.Done) → faults_in (map string_bytes words.now) ≡ []
-        → WritesAnswerTo (map string_bytes words.now) (R.remaining input) Status.Done (W.contents out.old) (W.contents out.new) }
+        → WritesAnswerTo (map string_bytes words.now) (R.remaining input) Status.Done
+        (W.contents out.old) (W.contents out.new) }
 
     ensures refused { result ≡ Some (code_of Status.Refused) → faults_in (map string_bytes words.now) ≡ [] }
     ensures refused_written { result ≡ Some (code_of Status.Refused)
-        → WritesAnswerTo (map string_bytes words.now) (R.remaining input) Status.Refused (W.contents out.old) (W.contents out.new) }
+        → WritesAnswerTo (map string_bytes words.now) (R.remaining input) Status.Refused
+        (W.contents out.old) (W.contents out.new) }
 
     ensures misused { result ≡ Some (code_of Status.Misused) → HasMisuse (faults_in (map string_bytes words.now)) }
     ensures nothing_written { result ≡ Some (code_of Status.Misused) → out.new ≡ out.old }
 
     ensures failed { result ≡ Some (code_of Status.Failed)
         → TellsFailure (map string_bytes words.now) (E.contents errs.old) (E.contents errs.new) }
-    ensures no_errors { (result ≡ Some (code_of Status.Done)) ⊎ (result ≡ Some (code_of Status.Refused)) → errs.new ≡ errs.old }
+    ensures no_errors { (result ≡ Some (code_of Status.Done)) ⊎ (result ≡ Some (code_of Status.Refused))
+        → errs.new ≡ errs.old }
 {
     let status = match run_words(alloc, words, input, out, errs) {
         Ok(status) => status,
@@ -67,11 +70,13 @@ fn run_words<R: Read + Drop, W: Write, E: Write>(
     ensures done { result ≡ Ok Status.Done
         → (faults_in (map string_bytes words.now) ≡ []) ⊎ AsksForText (faults_in (map string_bytes words.now)) }
     ensures done_written { result ≡ Ok Status.Done → faults_in (map string_bytes words.now) ≡ []
-        → WritesAnswerTo (map string_bytes words.now) (R.remaining input) Status.Done (W.contents out.old) (W.contents out.new) }
+        → WritesAnswerTo (map string_bytes words.now) (R.remaining input) Status.Done
+        (W.contents out.old) (W.contents out.new) }
 
     ensures refused { result ≡ Ok Status.Refused → faults_in (map string_bytes words.now) ≡ [] }
     ensures refused_written { result ≡ Ok Status.Refused
-        → WritesAnswerTo (map string_bytes words.now) (R.remaining input) Status.Refused (W.contents out.old) (W.contents out.new) }
+        → WritesAnswerTo (map string_bytes words.now) (R.remaining input) Status.Refused
+        (W.contents out.old) (W.contents out.new) }
 
     ensures misused { result ≡ Ok Status.Misused → HasMisuse (faults_in (map string_bytes words.now)) }
     ensures nothing_written { result ≡ Ok Status.Misused → out.new ≡ out.old }
@@ -93,7 +98,8 @@ fn run_subcommand<R: Read + Drop, W: Write>(
     out: &mut W,
 ) -> Result<Status, Failure>
     ensures failed { IfErr result (λ failure. failure ≡ Failure.ReadFailed → ReadsInput (request_of command.entry)) }
-    ensures answered { IfOk result (λ status. WritesAnswer (request_of command.entry) (R.remaining input) status (W.contents out.old) (W.contents out.new)) }
+    ensures answered { IfOk result (λ status.
+        WritesAnswer (request_of command.entry) (R.remaining input) status (W.contents out.old) (W.contents out.new)) }
 {
     match find_answer(alloc, command, input) {
         Ok(found) => write_answer(&found, out),
