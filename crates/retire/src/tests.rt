@@ -133,6 +133,9 @@ fn rows_are_used_again(rt: HostRuntime) -> Result<(), Fail> {
         }
         publish(&rt, alloc, &mut operator, number)?;
         assert_eq!(rt; read_whole(&mut worker), (u64::from(number), 0));
+        // Rows 1 to 7 in turn; then the seven that a round of scans frees, twice. No word behind the image is left.
+        let row = if number < 8 { number } else { (number - 8) % 7 };
+        assert!(rt; operator.zeros_from(row as usize) <= 6, "version {number}");
     }
     assert_eq!(rt; operator.number(), 19);
     Ok(())
@@ -152,7 +155,7 @@ fn bad_sections(worker: &mut Worker, times: u32) -> u32 {
     bad
 }
 
-// Tries to publish so many versions: how many answers were neither the next number nor a configuration handed back.
+// Tries to publish so many versions: how many answers were neither the next number nor `Busy` with the configuration.
 fn bad_publications(alloc: Global, operator: &mut Operator, times: u32) -> Result<u32, Fail> {
     let mut bad = 0u32;
     for _ in 0..times {
@@ -160,11 +163,8 @@ fn bad_publications(alloc: Global, operator: &mut Operator, times: u32) -> Resul
         match operator.publish(config_of(alloc, u32::try_from(next).unwrap_or(0))?) {
             Ok(number) if number == next => {}
             Ok(_) => bad = bad.wrapping_add(1),
-            Err((_, config)) => {
-                if config.groups().len() != 1 {
-                    bad = bad.wrapping_add(1);
-                }
-            }
+            Err((PublishFault::Busy, config)) if config.groups().len() == 1 => {}
+            Err(_) => bad = bad.wrapping_add(1),
         }
     }
     Ok(bad)
@@ -200,6 +200,8 @@ fn sections_beside_publications(rt: HostRuntime) -> Result<(), Fail> {
         bad_publications(alloc, &mut operator, 4000)
     })?;
     assert_eq!(rt; published, 0);
+    // Seven versions find a row that was never used, whoever reads.
+    assert!(rt; operator.number() >= 7);
     assert_eq!(rt; bad.into_inner(), 0);
     Ok(())
 }
