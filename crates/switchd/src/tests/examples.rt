@@ -1,6 +1,6 @@
 //! The sessions of examples/, with their programs and packets as they stand there.
 
-use super::assert_told;
+use super::{SAMPLE_PACKET, assert_told};
 use std::alloc::{AllocError, Global};
 use std::process::Abort;
 use std::test::Fail;
@@ -102,6 +102,19 @@ const OPTIONS_PACKET: &[&str] = &[
 const TCP_SYN_PACKET: &[&str] = &[
     "4500002800050000400666c90a0000010a0000021388003500000001000000005002040084220000",
 ];
+
+const UDP_PROGRAM: &str = "ldb [0]
+and #240
+jeq #64,0,1
+ja +1
+ja +5
+ldb [9]
+jeq #17,0,1
+ja +1
+ja +1
+ret #65535
+ret #0
+";
 
 // The lines of a packet's digits, as one word.
 fn joined(alloc: Global, lines: &[&str]) -> Result<String, AllocError> {
@@ -359,4 +372,48 @@ fn refused_session(rt: HostRuntime) -> Result<(), Fail> {
         assert_judged(&rt, rt.alloc(), packet, expression, status, text)?;
     }
     Ok(())
+}
+
+// The session of README.md, and the example of `dswitch help compile`. Which instructions a compiled expression has may change:
+// the texts are then written again.
+#[test]
+fn first_session(rt: HostRuntime) -> Result<(), Fail> {
+    let compiled =
+        "charge 11\nldb [0]\nand #240\njeq #64,0,1\nja +1\nja +5\nldb [9]\njeq #17,0,1\nja +1\nja +1\nret #65535\nret #0\n";
+    assert_told(
+        &rt,
+        rt.alloc(),
+        &["compile", "ip proto 17"],
+        "",
+        0,
+        compiled,
+    )?;
+    assert_told(&rt, rt.alloc(), &["check"], UDP_PROGRAM, 0, "accepted 11\n")?;
+    let run: [(&[&str], &str, u8, &str); 2] = [
+        (
+            &[SAMPLE_PACKET],
+            UDP_PROGRAM,
+            0,
+            "value 65535 steps 8 kept 29\n",
+        ),
+        (
+            &["4500001d0000000040"],
+            UDP_PROGRAM,
+            0,
+            "value 0 steps 5 kept 0\n",
+        ),
+    ];
+    for (packet, program, status, text) in run {
+        assert_run(&rt, rt.alloc(), packet, program, status, text)?;
+    }
+    assert_judged(
+        &rt,
+        rt.alloc(),
+        &["4500001d0000000040"],
+        "not ip proto 17",
+        0,
+        "reject\n",
+    )?;
+    let listing = "charge 6\nld len\njgt #28,0,1\nja +2\nja +0\nret #65535\nret #0\n";
+    assert_told(&rt, rt.alloc(), &["compile", "less 28"], "", 0, listing)
 }
