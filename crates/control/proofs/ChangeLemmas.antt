@@ -149,8 +149,9 @@ module _ (before : OperatorValue) (command : Command Source) (real : List Group)
 -- ---- the steps of a change
 
 does_nothing : (source : Source) (why : Reason) (before : OperatorValue) → IsFaultOfSource source why → DoesRefused why before before
+does_nothing source reason.BadForm before fault = refl
 does_nothing source reason.LineTooLong before fault = refl
-does_nothing source reason.BadLine before fault = refl
+does_nothing source reason.PacketTooLong before fault = refl
 does_nothing source (reason.Assembly why) before fault = refl
 does_nothing source (reason.Words why) before fault = refl
 does_nothing source (reason.Expression why) before fault = refl

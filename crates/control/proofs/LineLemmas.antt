@@ -34,7 +34,7 @@ module _ (line : List ℕ) (before : OperatorValue) where
   is_too_long long = record { steps = refl; text = λ config agrees. (config, too_long long, agrees) }
 
   module _ (short : length line ≤ LINE_LIMIT) where
-    pub is_bad_line : ((request : Request) → Spells line request → ⊥) → IsAnswered line before before (Refused reason.BadLine)
+    pub is_bad_line : ((request : Request) → Spells line request → ⊥) → IsAnswered line before before (Refused reason.BadForm)
     is_bad_line none = record { steps = refl; text = λ config agrees. (config, bad_line short none, agrees) }
 
     is_changed : (command : Command Source) (after : OperatorValue) (answer : Answer) → Spells line (change command) → IsChanged command before after answer → IsAnswered line before after answer
@@ -95,8 +95,9 @@ nothing_keeps before after (inl same) = keeps_same before after same
 nothing_keeps before after (inr is_busy) = busy_keeps before after is_busy
 
 refused_does_nothing : (why : Reason) (before after : OperatorValue) → DoesRefused why before after → DoesNothing before after
+refused_does_nothing reason.BadForm before after does = inl does
 refused_does_nothing reason.LineTooLong before after does = inl does
-refused_does_nothing reason.BadLine before after does = inl does
+refused_does_nothing reason.PacketTooLong before after does = inl does
 refused_does_nothing (reason.Assembly fault) before after does = inl does
 refused_does_nothing (reason.Words fault) before after does = inl does
 refused_does_nothing (reason.Expression fault) before after does = inl does

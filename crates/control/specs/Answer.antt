@@ -16,7 +16,7 @@ use Rattle.retire.specs.Sweep.{Sweeps}
 use Rattle.retire.specs.declared.fault.PublishFault.TheVariants.{Busy, Exhausted, TooBig}
 use Rattle.control.specs.declared.TheConstants.{LINE_LIMIT}
 use Rattle.control.specs.declared.reason.Reason.{Reason}
-use Rattle.control.specs.declared.reason.Reason.TheVariants.{BadLine, LineTooLong, Publishing}
+use Rattle.control.specs.declared.reason.Reason.TheVariants.{BadForm, LineTooLong, Publishing}
 use Rattle.control.specs.declared.reason.Reason.TheVariants as reason
 use Rattle.control.specs.declared.reply.Answer.{Answer}
 use Rattle.control.specs.declared.reply.Answer.TheVariants.{Published, Refused, Shown, Swept}
@@ -77,7 +77,7 @@ pub data Changes (version : ℕ) (config : TextConfig) (command : Command Source
 pub data Answers (version : ℕ) (config : TextConfig) (line : List ℕ) : Answer → TextConfig → Type 0 where
   too_long : LINE_LIMIT < length line → Answers version config line (Refused LineTooLong) config
   bad_line : length line ≤ LINE_LIMIT → ((request : Request) → ¬ Spells line request) →
-      Answers version config line (Refused BadLine) config
+      Answers version config line (Refused BadForm) config
   changed : (command : Command Source) (answer : Answer) (next : TextConfig) → length line ≤ LINE_LIMIT →
       Spells line (change command) → Changes version config command answer next → Answers version config line answer next
   shown : length line ≤ LINE_LIMIT → Spells line show →

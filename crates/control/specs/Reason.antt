@@ -1,5 +1,5 @@
--- How refusals are named (docs/COMMANDS.md, "Control lines").
-use Rattle.std.specs.Prelude.{◌≡◌, List, None, Option, Some, codes, ℕ}
+-- How refusals are named, and the line that tells one (docs/COMMANDS.md, "Refusals").
+use Rattle.std.specs.Prelude.{◌≡◌, ◌++◌, List, None, Option, Some, [], codes, decimal, ℕ}
 use Rattle.bpf_asm.specs.declared.fault.AsmFault.{AsmFault}
 use Rattle.bpf_asm.specs.declared.fault.AsmFault.TheVariants as asm
 use Rattle.bpf_verify.specs.declared.fault.Fault.{Fault}
@@ -14,7 +14,7 @@ use Rattle.retire.specs.declared.fault.PublishFault.{PublishFault}
 use Rattle.retire.specs.declared.fault.PublishFault.TheVariants as publish
 use Rattle.control.specs.declared.reason.Code.{Code as LentCode}
 use Rattle.control.specs.declared.reason.Reason.{Reason}
-use Rattle.control.specs.declared.reason.Reason.TheVariants.{Assembly, BadLine, Command, Compiling, Expression, LineTooLong, Publishing, Words}
+use Rattle.control.specs.declared.reason.Reason.TheVariants.{Assembly, BadForm, Command, Compiling, Expression, LineTooLong, PacketTooLong, Publishing, Words}
 
 -- a refusal's code, and the line, place or pc of the fault where it has one
 pub record Code : Type 0 where
@@ -80,14 +80,23 @@ publish_code publish.Busy = plain (codes "B2")
 publish_code publish.Exhausted = plain (codes "B3")
 
 abbrev pub reason_code : Reason → Code
+reason_code BadForm = plain (codes "C1")
 reason_code LineTooLong = plain (codes "C2")
-reason_code BadLine = plain (codes "C1")
+reason_code PacketTooLong = plain (codes "C3")
 reason_code (Assembly fault) = asm_code fault
 reason_code (Words fault) = verify_code fault
 reason_code (Expression fault) = parse_code fault
 reason_code (Compiling fault) = compile_code fault
 reason_code (Command refusal) = command_code refusal
 reason_code (Publishing fault) = publish_code fault
+
+-- `refused CODE` or `refused CODE NUMBER`
+abbrev pub number_text : Option ℕ → List ℕ
+number_text None = []
+number_text (Some number) = codes " " ++ decimal number
+
+abbrev pub refusal_text : Reason → List ℕ
+refusal_text reason = codes "refused " ++ (reason_code reason).name ++ number_text (reason_code reason).number
 
 -- what a contract sees of a code
 abbrev pub IsCode : Code → LentCode → Type 0

@@ -2,6 +2,8 @@
 //!
 //! A line changes the configuration and publishes the next version of it, or tells of the current one, or sweeps. Its text is
 //! read, its programs are made and all memory is taken before the operator does anything.
+//!
+//! `Reason` is why a line is refused, or a command of the program (docs/COMMANDS.md, "Refusals").
 #![tactic(auto)]
 
 ghost use Rattle.std.specs.Prelude.{◌≡◌, IfOk, OnErr};
@@ -20,7 +22,7 @@ mod request;
 use change::publish_change;
 use program::Failure;
 use read_section::Operator;
-use reason::Reason;
+pub use reason::{Code, Reason};
 use reply::Answer;
 pub use reply::{REPLY_LIMIT, Reply};
 use request::{Request, read_request};
@@ -52,7 +54,7 @@ fn answer(alloc: Global, text: &[u8], operator: &mut Operator) -> Result<Answer,
         return Err(Failure::Refused(Reason::LineTooLong));
     }
     match read_request(text) {
-        None => Err(Failure::Refused(Reason::BadLine)),
+        None => Err(Failure::Refused(Reason::BadForm)),
         Some(Request::Change(command)) => publish_change(alloc, command, operator),
         Some(Request::Show) => Ok(shown(operator)),
         Some(Request::Sweep) => Ok(Answer::Swept(operator.sweep())),

@@ -1,7 +1,7 @@
-//! Why a line is refused, and the codes of the refusals (docs/COMMANDS.md, "Control lines").
+//! Why a line or a command is refused, and the codes of the refusals (docs/COMMANDS.md, "Refusals").
 
 ghost use Rattle.std.specs.Prelude.{◌≡◌, ◌≤◌, None, Some, length};
-ghost use Rattle.control.specs.Reason.{IsCode, asm_code, command_code, compile_code, parse_code, publish_code, reason_code, verify_code};
+ghost use Rattle.control.specs.Reason.{IsCode, asm_code, command_code, compile_code, parse_code, publish_code, reason_code, refusal_text, verify_code};
 
 use bpf_asm::AsmFault;
 use bpf_verify::Fault;
@@ -9,33 +9,36 @@ use filter_compile::CompileFault;
 use filter_parse::ParseFault;
 use member_group::Refusal;
 use retire::PublishFault;
+use std::fmt;
 
-/// Why a line is refused.
+/// Why a control line or a command is refused.
 #[derive(Clone, Copy, Debug, PartialEq, Eq)]
-pub(crate) enum Reason {
+pub enum Reason {
+    /// C1: the text is none that was asked for. A control line is none of the table, or digits write no bytes.
+    BadForm,
     /// C2: the line has more than `LINE_LIMIT` bytes.
     LineTooLong,
-    /// C1: the line is none of the table.
-    BadLine,
-    /// The text of a program is no assembly.
+    /// C3: the packet has more than `MAX_PACKET` bytes. `line` reads none, and never gives it.
+    PacketTooLong,
+    /// A1 to A6: the text of a program is no assembly.
     Assembly(AsmFault),
-    /// The words that a text was assembled to are no program.
+    /// V1 to V11: the words that a text was assembled to are no program.
     Words(Fault),
-    /// The text of a program is no expression.
+    /// P1 to P6: the text is no expression.
     Expression(ParseFault),
-    /// The expression has no program.
+    /// F1 to F3: the expression has no program.
     Compiling(CompileFault),
-    /// The configuration refuses the command.
+    /// G1 to G8: the configuration refuses the command.
     Command(Refusal),
-    /// The new configuration is not published.
+    /// B1 to B3: the new configuration is not published.
     Publishing(PublishFault),
 }
 
 /// How a refusal is named: its code, and the line, place or `pc` of the fault where it has one.
-#[derive(Clone, Copy)]
-pub(crate) struct Code {
-    pub(crate) name: &'static str,
-    pub(crate) number: Option<usize>,
+#[derive(Clone, Copy, Debug, PartialEq, Eq)]
+pub struct Code {
+    pub name: &'static str,
+    pub number: Option<usize>,
 }
 
 fn plain(name: &'static str) -> Code
@@ -135,19 +138,33 @@ fn publish_code(fault: PublishFault) -> Code
 }
 
 impl Reason {
-    pub(crate) fn code(self) -> Code
+    /// Names the refusal.
+    pub fn code(self) -> Code
         ensures code { IsCode (reason_code self) result }
         ensures short { length result.name.now ≤ 3 }
     {
         match self {
+            Reason::BadForm => plain("C1"),
             Reason::LineTooLong => plain("C2"),
-            Reason::BadLine => plain("C1"),
+            Reason::PacketTooLong => plain("C3"),
             Reason::Assembly(fault) => asm_code(fault),
             Reason::Words(fault) => verify_code(fault),
             Reason::Expression(fault) => parse_code(fault),
             Reason::Compiling(fault) => compile_code(fault),
             Reason::Command(refusal) => command_code(refusal),
             Reason::Publishing(fault) => publish_code(fault),
+        }
+    }
+}
+
+impl fmt::Display for Reason {
+    ghost output = { λ reason. Some (refusal_text reason) };
+
+    fn fmt<W: fmt::Write>(&self, f: &mut fmt::Formatter<W>) -> fmt::Result {
+        let Code { name, number } = self.code();
+        match number {
+            Some(number) => write!(f, "refused {name} {number}"),
+            None => write!(f, "refused {name}"),
         }
     }
 }
