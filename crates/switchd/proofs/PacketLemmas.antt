@@ -6,7 +6,7 @@ use Rattle.hex.specs.declared.error.FromHexError.{FromHexError}
 use Rattle.hex.specs.declared.error.FromHexError.TheVariants.{InvalidHexCharacter, InvalidStringLength, OddLength, OutOfMemory}
 use Rattle.hex.proofs.HexLemmas.{decode_of-digits, decode_of-ok}
 use Rattle.switchd.specs.Packet.{IsHex, IsRefusalOfHex}
-use Rattle.switchd.specs.Refusal.{IsStopBy, stop_of_hex}
+use Rattle.switchd.specs.Stop.{IsStopBy, stop_of_hex}
 
 no_hex : (text : List ℕ) (error : FromHexError) → decode_of text ≡ Err error → IsHex text → ⊥
 no_hex text error refused hex =

@@ -2,21 +2,22 @@
 use Rattle.std.proofs.Common.{◌≡◌, ◌<◌, ◌^◌, ℕ, List, [], None, Option, Some, inl, inr, refl, subst, sym, unwrap_or}
 use Rattle.std.proofs.lemmas.List.Elements.{All-from_get_or}
 use Rattle.hex.proofs.HexLemmas.{decode_of-ok}
+use Rattle.control.specs.Program.{IsExpressionFault}
+use Rattle.control.specs.declared.reason.Reason.{Reason}
 use Rattle.filter_compile.specs.Answer.{IsPacket}
 use Rattle.switchd.specs.declared.answer.Answer.{Answer}
 use Rattle.switchd.specs.declared.ending.Failure.{Failure}
 use Rattle.switchd.specs.declared.ending.Failure.TheVariants.{OutOfMemory}
-use Rattle.switchd.specs.declared.refusal.Refusal.{Refusal}
-use Rattle.switchd.specs.declared.refusal.Stop.{Stop}
-use Rattle.switchd.specs.declared.refusal.Stop.TheVariants.{Failed, Refused}
-use Rattle.switchd.specs.Answer.{IsCompileAnswer, IsJudgeAnswer, RefusesExpression}
+use Rattle.switchd.specs.declared.stop.Stop.{Stop}
+use Rattle.switchd.specs.declared.stop.Stop.TheVariants.{Failed, Refused}
+use Rattle.switchd.specs.Answer.{IsCompileAnswer, IsJudgeAnswer}
 use Rattle.switchd.specs.CommandLine.{Request, compile, first, judge, run}
 use Rattle.switchd.specs.FirstPath.{first_lines}
 use Rattle.switchd.specs.declared.first_path.Line.{Line}
 use Rattle.switchd.proofs.WriteLemmas.{first_text_of, versions_of}
 use Rattle.switchd.specs.Input.{IsInput}
 use Rattle.switchd.specs.Packet.{IsRefusalOfHex, SpellsPacket}
-use Rattle.switchd.specs.Refusal.{IsStopBy}
+use Rattle.switchd.specs.Stop.{IsStopBy}
 use Rattle.switchd.specs.Request.{IsFailureOf, IsRefusal, IsResultOf, IsStopOf}
 
 -- the bytes that digits write are a packet
@@ -42,28 +43,28 @@ module _ (known : Option (List ℕ)) where
   no_memory_fails : (request : Request) (failure : Failure) → failure ≡ OutOfMemory → IsFailureOf request failure
   no_memory_fails request failure is = subst (IsFailureOf request) (sym is) tt
 
-  stops_before : (request : Request) (refuses : Refusal → Type 0) (stop : Stop)
-      → ((refusal : Refusal) → refuses refusal → IsRefusal request some_input refusal) → IsStopBy refuses stop → IsStopOf request known stop
-  stops_before request refuses (Refused refusal) why stops = (some_input, is_input, why refusal stops)
+  stops_before : (request : Request) (refuses : Reason → Type 0) (stop : Stop)
+      → ((reason : Reason) → refuses reason → IsRefusal request some_input reason) → IsStopBy refuses stop → IsStopOf request known stop
+  stops_before request refuses (Refused reason) why stops = (some_input, is_input, why reason stops)
   stops_before request refuses (Failed failure) why stops = no_memory_fails request failure stops
 
   pub run_stops_by_hex : (digits : List ℕ) (stop : Stop) → IsStopBy (IsRefusalOfHex digits) stop → IsStopOf (run digits) known stop
-  run_stops_by_hex digits stop = stops_before (run digits) (IsRefusalOfHex digits) stop (λ refusal why. inl why)
+  run_stops_by_hex digits stop = stops_before (run digits) (IsRefusalOfHex digits) stop (λ reason why. inl why)
 
   pub judge_stops_by_hex : (digits expression : List ℕ) (stop : Stop) → IsStopBy (IsRefusalOfHex digits) stop
       → IsStopOf (judge digits expression) known stop
   judge_stops_by_hex digits expression stop =
-      stops_before (judge digits expression) (IsRefusalOfHex digits) stop (λ refusal why. inl why)
+      stops_before (judge digits expression) (IsRefusalOfHex digits) stop (λ reason why. inl why)
 
-  pub compile_stops : (expression : List ℕ) (stop : Stop) → IsStopBy (RefusesExpression expression) stop
+  pub compile_stops : (expression : List ℕ) (stop : Stop) → IsStopBy (IsExpressionFault expression) stop
       → IsStopOf (compile expression) known stop
   compile_stops expression stop =
-      stops_before (compile expression) (RefusesExpression expression) stop (λ refusal why. why)
+      stops_before (compile expression) (IsExpressionFault expression) stop (λ reason why. why)
 
   pub judge_stops : (digits expression packet : List ℕ) (stop : Stop) → SpellsPacket digits packet
-      → IsStopBy (RefusesExpression expression) stop → IsStopOf (judge digits expression) known stop
+      → IsStopBy (IsExpressionFault expression) stop → IsStopOf (judge digits expression) known stop
   judge_stops digits expression packet stop spelt =
-      stops_before (judge digits expression) (RefusesExpression expression) stop (λ refusal why. inr (packet, spelt, why))
+      stops_before (judge digits expression) (IsExpressionFault expression) stop (λ reason why. inr (packet, spelt, why))
 
   pub compile_found : (expression : List ℕ) (answer : Answer) → IsCompileAnswer expression answer → IsResultOf (compile expression) known answer
   compile_found expression answer found = (some_input, is_input, found)

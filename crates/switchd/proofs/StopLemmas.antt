@@ -2,7 +2,7 @@
 use Rattle.std.proofs.Common.{◌≡◌, Err, Ok, Result, subst, sym}
 use Rattle.std.specs.Prelude.{IfErr}
 use Rattle.std.specs.Result.{IsErrAnd}
-use Rattle.switchd.specs.declared.refusal.Stop.{Stop}
+use Rattle.switchd.specs.declared.stop.Stop.{Stop}
 
 -- what holds of a stop holds of the answer that is this stop
 pub stopped_as : {T : Type 0} (result : Result T Stop) (P : Stop → Type 0) (stop : Stop) → IsErrAnd result (λ given. given ≡ stop) → P stop

@@ -1,22 +1,18 @@
 -- What each command answers (docs/COMMANDS.md).
-use Rattle.std.specs.Prelude.{◌≡◌, ◌<◌, ◌≤◌, ◌++◌, IsTrue, List, codes, decimal, false, length, min, string_bytes, true, ℕ, ◌↔◌}
-use Rattle.bpf_asm.specs.Assembly.{Assembles, IsFaultOf}
+use Rattle.std.specs.Prelude.{◌≡◌, ◌≤◌, ◌++◌, IsTrue, List, codes, decimal, false, length, min, string_bytes, true, ℕ, ◌↔◌}
+use Rattle.bpf_asm.specs.Assembly.{Assembles}
 use Rattle.bpf_asm.specs.Text.{printed}
 use Rattle.bpf_machine.specs.Meaning.{Ret, cost_of, ending_of}
 use Rattle.bpf_verify.specs.Accepted.{IsAccepted}
-use Rattle.bpf_verify.specs.Fault.{IsFirstFault}
 use Rattle.bpf_verify.specs.Program.{ProgramValue}
 use Rattle.bpf_verify.specs.declared.TheConstants.{CELLS, MAX_INSTRUCTIONS}
 use Rattle.filter_compile.specs.Answer.{AnswersFor}
-use Rattle.filter_compile.specs.declared.fault.CompileFault.TheVariants.{CellsExceeded, TooLong}
-use Rattle.filter_parse.specs.Fault.{HasFault, HasTree}
+use Rattle.filter_parse.specs.Fault.{HasTree}
 use Rattle.filter_tree.specs.Measure.{cells_of, size_of}
 use Rattle.filter_tree.specs.Tree.{Tree}
 use Rattle.filter_tree.specs.Truth.{accepts}
 use Rattle.switchd.specs.declared.answer.Answer.{Answer}
 use Rattle.switchd.specs.declared.answer.Answer.TheVariants.{Accepted, Compiled, Judged, Ran, Versions}
-use Rattle.switchd.specs.declared.refusal.Refusal.{Refusal}
-use Rattle.switchd.specs.declared.refusal.Refusal.TheVariants.{NoAssembly, NoExpression, NoProgram, NotCompiled}
 use Rattle.switchd.specs.FirstPath.{line_text}
 
 -- the lines of a result
@@ -35,12 +31,6 @@ answer_text (Judged false) = codes "reject\n"
 pub record IsProgramOf (text words : List ℕ) : Type 0 where
   pub assembled : Assembles text words
   pub accepted : IsAccepted words
-
--- the text is no assembly, or its words are no program: the fault of the one, or the first fault of the other
-abbrev pub RefusesProgram : List ℕ → Refusal → Type 0
-RefusesProgram text (NoAssembly fault) = IsFaultOf text fault
-RefusesProgram text (NoProgram fault) = (words : List ℕ) × Assembles text words × IsFirstFault words fault
-RefusesProgram text _ = ⊥
 
 -- the program's number of instructions
 abbrev pub IsCheckAnswer : List ℕ → Answer → Type 0
@@ -65,14 +55,6 @@ pub record IsCompilable (text : List ℕ) (tree : Tree) : Type 0 where
   pub tree_is : HasTree text tree
   pub cells : cells_of tree ≤ CELLS
   pub size : size_of tree ≤ MAX_INSTRUCTIONS
-
--- the text is no expression, or its tree needs too many cells, or else is too large
-abbrev pub RefusesExpression : List ℕ → Refusal → Type 0
-RefusesExpression text (NoExpression fault) = HasFault text fault
-RefusesExpression text (NotCompiled CellsExceeded) = (tree : Tree) × HasTree text tree × (CELLS < cells_of tree)
-RefusesExpression text (NotCompiled TooLong) =
-    (tree : Tree) × HasTree text tree × (cells_of tree ≤ CELLS) × (MAX_INSTRUCTIONS < size_of tree)
-RefusesExpression text _ = ⊥
 
 -- an accepted program that answers for the tree, within its size
 pub record IsProgramFor (tree : Tree) (words : List ℕ) : Type 0 where

@@ -5,5 +5,5 @@ pub mod FirstPath
 pub mod FirstTable
 pub mod Input
 pub mod Packet
-pub mod Refusal
 pub mod Request
+pub mod Stop

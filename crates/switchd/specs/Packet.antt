@@ -2,9 +2,9 @@
 use Rattle.std.specs.Prelude.{◌≡◌, ◌<◌, ◌≤◌, ◌%◌, ◌*◌, List, Ok, length, ℕ}
 use Rattle.std.specs.List.{AllPass}
 use Rattle.bpf_machine.specs.declared.TheConstants.{MAX_PACKET}
+use Rattle.control.specs.declared.reason.Reason.{Reason}
+use Rattle.control.specs.declared.reason.Reason.TheVariants.{BadForm, PacketTooLong}
 use Rattle.hex.specs.Hex.{decode_of, is_hex_digit}
-use Rattle.switchd.specs.declared.refusal.Refusal.{Refusal}
-use Rattle.switchd.specs.declared.refusal.Refusal.TheVariants.{BadHex, PacketTooLong}
 
 -- an even number of hexadecimal digits of either case, possibly none
 pub record IsHex (text : List ℕ) : Type 0 where
@@ -17,7 +17,7 @@ pub record SpellsPacket (text packet : List ℕ) : Type 0 where
   pub not_too_long : length packet ≤ MAX_PACKET
 
 -- why no packet is read from a text
-abbrev pub IsRefusalOfHex : List ℕ → Refusal → Type 0
-IsRefusalOfHex text BadHex = IsHex text → ⊥
+abbrev pub IsRefusalOfHex : List ℕ → Reason → Type 0
+IsRefusalOfHex text BadForm = IsHex text → ⊥
 IsRefusalOfHex text PacketTooLong = IsHex text × (2 * MAX_PACKET < length text)
 IsRefusalOfHex text _ = ⊥

@@ -2,22 +2,23 @@
 use Rattle.std.specs.Prelude.{◌≡◌, ◌++◌, ◌⊎◌, List, Option, Some, codes, ℕ}
 use Rattle.std.specs.Io.KnownBytes.{Appends}
 use Rattle.clap.specs.Words.{Text}
+use Rattle.control.specs.Program.{IsAssemblyFault, IsExpressionFault}
+use Rattle.control.specs.Reason.{refusal_text}
+use Rattle.control.specs.declared.reason.Reason.{Reason}
 use Rattle.switchd.specs.declared.answer.Answer.{Answer}
 use Rattle.switchd.specs.declared.answer.Answer.TheVariants.{Versions}
 use Rattle.switchd.specs.declared.ending.Failure.{Failure}
 use Rattle.switchd.specs.declared.ending.Failure.TheVariants.{OutOfMemory, ReadFailed, WriteFailed}
 use Rattle.switchd.specs.declared.ending.Status.{Status}
 use Rattle.switchd.specs.declared.ending.Status.TheVariants.{Done, Refused}
-use Rattle.switchd.specs.declared.refusal.Refusal.{Refusal}
-use Rattle.switchd.specs.declared.refusal.Stop.{Stop}
-use Rattle.switchd.specs.declared.refusal.Stop.TheVariants as stop
-use Rattle.switchd.specs.Answer.{IsCheckAnswer, IsCompileAnswer, IsJudgeAnswer, IsRunAnswer, RefusesExpression, RefusesProgram, answer_text}
+use Rattle.switchd.specs.declared.stop.Stop.{Stop}
+use Rattle.switchd.specs.declared.stop.Stop.TheVariants as stop
+use Rattle.switchd.specs.Answer.{IsCheckAnswer, IsCompileAnswer, IsJudgeAnswer, IsRunAnswer, answer_text}
 use Rattle.switchd.specs.CommandLine.{Request, check, compile, first, judge, request_in, run}
 use Rattle.switchd.specs.Ending.{AppendsBeginning, line_of}
 use Rattle.switchd.specs.FirstPath.{first_text}
 use Rattle.switchd.specs.Input.{IsInput}
 use Rattle.switchd.specs.Packet.{IsRefusalOfHex, SpellsPacket}
-use Rattle.switchd.specs.Refusal.{refusal_text}
 
 -- the two lines of the first path
 abbrev pub IsFirstAnswer : Answer → Type 0
@@ -34,14 +35,14 @@ IsResult (judge digits expression) input answer =
     (packet : List ℕ) × SpellsPacket digits packet × IsJudgeAnswer packet expression answer
 
 -- why it has none; the packet is looked at before the program or the expression
-abbrev pub IsRefusal : Request → List ℕ → Refusal → Type 0
-IsRefusal first input refusal = ⊥
-IsRefusal check input refusal = RefusesProgram input refusal
-IsRefusal (compile expression) input refusal = RefusesExpression expression refusal
-IsRefusal (run digits) input refusal =
-    IsRefusalOfHex digits refusal ⊎ ((packet : List ℕ) × SpellsPacket digits packet × RefusesProgram input refusal)
-IsRefusal (judge digits expression) input refusal =
-    IsRefusalOfHex digits refusal ⊎ ((packet : List ℕ) × SpellsPacket digits packet × RefusesExpression expression refusal)
+abbrev pub IsRefusal : Request → List ℕ → Reason → Type 0
+IsRefusal first input reason = ⊥
+IsRefusal check input reason = IsAssemblyFault input reason
+IsRefusal (compile expression) input reason = IsExpressionFault expression reason
+IsRefusal (run digits) input reason =
+    IsRefusalOfHex digits reason ⊎ ((packet : List ℕ) × SpellsPacket digits packet × IsAssemblyFault input reason)
+IsRefusal (judge digits expression) input reason =
+    IsRefusalOfHex digits reason ⊎ ((packet : List ℕ) × SpellsPacket digits packet × IsExpressionFault expression reason)
 
 -- the input is read by `check`, and by `run` without an expression where the packet is good
 abbrev pub ReadsInput : Request → Type 0
@@ -60,18 +61,18 @@ IsFailureOf request OutOfMemory = Unit {0}
 abbrev pub IsResultOf : Request → Option (List ℕ) → Answer → Type 0
 IsResultOf request known answer = (input : List ℕ) × IsInput known input × IsResult request input answer
 
-abbrev pub IsRefusalOf : Request → Option (List ℕ) → Refusal → Type 0
-IsRefusalOf request known refusal = (input : List ℕ) × IsInput known input × IsRefusal request input refusal
+abbrev pub IsRefusalOf : Request → Option (List ℕ) → Reason → Type 0
+IsRefusalOf request known reason = (input : List ℕ) × IsInput known input × IsRefusal request input reason
 
 abbrev pub IsStopOf : Request → Option (List ℕ) → Stop → Type 0
-IsStopOf request known (stop.Refused refusal) = IsRefusalOf request known refusal
+IsStopOf request known (stop.Refused reason) = IsRefusalOf request known reason
 IsStopOf request known (stop.Failed failure) = IsFailureOf request failure
 
 -- the text that is written with a status: that of the result, or the line of the refusal
 abbrev pub IsAnswerText : Request → Option (List ℕ) → Status → List ℕ → Type 0
 IsAnswerText request known Done text = (answer : Answer) × IsResultOf request known answer × (text ≡ answer_text answer)
 IsAnswerText request known Refused text =
-    (refusal : Refusal) × IsRefusalOf request known refusal × (text ≡ refusal_text refusal ++ codes "\n")
+    (reason : Reason) × IsRefusalOf request known reason × (text ≡ refusal_text reason ++ codes "\n")
 IsAnswerText request known _ text = ⊥
 
 -- the command's text was written behind what stood before, and nothing else

@@ -1,12 +1,13 @@
 //! The command `compile`, and `run` with an expression (docs/COMMANDS.md).
 
 ghost use Rattle.std.specs.Prelude.{IfErr, IfOk};
+ghost use Rattle.control.specs.Program.{IsExpressionFault};
 ghost use Rattle.filter_compile.specs.Answer.{IsPacket};
-ghost use Rattle.switchd.specs.Answer.{IsCompileAnswer, IsJudgeAnswer, IsProgramOfExpression, RefusesExpression};
-ghost use Rattle.switchd.specs.Refusal.{IsStopBy};
+ghost use Rattle.switchd.specs.Answer.{IsCompileAnswer, IsJudgeAnswer, IsProgramOfExpression};
+ghost use Rattle.switchd.specs.Stop.{IsStopBy};
 
 use crate::answer::Answer;
-use crate::refusal::Stop;
+use crate::stop::Stop;
 use bpf_asm::print;
 use bpf_machine::run;
 use bpf_verify::Program;
@@ -15,7 +16,7 @@ use std::alloc::Global;
 
 fn read_expression(alloc: Global, text: &[u8]) -> Result<Program<Global>, Stop>
     ensures program { IfOk result (IsProgramOfExpression text.now) }
-    ensures refused { IfErr result (IsStopBy (RefusesExpression text.now)) }
+    ensures refused { IfErr result (IsStopBy (IsExpressionFault text.now)) }
 {
     let tree = parse(alloc, text)?;
     Ok(filter_compile::compile(alloc, &tree)?)
@@ -24,7 +25,7 @@ fn read_expression(alloc: Global, text: &[u8]) -> Result<Program<Global>, Stop>
 /// Compiles the expression, and prints the program.
 pub fn compile(alloc: Global, text: &[u8]) -> Result<Answer, Stop>
     ensures answer { IfOk result (IsCompileAnswer text.now) }
-    ensures refused { IfErr result (IsStopBy (RefusesExpression text.now)) }
+    ensures refused { IfErr result (IsStopBy (IsExpressionFault text.now)) }
 {
     let program = read_expression(alloc, text)?;
     let listing = print(alloc, &program)?;
@@ -38,7 +39,7 @@ pub fn compile(alloc: Global, text: &[u8]) -> Result<Answer, Stop>
 pub fn judge(alloc: Global, packet: &[u8], text: &[u8]) -> Result<Answer, Stop>
     requires { IsPacket packet.now }
     ensures answer { IfOk result (IsJudgeAnswer packet.now text.now) }
-    ensures refused { IfErr result (IsStopBy (RefusesExpression text.now)) }
+    ensures refused { IfErr result (IsStopBy (IsExpressionFault text.now)) }
 {
     let program = read_expression(alloc, text)?;
     let mut words = program.words();

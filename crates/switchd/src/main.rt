@@ -13,7 +13,7 @@ mod help;
 mod input;
 mod packet;
 mod program_commands;
-mod refusal;
+mod stop;
 #[cfg(test)]
 mod tests;
 mod tool;

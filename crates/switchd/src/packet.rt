@@ -2,10 +2,11 @@
 
 ghost use Rattle.std.specs.Prelude.{IfErr, IfOk};
 ghost use Rattle.switchd.specs.Packet.{IsRefusalOfHex, SpellsPacket};
-ghost use Rattle.switchd.specs.Refusal.{IsStopBy};
+ghost use Rattle.switchd.specs.Stop.{IsStopBy};
 
-use crate::refusal::{Refusal, Stop};
+use crate::stop::Stop;
 use bpf_machine::MAX_PACKET;
+use control::Reason;
 use std::alloc::Global;
 
 /// The bytes that the digits write. All of them are digits before they are too many.
@@ -15,7 +16,7 @@ pub fn packet_of_hex(alloc: Global, digits: &str) -> Result<Vec<u8>, Stop>
 {
     let packet = hex::decode(alloc, digits)?;
     if packet.len() > MAX_PACKET {
-        return Err(Stop::Refused(Refusal::PacketTooLong));
+        return Err(Stop::Refused(Reason::PacketTooLong));
     }
     Ok(packet)
 }

@@ -3,10 +3,10 @@
 ghost use Rattle.std.specs.Prelude.{◌≡◌, ◌≢◌, ◌⊎◌, ◌++◌, [], IsSome, IfErr, IfOk, IfSome, OnOk, Ok, Err, Some, codes, map, string_bytes};
 ghost use Rattle.std.specs.Io.KnownBytes.{Appends};
 ghost use Rattle.clap.specs.Words.{kind_of};
+ghost use Rattle.control.specs.Reason.{refusal_text};
 ghost use Rattle.switchd.specs.Answer.{answer_text};
 ghost use Rattle.switchd.specs.CommandLine.{AsksForText, HasMisuse, faults_in, request_of};
 ghost use Rattle.switchd.specs.Ending.{IsStatus, code_of};
-ghost use Rattle.switchd.specs.Refusal.{refusal_text};
 ghost use Rattle.switchd.specs.Request.{IsResultOf, IsStopOf, MayFailBy, ReadsInput, TellsFailure, WritesAnswer, WritesAnswerTo};
 
 use crate::answer::Answer;
@@ -17,8 +17,9 @@ use crate::first_path;
 use crate::input::read_whole;
 use crate::packet::packet_of_hex;
 use crate::program_commands::{check, run_program};
-use crate::refusal::{Refusal, Stop};
+use crate::stop::Stop;
 use clap::error::ErrorKind;
+use control::Reason;
 use std::alloc::Global;
 use std::io::{Read, Write};
 
@@ -103,7 +104,7 @@ fn run_subcommand<R: Read + Drop, W: Write>(
 {
     match find_answer(alloc, command, input) {
         Ok(found) => write_answer(&found, out),
-        Err(Stop::Refused(refusal)) => write_refusal(&refusal, out),
+        Err(Stop::Refused(reason)) => write_refusal(&reason, out),
         Err(Stop::Failed(failure)) => Err(failure),
     }
 }
@@ -144,12 +145,12 @@ fn write_answer<W: Write>(found: &Answer, out: &mut W) -> Result<Status, Failure
     Ok(Status::Done)
 }
 
-fn write_refusal<W: Write>(refusal: &Refusal, out: &mut W) -> Result<Status, Failure>
+fn write_refusal<W: Write>(reason: &Reason, out: &mut W) -> Result<Status, Failure>
     ensures failed { IfErr result (λ failure. failure ≡ Failure.WriteFailed) }
     ensures refused { IfOk result (λ status. status ≡ Status.Refused) }
-    ensures written { OnOk result (Appends (W.contents out.old) (W.contents out.new) (refusal_text refusal.now ++ codes "\n")) }
+    ensures written { OnOk result (Appends (W.contents out.old) (W.contents out.new) (refusal_text reason.now ++ codes "\n")) }
 {
-    writeln!(out, "{refusal}").map_err(|_| Failure::WriteFailed)?;
+    writeln!(out, "{reason}").map_err(|_| Failure::WriteFailed)?;
     out.flush().map_err(|_| Failure::WriteFailed)?;
     Ok(Status::Refused)
 }

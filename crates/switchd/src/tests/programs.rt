@@ -1,8 +1,6 @@
 //! The commands `check` and `run`, of programs in assembly text.
 
 use super::{FIRST, SAMPLE_PACKET, assert_told, told};
-use crate::refusal::Refusal;
-use bpf_verify::Fault;
 use std::alloc::Global;
 use std::process::Abort;
 use std::test::Fail;
@@ -199,17 +197,6 @@ fn faults_of_one_instruction(rt: HostRuntime) -> Result<(), Fail> {
     for (text, line) in cases {
         assert_refused(&rt, rt.alloc(), text, line)?;
     }
-    // No text is assembled to these.
-    let bad_opcode = Refusal::NoProgram(Fault::BadOpcode { pc: 7 });
-    assert_eq!(rt;
-        format!(in rt.alloc(); "{bad_opcode}")?.as_str(),
-        "refused V3 7"
-    );
-    let stray_field = Refusal::NoProgram(Fault::StrayField { pc: 0 });
-    assert_eq!(rt;
-        format!(in rt.alloc(); "{stray_field}")?.as_str(),
-        "refused V4 0"
-    );
     Ok(())
 }
 

@@ -1,6 +1,6 @@
 use Rattle.std.proofs.Common.{arith}
 use Rattle.switchd.specs.Packet.{IsRefusalOfHex}
-use Rattle.switchd.specs.Refusal.{IsStopBy, stop_of_hex}
+use Rattle.switchd.specs.Stop.{IsStopBy, stop_of_hex}
 use Rattle.switchd.proofs.PacketLemmas.{stops_by_hex, too_long_hex}
 use Rattle.switchd.proofs.StopLemmas.{stopped_as}
 use Rattle.switchd.proofs.packet.packet_of_hex.Goals as goal

@@ -1,10 +1,11 @@
 use Rattle.std.proofs.Common.{IfErr, IfOk, ap, subst, sym}
 use Rattle.std.proofs.lemmas.Result.{IfErr-weaker, IfOk-weaker}
+use Rattle.control.specs.Program.{IsExpressionFault}
 use Rattle.filter_compile.specs.Answer.{IsPacket}
-use Rattle.switchd.specs.Answer.{IsCompileAnswer, IsJudgeAnswer, RefusesExpression}
+use Rattle.switchd.specs.Answer.{IsCompileAnswer, IsJudgeAnswer}
 use Rattle.switchd.specs.CommandLine.{request_of}
-use Rattle.switchd.specs.Refusal.{IsStopBy}
 use Rattle.switchd.specs.Request.{IsResultOf, IsStopOf}
+use Rattle.switchd.specs.Stop.{IsStopBy}
 use Rattle.switchd.proofs.RequestLemmas.{compile_found, compile_stops, judge_found, judge_stops, judge_stops_by_hex, packet_of_spelt, result_of_first, run_stops_by_hex}
 use Rattle.switchd.proofs.WriteLemmas.{versions_of}
 use Rattle.switchd.proofs.StopLemmas.{stopped_as}
@@ -46,7 +47,7 @@ pub returns-in-Compile-clause-stopped : goal.returns-in-Compile-clause-stopped
 returns-in-Compile-clause-stopped g c =
     let known = g.R.Read.remaining c.args.input in
     let text = c.in-Compile.expression.now in
-    let refused = subst (λ read. IfErr c.compile.result (IsStopBy (RefusesExpression read))) c.as_bytes.ensures.value c.compile.ensures.refused in
+    let refused = subst (λ read. IfErr c.compile.result (IsStopBy (IsExpressionFault read))) c.as_bytes.ensures.value c.compile.ensures.refused in
     subst (λ request. IfErr c.compile.result (IsStopOf request known)) (sym (ap request_of c.in-Compile.is))
     (IfErr-weaker c.compile.result _ _ (compile_stops known text) refused)
 
@@ -66,6 +67,6 @@ returns-in_ok-packet-in-Judge-clause-stopped g c =
     let known = g.R.Read.remaining c.args.input in
     let text = c.in-Judge.expression.now in
     let packet = c.in_ok-packet-in-Judge.packet.items in
-    let refused = subst (λ read. IfErr c.judge.result (IsStopBy (RefusesExpression read))) c.as_bytes-in-Judge.ensures.value c.judge.ensures.refused in
+    let refused = subst (λ read. IfErr c.judge.result (IsStopBy (IsExpressionFault read))) c.as_bytes-in-Judge.ensures.value c.judge.ensures.refused in
     subst (λ request. IfErr c.judge.result (IsStopOf request known)) (sym (ap request_of c.in-Judge.is))
     (IfErr-weaker c.judge.result _ _ (λ stop. judge_stops known _ text packet stop c.in_ok-packet-in-Judge.ensures.spelt) refused)
