@@ -1,1 +1,3 @@
 pub mod VerdictLemmas
+pub mod SumLemmas
+pub mod TallyLemmas

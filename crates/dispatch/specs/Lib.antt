@@ -1,1 +1,3 @@
+pub mod Tally
+pub mod TallyRule
 pub mod Verdict

@@ -7,13 +7,19 @@ ghost use Rattle.config_image.specs.Image.{Group};
 ghost use Rattle.config_image.specs.Lookup.{BeginsWithImage};
 ghost use Rattle.dispatch.specs.Verdict.{value_of, verdict};
 
+mod kind;
 mod member;
+mod tally;
+mod tally_rule;
 mod verdict;
 
 use crate::member::{choose, judge_by_member};
 use bpf_insn::Words;
 use config_image::find_group;
 use ipv4_fields::dispatchable;
+pub use kind::{KINDS, Kind, Totals};
+pub use tally::{COUNT_LIMIT, COUNTERS, CountFull, Counter, Tally, gather};
+pub use tally_rule::{CountView, Load, TallyRule};
 pub use verdict::Verdict;
 
 /// Judges a packet by the configuration whose image the words begin with.

@@ -1,0 +1,37 @@
+use Rattle.std.proofs.Common.{◌≡◌, ◌<◌, ◌∙◌, ap, arith, length, slice_index, slice_set, subst, sym, ℕ}
+use mathlib.Core.Logic.{dite}
+use native.Mathlib.Decide.{ℕ_discrete}
+use Rattle.std.proofs.lemmas.List.{get_or-set_other, get_or-set_same, length-set}
+use Rattle.std.specs.List.{Contains}
+use Rattle.atomic_table.specs.Table.{Me}
+use Rattle.dispatch.specs.declared.tally_rule.CountView.{CountView}
+use Rattle.dispatch.specs.Tally.{GaveAtMost, times}
+use Rattle.dispatch.proofs.SumLemmas.{contains_later}
+use Rattle.dispatch.proofs.TallyLemmas.{allows_read}
+use Rattle.dispatch.proofs.tally.sums.Goals as goal
+
+pub load-requires : goal.load-requires
+load-requires c =
+    let seat = c.loop-place.invariant.6 in let seven = seat.words in let low = c.loop-place-test.true in
+    (seat.same_table, omega arith, allows_read c.args.table.now.shared.table_id.slots c.loop-place.seat.id c.loop-place.place c.loop-place.seat.me low)
+
+pub loop-place-preserved : goal.loop-place-preserved
+loop-place-preserved c =
+    let h = c.loop-place.invariant in let low = c.loop-place-test.true in let read = c.load.ensures.2 in let seat = h.6 in
+    let sums = c.loop-place.sums in let i = c.loop-place.place in let word = c.load.result in let old = c.args.seat.now.me.0 in
+    let inside : i < length sums = (let long = h.0 in omega arith) in
+    let here = get_or-set_same sums i word 0 inside in
+    let is : word ≡ times i old.added = read.all low h.1 ∙ ap (times i) h.2 in
+    let least : GaveAtMost old.loads i word = λ load in_log at. read.no_less low load (h.3 load in_log) at in (
+      length-set sums i word ∙ h.0,
+      ap (λ (m : Me ℕ CountView). m.0.counters) read.one_load ∙ h.1,
+      ap (λ (m : Me ℕ CountView). m.0.added) read.one_load ∙ h.2,
+      (λ load in_log. subst (λ (m : Me ℕ CountView). Contains m.0.loads load) (sym read.one_load) (contains_later _ load c.loop-place.seat.me.0.loads (h.3 load in_log))),
+      (λ place below. dite (ℕ_discrete place i)
+          (λ same. subst (λ (p : ℕ). slice_index (slice_set sums i word) p ≡ times p old.added) (sym same) (here ∙ is))
+          (λ apart. get_or-set_other sums i place word 0 apart ∙ h.4 place (omega arith))),
+      (λ place below. dite (ℕ_discrete place i)
+          (λ same. subst (λ (p : ℕ). GaveAtMost old.loads p (slice_index (slice_set sums i word) p)) (sym same) (subst (λ w. GaveAtMost old.loads i w) (sym here) least))
+          (λ apart. subst (λ w. GaveAtMost old.loads place w) (sym (get_or-set_other sums i place word 0 apart)) (h.5 place (omega arith)))),
+      record { no_slots = ap (λ (m : Me ℕ CountView). m.1) read.one_load ∙ seat.no_slots; same_table = c.load.ensures.0 ∙ seat.same_table; words = seat.words },
+    )

@@ -1,0 +1,69 @@
+-- What a contract sees of a Tally and of its Counters (docs/SWITCH.md, "Tallies").
+use Rattle.std.specs.Prelude.{◌≡◌, ◌==◌, ◌+◌, ◌≤◌, ◌∷◌, if◌then◌else◌, List, [], length, ℕ}
+use Rattle.std.specs.List.{All, Contains}
+use Rattle.atomic_table.specs.Seated.{TableId}
+use Rattle.dispatch.specs.declared.kind.Kind.{Kind}
+use Rattle.dispatch.specs.declared.kind.Kind.TheVariants.{Delivered, Dropped, Malformed, NoGroup, NoMembers, ReceiveFailed, SendFailed}
+use Rattle.dispatch.specs.declared.kind.Totals.{Totals}
+use Rattle.dispatch.specs.declared.tally.TheConstants.{COUNTERS}
+use Rattle.dispatch.specs.declared.tally_rule.Load.{Load}
+
+-- the word of a tally's table that counts a kind
+abbrev pub place_of : Kind → ℕ
+place_of Malformed = 0
+place_of NoGroup = 1
+place_of NoMembers = 2
+place_of Dropped = 3
+place_of Delivered = 4
+place_of SendFailed = 5
+place_of ReceiveFailed = 6
+
+abbrev pub total_of : Totals → Kind → ℕ
+total_of totals Malformed = totals.malformed
+total_of totals NoGroup = totals.no_group
+total_of totals NoMembers = totals.no_members
+total_of totals Dropped = totals.dropped
+total_of totals Delivered = totals.delivered
+total_of totals SendFailed = totals.send_failed
+total_of totals ReceiveFailed = totals.receive_failed
+
+-- how often a number stands in a list
+abbrev pub times : ℕ → List ℕ → ℕ
+times n [] = 0
+times n (first ∷ rest) = (if first == n then 1 else 0) + times n rest
+
+-- the table that it counts in, and its log: the words to each of which it added 1, the newest first
+pub record CounterValue : Type 0 where
+  pub table : TableId
+  pub log : List ℕ
+
+-- the table that it reads, and its log: its loads, the newest first
+pub record TallyValue : Type 0 where
+  pub table : TableId
+  pub log : List Load
+
+-- one step more of each
+abbrev pub counted : ℕ → CounterValue → CounterValue
+counted place counter = record counter { log = place ∷ counter.log }
+
+abbrev pub loaded : ℕ → ℕ → TallyValue → TallyValue
+loaded place word tally = record tally { log = record { place = place; word = word } ∷ tally.log }
+
+-- no load of that word gave more than this
+abbrev pub GaveAtMost : List Load → ℕ → ℕ → Type 0
+GaveAtMost log place word = (load : Load) → Contains log load → load.place ≡ place → load.word ≤ word
+
+-- the counters that a tally opens with, of which none made a step
+pub record AreOpenedCounters (table : TableId) (counters : List CounterValue) : Type 0 where
+  pub count : length counters ≡ COUNTERS
+  pub each : All (λ counter. counter ≡ record { table = table; log = [] }) counters
+
+-- all counters of a tally
+pub record AreCountersOf (table : TableId) (counters : List CounterValue) : Type 0 where
+  pub count : length counters ≡ COUNTERS
+  pub same_table : All (λ (counter : CounterValue). counter.table ≡ table) counters
+
+-- how often these counters counted a kind
+abbrev pub sum_of_counts : Kind → List CounterValue → ℕ
+sum_of_counts kind [] = 0
+sum_of_counts kind (counter ∷ rest) = times (place_of kind) counter.log + sum_of_counts kind rest

@@ -1,0 +1,67 @@
+//! What a tally counts (docs/SWITCH.md, "Tallies").
+
+ghost use Rattle.std.specs.Prelude.{◌≡◌};
+ghost use Rattle.dispatch.specs.Tally.{place_of, total_of};
+
+/// What a tally counts: a verdict, or a device that failed.
+#[derive(Clone, Copy, Debug, PartialEq, Eq)]
+pub enum Kind {
+    Malformed,
+    NoGroup,
+    NoMembers,
+    Dropped,
+    Delivered,
+    /// An outbox failed.
+    SendFailed,
+    /// A source failed.
+    ReceiveFailed,
+}
+
+/// How many kinds there are.
+pub const KINDS: usize = 7;
+
+impl Kind {
+    // Which word of a tally counts the kind.
+    pub(crate) fn place(self) -> usize
+        ensures { result ≡ place_of self }
+    {
+        match self {
+            Kind::Malformed => 0,
+            Kind::NoGroup => 1,
+            Kind::NoMembers => 2,
+            Kind::Dropped => 3,
+            Kind::Delivered => 4,
+            Kind::SendFailed => 5,
+            Kind::ReceiveFailed => 6,
+        }
+    }
+}
+
+/// How often each kind was counted.
+#[derive(Clone, Copy, Debug, PartialEq, Eq)]
+pub struct Totals {
+    pub malformed: u64,
+    pub no_group: u64,
+    pub no_members: u64,
+    pub dropped: u64,
+    pub delivered: u64,
+    pub send_failed: u64,
+    pub receive_failed: u64,
+}
+
+impl Totals {
+    /// Tells how often a kind was counted.
+    pub fn of(&self, kind: Kind) -> u64
+        ensures total { result ≡ total_of self.now kind }
+    {
+        match kind {
+            Kind::Malformed => self.malformed,
+            Kind::NoGroup => self.no_group,
+            Kind::NoMembers => self.no_members,
+            Kind::Dropped => self.dropped,
+            Kind::Delivered => self.delivered,
+            Kind::SendFailed => self.send_failed,
+            Kind::ReceiveFailed => self.receive_failed,
+        }
+    }
+}

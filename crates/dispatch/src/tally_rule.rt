@@ -1,0 +1,72 @@
+//! The table of a tally, the rule on it, and its steps: one word a kind, to which counters add 1 by `fetch_add`.
+
+use atomic_table::{Join, Play, Seat, Split, Table, TableRule};
+use std::alloc::Global;
+use std::collections::LinkedList;
+
+/// A load of a word, and what it gave. No value of it is made.
+pub struct Load {
+    pub place: usize,
+    pub word: u64,
+}
+
+/// What a seat at the table of a tally knows. No value of it is made.
+pub struct CountView {
+    /// The words to each of which it added 1, the newest first.
+    pub added: LinkedList<usize>,
+    /// How many counters step by the seat, or are still to get seats of their own.
+    pub counters: usize,
+    /// Its loads, the newest first.
+    pub loads: LinkedList<Load>,
+}
+
+pub struct TallyRule;
+
+impl TableRule<u8, CountView, u8> for TallyRule {
+    ghost use Rattle.dispatch.specs.TallyRule.{IsTallied, opening_view};
+
+    ghost holds = { λ _. IsTallied };
+
+    ghost first = { λ _. opening_view };
+}
+
+// No slot of the table is used: it has none.
+pub(crate) type TallyTable = Table<u8, CountView, u8, TallyRule, Global>;
+
+pub(crate) type TallySeat = Seat<u8, CountView>;
+
+pub(crate) struct Count;
+
+impl Play<u8, CountView> for Count {
+    ghost use Rattle.dispatch.specs.TallyRule.{counts};
+
+    ghost then = { counts };
+}
+
+pub(crate) struct Read;
+
+impl Play<u8, CountView> for Read {
+    ghost use Rattle.dispatch.specs.TallyRule.{Reads};
+
+    ghost then = { Reads };
+}
+
+pub(crate) struct SeatCounter;
+
+impl Split<CountView> for SeatCounter {
+    ghost use Rattle.dispatch.specs.TallyRule.{new_counter, without_counter};
+
+    ghost left = { without_counter };
+
+    ghost right = { new_counter };
+}
+
+pub(crate) struct TakeCounter;
+
+impl Join<CountView> for TakeCounter {
+    ghost use Rattle.dispatch.specs.TallyRule.{nobody, with_counter};
+
+    ghost both = { with_counter };
+
+    ghost spent = { nobody };
+}

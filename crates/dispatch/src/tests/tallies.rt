@@ -1,0 +1,61 @@
+//! Counters of one tally, in turn and in threads of their own.
+
+ghost use Rattle.std.specs.Prelude.{◌≡◌, IfOk};
+ghost use Rattle.atomic_table.specs.Seated.{TableId};
+ghost use Rattle.dispatch.specs.Tally.{AreCountersOf};
+
+use crate::{COUNTERS, Counter, Kind, Tally, Totals, gather};
+use std::alloc::{AllocError, Global};
+use std::test::Fail;
+
+// Counts once, where the counter is not full.
+fn count(counter: &mut Counter, kind: Kind)
+    ensures { counter.new.table ≡ counter.old.table }
+{
+    let _ = counter.count(kind);
+}
+
+// Each counter counts twice: the fourth malformed packets, the others delivered ones.
+fn count_each(alloc: Global, counters: Vec<Counter>) -> Result<Vec<Counter>, AllocError>
+    ensures { IfOk result (λ back. (table : TableId) → AreCountersOf table counters.items → AreCountersOf table back.items) }
+{
+    let mut back = Vec::new(alloc);
+    for mut counter in counters {
+        let kind = if back.len() == 3 {
+            Kind::Malformed
+        } else {
+            Kind::Delivered
+        };
+        count(&mut counter, kind);
+        count(&mut counter, kind);
+        back.push(counter)?;
+    }
+    Ok(back)
+}
+
+#[test]
+fn counts_are_summed(rt: HostRuntime) -> Result<(), Fail> {
+    let (mut tally, counters) = Tally::open(rt.alloc())?;
+    assert_eq!(rt; counters.len(), COUNTERS);
+    assert_eq!(rt; tally.read(Kind::Malformed), 0);
+    let counters = count_each(rt.alloc(), counters)?;
+    assert_eq!(rt; tally.read(Kind::Malformed), 2);
+    assert_eq!(rt; tally.read(Kind::Delivered), 30);
+    assert_eq!(rt; tally.read(Kind::SendFailed), 0);
+    let totals = gather(tally, counters);
+    let expected = Totals {
+        malformed: 2,
+        no_group: 0,
+        no_members: 0,
+        dropped: 0,
+        delivered: 30,
+        send_failed: 0,
+        receive_failed: 0,
+    };
+    assert_eq!(rt; totals, expected);
+    assert_eq!(rt;
+        (totals.of(Kind::Malformed), totals.of(Kind::Delivered)),
+        (2, 30)
+    );
+    Ok(())
+}
