@@ -1,3 +1,7 @@
+pub mod DeviceLemmas
+pub mod BatchLemmas
+pub mod DatagramLemmas
+pub mod MemoryLemmas
 pub mod VerdictLemmas
 pub mod SumLemmas
 pub mod TallyLemmas

@@ -1,3 +1,7 @@
+pub mod Batch
+pub mod Datagram
+pub mod Device
+pub mod Memory
 pub mod Tally
 pub mod TallyRule
 pub mod Verdict

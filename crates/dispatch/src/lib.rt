@@ -7,17 +7,24 @@ ghost use Rattle.config_image.specs.Image.{Group};
 ghost use Rattle.config_image.specs.Lookup.{BeginsWithImage};
 ghost use Rattle.dispatch.specs.Verdict.{value_of, verdict};
 
+mod batches;
+mod datagram;
+mod device;
 mod kind;
 mod member;
+mod memory;
 mod tally;
 mod tally_rule;
 mod verdict;
 
 use crate::member::{choose, judge_by_member};
+pub use batches::{BatchDone, BatchFault, batch};
 use bpf_insn::Words;
 use config_image::find_group;
+pub use device::{Failed, Outbox, Source};
 use ipv4_fields::dispatchable;
 pub use kind::{KINDS, Kind, Totals};
+pub use memory::{Datagrams, Sends};
 pub use tally::{COUNT_LIMIT, COUNTERS, CountFull, Counter, Tally, gather};
 pub use tally_rule::{CountView, Load, TallyRule};
 pub use verdict::Verdict;

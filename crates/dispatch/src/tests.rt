@@ -1,4 +1,6 @@
-//! Verdicts and tallies, worked by hand.
+//! Verdicts, tallies and batches, worked by hand.
 
+mod batches;
+mod devices;
 mod tallies;
 mod verdicts;

@@ -1,5 +1,9 @@
 //! What becomes of a packet (docs/SWITCH.md, "Verdicts").
 
+ghost use Rattle.std.specs.Prelude.{◌≡◌};
+ghost use Rattle.dispatch.specs.Batch.{kind_of};
+
+use crate::kind::Kind;
 use ipv4_fields::Endpoint;
 
 /// What becomes of a packet. `group` is the group's key, `member` the member's number in it.
@@ -23,4 +27,19 @@ pub enum Verdict {
         to: Endpoint,
         bytes: usize,
     },
+}
+
+impl Verdict {
+    /// Tells as what it is counted.
+    pub fn kind(self) -> Kind
+        ensures { result ≡ kind_of self }
+    {
+        match self {
+            Verdict::Malformed => Kind::Malformed,
+            Verdict::NoGroup => Kind::NoGroup,
+            Verdict::NoMembers => Kind::NoMembers,
+            Verdict::Dropped { .. } => Kind::Dropped,
+            Verdict::Deliver { .. } => Kind::Delivered,
+        }
+    }
 }

@@ -10,7 +10,7 @@ use std::alloc::Global;
 use std::test::Fail;
 
 // 29 bytes of UDP over IPv4 from 10.0.0.1:5000 to 10.0.0.2:53, with the payload `a`.
-const PACKET: [u8; 29] = [
+pub const PACKET: [u8; 29] = [
     0x45, 0x00, 0x00, 0x1d, 0x00, 0x00, 0x00, 0x00, 0x40, 0x11, 0x00, 0x00, 0x0a, 0x00, 0x00, 0x01,
     0x0a, 0x00, 0x00, 0x02, 0x13, 0x88, 0x00, 0x35, 0x00, 0x09, 0x00, 0x00, 0x61,
 ];
@@ -24,7 +24,7 @@ const KEY: Endpoint = Endpoint {
 const RET: u64 = 0x0006_0000_0000_0000;
 
 // 127.0.0.1:9000 and the ports above it, one for each member.
-fn socket(member: u16) -> Endpoint {
+pub fn socket(member: u16) -> Endpoint {
     Endpoint {
         address: 0x7f00_0001,
         port: member.wrapping_add(9000),
@@ -46,7 +46,7 @@ fn returning(alloc: Global, number: u32) -> Result<Program<Global>, Fail> {
     }
 }
 
-fn with_members(alloc: Global, members: &[u16]) -> Result<Config, Fail> {
+pub fn with_members(alloc: Global, members: &[u16]) -> Result<Config, Fail> {
     let mut config = applied(&Config::new(alloc), Command::AddGroup { key: KEY })?;
     for member in members {
         config = applied(

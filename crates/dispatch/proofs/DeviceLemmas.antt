@@ -1,0 +1,43 @@
+-- What a source gave and an outbox took in two times, one after the other.
+use Rattle.std.proofs.Common.{◌≡◌, ◌∙◌, ◌++◌, ◌∷◌, List, None, Ok, Option, Some, [], ap, append-nil, append_assoc, length, map, refl, subst, sym, take, ℕ}
+use Rattle.std.proofs.lemmas.List.{map-append}
+use Rattle.dispatch.specs.declared.device.Failed.{Failed}
+use Rattle.dispatch.specs.Device.{Gives, Sent, Takes, given_in}
+
+pub takes_nothing : (taken : Option (List Sent)) → Takes taken taken []
+takes_nothing None = tt
+takes_nothing (Some sent) = sym (append-nil sent)
+
+pub takes_more : (before mid after : Option (List Sent)) (sent more : List Sent) → Takes before mid sent → Takes mid after more → Takes before after (sent ++ more)
+takes_more before mid None sent more first second = tt
+takes_more before None (Some later) sent more first second = absurd second
+takes_more None (Some taken) (Some later) sent more first second = absurd first
+takes_more (Some earlier) (Some taken) (Some later) sent more first second =
+    second ∙ ap (λ (all : List Sent). all ++ more) first ∙ append_assoc earlier sent more
+
+pub gives_nothing : (room : ℕ) (coming : Option (List (List ℕ))) → Gives room coming coming []
+gives_nothing room None = tt
+gives_nothing room (Some coming) = ([], refl, refl)
+
+pub gives_more : (room : ℕ) (before mid after : Option (List (List ℕ))) (given more : List (List ℕ)) → Gives room before mid given → Gives room mid after more
+    → Gives room before after (given ++ more)
+gives_more room None mid after given more first second = tt
+gives_more room (Some coming) None after given more first second = absurd first
+gives_more room (Some coming) (Some later) None given more first second = absurd second
+gives_more room (Some coming) (Some later) (Some last) given more first second = (
+  first.0 ++ second.0,
+  first.1 ∙ ap (λ (rest : List (List ℕ)). first.0 ++ rest) second.1 ∙ sym (append_assoc first.0 second.0 last),
+  ap (λ (g : List (List ℕ)). g ++ more) first.2 ∙ ap (λ (m : List (List ℕ)). map (take room) first.0 ++ m) second.2 ∙ sym (map-append (take room) first.0 second.0),
+)
+
+-- a datagram was received into a buffer of so much room
+pub gives_one : (room : ℕ) (before after : Option (List (List ℕ))) (bytes packet : List ℕ) (size : ℕ) (answer : Option ℕ) → answer ≡ Some size
+    → length bytes ≡ room → packet ≡ take size bytes → Gives (length bytes) before after (given_in {E = Failed} bytes (Ok answer)) → Gives room before after (packet ∷ [])
+gives_one room before after bytes packet size answer some same is given =
+    let cut = subst (λ (a : Option ℕ). Gives (length bytes) before after (given_in {E = Failed} bytes (Ok a))) some given in
+    let roomy = subst (λ (n : ℕ). Gives n before after (take size bytes ∷ [])) same cut in
+    subst (λ (p : List ℕ). Gives room before after (p ∷ [])) (sym is) roomy
+
+-- it gave none
+pub gives_none : (room : ℕ) (before after : Option (List (List ℕ))) (bytes : List ℕ) → length bytes ≡ room → Gives (length bytes) before after [] → Gives room before after []
+gives_none room before after bytes same given = subst (λ (n : ℕ). Gives n before after []) same given

@@ -1,0 +1,51 @@
+-- What contracts see of a source and of an outbox: how often it failed and, where it tells them, its datagrams.
+use Rattle.std.specs.Prelude.{◌≡◌, ◌++◌, ◌∷◌, Err, List, None, Ok, Option, Result, Some, [], map, suc, take, ℕ}
+use Rattle.ipv4_fields.specs.declared.endpoint.Endpoint.{Endpoint}
+
+-- a source; `coming` are the datagrams that it still has
+pub record SourceValue : Type 0 where
+  pub failures : ℕ
+  pub coming : Option (List (List ℕ))
+
+-- bytes that were sent to an endpoint
+pub record Sent : Type 0 where
+  pub to : Endpoint
+  pub bytes : List ℕ
+
+-- an outbox; `taken` is what it was sent, in order, without the sends that failed
+pub record OutboxValue : Type 0 where
+  pub failures : ℕ
+  pub taken : Option (List Sent)
+
+-- a call failed exactly where the count of failures grew, by one
+abbrev pub CountsFailure : {A E : Type 0} → Result A E → ℕ → ℕ → Type 0
+CountsFailure (Ok answer) before after = after ≡ before
+CountsFailure (Err fault) before after = after ≡ suc before
+
+-- known datagrams begin with those that were given, each cut to the room for it, and lose them
+abbrev pub Gives : ℕ → Option (List (List ℕ)) → Option (List (List ℕ)) → List (List ℕ) → Type 0
+Gives room None after given = Unit {0}
+Gives room (Some coming) None given = ⊥
+Gives room (Some coming) (Some later) given = (whole : List (List ℕ)) × (coming ≡ whole ++ later) × (given ≡ map (take room) whole)
+
+-- what a source gave that answered so, and whose buffer then has these bytes
+abbrev pub given_in : {E : Type 0} → List ℕ → Result (Option ℕ) E → List (List ℕ)
+given_in bytes (Ok (Some size)) = take size bytes ∷ []
+given_in bytes (Ok None) = []
+given_in bytes (Err fault) = []
+
+-- it has no datagram any more, where it tells that
+abbrev pub IsAtEnd : Option (List (List ℕ)) → Type 0
+IsAtEnd None = Unit {0}
+IsAtEnd (Some coming) = coming ≡ []
+
+-- what an outbox tells of its sends is what it told before, and then these; it may tell nothing from some call on
+abbrev pub Takes : Option (List Sent) → Option (List Sent) → List Sent → Type 0
+Takes before None sent = Unit {0}
+Takes None (Some later) sent = ⊥
+Takes (Some earlier) (Some later) sent = later ≡ earlier ++ sent
+
+-- what an outbox took that answered so
+abbrev pub taken_by : {A E : Type 0} → Result A E → Endpoint → List ℕ → List Sent
+taken_by (Ok done) to bytes = record { to = to; bytes = bytes } ∷ []
+taken_by (Err fault) to bytes = []

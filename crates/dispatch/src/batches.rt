@@ -1,0 +1,78 @@
+//! Batches: datagrams from a source, each judged, counted and sent (docs/SWITCH.md, "Batches").
+
+ghost use Rattle.std.specs.Prelude.{◌≡◌, ◌≤◌, IfErr, length};
+ghost use Rattle.bpf_machine.specs.declared.TheConstants.{MAX_PACKET};
+ghost use Rattle.dispatch.specs.Batch.{IsBatch};
+
+use crate::datagram::handle;
+use crate::device::{Failed, Outbox, Source};
+use crate::kind::Kind;
+use crate::tally::{CountFull, Counter};
+use read_section::Worker;
+
+/// How a batch ended.
+#[derive(Clone, Copy, Debug, PartialEq, Eq)]
+pub struct BatchDone {
+    /// How many datagrams it judged.
+    pub judged: u64,
+    /// Its limit was reached; otherwise the source told that no more come.
+    pub more: bool,
+}
+
+/// Why a batch ended early.
+#[derive(Clone, Copy, Debug, PartialEq, Eq)]
+pub enum BatchFault {
+    /// X1: the source failed, which was counted.
+    ReceiveFailed,
+    /// X2: the counter is full. What it refused to count is counted nowhere.
+    CountFull,
+}
+
+impl From<CountFull> for BatchFault {
+    ghost use Rattle.dispatch.specs.declared.batches.BatchFault.TheVariants as batch_fault;
+
+    ghost from_gives = { λ full fault. fault ≡ batch_fault.CountFull };
+
+    fn from(_: CountFull) -> BatchFault {
+        BatchFault::CountFull
+    }
+}
+
+/// Judges up to `limit` datagrams, each in a section of its own by the newest version that the worker sees then. After the
+/// section the verdict is counted; then the kept bytes are sent. A failed send is counted, and the batch goes on.
+///
+/// Each datagram is received into `buf`. Takes no memory; waits where the source or the outbox does.
+pub fn batch<S: Source, O: Outbox>(
+    worker: &mut Worker,
+    counter: &mut Counter,
+    source: &mut S,
+    outbox: &mut O,
+    buf: &mut [u8],
+    limit: u64,
+) -> Result<BatchDone, BatchFault>
+    requires buffer { length buf.old ≤ MAX_PACKET }
+    ensures batch { IsBatch (length buf.old) limit
+        (record { worker = worker.old; counter = counter.old; source = S.state source.old; outbox = O.state outbox.old })
+        (record { worker = worker.new; counter = counter.new; source = S.state source.new; outbox = O.state outbox.new }) result }
+{
+    for judged in 0..limit {
+        let size = match source.next(buf) {
+            Ok(Some(size)) => size,
+            Ok(None) => {
+                return Ok(BatchDone {
+                    judged,
+                    more: false,
+                });
+            }
+            Err(Failed) => {
+                counter.count(Kind::ReceiveFailed)?;
+                return Err(BatchFault::ReceiveFailed);
+            }
+        };
+        handle(worker, counter, outbox, &buf[..size])?;
+    }
+    Ok(BatchDone {
+        judged: limit,
+        more: true,
+    })
+}

@@ -1,0 +1,67 @@
+//! One datagram: judged in a section of its own, counted, and sent.
+
+ghost use Rattle.std.specs.Prelude.{◌≡◌, ◌≤◌, OnErr, OnOk, length};
+ghost use Rattle.bpf_machine.specs.declared.TheConstants.{MAX_PACKET};
+ghost use Rattle.dispatch.specs.Batch.{IsFull};
+ghost use Rattle.dispatch.specs.Datagram.{IsDelivered, IsHandled, IsNotCounted, IsUndelivered, JudgesInSection, KeepsNoMore};
+
+use crate::device::{Failed, Outbox};
+use crate::judge;
+use crate::kind::Kind;
+use crate::tally::{CountFull, Counter};
+use crate::verdict::Verdict;
+use read_section::Worker;
+
+// One whole section, in which the packet is judged.
+fn judge_in_section(worker: &mut Worker, packet: &[u8]) -> Verdict
+    requires packet { length packet.now ≤ MAX_PACKET }
+    ensures judged { JudgesInSection worker.old worker.new packet.now result }
+    ensures kept { KeepsNoMore result packet.now }
+{
+    let mut section = worker.enter();
+    let verdict = judge(&mut section, packet);
+    section.leave();
+    verdict
+}
+
+// Sends what the verdict keeps of the packet, if it is to be delivered. A failed send is counted.
+fn deliver<O: Outbox>(
+    verdict: Verdict,
+    packet: &[u8],
+    counter: &mut Counter,
+    outbox: &mut O,
+) -> Result<(), CountFull>
+    requires { KeepsNoMore verdict packet.now }
+    ensures delivered { OnOk result (IsDelivered verdict packet.now counter.old counter.new (O.state outbox.old) (O.state outbox.new)) }
+    ensures undelivered { OnErr result (IsUndelivered counter.old counter.new (O.state outbox.old) (O.state outbox.new)) }
+{
+    let Verdict::Deliver {
+        group: _,
+        member: _,
+        to,
+        bytes,
+    } = verdict
+    else {
+        return Ok(());
+    };
+    match outbox.send(to, &packet[..bytes]) {
+        Ok(()) => Ok(()),
+        Err(Failed) => counter.count(Kind::SendFailed),
+    }
+}
+
+// Judges a datagram, counts its verdict, and then sends what is to be delivered.
+pub fn handle<O: Outbox>(
+    worker: &mut Worker,
+    counter: &mut Counter,
+    outbox: &mut O,
+    packet: &[u8],
+) -> Result<(), CountFull>
+    requires packet { length packet.now ≤ MAX_PACKET }
+    ensures handled { OnOk result (IsHandled worker.old worker.new counter.old counter.new (O.state outbox.old) (O.state outbox.new) packet.now) }
+    ensures not_counted { OnErr result (IsNotCounted worker.old worker.new counter.old counter.new (O.state outbox.old) (O.state outbox.new) packet.now) }
+{
+    let verdict = judge_in_section(worker, packet);
+    counter.count(verdict.kind())?;
+    deliver(verdict, packet, counter, outbox)
+}
