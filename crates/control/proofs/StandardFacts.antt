@@ -1,15 +1,17 @@
 -- Worked examples: lines and what they ask for, replies and their texts.
-use Rattle.std.proofs.Common.{◌≡◌, ◌∷◌, [], codes, lit<, refl}
+use Rattle.std.proofs.Common.{◌≡◌, ◌∷◌, None, [], arith, codes, lit<, lit≤, refl}
 use Rattle.std.specs.Fmt.{digits}
 use Rattle.bpf_asm.specs.declared.fault.AsmFault.TheVariants as asm
 use Rattle.bpf_verify.specs.declared.fault.Fault.TheVariants as verify
 use Rattle.ipv4_fields.specs.declared.endpoint.Endpoint.{Endpoint}
 use Rattle.ipv4_fields.specs.Endpoint.{IsEndpoint}
 use Rattle.member_group.specs.declared.command.Command.TheVariants.{AddGroup, Join, SetFilter, SetSelector}
-use Rattle.member_group.specs.declared.refusal.Refusal.TheVariants.{NoMember}
+use Rattle.member_group.specs.declared.refusal.Refusal.TheVariants.{GroupExists, NoMember}
 use Rattle.retire.specs.declared.fault.PublishFault.TheVariants.{Busy}
 use Rattle.control.specs.declared.reason.Reason.TheVariants.{Assembly, BadLine, Command, Publishing, Words}
 use Rattle.control.specs.declared.reply.Answer.TheVariants.{Published, Refused, Shown, Swept}
+use Rattle.control.specs.Agrees.{Agrees, TextConfig}
+use Rattle.control.specs.Answer.{Answers, changed, published, refused, shown}
 use Rattle.control.specs.Field.{endpoint_text}
 use Rattle.control.specs.Reply.{reply_text}
 use Rattle.control.specs.Request.{Spells, assembly, change, expression, show}
@@ -58,15 +60,34 @@ filters = (codes "filter" ∷ codes "10.0.0.2:53" ∷ codes "3" ∷ codes "expr"
 shows : Spells (codes "show") show
 shows = refl
 
+-- ---- what a line is answered, from the empty configuration on
+
+empty_agrees : Agrees [] []
+empty_agrees = ([], refl, refl)
+
+abbrev one_group : TextConfig
+one_group = record { key = key; selector = None; members = [] } ∷ []
+
+adds_a_group : Answers 0 [] (codes "add 10.0.0.2:53") (Published 1) one_group
+adds_a_group =
+    changed (AddGroup key) _ _ (lit≤ tt) adds
+    (published _ (record { made = AddGroup key; means = refl; applied = refl; is = refl }) (lit≤ tt) (λ e. absurd (omega arith)))
+
+refuses_it_again : Answers 1 one_group (codes "add 10.0.0.2:53") (Refused (Command GroupExists)) one_group
+refuses_it_again = changed (AddGroup key) _ _ (lit≤ tt) adds (refused (AddGroup key) GroupExists refl refl)
+
+shows_it : Answers 1 one_group (codes "show") (Shown 1 1 0 6) one_group
+shows_it = shown (lit≤ tt) refl
+
 -- ---- replies
 
-published : reply_text (Published 7) ≡ codes "ok version 7"
+published_text : reply_text (Published 7) ≡ codes "ok version 7"
 unfolding digits
-published = refl
+published_text = refl
 
-shown : reply_text (Shown 7 1 2 28) ≡ codes "version 7 groups 1 members 2 charge 28"
+shown_text : reply_text (Shown 7 1 2 28) ≡ codes "version 7 groups 1 members 2 charge 28"
 unfolding digits
-shown = refl
+shown_text = refl
 
 swept : reply_text (Swept (record { first = 0; count = 7 })) ≡ codes "reclaimed 0 7"
 unfolding digits

@@ -55,7 +55,8 @@ impl Model for Reply {
 impl Reply {
     /// Lends the line.
     pub fn bytes(&self) -> &[u8]
-        ensures { result.now ≡ self.now }
+        ensures line { result.now ≡ self.now }
+        ensures short { length result.now ≤ REPLY_LIMIT }
     {
         &self.bytes[..self.len]
     }
