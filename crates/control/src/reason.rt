@@ -12,23 +12,25 @@ use retire::PublishFault;
 use std::fmt;
 
 /// Why a control line or a command is refused.
+///
+/// A6, P6, F3 and G8 name want of memory, for which neither `line` nor a command refuses.
 #[derive(Clone, Copy, Debug, PartialEq, Eq)]
 pub enum Reason {
     /// C1: the text is none that was asked for. A control line is none of the table, or digits write no bytes.
     BadForm,
     /// C2: the line has more than `LINE_LIMIT` bytes.
     LineTooLong,
-    /// C3: the packet has more than `MAX_PACKET` bytes. `line` reads none, and never gives it.
+    /// C3: the packet has more than `bpf_machine::MAX_PACKET` bytes. `line` reads no packet, and never gives it.
     PacketTooLong,
-    /// A1 to A6: the text of a program is no assembly.
+    /// A1 to A5: the text of a program is no assembly.
     Assembly(AsmFault),
     /// V1 to V11: the words that a text was assembled to are no program.
     Words(Fault),
-    /// P1 to P6: the text is no expression.
+    /// P1 to P5: the text is no expression.
     Expression(ParseFault),
-    /// F1 to F3: the expression has no program.
+    /// F1, F2: the expression has no program.
     Compiling(CompileFault),
-    /// G1 to G8: the configuration refuses the command.
+    /// G1 to G7: the configuration refuses the command.
     Command(Refusal),
     /// B1 to B3: the new configuration is not published.
     Publishing(PublishFault),
