@@ -96,12 +96,12 @@ module _ (laws : GrammarLaws) (version : ℕ) (config : TextConfig) (command : C
   one_change one other next also (busy n leads small left) (too_big n' leads' big) = let same = one_charge n n' leads leads' in absurd (omega arith)
   one_change one other next also (busy n leads small left) (exhausted n' leads' small' last) = absurd (left last)
   one_change one other next also (busy n leads small left) (busy n' leads' small' left') = inl (refl, refl)
-  one_change one other next also (busy n leads small left) (published n' leads' small' left') = inr (tt, tt)
+  one_change one other next also (busy n leads small left) (published n' leads' small' left') = inr tt
   one_change one other next also (published n leads small left) (bad_text source why has fault) = absurd (not_bad source why n has fault leads)
   one_change one other next also (published n leads small left) (refused made refusal means first) = absurd (not_refused made refusal n means first leads)
   one_change one other next also (published n leads small left) (too_big n' leads' big) = let same = one_charge n n' leads leads' in absurd (omega arith)
   one_change one other next also (published n leads small left) (exhausted n' leads' small' last) = absurd (left last)
-  one_change one other next also (published n leads small left) (busy n' leads' small' left') = inr (tt, tt)
+  one_change one other next also (published n leads small left) (busy n' leads' small' left') = inr tt
   one_change one other next also (published n leads small left) (published n' leads' small' left') = inl (refl, one_next n n' leads leads')
 
 -- ---- lines
@@ -144,4 +144,4 @@ one_answer laws version config line one other next also (swept reclaimed short s
 one_answer laws version config line one other next also (swept reclaimed short spells) (bad_line short' none) = absurd (none sweep spells)
 one_answer laws version config line one other next also (swept reclaimed short spells) (changed command answer n short' spells' done) = absurd (not_sweep line command spells' spells)
 one_answer laws version config line one other next also (swept reclaimed short spells) (shown short' spells') = absurd (show_not_sweep line spells' spells)
-one_answer laws version config line one other next also (swept reclaimed short spells) (swept reclaimed' short' spells') = inr (tt, tt)
+one_answer laws version config line one other next also (swept reclaimed short spells) (swept reclaimed' short' spells') = inr refl

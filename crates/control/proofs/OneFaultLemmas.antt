@@ -23,7 +23,7 @@ use Rattle.filter_tree.specs.Tree.{Tree}
 use Rattle.control.specs.Program.{IsAssemblyFault, IsExpressionFault, IsFaultOfSource, IsProgramOf, TextProgram, of_tree, of_words}
 use Rattle.control.specs.Request.{Source, assembly, expression}
 use Rattle.control.specs.declared.reason.Reason.{Reason}
-use Rattle.control.specs.declared.reason.Reason.TheVariants.{Assembly, BadLine, Command, Compiling, Expression, LineTooLong, Publishing, Words}
+use Rattle.control.specs.declared.reason.Reason.TheVariants.{Assembly, BadForm, Command, Compiling, Expression, LineTooLong, PacketTooLong, Publishing, Words}
 
 -- ---- the first fault of words
 
@@ -140,7 +140,8 @@ data AssemblyWhy (text : List ℕ) : Reason → Type 0 where
 
 as_assembly : (text : List ℕ) (why : Reason) → IsAssemblyFault text why → AssemblyWhy text why
 as_assembly text LineTooLong fault = absurd fault
-as_assembly text BadLine fault = absurd fault
+as_assembly text BadForm fault = absurd fault
+as_assembly text PacketTooLong fault = absurd fault
 as_assembly text (Assembly why) fault = unread why fault
 as_assembly text (Words why) (words, assembles, first) = unaccepted why words assembles first
 as_assembly text (Expression why) fault = absurd fault
@@ -162,7 +163,8 @@ data ExpressionWhy (text : List ℕ) : Reason → Type 0 where
 
 as_expression : (text : List ℕ) (why : Reason) → IsExpressionFault text why → ExpressionWhy text why
 as_expression text LineTooLong fault = absurd fault
-as_expression text BadLine fault = absurd fault
+as_expression text BadForm fault = absurd fault
+as_expression text PacketTooLong fault = absurd fault
 as_expression text (Assembly why) fault = absurd fault
 as_expression text (Words why) fault = absurd fault
 as_expression text (Expression why) fault = unparsed why fault

@@ -8,7 +8,7 @@ use Rattle.ipv4_fields.specs.Endpoint.{IsEndpoint}
 use Rattle.member_group.specs.declared.command.Command.TheVariants.{AddGroup, Join, SetFilter, SetSelector}
 use Rattle.member_group.specs.declared.refusal.Refusal.TheVariants.{GroupExists, NoMember}
 use Rattle.retire.specs.declared.fault.PublishFault.TheVariants.{Busy}
-use Rattle.control.specs.declared.reason.Reason.TheVariants.{Assembly, BadLine, Command, Publishing, Words}
+use Rattle.control.specs.declared.reason.Reason.TheVariants.{Assembly, BadForm, Command, Publishing, Words}
 use Rattle.control.specs.declared.reply.Answer.TheVariants.{Published, Refused, Shown, Swept}
 use Rattle.control.specs.Agrees.{Agrees, TextConfig}
 use Rattle.control.specs.Answer.{Answers, changed, published, refused, shown}
@@ -93,7 +93,7 @@ swept : reply_text (Swept (record { first = 0; count = 7 })) ≡ codes "reclaime
 unfolding digits
 swept = refl
 
-bad_line : reply_text (Refused BadLine) ≡ codes "refused C1"
+bad_line : reply_text (Refused BadForm) ≡ codes "refused C1"
 bad_line = refl
 
 no_member : reply_text (Refused (Command NoMember)) ≡ codes "refused G3"

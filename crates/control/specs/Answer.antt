@@ -85,16 +85,16 @@ pub data Answers (version : ℕ) (config : TextConfig) (line : List ℕ) : Answe
   swept : (reclaimed : Reclaimed) → length line ≤ LINE_LIMIT → Spells line sweep →
       Answers version config line (Swept reclaimed) config
 
--- the operator has a say in the answer: whether a publication is busy, and what a sweep reclaims
-abbrev pub IsOperators : Answer → Type 0
-IsOperators (Published version) = Unit {0}
-IsOperators (Refused (Publishing Busy)) = Unit {0}
-IsOperators (Swept reclaimed) = Unit {0}
-IsOperators _ = ⊥
+-- the operator decides between two answers: whether a publication is made or busy, and what a sweep reclaims
+abbrev pub IsOperatorsChoice : Answer → TextConfig → Answer → TextConfig → Type 0
+IsOperatorsChoice (Published version) next (Refused (Publishing Busy)) also = Unit {0}
+IsOperatorsChoice (Refused (Publishing Busy)) next (Published version) also = Unit {0}
+IsOperatorsChoice (Swept one) next (Swept other) also = next ≡ also
+IsOperatorsChoice one next other also = ⊥
 
--- two answers and the configurations that they leave are one, or the operator has a say in both
+-- two answers and the configurations that they leave are one, or the operator decides between them
 abbrev pub AreOne : Answer → TextConfig → Answer → TextConfig → Type 0
-AreOne one next other also = ((one ≡ other) × (next ≡ also)) ⊎ (IsOperators one × IsOperators other)
+AreOne one next other also = ((one ≡ other) × (next ≡ also)) ⊎ IsOperatorsChoice one next other also
 
 -- a line has one answer at a version and its configuration, but for what the operator has to say
 abbrev pub HasOneAnswer : Type 0

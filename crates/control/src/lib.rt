@@ -6,10 +6,12 @@
 //! `Reason` is why a line is refused, or a command of the program (docs/COMMANDS.md, "Refusals").
 #![tactic(auto)]
 
-ghost use Rattle.std.specs.Prelude.{◌≡◌, IfOk, OnErr};
-ghost use Rattle.control.specs.Agrees.{AgreesNow, TextConfig};
+ghost use Rattle.std.specs.Prelude.{◌≡◌, [], IfOk, OnErr};
+ghost use Rattle.control.specs.declared.reply.Answer.{Answer as AnswerValue};
+ghost use Rattle.control.specs.Agrees.{Agrees, AgreesNow, TextConfig};
 ghost use Rattle.control.specs.Answer.{DoesNothing, HasOneAnswer, IsRefusal, IsReplyTo, KeepsVersions, LeavesConfig};
 ghost use Rattle.control.specs.Making.{IsAnswered, IsOutcome, IsShown};
+ghost use Rattle.control.specs.Reply.{reply_text};
 ghost use Rattle.control.specs.Request.{AsksForOneThing};
 
 mod change;
@@ -64,12 +66,16 @@ fn answer(alloc: Global, text: &[u8], operator: &mut Operator) -> Result<Answer,
 /// Answers a control line, which stands in `text` without its LF, and does what it asks for.
 ///
 /// A line that is too long is refused first, then one that is none of the table, then a program's text, then the command, then
-/// the publication. A refusal changes nothing. The text may be any bytes.
+/// the publication. A refusal publishes nothing, and does nothing but the scans of a publication that is busy. The text may be
+/// any bytes.
 pub fn line(alloc: Global, text: &[u8], operator: &mut Operator) -> Result<Reply, OutOfMemory>
     ensures reply { IfOk result (λ reply. (config : TextConfig) → AgreesNow config operator.old.view →
         IsReplyTo config text.now operator.old operator.new reply) }
     ensures new_configuration { IfOk result (λ reply. (config : TextConfig) → AgreesNow config operator.old.view →
         LeavesConfig config text.now operator.old operator.new reply) }
+
+    // One answer is the reply, what was done, and, for each such configuration, what the text means.
+    ensures answered { IfOk result (λ reply. (answer : AnswerValue) × (reply ≡ reply_text answer) × IsAnswered text.now operator.old operator.new answer) }
 
     ensures kept { IfOk result (λ reply. IsRefusal reply → KeepsVersions operator.old operator.new) }
     ensures only_scans { IfOk result (λ reply. IsRefusal reply → DoesNothing operator.old operator.new) }
@@ -95,6 +101,12 @@ pub fn one_reply()
 {
     filter_parse::one_value();
 }
+
+/// Law: the configurations without groups agree, one of texts and one that an operator may open with; `line` goes on from there. It
+/// runs nothing.
+pub fn empty_agrees()
+    ensures { Agrees [] [] }
+{}
 
 #[cfg(test)]
 mod tests;
