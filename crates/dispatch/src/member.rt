@@ -11,7 +11,7 @@ ghost use Rattle.dispatch.specs.Verdict.{choice, kept, plain_choice, value_of};
 use crate::verdict::Verdict;
 use bpf_insn::Words;
 use bpf_machine::run;
-use config_image::{FoundGroup, MemberEntry, ProgramPlace, filter_of, member_at, selector_of};
+use config_image::{FoundGroup, MemberEntry, ProgramPlace, member_with_filter, selector_of};
 use ipv4_fields::{Endpoint, Flow};
 
 // What the program at a place answers the packet, where there is one.
@@ -101,7 +101,7 @@ pub fn judge_by_member<W: Words>(
     ensures words_kept { W.words words.new ≡ W.words words.old }
     ensures rest_kept { W.rest words.new ≡ W.rest words.old }
 {
-    let filter = filter_of(words, group, index);
+    let (member, filter) = member_with_filter(words, group, index);
     let answer = answer(words, filter, packet);
-    kept(key, member_at(words, group, index), answer, packet.len())
+    kept(key, member, answer, packet.len())
 }

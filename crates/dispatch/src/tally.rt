@@ -119,7 +119,7 @@ impl Counter {
 }
 
 impl Tally {
-    /// Opens a tally in which nothing was counted, with its counters.
+    /// Opens a tally in which nothing was counted, with its counters. Takes their memory from the allocator.
     pub fn open(alloc: Global) -> Result<(Tally, Vec<Counter>), AllocError>
         ensures tally { IfOk result (λ parts. parts.0.log ≡ []) }
         ensures counters { IfOk result (λ parts. AreOpenedCounters parts.0.table parts.1.items) }

@@ -20,6 +20,7 @@ pub struct CountView {
     pub loads: LinkedList<Load>,
 }
 
+/// The rule on the table: each word is how often the counters added to it.
 pub struct TallyRule;
 
 impl TableRule<u8, CountView, u8> for TallyRule {

@@ -1,4 +1,4 @@
-//! Counters of one tally, in turn and in threads of their own.
+//! Counters of one tally, in turn.
 
 ghost use Rattle.std.specs.Prelude.{◌≡◌, IfOk};
 ghost use Rattle.atomic_table.specs.Seated.{TableId};
