@@ -1,3 +1,4 @@
+pub mod JobLemmas
 pub mod DeviceLemmas
 pub mod BatchLemmas
 pub mod DatagramLemmas

@@ -1,6 +1,7 @@
-//! Verdicts, tallies and batches, worked by hand.
+//! Verdicts, tallies, batches and jobs, worked by hand.
 
 mod batches;
 mod devices;
+mod jobs;
 mod tallies;
 mod verdicts;

@@ -7,7 +7,7 @@ use read_section::{Worker, open};
 use std::alloc::Global;
 use std::test::Fail;
 
-fn four_datagrams(alloc: Global) -> Result<Datagrams, Fail> {
+pub fn four_datagrams(alloc: Global) -> Result<Datagrams, Fail> {
     let mut other_port = PACKET;
     other_port[23] = 54;
     let mut datagrams = Datagrams::new(alloc);
@@ -18,17 +18,17 @@ fn four_datagrams(alloc: Global) -> Result<Datagrams, Fail> {
     Ok(datagrams)
 }
 
-fn new_worker(alloc: Global) -> Result<Worker, Fail> {
+pub fn new_worker(alloc: Global) -> Result<Worker, Fail> {
     let (_operator, mut workers) = open(with_members(alloc, &[1, 2, 3])?)?;
     Ok(workers.pop().ok_or("no worker")?)
 }
 
-fn new_tally(alloc: Global) -> Result<(Tally, Counter), Fail> {
+pub fn new_tally(alloc: Global) -> Result<(Tally, Counter), Fail> {
     let (tally, mut counters) = Tally::open(alloc)?;
     Ok((tally, counters.pop().ok_or("no counter")?))
 }
 
-fn totals(tally: &mut Tally) -> [u64; KINDS] {
+pub fn totals(tally: &mut Tally) -> [u64; KINDS] {
     [
         tally.read(Kind::Malformed),
         tally.read(Kind::NoGroup),

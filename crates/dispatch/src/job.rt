@@ -1,0 +1,63 @@
+//! Jobs: batches until a worker's source has no more (docs/SWITCH.md, "Workers").
+
+ghost use Rattle.std.specs.Prelude.{◌≡◌, ◌≤◌, false, length, true};
+ghost use Rattle.bpf_machine.specs.declared.TheConstants.{MAX_PACKET};
+ghost use Rattle.dispatch.specs.Job.{EndsWith, GoesOn, IsJob};
+
+use crate::batches::{BatchDone, BatchFault, batch};
+use crate::device::{Outbox, Source};
+use crate::tally::Counter;
+use read_section::Worker;
+use std::sync::Wait;
+
+/// Is told where each batch of a job begins and ends, by the batch's number.
+pub trait Gate {
+    fn start(&self, batch: u64);
+
+    fn done(&self, batch: u64);
+}
+
+// Whether a job goes on after a batch that ended so.
+fn goes_on(answer: &Result<BatchDone, BatchFault>) -> bool
+    ensures goes_on { result ≡ true → GoesOn answer.now }
+    ensures ends { result ≡ false → EndsWith answer.now }
+{
+    match answer {
+        Ok(done) => done.more,
+        Err(BatchFault::ReceiveFailed) => true,
+        Err(BatchFault::CountFull) => false,
+    }
+}
+
+/// Runs batches of at most `limit` datagrams, until the source tells that no more come or the counter is full; where the source
+/// failed it goes on. The first batch has the number `first`, each further one `step` more, modulo 2^64.
+///
+/// It may wait, since nothing says that the source ever ends.
+pub fn run_job<R: Wait, S: Source, O: Outbox, G: Gate>(
+    rt: &R,
+    gate: &G,
+    numbers: (u64, u64),
+    worker: &mut Worker,
+    counter: &mut Counter,
+    source: &mut S,
+    outbox: &mut O,
+    buf: &mut [u8],
+    limit: u64,
+)
+    requires buffer { length buf.old ≤ MAX_PACKET }
+    ensures done_by_batches { IsJob (length buf.old) limit
+        (record { worker = worker.old; counter = counter.old; source = S.state source.old; outbox = O.state outbox.old })
+        (record { worker = worker.new; counter = counter.new; source = S.state source.new; outbox = O.state outbox.new }) }
+{
+    let (mut number, step) = numbers;
+    for _ in rt.forever() {
+        gate.start(number);
+        let answer = batch(worker, counter, source, outbox, buf, limit);
+        gate.done(number);
+        if !goes_on(&answer) {
+            return;
+        }
+        number = number.wrapping_add(step);
+    }
+    unreachable!()
+}
