@@ -6,6 +6,7 @@ mod failures;
 mod packets;
 mod programs;
 mod streams;
+mod versions;
 mod words;
 
 use crate::tool::tool;
