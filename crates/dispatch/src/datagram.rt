@@ -32,7 +32,8 @@ fn deliver<O: Outbox>(
     outbox: &mut O,
 ) -> Result<(), CountFull>
     requires { KeepsNoMore verdict packet.now }
-    ensures delivered { OnOk result (IsDelivered verdict packet.now counter.old counter.new (O.state outbox.old) (O.state outbox.new)) }
+    ensures delivered { OnOk result
+        (IsDelivered verdict packet.now counter.old counter.new (O.state outbox.old) (O.state outbox.new)) }
     ensures undelivered { OnErr result (IsUndelivered counter.old counter.new (O.state outbox.old) (O.state outbox.new)) }
 {
     let Verdict::Deliver {
@@ -58,8 +59,10 @@ pub fn handle<O: Outbox>(
     packet: &[u8],
 ) -> Result<(), CountFull>
     requires packet { length packet.now ≤ MAX_PACKET }
-    ensures handled { OnOk result (IsHandled worker.old worker.new counter.old counter.new (O.state outbox.old) (O.state outbox.new) packet.now) }
-    ensures not_counted { OnErr result (IsNotCounted worker.old worker.new counter.old counter.new (O.state outbox.old) (O.state outbox.new) packet.now) }
+    ensures handled { OnOk result
+        (IsHandled worker.old worker.new counter.old counter.new (O.state outbox.old) (O.state outbox.new) packet.now) }
+    ensures not_counted { OnErr result
+        (IsNotCounted worker.old worker.new counter.old counter.new (O.state outbox.old) (O.state outbox.new) packet.now) }
 {
     let verdict = judge_in_section(worker, packet);
     counter.count(verdict.kind())?;

@@ -18,6 +18,7 @@ mod memory;
 mod tally;
 mod tally_rule;
 mod verdict;
+mod worker_job;
 
 use crate::member::{choose, judge_by_member};
 pub use batches::{BatchDone, BatchFault, batch};
@@ -31,6 +32,7 @@ pub use memory::{Datagrams, Sends};
 pub use tally::{COUNT_LIMIT, COUNTERS, CountFull, Counter, Tally, gather};
 pub use tally_rule::{CountView, Load, TallyRule};
 pub use verdict::Verdict;
+pub use worker_job::{Done, Job, finish};
 
 /// Judges a packet by the configuration whose image the words begin with.
 ///

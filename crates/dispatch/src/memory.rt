@@ -120,7 +120,8 @@ impl Sends {
 
     // Keeps one send more, where there is room for it.
     fn keep(&mut self, to: Endpoint, bytes: &[u8]) -> bool
-        ensures kept { result ≡ true → self.new ≡ record self.old { sent = self.old.sent ++ record { to = to; bytes = bytes.now } ∷ [] } }
+        ensures kept { result ≡ true
+            → self.new ≡ record self.old { sent = self.old.sent ++ record { to = to; bytes = bytes.now } ∷ [] } }
         ensures full { result ≡ false → self.new ≡ self.old }
     {
         if self.extents.capacity() <= self.extents.len() {

@@ -2,7 +2,7 @@
 
 use super::batches::{four_datagrams, new_tally, new_worker, totals};
 use super::devices::FailsAfter;
-use crate::{Gate, Sends, run_job};
+use crate::{Gate, Job, Sends, finish};
 use std::cell::Cell;
 use std::test::Fail;
 
@@ -26,31 +26,27 @@ impl Gate for Sums {
 // Two batches of a datagram, one that fails to receive, two of a datagram, and one at the end: 2 + 5 + 8 + 11 + 14 + 17.
 #[test]
 fn job_runs_to_its_end(rt: HostRuntime) -> Result<(), Fail> {
-    let mut worker = new_worker(rt.alloc())?;
-    let (mut tally, mut counter) = new_tally(rt.alloc())?;
-    let mut source = FailsAfter {
+    let (mut tally, counter) = new_tally(rt.alloc())?;
+    let source = FailsAfter {
         calls: 2,
         failed: false,
         datagrams: four_datagrams(rt.alloc())?,
     };
-    let mut outbox = Sends::with_room(rt.alloc(), 2, 58)?;
+    let job = Job {
+        worker: new_worker(rt.alloc())?,
+        counter,
+        source,
+        outbox: Sends::with_room(rt.alloc(), 2, 58)?,
+        buffer: vec![in rt.alloc(); 0; 64]?,
+        limit: 1,
+    };
     let gate = Sums {
         started: Cell::new(0),
         ended: Cell::new(0),
     };
-    let mut buf = [0; 64];
-    run_job(
-        &rt,
-        &gate,
-        (2, 3),
-        &mut worker,
-        &mut counter,
-        &mut source,
-        &mut outbox,
-        &mut buf,
-        1,
-    );
+    let done = finish(&rt, &gate, (2, 3), job);
     assert_eq!(rt; (gate.started.get(), gate.ended.get()), (57, 57));
     assert_eq!(rt; totals(&mut tally), [1, 1, 0, 0, 2, 0, 1]);
+    assert_eq!(rt; done.outbox.count(), 2);
     Ok(())
 }

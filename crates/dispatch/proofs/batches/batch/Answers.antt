@@ -1,22 +1,27 @@
-use Rattle.std.proofs.Common.{arith, ◌++◌, ◌∷◌, []}
+use Rattle.std.proofs.Common.{arith, length, ◌++◌, ◌∷◌, []}
 use Rattle.std.proofs.lemmas.List.{length-append}
+use Rattle.dispatch.specs.Batch.{Parts}
 use Rattle.dispatch.proofs.BatchLemmas.{run_more}
 use Rattle.dispatch.proofs.DeviceLemmas.{gives_one}
 use Rattle.dispatch.proofs.batches.batch.Goals as goal
 
 pub loop-judged-preserved : goal.loop-judged-preserved
 loop-judged-preserved g c =
-    let so_far = c.loop-judged.invariant in let one = c.in_ok-handle.ensures.handled in
+    let so_far = c.loop-judged.invariant in let one = c.in_ok-handle.ensures.handled in let some = c.in-Ok-Some in
+    let before : Parts = record { worker = c.args.worker.now; counter = c.args.counter.now; source = g.S.Source.state c.args.source.now; outbox = g.O.Outbox.state c.args.outbox.now } in
+    let mid : Parts = record { worker = c.loop-judged.worker; counter = c.loop-judged.counter; source = g.S.Source.state c.loop-judged.source; outbox = g.O.Outbox.state c.loop-judged.outbox } in
+    let after : Parts = record { worker = c.handle.new.worker; counter = c.handle.new.counter; source = g.S.Source.state c.next.new.self; outbox = g.O.Outbox.state c.handle.new.outbox } in
     let longer = length-append so_far.judged (one.judged ∷ []) in let count = so_far.count_is in
     record {
       judged = so_far.judged ++ one.judged ∷ [];
-      run = run_more _ _ (record { worker = c.loop-judged.worker; counter = c.loop-judged.counter; source = g.S.Source.state c.loop-judged.source; outbox = g.O.Outbox.state c.loop-judged.outbox }) _ so_far.judged one.judged so_far.run (record {
+      run = run_more (length c.args.buf.now) before mid after so_far.judged one.judged so_far.run (record {
         own_section = one.own_section;
         after_it = one.after;
-        given_once = gives_one _ _ _ c.next.new.buf one.judged.packet c.in-Ok-Some.size c.in-Ok-Some.field-0 c.in-Ok-Some.field-0-is (let same = c.next.auto.buf in let still = c.loop-judged.auto.buf in omega arith) one.packet_is c.in-Ok-Some.ensures.given_once;
+        given_once = gives_one (length c.args.buf.now) mid.source.coming after.source.coming c.next.new.buf one.judged.packet some.size some.field-0 some.field-0-is
+            (let same = c.next.auto.buf in let still = c.loop-judged.auto.buf in omega arith) one.packet_is some.ensures.given_once;
         counted_once = one.counted_once;
         sent_once = one.sent_once;
-        source_healthy = c.in-Ok-Some.ensures.device_failed;
+        source_healthy = some.ensures.device_failed;
         outbox_failures = one.outbox_failures;
       });
       count_is = omega arith;
