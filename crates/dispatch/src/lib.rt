@@ -1,5 +1,5 @@
-//! Dispatching: what becomes of one packet in one version, batches of packets, and tallies of what became of them (docs/SWITCH.md,
-//! "Verdicts", "Tallies"). No call but `Tally::open` takes memory.
+//! Dispatching: what becomes of one packet in one version (docs/SWITCH.md, "Verdicts"), of the datagrams that a worker receives
+//! ("Batches", "Workers"), and tallies of it ("Tallies"). No call but those that open or reserve takes memory.
 #![tactic(auto)]
 
 ghost use Rattle.std.specs.Prelude.{◌≡◌, ◌≤◌, List, length};
