@@ -5,8 +5,8 @@ mod expressions;
 mod failures;
 mod packets;
 mod programs;
+mod replacing;
 mod streams;
-mod versions;
 mod words;
 
 use crate::tool::tool;
