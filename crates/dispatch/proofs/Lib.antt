@@ -6,3 +6,4 @@ pub mod MemoryLemmas
 pub mod VerdictLemmas
 pub mod SumLemmas
 pub mod TallyLemmas
+pub mod WorkerLemmas

@@ -6,3 +6,4 @@ pub mod Memory
 pub mod Tally
 pub mod TallyRule
 pub mod Verdict
+pub mod Workers

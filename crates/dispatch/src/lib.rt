@@ -19,6 +19,7 @@ mod tally;
 mod tally_rule;
 mod verdict;
 mod worker_job;
+mod workers;
 
 use crate::member::{choose, judge_by_member};
 pub use batches::{BatchDone, BatchFault, batch};
@@ -33,6 +34,7 @@ pub use tally::{COUNT_LIMIT, COUNTERS, CountFull, Counter, Tally, gather};
 pub use tally_rule::{CountView, Load, TallyRule};
 pub use verdict::Verdict;
 pub use worker_job::{Done, Job, finish};
+pub use workers::{RunFault, run_workers};
 
 /// Judges a packet by the configuration whose image the words begin with.
 ///

@@ -1,7 +1,8 @@
-//! Verdicts, tallies, batches and jobs, worked by hand.
+//! Verdicts, tallies, batches, jobs and workers' threads, worked by hand.
 
 mod batches;
 mod devices;
 mod jobs;
 mod tallies;
 mod verdicts;
+mod workers;

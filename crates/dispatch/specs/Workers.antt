@@ -1,0 +1,27 @@
+-- What the threads of several jobs give back (docs/SWITCH.md, "Workers").
+use Rattle.std.specs.Prelude.{◌∷◌, List, [], length}
+use Rattle.dispatch.specs.declared.device.Outbox as Outbox
+use Rattle.dispatch.specs.declared.device.Source as Source
+use Rattle.dispatch.specs.declared.worker_job.Done.{Done}
+use Rattle.dispatch.specs.declared.worker_job.Job.{Job}
+use Rattle.dispatch.specs.Batch.{Parts}
+use Rattle.dispatch.specs.Job.{IsJob}
+
+module _ {S O : Type 0} (source : Source.Ghosts S) (outbox : Outbox.Ghosts O) where
+  -- what a job starts with, and what it ends with
+  abbrev pub parts_of_job : Job S O source outbox → Parts
+  parts_of_job job = record { worker = job.worker; counter = job.counter; source = source.state job.source; outbox = outbox.state job.outbox }
+
+  abbrev pub parts_of_done : Done S O → Parts
+  parts_of_done done = record { worker = done.worker; counter = done.counter; source = source.state done.source; outbox = outbox.state done.outbox }
+
+  -- the job was run to its end by batches
+  abbrev pub IsDone : Job S O source outbox → Done S O → Type 0
+  IsDone job done = IsJob (length job.buffer.items) job.limit (parts_of_job job) (parts_of_done done)
+
+  -- each job was, and there is one result a job, in their order
+  abbrev pub AreDone : List (Job S O source outbox) → List (Done S O) → Type 0
+  AreDone [] [] = Unit {0}
+  AreDone [] (done ∷ dones) = ⊥
+  AreDone (job ∷ jobs) [] = ⊥
+  AreDone (job ∷ jobs) (done ∷ dones) = IsDone job done × AreDone jobs dones

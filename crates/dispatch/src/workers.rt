@@ -1,0 +1,165 @@
+//! Workers' threads: one a job, beside the caller's own (docs/SWITCH.md, "Workers").
+
+ghost use Rattle.std.specs.Prelude.{◌≡◌, ◌≤◌, IfOk, [], map, true, vec_capacity, vec_len};
+ghost use Rattle.dispatch.specs.Workers.{AreDone, IsDone};
+
+use crate::device::{Outbox, Source};
+use crate::job::Gate;
+use crate::worker_job::{Done, Job, finish};
+use std::alloc::Global;
+use std::snapshot::Snapshot;
+use std::sync::Wait;
+use std::thread;
+use std::thread::{Promise, PromisedHandle, Scope, Threads};
+
+/// Why jobs have no results.
+#[derive(Clone, Copy, Debug, PartialEq, Eq)]
+pub enum RunFault {
+    /// J1: a thread could not be started.
+    SpawnFailed,
+    /// J2: there was no memory for the threads' handles and their results. No thread was started.
+    OutOfMemory,
+}
+
+// That a thread gives its job's parts as the job leaves them.
+#[derive(Drop)]
+struct Finishes<S: Source, O: Outbox>(Snapshot<Job<S, O>>);
+
+impl<S: Source, O: Outbox> Promise<Done<S, O>> for Finishes<S, O> {
+    ghost kept_by = { λ promise done. IsDone S.Source O.Outbox promise.0.value done };
+}
+
+// Starts a thread for each job, in their order. False where one could not be started; those before it run.
+fn start_each<
+    's,
+    'e,
+    R: Wait + Sync,
+    S: Source + Send + Drop + 'e,
+    O: Outbox + Send + Drop + 'e,
+    G: Gate + Sync,
+>(
+    rt: &'e R,
+    scope: &'s Scope<'s, &'e ()>,
+    jobs: Vec<Job<S, O>>,
+    gate: &'e G,
+    handles: &mut Vec<PromisedHandle<Done<S, O>, Finishes<S, O>>>,
+) -> bool
+    requires empty { handles.old.items ≡ [] }
+    requires room { vec_len jobs ≤ vec_capacity handles.old }
+    ensures started { result ≡ true → map (λ h. h.promise.0.value) handles.new.items ≡ jobs.items }
+    ensures one_a_job { result ≡ true → vec_len handles.new ≡ vec_len jobs }
+    ensures no_more { vec_len handles.new ≤ vec_len jobs }
+{
+    let step = jobs.len() as u64;
+    let mut number = 1u64;
+    for job in jobs {
+        let numbers = (number, step);
+        match scope.spawn_with(
+            Finishes(Snapshot::of(&job)),
+            move || finish(rt, gate, numbers, job),
+        ) {
+            Ok(handle) => {
+                let Ok(()) = handles.push(handle) else {
+                    unreachable!()
+                };
+            }
+            Err(_) => return false,
+        }
+        number = number.wrapping_add(1);
+    }
+    true
+}
+
+// Waits for each thread, and gives their results in order.
+fn join_each<R: Threads, S: Source + Drop, O: Outbox + Drop>(
+    rt: &R,
+    handles: Vec<PromisedHandle<Done<S, O>, Finishes<S, O>>>,
+    results: &mut Vec<Done<S, O>>,
+)
+    requires empty { results.old.items ≡ [] }
+    requires room { vec_len handles ≤ vec_capacity results.old }
+    ensures one_a_handle { vec_len results.new ≡ vec_len handles }
+    ensures done { AreDone S.Source O.Outbox (map (λ h. h.promise.0.value) handles.items) results.new.items }
+{
+    for handle in handles {
+        let Ok(()) = results.push(handle.join(rt)) else {
+            unreachable!()
+        };
+    }
+}
+
+// Runs the jobs in the threads of a scope, and `side` beside them.
+fn run_in<
+    's,
+    'e,
+    R: Threads + Wait + Sync,
+    S: Source + Send + Drop + 'e,
+    O: Outbox + Send + Drop + 'e,
+    G: Gate + Sync,
+    F: FnOnce() + Drop,
+>(
+    rt: &'e R,
+    scope: &'s Scope<'s, &'e ()>,
+    alloc: Global,
+    jobs: Vec<Job<S, O>>,
+    gate: &'e G,
+    side: F,
+) -> Result<Vec<Done<S, O>>, RunFault>
+    requires side { F.pre side }
+    ensures one_done_a_job { IfOk result (λ dones. vec_len dones ≡ vec_len jobs) }
+    ensures done { IfOk result (λ dones. AreDone S.Source O.Outbox jobs.items dones.items) }
+{
+    let Ok(mut handles) = Vec::with_capacity(alloc, jobs.len()) else {
+        return Err(RunFault::OutOfMemory);
+    };
+    let Ok(mut results) = Vec::with_capacity(alloc, jobs.len()) else {
+        return Err(RunFault::OutOfMemory);
+    };
+    let all_started = start_each(rt, scope, jobs, gate, &mut handles);
+    if all_started {
+        side();
+    } else {
+        drop(side);
+    }
+    join_each(rt, handles, &mut results);
+    if all_started {
+        Ok(results)
+    } else {
+        Err(RunFault::SpawnFailed)
+    }
+}
+
+/// Runs each job to its end in a thread of its own, and `side` in the caller's thread meanwhile; returns once all have ended.
+/// The results stand in the order of the jobs. Of `w` jobs, job `i` calls its batch `j` by the number `j * w + i + 1`
+/// modulo 2^64, both counted from 0.
+///
+/// It may wait, since nothing says that a source ever ends. All memory is taken before a thread is started. Where a thread
+/// cannot be started, `side` is dropped without being run, and the threads that were started are waited for: let it own what
+/// ends their sources.
+pub fn run_workers<
+    R: Threads + Wait + Sync,
+    S: Source + Send + Drop,
+    O: Outbox + Send + Drop,
+    G: Gate + Sync,
+    F: FnOnce() + Drop,
+>(
+    rt: &R,
+    alloc: Global,
+    jobs: Vec<Job<S, O>>,
+    gate: &G,
+    side: F,
+) -> Result<Vec<Done<S, O>>, RunFault>
+    requires side { F.pre side }
+    ensures one_done_a_job { IfOk result (λ dones. vec_len dones ≡ vec_len jobs) }
+    ensures done_by_batches { IfOk result (λ dones. AreDone S.Source O.Outbox jobs.items dones.items) }
+{
+    thread::scope(
+        thread::scope_env(),
+        rt,
+        move |scope| -> Result<Vec<Done<S, O>>, RunFault>
+            requires { F.pre side }
+            ensures one_done_a_job { IfOk result (λ dones. vec_len dones ≡ vec_len jobs) }
+            ensures done { IfOk result (λ dones. AreDone S.Source O.Outbox jobs.items dones.items) }
+        { run_in(rt, scope, alloc, jobs, gate, side) },
+    )
+}
