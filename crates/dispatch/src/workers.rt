@@ -133,9 +133,9 @@ fn run_in<
 /// The results stand in the order of the jobs. Of `w` jobs, job `i` calls its batch `j` by the number `j * w + i + 1`
 /// modulo 2^64, both counted from 0.
 ///
-/// It may wait, since nothing says that a source ever ends. All memory is taken before a thread is started. Where a thread
-/// cannot be started, `side` is dropped without being run, and the threads that were started are waited for: let it own what
-/// ends their sources.
+/// It may wait, since nothing says that a source ever ends. The memory of handles and results is taken before a thread is
+/// started. Where one cannot be started, `side` is dropped without being run, and the threads that were started are waited for:
+/// let it own what ends their sources.
 pub fn run_workers<
     R: Threads + Wait + Sync,
     S: Source + Send + Drop,
