@@ -5,5 +5,6 @@ pub mod Job
 pub mod Memory
 pub mod Tally
 pub mod TallyRule
+pub mod Totals
 pub mod Verdict
 pub mod Workers

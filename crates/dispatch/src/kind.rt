@@ -1,7 +1,10 @@
 //! What a tally counts (docs/SWITCH.md, "Tallies").
 
-ghost use Rattle.std.specs.Prelude.{◌≡◌};
+ghost use Rattle.std.specs.Prelude.{◌≡◌, Some};
 ghost use Rattle.dispatch.specs.Tally.{place_of, total_of};
+ghost use Rattle.dispatch.specs.Totals.{totals_text};
+
+use std::fmt;
 
 /// What a tally counts: a verdict, or a device that failed.
 #[derive(Clone, Copy, Debug, PartialEq, Eq)]
@@ -63,5 +66,27 @@ impl Totals {
             Kind::SendFailed => self.send_failed,
             Kind::ReceiveFailed => self.receive_failed,
         }
+    }
+}
+
+/// Writes each kind's word and how often it was counted, in one line, without a line feed.
+impl fmt::Display for Totals {
+    ghost output = { λ totals. Some (totals_text totals) };
+
+    fn fmt<W: fmt::Write>(&self, f: &mut fmt::Formatter<W>) -> fmt::Result {
+        let Totals {
+            malformed,
+            no_group,
+            no_members,
+            dropped,
+            delivered,
+            send_failed,
+            receive_failed,
+        } = *self;
+        write!(
+            f,
+            "malformed {malformed} nogroup {no_group} nomembers {no_members} dropped {dropped} \
+             delivered {delivered} sendfailed {send_failed} receivefailed {receive_failed}"
+        )
     }
 }

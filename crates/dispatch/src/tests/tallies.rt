@@ -1,4 +1,4 @@
-//! Counters of one tally, in turn.
+//! Counters of one tally, in turn, and the line of their totals.
 
 ghost use Rattle.std.specs.Prelude.{◌≡◌, IfOk};
 ghost use Rattle.atomic_table.specs.Seated.{TableId};
@@ -56,6 +56,24 @@ fn counts_are_summed(rt: HostRuntime) -> Result<(), Fail> {
     assert_eq!(rt;
         (totals.of(Kind::Malformed), totals.of(Kind::Delivered)),
         (2, 30)
+    );
+    Ok(())
+}
+
+#[test]
+fn totals_in_one_line(rt: HostRuntime) -> Result<(), Fail> {
+    let totals = Totals {
+        malformed: 1,
+        no_group: 0,
+        no_members: 20,
+        dropped: 3,
+        delivered: 18_446_744_073_709_551_615,
+        send_failed: 500,
+        receive_failed: 6,
+    };
+    assert_eq!(rt;
+        format!(in rt.alloc(); "{totals}")?.as_str(),
+        "malformed 1 nogroup 0 nomembers 20 dropped 3 delivered 18446744073709551615 sendfailed 500 receivefailed 6"
     );
     Ok(())
 }
