@@ -1,5 +1,5 @@
 -- What the threads of several jobs give back (docs/SWITCH.md, "Workers").
-use Rattle.std.specs.Prelude.{◌∷◌, List, [], length}
+use Rattle.std.specs.Prelude.{◌≡◌, ◌∷◌, List, [], length}
 use Rattle.dispatch.specs.declared.device.Outbox as Outbox
 use Rattle.dispatch.specs.declared.device.Source as Source
 use Rattle.dispatch.specs.declared.worker_job.Done.{Done}
@@ -15,11 +15,12 @@ module _ {S O : Type 0} (source : Source.Ghosts S) (outbox : Outbox.Ghosts O) wh
   abbrev pub parts_of_done : Done S O → Parts
   parts_of_done done = record { worker = done.worker; counter = done.counter; source = source.state done.source; outbox = outbox.state done.outbox }
 
-  -- the job was run to its end by batches
-  abbrev pub IsDone : Job S O source outbox → Done S O → Type 0
-  IsDone job done = IsJob (length job.buffer.items) job.limit (parts_of_job job) (parts_of_done done)
+  -- the job was run to its end by batches, and its buffer came back with the room that it had
+  pub record IsDone (job : Job S O source outbox) (done : Done S O) : Type 0 where
+    pub run_to_its_end : IsJob (length job.buffer.items) job.limit (parts_of_job job) (parts_of_done done)
+    pub same_room : length done.buffer.items ≡ length job.buffer.items
 
-  -- each job was, and there is one result a job, in their order
+  -- each job was run to its end, and there is one result a job, in their order
   abbrev pub AreDone : List (Job S O source outbox) → List (Done S O) → Type 0
   AreDone [] [] = Unit {0}
   AreDone [] (done ∷ dones) = ⊥

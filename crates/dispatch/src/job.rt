@@ -32,7 +32,8 @@ fn goes_on(answer: &Result<BatchDone, BatchFault>) -> bool
 /// Runs batches of at most `limit` datagrams, until the source tells that no more come or the counter is full; where the source
 /// failed it goes on. The first batch has the number `first`, each further one `step` more, modulo 2^64.
 ///
-/// It may wait, since nothing says that the source ever ends.
+/// It may wait, since nothing says that the source ever ends. A batch of no datagrams would ask the source nothing, and the job
+/// go on for ever: so the limit is at least 1.
 pub fn run_job<R: Wait, S: Source, O: Outbox, G: Gate>(
     rt: &R,
     gate: &G,
@@ -45,6 +46,7 @@ pub fn run_job<R: Wait, S: Source, O: Outbox, G: Gate>(
     limit: u64,
 )
     requires buffer { length buf.old ≤ MAX_PACKET }
+    requires at_least_one { 1 ≤ limit }
     ensures done_by_batches { IsJob (length buf.old) limit
         (record { worker = worker.old; counter = counter.old; source = S.state source.old; outbox = O.state outbox.old })
         (record { worker = worker.new; counter = counter.new; source = S.state source.new; outbox = O.state outbox.new }) }

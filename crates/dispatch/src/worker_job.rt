@@ -1,6 +1,6 @@
 //! Jobs by value, as a worker's thread takes and gives them (docs/SWITCH.md, "Workers").
 
-ghost use Rattle.std.specs.Prelude.{◌≤◌, length};
+ghost use Rattle.std.specs.Prelude.{◌≡◌, ◌≤◌, length};
 ghost use Rattle.bpf_machine.specs.declared.TheConstants.{MAX_PACKET};
 ghost use Rattle.dispatch.specs.Job.{IsJob};
 
@@ -10,7 +10,8 @@ use crate::tally::Counter;
 use read_section::Worker;
 use std::sync::Wait;
 
-/// What a worker's thread starts with: its parts, where datagrams are received, and how many a batch judges at most.
+/// What a worker's thread starts with: its parts, the buffer that datagrams are received into, and how many a batch judges at
+/// most.
 #[derive(Drop)]
 pub struct Job<S: Source, O: Outbox> {
     pub worker: Worker,
@@ -43,6 +44,7 @@ pub fn finish<R: Wait, S: Source, O: Outbox, G: Gate>(
     ensures done_by_batches { IsJob (length job.buffer.items) job.limit
         (record { worker = job.worker; counter = job.counter; source = S.state job.source; outbox = O.state job.outbox })
         (record { worker = result.worker; counter = result.counter; source = S.state result.source; outbox = O.state result.outbox }) }
+    ensures same_room { length result.buffer.items ≡ length job.buffer.items }
 {
     let Job {
         mut worker,

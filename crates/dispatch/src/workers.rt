@@ -21,7 +21,8 @@ pub enum RunFault {
     OutOfMemory,
 }
 
-// That a thread gives its job's parts as the job leaves them.
+// Holds a job as it is before its thread is started. It promises that what the thread gives is the parts of that job, run to its
+// end.
 #[derive(Drop)]
 struct Finishes<S: Source, O: Outbox>(Snapshot<Job<S, O>>);
 
