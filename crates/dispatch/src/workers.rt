@@ -1,6 +1,7 @@
 //! Workers' threads: one a job, beside the caller's own (docs/SWITCH.md, "Workers").
 
-ghost use Rattle.std.specs.Prelude.{◌≡◌, ◌≤◌, IfOk, [], map, true, vec_capacity, vec_len};
+ghost use Rattle.std.specs.Prelude.{◌≡◌, ◌<◌, ◌≤◌, Err, IfOk, [], false, map, true, vec_capacity, vec_len};
+ghost use Rattle.dispatch.specs.declared.workers.RunFault.TheVariants.{SpawnFailed};
 ghost use Rattle.dispatch.specs.Workers.{AreDone, IsDone};
 
 use crate::device::{Outbox, Source};
@@ -50,6 +51,7 @@ fn start_each<
     ensures started { result ≡ true → map (λ h. h.promise.0.value) handles.new.items ≡ jobs.items }
     ensures one_a_job { result ≡ true → vec_len handles.new ≡ vec_len jobs }
     ensures no_more { vec_len handles.new ≤ vec_len jobs }
+    ensures spawn_failed { result ≡ false → 0 < vec_len jobs }
 {
     let step = jobs.len() as u64;
     let mut number = 1u64;
@@ -109,6 +111,7 @@ fn run_in<
     requires side { F.pre side }
     ensures one_done_a_job { IfOk result (λ dones. vec_len dones ≡ vec_len jobs) }
     ensures done { IfOk result (λ dones. AreDone S.Source O.Outbox jobs.items dones.items) }
+    ensures spawn_failed { result ≡ Err SpawnFailed → 0 < vec_len jobs }
 {
     let Ok(mut handles) = Vec::with_capacity(alloc, jobs.len()) else {
         return Err(RunFault::OutOfMemory);
@@ -153,6 +156,7 @@ pub fn run_workers<
     requires side { F.pre side }
     ensures one_done_a_job { IfOk result (λ dones. vec_len dones ≡ vec_len jobs) }
     ensures done_by_batches { IfOk result (λ dones. AreDone S.Source O.Outbox jobs.items dones.items) }
+    ensures spawn_failed { result ≡ Err SpawnFailed → 0 < vec_len jobs }
 {
     thread::scope(
         thread::scope_env(),
@@ -161,6 +165,7 @@ pub fn run_workers<
             requires { F.pre side }
             ensures one_done_a_job { IfOk result (λ dones. vec_len dones ≡ vec_len jobs) }
             ensures done { IfOk result (λ dones. AreDone S.Source O.Outbox jobs.items dones.items) }
+            ensures spawn_failed { result ≡ Err SpawnFailed → 0 < vec_len jobs }
         { run_in(rt, scope, alloc, jobs, gate, side) },
     )
 }
