@@ -1,5 +1,6 @@
 mod FieldLemmas
 mod RequestLemmas
+mod PacketLemmas
 mod ProgramLemmas
 mod OverLemmas
 mod ChangeLemmas
@@ -7,4 +8,13 @@ mod LineLemmas
 mod OneLineLemmas
 mod OneFaultLemmas
 mod OneAnswerLemmas
+mod MeetLemmas
+mod JudgeLemmas
+mod ReadyLemmas
+mod SwitchLemmas
 mod StandardFacts
+pub mod WritingLemmas
+pub mod HeldLemmas
+pub mod ScriptLemmas
+pub mod TakeLemmas
+mod ReplayLemmas

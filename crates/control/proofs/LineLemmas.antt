@@ -90,11 +90,11 @@ scans_keep_versions (last ∷ earlier) before =
 busy_keeps : (before after : OperatorValue) → IsBusy before after → KeepsVersions before after
 busy_keeps before after is_busy = subst (KeepsVersions before) (sym is_busy.scanned.no_more) (scans_keep_versions is_busy.scanned.scans before)
 
-nothing_keeps : (before after : OperatorValue) → DoesNothing before after → KeepsVersions before after
+pub nothing_keeps : (before after : OperatorValue) → DoesNothing before after → KeepsVersions before after
 nothing_keeps before after (inl same) = keeps_same before after same
 nothing_keeps before after (inr is_busy) = busy_keeps before after is_busy
 
-refused_does_nothing : (why : Reason) (before after : OperatorValue) → DoesRefused why before after → DoesNothing before after
+pub refused_does_nothing : (why : Reason) (before after : OperatorValue) → DoesRefused why before after → DoesNothing before after
 refused_does_nothing reason.BadForm before after does = inl does
 refused_does_nothing reason.LineTooLong before after does = inl does
 refused_does_nothing reason.PacketTooLong before after does = inl does

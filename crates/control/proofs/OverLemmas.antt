@@ -121,7 +121,7 @@ module _ {P Q : Type 0} (over : P → Q) where
   after-over (SetFilter key id program) config = changed-over key (with_filter id (Some program)) (with_filter id (Some (over program))) (filter-over id (Some program)) config
   after-over (ClearFilter key id) config = changed-over key (with_filter id None) (with_filter id None) (filter-over id None) config
 
-  group-over : (key : Endpoint) (config : List (GroupOf P)) → group_of key (config_over over config) ≡ option_map (group_over over) (group_of key config)
+  pub group-over : (key : Endpoint) (config : List (GroupOf P)) → group_of key (config_over over config) ≡ option_map (group_over over) (group_of key config)
   group-over key config = find-map (group_over over) (has_key key) (has_key key) (λ group. refl) config
 
   member-over : (id : ℕ) (group : GroupOf P) → member_of id (group_over over group) ≡ option_map (member_over over) (member_of id group)

@@ -6,3 +6,13 @@ pub mod Program
 pub mod Agrees
 pub mod Answer
 pub mod Making
+pub mod Packet
+pub mod Script
+pub mod Streams
+pub mod Replay
+pub mod Ready
+pub mod PacketLine
+pub mod Switch
+pub mod ScriptSoFar
+pub mod Writing
+pub use Rattle.dispatch.specs.Device

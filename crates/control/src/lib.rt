@@ -15,21 +15,36 @@ ghost use Rattle.control.specs.Reply.{reply_text};
 ghost use Rattle.control.specs.Request.{AsksForOneThing};
 
 mod change;
+mod fault;
 mod field;
+mod judged;
+mod packet;
 mod program;
 mod reason;
+mod replaying;
 mod reply;
 mod request;
+mod script;
+mod std_streams;
+mod streams;
+mod switch;
+mod writing;
 
 use change::publish_change;
+pub use dispatch::Failed;
+pub use fault::ReplayFault;
+pub use packet::packet_of_hex;
 use program::Failure;
 use read_section::Operator;
 pub use reason::{Code, Reason};
+pub use replaying::replay;
 use reply::Answer;
 pub use reply::{REPLY_LIMIT, Reply};
 use request::{Request, read_request};
 use retire::Retire;
 use std::alloc::{AllocError, Global};
+pub use std_streams::{FromRead, READ_LIMIT, ToWrite};
+pub use streams::{Input, Output};
 
 /// The answer of a call that was refused memory.
 pub use std::alloc::AllocError as OutOfMemory;

@@ -61,7 +61,7 @@ impl Reply {
         &self.bytes[..self.len]
     }
 
-    fn empty() -> Reply
+    pub(crate) fn empty() -> Reply
         ensures { result ≡ [] }
     {
         Reply {
@@ -70,7 +70,7 @@ impl Reply {
         }
     }
 
-    fn push(&mut self, text: &str)
+    pub(crate) fn push(&mut self, text: &str)
         requires { length self.old + length text.now ≤ REPLY_LIMIT }
         ensures appended { self.new ≡ self.old ++ text.now }
         ensures len { length self.new ≡ length self.old + length text.now }
@@ -80,7 +80,7 @@ impl Reply {
         self.len = end;
     }
 
-    fn push_number(&mut self, number: u64)
+    pub(crate) fn push_number(&mut self, number: u64)
         requires { length self.old + NUMBER_LIMIT ≤ REPLY_LIMIT }
         ensures appended { self.new ≡ self.old ++ decimal number }
         ensures len { length self.new ≤ length self.old + NUMBER_LIMIT }
@@ -88,7 +88,7 @@ impl Reply {
         self.push_digits(number);
     }
 
-    fn push_digits(&mut self, number: u64)
+    pub(crate) fn push_digits(&mut self, number: u64)
         requires { length self.old + length (decimal number) ≤ REPLY_LIMIT }
         ensures { self.new ≡ self.old ++ decimal number }
     {

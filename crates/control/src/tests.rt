@@ -1,7 +1,10 @@
 //! Lines in a row and their replies: a session, what is no line, and lines at their limits.
 
+mod judged;
 mod refusals;
 mod refused;
+mod scripts;
+mod streams;
 
 use crate::{LINE_LIMIT, line};
 use member_group::Config;
@@ -67,7 +70,7 @@ const SCRIPT: [Case; 12] = [
 
 // No worker ever enters here, so each read word is 0.
 #[test]
-fn script_replies_line_by_line(rt: HostRuntime) -> Result<(), Fail> {
+fn lines_are_answered_in_turn(rt: HostRuntime) -> Result<(), Fail> {
     let alloc = rt.alloc();
     let (mut operator, _workers) = opened(alloc)?;
     expect_each(&rt, alloc, &mut operator, &SCRIPT)

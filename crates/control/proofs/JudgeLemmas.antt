@@ -1,0 +1,49 @@
+-- What a configuration makes of a packet does not look into its programs: it is the same over programs that answer it the same.
+use Rattle.std.proofs.Common.{◌≡◌, ◌∙◌, List, None, Option, Some, ap, length, map, refl, slice_get, sym, ℕ}
+use Rattle.std.specs.Option.{option_map}
+use Rattle.std.proofs.lemmas.List.{length-map}
+use Rattle.std.proofs.lemmas.Option.{slice_get-map}
+use Rattle.config_image.specs.Image.{Group}
+use Rattle.filter_compile.specs.Answer.{IsPacket}
+use Rattle.ipv4_fields.specs.declared.endpoint.Endpoint.{Endpoint}
+use Rattle.ipv4_fields.specs.declared.endpoint.Flow.{Flow}
+use Rattle.ipv4_fields.specs.Dispatchable.{flow_of}
+use Rattle.member_group.specs.declared.member.Member.{Member}
+use Rattle.member_group.specs.Group.{GroupOf, group_of}
+use Rattle.dispatch.specs.Verdict.{choice, flow_verdict, group_verdict, kept, member_verdict, returned, value_of, verdict}
+use Rattle.control.specs.Agrees.{Agrees, TextConfig, config_over, group_over, member_over}
+use Rattle.control.specs.Script.{text_value}
+use Rattle.control.proofs.OverLemmas.{group-over}
+
+module _ {P Q : Type 0} (over : P → Q) (f : Q → List ℕ → ℕ) (g : P → List ℕ → ℕ) (packet : List ℕ) (same : (program : P) → f (over program) packet ≡ g program packet) where
+  answer-over : (program : Option P) → option_map (λ q. f q packet) (option_map over program) ≡ option_map (λ p. g p packet) program
+  answer-over None = refl
+  answer-over (Some program) = ap Some (same program)
+
+  member_verdict-over : (key : Endpoint) (member : Option (Member P)) → member_verdict f key packet (option_map (member_over over) member) ≡ member_verdict g key packet member
+  member_verdict-over key None = refl
+  member_verdict-over key (Some member) = ap (λ answer. kept key member.id member.to answer (length packet)) (answer-over member.filter)
+
+  group_verdict-over : (flow : Flow) (group : Option (GroupOf P)) → group_verdict f flow packet (option_map (group_over over) group) ≡ group_verdict g flow packet group
+  group_verdict-over flow None = refl
+  group_verdict-over flow (Some group) =
+      let members : List (Member Q) = map (member_over over) group.members in
+      ap (λ answer. member_verdict f flow.destination packet (slice_get members (choice answer flow (length members)))) (answer-over group.selector)
+      ∙ ap (λ count. member_verdict f flow.destination packet (slice_get members (choice (option_map (λ p. g p packet) group.selector) flow count))) (length-map group.members (member_over over))
+      ∙ ap (member_verdict f flow.destination packet) (slice_get-map (member_over over) group.members (choice (option_map (λ p. g p packet) group.selector) flow (length group.members)))
+      ∙ member_verdict-over flow.destination (slice_get group.members (choice (option_map (λ p. g p packet) group.selector) flow (length group.members)))
+
+  flow_verdict-over : (config : List (GroupOf P)) (flow : Option Flow) → flow_verdict f (config_over over config) packet flow ≡ flow_verdict g config packet flow
+  flow_verdict-over config None = refl
+  flow_verdict-over config (Some flow) = ap (group_verdict f flow packet) (group-over over flow.destination config) ∙ group_verdict-over flow (group_of flow.destination config)
+
+  verdict-over : (config : List (GroupOf P)) → verdict f (config_over over config) packet ≡ verdict g config packet
+  verdict-over config = flow_verdict-over config (flow_of packet)
+
+-- configurations that agree have the same verdict
+pub same_verdict : (text : TextConfig) (config : List Group) (packet : List ℕ) → Agrees text config → IsPacket packet → verdict value_of config packet ≡ verdict text_value text packet
+same_verdict text config packet (pairs, text_is, config_is) bytes =
+    ap (λ (c : List Group). verdict value_of c packet) config_is
+    ∙ verdict-over (λ both. both.program) value_of (λ both p. text_value both.text p) packet (λ both. ap returned (both.ending packet bytes)) pairs
+    ∙ sym (verdict-over (λ both. both.text) text_value (λ both p. text_value both.text p) packet (λ both. refl) pairs)
+    ∙ ap (λ (c : TextConfig). verdict text_value c packet) (sym text_is)

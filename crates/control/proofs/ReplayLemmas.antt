@@ -1,0 +1,173 @@
+-- A script that is replayed: the input gave its first bytes, and its lines so far are answered.
+use Rattle.std.proofs.Common.{◌≡◌, ◌∙◌, ◌≤◌, ◌++◌, Err, List, None, Ok, Option, Result, Some, [], ap, append_assoc, append-nil, inl, inr, length, refl, subst, suc, sym, take, ℕ}
+use Rattle.std.specs.Prelude.{OnOk}
+use Rattle.std.specs.Io.KnownBytes.{Consumes, IsAtEnd}
+use Rattle.control.specs.declared.TheConstants.{LINE_LIMIT}
+use Rattle.control.specs.declared.fault.ReplayFault.{ReplayFault}
+use Rattle.control.specs.declared.fault.ReplayFault.TheVariants.{OutOfMemory, ReadFailed, WriteFailed}
+use Rattle.control.specs.declared.script.Script.{Script}
+use Rattle.control.specs.Ready.{AreOutside}
+use Rattle.control.specs.Replay.{AnsweredAllLines, AnsweredFirstLines, FailedBy, IsReplayed, WasRead, WroteBeginning}
+use Rattle.control.specs.Script.{at_start, no_line}
+use Rattle.control.specs.ScriptSoFar.{Advances, Ends, IsAt, OutputFailedBy}
+use Rattle.control.specs.Streams.{InputValue, KeepsOrForgets, OutputValue}
+use Rattle.control.proofs.WritingLemmas.{appends_nothing}
+
+pub consumes_nothing : (known : Option (List ℕ)) → Consumes known known []
+consumes_nothing None = tt
+consumes_nothing (Some bytes) = refl
+
+pub consumes_more : (before mid after : Option (List ℕ)) (first then : List ℕ) → Consumes before mid first → Consumes mid after then → Consumes before after (first ++ then)
+consumes_more None mid after first then one two = tt
+consumes_more (Some a) None after first then one two = absurd one
+consumes_more (Some a) (Some b) None first then one two = absurd two
+consumes_more (Some a) (Some b) (Some c) first then one two = one ∙ (ap (λ bytes. first ++ bytes) two ∙ sym (append_assoc first then c))
+
+read_before_failure : (failures : ℕ) (before mid after : Option (List ℕ)) (read : List ℕ) → Consumes before mid read → KeepsOrForgets failures mid after → WasRead failures before after read
+read_before_failure failures None mid after read one kept = tt
+read_before_failure failures (Some a) None after read one kept = absurd one
+read_before_failure failures (Some a) (Some b) None read one kept = kept
+read_before_failure failures (Some a) (Some b) (Some c) read one kept = one ∙ ap (λ bytes. read ++ bytes) (sym kept)
+
+-- so much was read, and its lines are answered; no device failed
+pub record IsReplaying (input input' : InputValue) (output output' : OutputValue) (script : Script) : Type 0 where
+  pub read : List ℕ
+  pub was_read : Consumes input.coming input'.coming read
+  pub so_far : IsAt read output.taken script output'.taken
+  pub outside : AreOutside script.switch.operator.table script.switch.workers.items
+  pub within : length script.held.items ≤ suc LINE_LIMIT
+  pub input_healthy : input'.failures ≡ input.failures
+  pub output_healthy : output'.failures ≡ output.failures
+
+pub replaying_begins : (input : InputValue) (output : OutputValue) (script : Script) → IsAt [] output.taken script output.taken
+    → AreOutside script.switch.operator.table script.switch.workers.items → length script.held.items ≤ suc LINE_LIMIT → IsReplaying input input output output script
+replaying_begins input output script at outside within = record {
+  read = [];
+  was_read = consumes_nothing input.coming;
+  so_far = at;
+  outside = outside;
+  within = within;
+  input_healthy = refl;
+  output_healthy = refl;
+}
+
+-- no memory for the switch
+pub nothing_answered : (input : InputValue) (output : OutputValue) → AnsweredFirstLines input input output output
+nothing_answered input output = record {
+  lines = [];
+  rest = [];
+  text = [];
+  last = at_start;
+  read = consumes_nothing input.coming;
+  answered = no_line;
+  written = appends_nothing output.taken;
+}
+
+module _ (input mid : InputValue) (output now : OutputValue) (script : Script) (before : IsReplaying input mid output now script) where
+  -- a read failed
+  pub all_lines_answered : (after : InputValue) → KeepsOrForgets after.failures mid.coming after.coming → AnsweredAllLines input after output now
+  all_lines_answered after kept = let at = before.so_far in record {
+    lines = at.lines;
+    part = at.part;
+    text = at.text;
+    last = at.now;
+    read = read_before_failure after.failures input.coming mid.coming after.coming (at.lines ++ at.part) (subst (Consumes input.coming mid.coming) at.read_is before.was_read) kept;
+    no_line = at.no_line;
+    answered = at.answered;
+    written = at.written;
+  }
+
+  -- bytes came, and were taken
+  module _ (after : InputValue) (bytes : List ℕ) (gave : Consumes mid.coming after.coming bytes) (healthy : after.failures ≡ mid.failures) where
+    pub replaying_on : (script' : Script) (later : OutputValue) → Advances later.failures bytes script script' now.taken later.taken (Ok tt)
+        → AreOutside script'.switch.operator.table script'.switch.workers.items → length script'.held.items ≤ suc LINE_LIMIT → later.failures ≡ now.failures
+        → IsReplaying input after output later script'
+    replaying_on script' later advances outside within same = record {
+      read = before.read ++ bytes;
+      was_read = consumes_more input.coming mid.coming after.coming before.read bytes before.was_read gave;
+      so_far = advances before.read output.taken before.so_far;
+      outside = outside;
+      within = within;
+      input_healthy = healthy ∙ before.input_healthy;
+      output_healthy = same ∙ before.output_healthy;
+    }
+
+    pub cut_in_take : (script' : Script) (later : OutputValue) → Advances later.failures bytes script script' now.taken later.taken (Err WriteFailed) → WroteBeginning input after output later
+    cut_in_take script' later advances = let cut = advances before.read output.taken before.so_far in record {
+      lines = cut.lines;
+      rest = cut.rest;
+      text = cut.text;
+      told = cut.told;
+      untold = cut.untold;
+      read = subst (Consumes input.coming after.coming) cut.read_is (consumes_more input.coming mid.coming after.coming before.read bytes before.was_read gave);
+      is_text = inl (cut.last, cut.answered);
+      beginning = cut.beginning;
+      written = cut.written;
+    }
+
+    pub stopped_in_take : (script' : Script) (later : OutputValue) → Advances later.failures bytes script script' now.taken later.taken (Err OutOfMemory) → AnsweredFirstLines input after output later
+    stopped_in_take script' later advances = let stop = advances before.read output.taken before.so_far in record {
+      lines = stop.lines;
+      rest = stop.rest;
+      text = stop.text;
+      last = stop.last;
+      read = subst (Consumes input.coming after.coming) stop.read_is (consumes_more input.coming mid.coming after.coming before.read bytes before.was_read gave);
+      answered = stop.answered;
+      written = stop.written;
+    }
+
+  -- the input came to its end
+  module _ (after : InputValue) (gave : Consumes mid.coming after.coming []) (at_end : IsAtEnd after.coming) where
+    all_read : Consumes input.coming after.coming before.read
+    all_read = subst (Consumes input.coming after.coming) (append-nil before.read) (consumes_more input.coming mid.coming after.coming before.read [] before.was_read gave)
+
+    pub replayed : (later : OutputValue) → Ends later.failures script now.taken later.taken (Ok tt) → IsReplayed input after output later
+    replayed later ends = let whole = ends before.read output.taken before.so_far in record {
+      script = before.read;
+      text = whole.text;
+      read = all_read;
+      to_the_end = at_end;
+      is_text = whole.is_text;
+      written = whole.written;
+    }
+
+    pub cut_in_end : (later : OutputValue) → Ends later.failures script now.taken later.taken (Err WriteFailed) → WroteBeginning input after output later
+    cut_in_end later ends = let cut = ends before.read output.taken before.so_far in record {
+      lines = before.read;
+      rest = [];
+      text = cut.text;
+      told = cut.told;
+      untold = cut.untold;
+      read = subst (Consumes input.coming after.coming) (sym (append-nil before.read)) all_read;
+      is_text = inr (refl, at_end, cut.is_text);
+      beginning = cut.beginning;
+      written = cut.written;
+    }
+
+    pub stopped_in_end : (later : OutputValue) → Ends later.failures script now.taken later.taken (Err OutOfMemory) → AnsweredFirstLines input after output later
+    stopped_in_end later ends = let stop = ends before.read output.taken before.so_far in record {
+      lines = stop.lines;
+      rest = stop.rest;
+      text = stop.text;
+      last = stop.last;
+      read = subst (Consumes input.coming after.coming) stop.read_is all_read;
+      answered = stop.answered;
+      written = stop.written;
+    }
+
+-- which device failed, by the fault of the output's part
+pub failed_by : (result : Result (Unit {0}) ReplayFault) (input input' : InputValue) (output mid output' : OutputValue) → input'.failures ≡ input.failures → mid.failures ≡ output.failures
+    → OutputFailedBy result mid.failures output'.failures → FailedBy result input input' output output'
+failed_by (Ok done) input input' output mid output' healthy same failed = (healthy, failed ∙ same)
+failed_by (Err ReadFailed) input input' output mid output' healthy same failed = absurd failed
+failed_by (Err WriteFailed) input input' output mid output' healthy same failed = (healthy, failed ∙ ap suc same)
+failed_by (Err OutOfMemory) input input' output mid output' healthy same failed = (healthy, failed ∙ same)
+
+pub replayed_if : (input mid after : InputValue) (output now later : OutputValue) (script : Script) → IsReplaying input mid output now script → Consumes mid.coming after.coming [] → IsAtEnd after.coming
+    → (result : Result (Unit {0}) ReplayFault) → Ends later.failures script now.taken later.taken result → OnOk result (IsReplayed input after output later)
+replayed_if input mid after output now later script before gave at_end (Ok done) ends = replayed input mid output now script before after gave at_end later ends
+replayed_if input mid after output now later script before gave at_end (Err fault) ends = tt
+
+-- where a read gave nothing
+pub gave_nothing : (before after : Option (List ℕ)) (size : ℕ) (buffer : List ℕ) → size ≡ 0 → Consumes before after (take size buffer) → Consumes before after []
+gave_nothing before after size buffer none gave = subst (λ n. Consumes before after (take n buffer)) none gave

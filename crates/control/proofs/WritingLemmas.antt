@@ -1,0 +1,92 @@
+-- Texts that are written in parts.
+use Rattle.std.proofs.Common.{◌≡◌, ◌∙◌, ◌-◌, ◌++◌, Err, List, None, Ok, Option, Result, Some, [], ap, append_assoc, append-nil, arith, drop, length, refl, sym, take, ℕ}
+use Rattle.std.proofs.lemmas.List.{length-drop, take-append-drop, take_all}
+use Rattle.std.specs.Prelude.{IsErrAnd, OnErr}
+use Rattle.std.specs.Io.KnownBytes.{Appends}
+use Rattle.control.specs.Replay.{WasWritten}
+use Rattle.control.specs.Streams.{KeepsOrForgets}
+use Rattle.control.specs.Writing.{IsWrittenInPart}
+
+pub appends_nothing : (known : Option (List ℕ)) → Appends known known []
+appends_nothing None = tt
+appends_nothing (Some bytes) = sym (append-nil bytes)
+
+pub appends_more : (before mid after : Option (List ℕ)) (first then : List ℕ) → Appends before mid first → Appends mid after then → Appends before after (first ++ then)
+appends_more None mid after first then one two = tt
+appends_more (Some a) None after first then one two = absurd one
+appends_more (Some a) (Some b) None first then one two = absurd two
+appends_more (Some a) (Some b) (Some c) first then one two = two ∙ (ap (λ bytes. bytes ++ then) one ∙ append_assoc a first then)
+
+-- so far told, and then a failed write
+pub written_before_failure : (failures : ℕ) (before mid after : Option (List ℕ)) (told : List ℕ) → Appends before mid told → KeepsOrForgets failures mid after → WasWritten failures before after told
+written_before_failure failures None mid after told one kept = tt
+written_before_failure failures (Some a) None after told one kept = absurd one
+written_before_failure failures (Some a) (Some b) None told one kept = kept
+written_before_failure failures (Some a) (Some b) (Some c) told one kept = kept ∙ one
+
+pub written_more : (failures : ℕ) (before mid after : Option (List ℕ)) (first then : List ℕ) → Appends before mid first → WasWritten failures mid after then → WasWritten failures before after (first ++ then)
+written_more failures None mid after first then one two = tt
+written_more failures (Some a) None after first then one two = absurd one
+written_more failures (Some a) (Some b) None first then one two = two
+written_more failures (Some a) (Some b) (Some c) first then one two = two ∙ (ap (λ bytes. bytes ++ then) one ∙ append_assoc a first then)
+
+-- the bytes are what was told and what is left
+pub record IsWrittenUpTo (before after : Option (List ℕ)) (bytes left : List ℕ) : Type 0 where
+  pub told : List ℕ
+  pub is : bytes ≡ told ++ left
+  pub written : Appends before after told
+
+pub written_none : (known : Option (List ℕ)) (bytes : List ℕ) → IsWrittenUpTo known known bytes bytes
+written_none known bytes = record { told = []; is = refl; written = appends_nothing known }
+
+behind_size : (size : ℕ) (left : List ℕ) → take (length left - size) (drop size left) ≡ drop size left
+behind_size size left = let n = length-drop size left in take_all (length left - size) (drop size left) (omega arith)
+
+pub written_further : (before mid after : Option (List ℕ)) (bytes left : List ℕ) (size : ℕ) → IsWrittenUpTo before mid bytes left → Appends mid after (take size left)
+    → IsWrittenUpTo before after bytes (take (length left - size) (drop size left))
+written_further before mid after bytes left size so_far more = record {
+  told = so_far.told ++ take size left;
+  is = so_far.is ∙ (ap (λ rest. so_far.told ++ rest) (sym (take-append-drop size left))
+      ∙ (sym (append_assoc so_far.told (take size left) (drop size left)) ∙ ap (λ rest. (so_far.told ++ take size left) ++ rest) (sym (behind_size size left))));
+  written = appends_more before mid after so_far.told (take size left) so_far.written more;
+}
+
+-- a failed write leaves what was told
+pub failed_in_part : (failures : ℕ) (before mid after : Option (List ℕ)) (bytes left : List ℕ) → IsWrittenUpTo before mid bytes left → KeepsOrForgets failures mid after → IsWrittenInPart failures before after bytes
+failed_in_part failures before mid after bytes left so_far kept = record {
+  told = so_far.told;
+  untold = left;
+  beginning = so_far.is;
+  written = written_before_failure failures before mid after so_far.told so_far.written kept;
+}
+
+-- a text in two pieces, of which the first failed
+pub first_in_part : (failures : ℕ) (before after : Option (List ℕ)) (first then : List ℕ) → IsWrittenInPart failures before after first → IsWrittenInPart failures before after (first ++ then)
+first_in_part failures before after first then cut = record {
+  told = cut.told;
+  untold = cut.untold ++ then;
+  beginning = ap (λ bytes. bytes ++ then) cut.beginning ∙ append_assoc cut.told cut.untold then;
+  written = cut.written;
+}
+
+-- or the second
+pub second_in_part : (failures : ℕ) (before mid after : Option (List ℕ)) (first then : List ℕ) → Appends before mid first → IsWrittenInPart failures mid after then → IsWrittenInPart failures before after (first ++ then)
+second_in_part failures before mid after first then one cut = record {
+  told = first ++ cut.told;
+  untold = cut.untold;
+  beginning = ap (λ bytes. first ++ bytes) cut.beginning ∙ sym (append_assoc first cut.told cut.untold);
+  written = written_more failures before mid after first cut.told one cut.written;
+}
+
+pub on_err : {A E : Type 0} {P : Type 0} (result : Result A E) → P → OnErr result P
+on_err (Ok done) holds = tt
+on_err (Err fault) holds = holds
+
+pub on_err_too : {A E : Type 0} {P Q : Type 0} (result : Result A E) → (P → Q) → OnErr result P → OnErr result Q
+on_err_too (Ok done) follows holds = tt
+on_err_too (Err fault) follows holds = follows holds
+
+-- an error that is told by its fault
+pub err_is : {A E : Type 0} (result : Result A E) (fault : E) → IsErrAnd result (λ told. told ≡ fault) → result ≡ Err fault
+err_is (Ok done) fault told = absurd told
+err_is (Err given) fault told = ap Err told

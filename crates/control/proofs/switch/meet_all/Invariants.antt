@@ -1,0 +1,5 @@
+use Rattle.control.specs.Ready.{MetFirst}
+use Rattle.control.proofs.switch.meet_all.Given as goal
+
+abbrev pub invariant-loop-w : goal.invariant-loop-w
+invariant-loop-w l = MetFirst l.w l.fn.operator l.operator l.fn.workers l.workers

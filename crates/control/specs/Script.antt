@@ -1,0 +1,82 @@
+-- What a script is answered, line by line (docs/COMMANDS.md, "replay"). It speaks of the texts and what they mean: no compiled
+-- instruction and no shared word stands here.
+use Rattle.std.specs.Prelude.{◌≡◌, ◌+◌, ◌<◌, ◌≤◌, ◌++◌, ◌∷◌, List, [], codes, decimal, length, ℕ}
+use Rattle.dispatch.specs.Verdict.{returned, verdict}
+use Rattle.dispatch.specs.declared.verdict.Verdict.{Verdict}
+use Rattle.dispatch.specs.declared.verdict.Verdict.TheVariants.{Deliver, Dropped, Malformed, NoGroup, NoMembers}
+use Rattle.retire.specs.declared.fault.PublishFault.TheVariants.{Busy}
+use Rattle.control.specs.declared.TheConstants.{LINE_LIMIT}
+use Rattle.control.specs.declared.reason.Reason.TheVariants.{PacketTooLong, Publishing}
+use Rattle.control.specs.declared.reply.Answer.{Answer}
+use Rattle.control.specs.declared.reply.Answer.TheVariants.{Published, Refused, Shown, Swept}
+use Rattle.control.specs.Agrees.{TextConfig}
+use Rattle.control.specs.Answer.{Answers}
+use Rattle.control.specs.Field.{Lacks, endpoint_text}
+use Rattle.control.specs.Packet.{HasNoPacket, IsPacketLine, SpellsPacket, SpellsTooMuch}
+use Rattle.control.specs.Program.{TextProgram, text_ending}
+use Rattle.control.specs.Reason.{refusal_text}
+use Rattle.control.specs.Reply.{reply_text}
+
+-- where a script stands: the current version, its configuration as the texts mean it, and how many versions were reported as free
+pub record Standing : Type 0 where
+  pub version : ℕ
+  pub config : TextConfig
+  pub reported : ℕ
+
+-- version 0 has no groups
+abbrev pub at_start : Standing
+at_start = record { version = 0; config = []; reported = 0 }
+
+-- what a program of a text answers a packet
+abbrev pub text_value : TextProgram → List ℕ → ℕ
+text_value program packet = returned (text_ending program packet)
+
+-- a verdict, as its reply names it
+abbrev pub verdict_text : Verdict → List ℕ
+verdict_text Malformed = codes "malformed"
+verdict_text NoGroup = codes "nogroup"
+verdict_text NoMembers = codes "nomembers"
+verdict_text (Dropped key id) = codes "dropped " ++ endpoint_text key ++ codes " " ++ decimal id
+verdict_text (Deliver key id to bytes) =
+    codes "deliver " ++ endpoint_text key ++ codes " " ++ decimal id ++ codes " " ++ endpoint_text to ++ codes " " ++ decimal bytes
+
+-- the version that judged, and its verdict
+abbrev pub judged_text : ℕ → Verdict → List ℕ
+judged_text version verdict = codes "version " ++ decimal version ++ codes " " ++ verdict_text verdict
+
+-- Each worker is outside whenever a line is answered. So a publication is never busy, and a sweep reports every version that was
+-- replaced and not yet reported.
+abbrev pub ComesInScript : Standing → Answer → Type 0
+ComesInScript now (Refused (Publishing Busy)) = ⊥
+ComesInScript now (Refused why) = Unit {0}
+ComesInScript now (Published version) = Unit {0}
+ComesInScript now (Shown version groups members charge) = Unit {0}
+ComesInScript now (Swept reclaimed) = (reclaimed.first ≡ now.reported) × (reclaimed.first + reclaimed.count ≡ now.version)
+
+-- where the script stands after an answer that leaves this configuration
+abbrev pub standing_after : Standing → Answer → TextConfig → Standing
+standing_after now (Refused why) next = record now { config = next }
+standing_after now (Published version) next = record now { version = version; config = next }
+standing_after now (Shown version groups members charge) next = record now { config = next }
+standing_after now (Swept reclaimed) next = record now { config = next; reported = reclaimed.first + reclaimed.count }
+
+-- the reply to a line, and where the script stands then
+pub data RepliesTo (now : Standing) (line : List ℕ) : List ℕ → Standing → Type 0 where
+  to_control : (answer : Answer) (next : TextConfig) → HasNoPacket line → Answers now.version now.config line answer next →
+      ComesInScript now answer → RepliesTo now line (reply_text answer) (standing_after now answer next)
+  to_packet : (digits packet : List ℕ) → length line ≤ LINE_LIMIT → IsPacketLine line digits → SpellsPacket digits packet →
+      RepliesTo now line (judged_text now.version (verdict text_value now.config packet)) now
+  to_long_packet : (digits : List ℕ) → length line ≤ LINE_LIMIT → IsPacketLine line digits → SpellsTooMuch digits →
+      RepliesTo now line (refusal_text PacketTooLong) now
+
+-- lines that each end with LF, their replies, each with LF too, and where the script stands behind them
+pub data AreAnswered : List ℕ → List ℕ → Standing → Type 0 where
+  no_line : AreAnswered [] [] at_start
+  one_more : (lines text line reply : List ℕ) (now next : Standing) → AreAnswered lines text now → Lacks 10 line →
+      RepliesTo now line reply next → AreAnswered (lines ++ (line ++ 10 ∷ [])) (text ++ (reply ++ 10 ∷ [])) next
+
+-- the text of a script: the replies to its lines, of which the last may lack its LF; nothing behind the last LF is no line
+pub data IsScriptText : List ℕ → List ℕ → Type 0 where
+  all_ended : (lines text : List ℕ) (last : Standing) → AreAnswered lines text last → IsScriptText lines text
+  last_unended : (lines text line reply : List ℕ) (now last : Standing) → AreAnswered lines text now → Lacks 10 line →
+      0 < length line → RepliesTo now line reply last → IsScriptText (lines ++ line) (text ++ (reply ++ 10 ∷ []))

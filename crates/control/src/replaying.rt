@@ -1,0 +1,47 @@
+//! Replaying a script: each line of an input is answered by one line (docs/COMMANDS.md, "replay").
+
+ghost use Rattle.std.specs.Prelude.{◌≡◌, Err, OnOk};
+ghost use Rattle.control.specs.declared.fault.ReplayFault.TheVariants as replay_fault;
+ghost use Rattle.control.specs.Replay.{AnsweredAllLines, AnsweredFirstLines, FailedBy, IsReplayed, WroteBeginning};
+
+use crate::fault::ReplayFault;
+use crate::script::Script;
+use crate::streams::{Input, Output};
+use dispatch::Failed;
+use std::alloc::Global;
+
+// How many bytes are read at once.
+const CHUNK: usize = 8192;
+
+/// Answers each line that the reader gives by one line, from the configuration without groups on.
+///
+/// A reply is written before the next read. Of a line it holds no more than shows that it is too long. All workers meet the
+/// operator after each line, so no publication is busy.
+pub fn replay<R: Input, W: Output>(
+    alloc: Global,
+    reader: &mut R,
+    writer: &mut W,
+) -> Result<(), ReplayFault>
+    ensures script_text { OnOk result (IsReplayed (R.state reader.old) (R.state reader.new) (W.state writer.old) (W.state writer.new)) }
+    ensures text_before_failed_read { result ≡ Err replay_fault.ReadFailed
+        → AnsweredAllLines (R.state reader.old) (R.state reader.new) (W.state writer.old) (W.state writer.new) }
+    ensures text_before_failed_write { result ≡ Err replay_fault.WriteFailed
+        → WroteBeginning (R.state reader.old) (R.state reader.new) (W.state writer.old) (W.state writer.new) }
+    ensures text_before_no_memory { result ≡ Err replay_fault.OutOfMemory
+        → AnsweredFirstLines (R.state reader.old) (R.state reader.new) (W.state writer.old) (W.state writer.new) }
+    ensures device_failed { FailedBy result (R.state reader.old) (R.state reader.new) (W.state writer.old) (W.state writer.new) }
+    ensures rest_kept { W.rest writer.new ≡ W.rest writer.old }
+{
+    let mut script = Script::open(alloc)?;
+    let mut chunk = [0; CHUNK];
+    loop {
+        let size = match reader.read(&mut chunk) {
+            Ok(size) => size,
+            Err(Failed) => return Err(ReplayFault::ReadFailed),
+        };
+        if size == 0 {
+            return script.end(alloc, writer);
+        }
+        script.take(alloc, &chunk[..size], writer)?;
+    }
+}

@@ -1,0 +1,103 @@
+//! A script that is read in pieces: the switch that has answered its lines, and the line that is not ended yet.
+
+ghost use Rattle.std.specs.Prelude.{◌≡◌, ◌≤◌, ◌++◌, IfOk, List, OnOk, Option, [], length, suc, take, ℕ};
+ghost use Rattle.control.specs.declared.TheConstants.{LINE_LIMIT};
+ghost use Rattle.control.specs.Ready.{AreOutside};
+ghost use Rattle.control.specs.ScriptSoFar.{Advances, AnswersHeld, Ends, IsAt, OutputFailedBy};
+
+use crate::LINE_LIMIT;
+use crate::fault::ReplayFault;
+use crate::field::split_at;
+use crate::streams::Output;
+use crate::switch::Switch;
+use crate::writing::write_line;
+use std::alloc::{AllocError, Global};
+
+/// A script that was answered up to a place of it.
+#[derive(Drop)]
+pub(crate) struct Script {
+    switch: Switch,
+    // What was read behind the last LF, but of a line that is too long no more than shows that.
+    held: Vec<u8>,
+}
+
+impl Script {
+    pub(crate) fn open(alloc: Global) -> Result<Script, AllocError>
+        ensures at_start { IfOk result (λ script. (start : Option (List ℕ)) → IsAt [] start script start) }
+        ensures outside { IfOk result (λ script. AreOutside script.switch.operator.table script.switch.workers.items) }
+        ensures within { IfOk result (λ script. length script.held.items ≤ suc LINE_LIMIT) }
+    {
+        Ok(Script {
+            switch: Switch::open(alloc)?,
+            held: Vec::new(alloc),
+        })
+    }
+
+    fn hold(&mut self, bytes: &[u8]) -> Result<(), AllocError>
+        requires within { length self.old.held.items ≤ suc LINE_LIMIT }
+        ensures held { OnOk result (self.new.held.items ≡ take (suc LINE_LIMIT) (self.old.held.items ++ bytes.now)) }
+        ensures within { OnOk result (length self.new.held.items ≤ suc LINE_LIMIT) }
+        ensures switch_kept { self.new.switch ≡ self.old.switch }
+    {
+        let room = LINE_LIMIT + 1 - self.held.len();
+        let bytes = &bytes[..bytes.len().min(room)];
+        Ok(self.held.extend_from_slice(bytes)?)
+    }
+
+    // Answers the line that is held, which ends here.
+    fn answer_held<W: Output>(&mut self, alloc: Global, writer: &mut W) -> Result<(), ReplayFault>
+        requires outside { AreOutside self.old.switch.operator.table self.old.switch.workers.items }
+        ensures answers { AnswersHeld (W.state writer.new).failures self.old self.new (W.state writer.old).taken (W.state writer.new).taken result }
+        ensures outside { OnOk result (AreOutside self.new.switch.operator.table self.new.switch.workers.items) }
+        ensures device_failed { OutputFailedBy result (W.state writer.old).failures (W.state writer.new).failures }
+        ensures rest_kept { W.rest writer.new ≡ W.rest writer.old }
+    {
+        let reply = self.switch.answer(alloc, &self.held)?;
+        self.held.clear();
+        let Ok(()) = write_line(writer, reply.bytes()) else {
+            return Err(ReplayFault::WriteFailed);
+        };
+        Ok(())
+    }
+
+    /// Takes the next bytes, and answers each line that they end. Each reply is written before the next line is answered.
+    pub(crate) fn take<W: Output>(
+        &mut self,
+        alloc: Global,
+        bytes: &[u8],
+        writer: &mut W,
+    ) -> Result<(), ReplayFault>
+        requires outside { AreOutside self.old.switch.operator.table self.old.switch.workers.items }
+        requires within { length self.old.held.items ≤ suc LINE_LIMIT }
+        ensures advances { Advances (W.state writer.new).failures bytes.now self.old self.new (W.state writer.old).taken (W.state writer.new).taken result }
+        ensures outside { OnOk result (AreOutside self.new.switch.operator.table self.new.switch.workers.items) }
+        ensures within { OnOk result (length self.new.held.items ≤ suc LINE_LIMIT) }
+        ensures device_failed { OutputFailedBy result (W.state writer.old).failures (W.state writer.new).failures }
+        ensures rest_kept { W.rest writer.new ≡ W.rest writer.old }
+    {
+        let mut left = bytes;
+        while let Some((front, behind)) = split_at(b'\n', left) {
+            self.hold(front)?;
+            self.answer_held(alloc, writer)?;
+            left = behind;
+        }
+        Ok(self.hold(left)?)
+    }
+
+    /// Answers the last line, where it has no LF.
+    pub(crate) fn end<W: Output>(
+        &mut self,
+        alloc: Global,
+        writer: &mut W,
+    ) -> Result<(), ReplayFault>
+        requires outside { AreOutside self.old.switch.operator.table self.old.switch.workers.items }
+        ensures ends { Ends (W.state writer.new).failures self.old (W.state writer.old).taken (W.state writer.new).taken result }
+        ensures device_failed { OutputFailedBy result (W.state writer.old).failures (W.state writer.new).failures }
+        ensures rest_kept { W.rest writer.new ≡ W.rest writer.old }
+    {
+        if self.held.is_empty() {
+            return Ok(());
+        }
+        self.answer_held(alloc, writer)
+    }
+}
