@@ -114,10 +114,10 @@ top = (built command_line).top
 
 -- the commands, and behind them `clap`'s own, `help`
 abbrev commands : List Shape
-commands = take 4 (built command_line).subs
+commands = take 6 (built command_line).subs
 
 abbrev help_command : Shape
-help_command = slice_index_or (built command_line).subs 4 top
+help_command = slice_index_or (built command_line).subs 6 top
 
 has_met : (rows : List Row) (has : Bool) → check_fault top rows has ≡ [] → has ≡ true
 has_met rows true none = refl
@@ -173,7 +173,7 @@ not_named word name differs = go (bytes_eq word name) refl
         sym (ap (λ x. x && true) back) ∙ differs
 
 are_requests : AreRequests commands
-are_requests = ((λ rows. refl), ((λ rows. refl), ((λ rows. refl), ((λ rows. refl), tt))))
+are_requests = ((λ rows. refl), ((λ rows. refl), ((λ rows. refl), ((λ rows. refl), ((λ rows. refl), ((λ rows. refl), tt))))))
 
 entered_request : (stop : Stop) → IsNoHelp top stop → is_some (entered (built command_line) stop) ≡ true
     → is_some (request_met (entered (built command_line) stop)) ≡ true

@@ -56,26 +56,34 @@ first_accepted =
       stores_before = λ pc cell loads. absurd (first_loads pc cell loads);
     }
 
-second_loads : (pc cell : ℕ) → LoadsAt second_program pc cell → ⊥
-unfolding instruction_of uses_of table
-second_loads zero cell loads = not_loading second_program 0 cell (ReturnConstant 0) (_, refl, refl) (λ never. never) loads
-second_loads (suc pc) cell loads = nothing_there second_program (suc pc) cell (omega arith) loads
+-- one instruction that returns a constant
+module _ (word k : ℕ) (at : IsAt (word ∷ []) 0 (ReturnConstant k)) (fine : IsFaultless (word ∷ []) 0) where
+  return_loads : (pc cell : ℕ) → LoadsAt (word ∷ []) pc cell → ⊥
+  return_loads zero cell loads = not_loading (word ∷ []) 0 cell (ReturnConstant k) at (λ never. never) loads
+  return_loads (suc pc) cell loads = nothing_there (word ∷ []) (suc pc) cell (omega arith) loads
 
-second_faultless : (pc : ℕ) → pc < 1 → IsFaultless second_program pc
-unfolding instruction_of uses_of table
-second_faultless zero inside = (_, refl, refl)
-second_faultless (suc pc) inside = absurd (omega arith)
+  return_faultless : (pc : ℕ) → pc < 1 → IsFaultless (word ∷ []) pc
+  return_faultless zero inside = fine
+  return_faultless (suc pc) inside = absurd (omega arith)
+
+  return_accepted : IsAccepted (word ∷ [])
+  return_accepted =
+      record {
+        not_empty = lit< tt;
+        not_too_long = lit≤ tt;
+        faultless = return_faultless;
+        ends_in_return = (ReturnConstant k, at, tt);
+        stores_before = λ pc cell loads. absurd (return_loads pc cell loads);
+      }
 
 pub second_accepted : IsAccepted second_program
 unfolding instruction_of uses_of table
-second_accepted =
-    record {
-      not_empty = lit< tt;
-      not_too_long = lit≤ tt;
-      faultless = second_faultless;
-      ends_in_return = (ReturnConstant 0, (_, refl, refl), tt);
-      stores_before = λ pc cell loads. absurd (second_loads pc cell loads);
-    }
+second_accepted = return_accepted 0x0006_0000_0000_0000 0 (_, refl, refl) (_, refl, refl)
+
+-- `ret #1`
+pub third_accepted : IsAccepted (0x0006_0000_0000_0001 ∷ [])
+unfolding instruction_of uses_of table
+third_accepted = return_accepted 0x0006_0000_0000_0001 1 (_, refl, refl) (_, refl, refl)
 
 -- ---- how the programs end
 

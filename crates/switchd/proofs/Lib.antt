@@ -1,4 +1,5 @@
 mod CommandLineLemmas
+mod FloodLemmas
 mod StandardFacts
 mod EndingLemmas
 mod PacketLemmas
@@ -7,3 +8,4 @@ mod StopLemmas
 mod WriteLemmas
 pub mod FirstLemmas
 mod TableLemmas
+mod TrafficLemmas

@@ -1,24 +1,27 @@
 -- What a command makes of its arguments, where it looks at no more than these.
-use Rattle.std.proofs.Common.{◌≡◌, ◌<◌, ◌^◌, ℕ, List, [], None, Option, Some, inl, inr, refl, subst, sym, unwrap_or}
+use Rattle.std.proofs.Common.{◌≡◌, ◌<◌, ◌^◌, ◌⊎◌, ℕ, List, [], None, Option, Some, inl, inr, refl, subst, sym, unwrap_or}
 use Rattle.std.proofs.lemmas.List.Elements.{All-from_get_or}
 use Rattle.hex.proofs.HexLemmas.{decode_of-ok}
+use Rattle.clap.specs.Words.{HasKind, IsAmong, Text, kind_of}
+use Rattle.clap.specs.declared.error.Error.{Error}
+use Rattle.clap.specs.declared.error.kind.ErrorKind.TheVariants as kind
 use Rattle.control.specs.Program.{IsExpressionFault}
 use Rattle.control.specs.declared.reason.Reason.{Reason}
 use Rattle.filter_compile.specs.Answer.{IsPacket}
 use Rattle.switchd.specs.declared.answer.Answer.{Answer}
 use Rattle.switchd.specs.declared.ending.Failure.{Failure}
-use Rattle.switchd.specs.declared.ending.Failure.TheVariants.{OutOfMemory}
+use Rattle.switchd.specs.declared.ending.Failure.TheVariants.{OutOfMemory, ReadFailed, SpawnFailed, WriteFailed}
 use Rattle.switchd.specs.declared.stop.Stop.{Stop}
 use Rattle.switchd.specs.declared.stop.Stop.TheVariants.{Failed, Refused}
 use Rattle.switchd.specs.Answer.{IsCompileAnswer, IsJudgeAnswer}
-use Rattle.switchd.specs.CommandLine.{Request, compile, first, judge, run}
+use Rattle.switchd.specs.CommandLine.{Request, compile, faults_in, first, judge, run}
 use Rattle.switchd.specs.FirstPath.{first_lines}
 use Rattle.switchd.specs.declared.first_path.Line.{Line}
 use Rattle.switchd.proofs.WriteLemmas.{first_text_of, versions_of}
 use Rattle.switchd.specs.Input.{IsInput}
 use Rattle.switchd.specs.Packet.{IsRefusalOfHex, SpellsPacket}
 use Rattle.switchd.specs.Stop.{IsStopBy}
-use Rattle.switchd.specs.Request.{IsFailureOf, IsRefusal, IsResultOf, IsStopOf}
+use Rattle.switchd.specs.Request.{IsFailureOf, IsRefusal, IsResultOf, IsStopOf, MayFailBy}
 
 -- the bytes that digits write are a packet
 pub packet_of_spelt : (digits packet : List ℕ) → SpellsPacket digits packet → IsPacket packet
@@ -26,6 +29,17 @@ packet_of_spelt digits packet spelt = record {
   bytes = All-from_get_or (λ byte. byte < 2 ^ 8) packet 0 (λ k inside. (decode_of-ok digits packet spelt.spells).3 k);
   not_too_long = spelt.not_too_long;
 }
+
+-- where the words have a fault, they ask for no command that may wait
+pub text_may_fail : (words : List Text) (fault : Error) (failure : Failure) → HasKind (faults_in words) fault
+    → (failure ≡ WriteFailed) ⊎ (failure ≡ OutOfMemory) → (kind_of fault ≡ kind.OutOfMemory → failure ≡ OutOfMemory) → MayFailBy words failure
+text_may_fail words fault ReadFailed kinds either memory = elim either [ inl e ↦ cc | inr e ↦ cc ]
+text_may_fail words fault SpawnFailed kinds either memory = elim either [ inl e ↦ cc | inr e ↦ cc ]
+text_may_fail words fault OutOfMemory kinds either memory = tt
+text_may_fail words fault WriteFailed kinds either memory = λ ask. elim kinds [
+  | inl no_memory ↦ let bad : ◌≡◌ {A = Failure} WriteFailed OutOfMemory = memory no_memory in cc
+  | inr among ↦ subst (IsAmong (kind_of fault)) ask.0 among
+]
 
 module _ (known : Option (List ℕ)) where
   -- an input that is not read has some bytes

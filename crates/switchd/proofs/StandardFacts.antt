@@ -1,8 +1,8 @@
 -- What `clap` finds in words that are written out.
-use Rattle.std.proofs.Common.{◌≡◌, ◌∷◌, [], codes, refl}
+use Rattle.std.proofs.Common.{◌≡◌, ◌∷◌, [], Some, codes, refl}
 use Rattle.clap.proofs.OnLiterals.{clap_on_literals}
-use Rattle.clap.specs.declared.error.kind.ErrorKind.TheVariants.{DisplayHelp, DisplayVersion, InvalidSubcommand, MissingSubcommand, UnknownArgument}
-use Rattle.switchd.specs.CommandLine.{faults_in}
+use Rattle.clap.specs.declared.error.kind.ErrorKind.TheVariants.{DisplayHelp, DisplayVersion, InvalidSubcommand, MissingRequiredArgument, MissingSubcommand, UnknownArgument, ValueValidation}
+use Rattle.switchd.specs.CommandLine.{faults_in, flood, request_in}
 
 in_first : faults_in (codes "first" ∷ []) ≡ []
 unfolding clap_on_literals
@@ -31,3 +31,27 @@ in_help_on_first = refl
 in_version : faults_in (codes "--version" ∷ []) ≡ DisplayVersion ∷ []
 unfolding clap_on_literals
 in_version = refl
+
+in_flood : faults_in (codes "flood" ∷ codes "--workers" ∷ codes "16" ∷ []) ≡ []
+unfolding clap_on_literals
+in_flood = refl
+
+in_flood_request : request_in (codes "flood" ∷ codes "--workers" ∷ codes "16" ∷ []) ≡ Some (flood (codes "16"))
+unfolding clap_on_literals
+in_flood_request = refl
+
+in_flood_of_none : faults_in (codes "flood" ∷ codes "--workers" ∷ codes "0" ∷ []) ≡ ValueValidation ∷ []
+unfolding clap_on_literals
+in_flood_of_none = refl
+
+in_flood_of_too_many : faults_in (codes "flood" ∷ codes "--workers" ∷ codes "17" ∷ []) ≡ ValueValidation ∷ []
+unfolding clap_on_literals
+in_flood_of_too_many = refl
+
+in_flood_of_a_letter : faults_in (codes "flood" ∷ codes "--workers" ∷ codes "x" ∷ []) ≡ ValueValidation ∷ []
+unfolding clap_on_literals
+in_flood_of_a_letter = refl
+
+in_flood_alone : faults_in (codes "flood" ∷ []) ≡ MissingRequiredArgument ∷ []
+unfolding clap_on_literals
+in_flood_alone = refl

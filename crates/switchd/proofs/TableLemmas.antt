@@ -20,7 +20,7 @@ use Rattle.read_section.specs.Worker.{WorkerValue}
 use Rattle.versions.specs.View.{BeginsWith}
 use Rattle.versions.specs.Free.{number_after}
 use Rattle.versions.specs.Table.{the_shape}
-use Rattle.switchd.specs.declared.first_path.TheConstants.{SAMPLE_GROUP}
+use Rattle.switchd.specs.declared.sample.TheConstants.{SAMPLE_GROUP}
 use Rattle.bpf_machine.specs.declared.Outcome.{Outcome}
 use Rattle.switchd.specs.FirstTable.{IsRunOf, KeepsVersions, RunsInSection, Selects, SelectsNow}
 

@@ -3,10 +3,14 @@ use Rattle.std.specs.Prelude.{◌≢◌, ◌⊎◌, [], List, None, Option, Some
 use Rattle.std.specs.Str.{bytes_eq}
 use Rattle.clap.specs.Walk.{first_of}
 use Rattle.clap.specs.Words.{App, IsAmong, Kinds, Row, Rule, Shape, Text, fault_of, new_app, new_rule, subcommand_of, with_rule, with_subcommand}
+use Rattle.clap.specs.declared.builder.value_parser.ValueParser.TheVariants.{Unsigned}
 use Rattle.clap.specs.declared.error.kind.ErrorKind.{ErrorKind}
 use Rattle.clap.specs.declared.error.kind.ErrorKind.TheVariants.{DisplayHelp, DisplayVersion}
+use Rattle.switchd.specs.declared.command.Query.{Query}
+use Rattle.switchd.specs.declared.command.Query.TheVariants as query
 use Rattle.switchd.specs.declared.command.Subcommand.{Subcommand}
 use Rattle.switchd.specs.declared.command.Subcommand.TheVariants as subcommand
+use Rattle.versions.specs.declared.layout.TheConstants.{WORKERS}
 
 -- a required argument by place, and one by name
 abbrev pub required_argument : Text → Rule
@@ -33,6 +37,13 @@ run_line =
     with_rule (with_rule (new_app (codes "run")) (record (named_argument (codes "packet")) { required = true }))
     (named_argument (codes "expr"))
 
+abbrev pub replay_line : App
+replay_line = new_app (codes "replay")
+
+-- `flood --workers N`, N from 1 on
+abbrev pub flood_line : App
+flood_line = with_rule (new_app (codes "flood")) (record (named_argument (codes "workers")) { required = true; parser = Some (Unsigned 1 WORKERS) })
+
 abbrev pub bare : Shape
 bare = (new_app (codes "dswitch")).top
 
@@ -46,8 +57,11 @@ without_commands = record {
 abbrev pub command_line : App
 command_line =
     with_subcommand
-    (with_subcommand (with_subcommand (with_subcommand without_commands first_line.top) check_line.top) compile_line.top)
-    run_line.top
+    (with_subcommand
+    (with_subcommand (with_subcommand (with_subcommand (with_subcommand without_commands first_line.top) check_line.top) compile_line.top)
+    run_line.top)
+    replay_line.top)
+    flood_line.top
 
 -- what `clap` finds in the words after the program's name: nothing, where they name a command
 abbrev pub faults_in : List Text → Kinds
@@ -70,13 +84,20 @@ pub data Request : Type 0 where
   compile : (expression : Text) → Request
   run : (packet : Text) → Request
   judge : (packet expression : Text) → Request
+  replay : Request
+  flood : (workers : Text) → Request
+
+abbrev pub query_request : Query → Request
+query_request query.First = first
+query_request query.Check = check
+query_request (query.Compile expression) = compile expression.now
+query_request (query.Run packet) = run packet.now
+query_request (query.Judge packet expression) = judge packet.now expression.now
 
 abbrev pub request_of : Subcommand → Request
-request_of subcommand.First = first
-request_of subcommand.Check = check
-request_of (subcommand.Compile expression) = compile expression.now
-request_of (subcommand.Run packet) = run packet.now
-request_of (subcommand.Judge packet expression) = judge packet.now expression.now
+request_of (subcommand.Query asked) = query_request asked
+request_of subcommand.Replay = replay
+request_of (subcommand.Flood workers) = flood workers.now
 
 -- `run`, with an expression or without
 abbrev pub run_or_judge : Text → Option Text → Request
@@ -97,6 +118,10 @@ request_named name rows =
     then Some (compile (value_in rows (codes "EXPR")))
     else if bytes_eq name (codes "run")
     then Some (run_or_judge (value_in rows (codes "packet")) (first_of (codes "expr") rows))
+    else if bytes_eq name (codes "replay")
+    then Some replay
+    else if bytes_eq name (codes "flood")
+    then Some (flood (value_in rows (codes "workers")))
     else None
 
 -- the command that the words name, with the values that they give its arguments

@@ -10,7 +10,7 @@ use Rattle.read_section.specs.Operator.{IsCurrent, OperatorValue, opened_operato
 use Rattle.read_section.specs.Section.{HoldsLastSeen, IsWholeSection, held_version}
 use Rattle.read_section.specs.Worker.{WorkerValue}
 use Rattle.switchd.specs.declared.first_path.Line.{Line}
-use Rattle.switchd.specs.declared.first_path.TheConstants.{SAMPLE_GROUP, SAMPLE_PACKET}
+use Rattle.switchd.specs.declared.sample.TheConstants.{SAMPLE_GROUP, SAMPLE_PACKET}
 
 -- the sample group alone, without members, with a selector of these words, each charged once
 pub record Selects (selector : List ℕ) (config : List Group) : Type 0 where

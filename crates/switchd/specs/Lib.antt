@@ -3,7 +3,11 @@ pub mod CommandLine
 pub mod Ending
 pub mod FirstPath
 pub mod FirstTable
+pub mod Flood
+pub mod FloodVersions
 pub mod Input
 pub mod Packet
 pub mod Request
 pub mod Stop
+pub mod Traffic
+pub mod Waiting

@@ -1,20 +1,21 @@
 -- What a command makes of its arguments and its input: a result, or why there is none (docs/COMMANDS.md).
-use Rattle.std.specs.Prelude.{◌≡◌, ◌++◌, ◌⊎◌, List, Option, Some, codes, ℕ}
+use Rattle.std.specs.Prelude.{◌≡◌, ◌++◌, ◌⊎◌, List, Option, Some, [], codes, ℕ}
 use Rattle.std.specs.Io.KnownBytes.{Appends}
 use Rattle.clap.specs.Words.{Text}
 use Rattle.control.specs.Program.{IsAssemblyFault, IsExpressionFault}
 use Rattle.control.specs.Reason.{refusal_text}
+use Rattle.control.specs.Script.{IsScriptText}
 use Rattle.control.specs.declared.reason.Reason.{Reason}
 use Rattle.switchd.specs.declared.answer.Answer.{Answer}
 use Rattle.switchd.specs.declared.answer.Answer.TheVariants.{Versions}
 use Rattle.switchd.specs.declared.ending.Failure.{Failure}
-use Rattle.switchd.specs.declared.ending.Failure.TheVariants.{OutOfMemory, ReadFailed, WriteFailed}
+use Rattle.switchd.specs.declared.ending.Failure.TheVariants.{OutOfMemory, ReadFailed, SpawnFailed, WriteFailed}
 use Rattle.switchd.specs.declared.ending.Status.{Status}
 use Rattle.switchd.specs.declared.ending.Status.TheVariants.{Done, Refused}
 use Rattle.switchd.specs.declared.stop.Stop.{Stop}
 use Rattle.switchd.specs.declared.stop.Stop.TheVariants as stop
 use Rattle.switchd.specs.Answer.{IsCheckAnswer, IsCompileAnswer, IsJudgeAnswer, IsRunAnswer, answer_text}
-use Rattle.switchd.specs.CommandLine.{Request, check, compile, first, judge, request_in, run}
+use Rattle.switchd.specs.CommandLine.{Request, check, compile, faults_in, first, flood, judge, replay, request_in, run}
 use Rattle.switchd.specs.Ending.{AppendsBeginning, line_of}
 use Rattle.switchd.specs.FirstPath.{first_text}
 use Rattle.switchd.specs.Input.{IsInput}
@@ -33,6 +34,8 @@ IsResult (compile expression) input answer = IsCompileAnswer expression answer
 IsResult (run digits) input answer = (packet : List ℕ) × SpellsPacket digits packet × IsRunAnswer packet input answer
 IsResult (judge digits expression) input answer =
     (packet : List ℕ) × SpellsPacket digits packet × IsJudgeAnswer packet expression answer
+IsResult replay input answer = ⊥
+IsResult (flood workers) input answer = ⊥
 
 -- why it has none; the packet is looked at before the program or the expression
 abbrev pub IsRefusal : Request → List ℕ → Reason → Type 0
@@ -43,10 +46,18 @@ IsRefusal (run digits) input reason =
     IsRefusalOfHex digits reason ⊎ ((packet : List ℕ) × SpellsPacket digits packet × IsAssemblyFault input reason)
 IsRefusal (judge digits expression) input reason =
     IsRefusalOfHex digits reason ⊎ ((packet : List ℕ) × SpellsPacket digits packet × IsExpressionFault expression reason)
+IsRefusal replay input reason = ⊥
+IsRefusal (flood workers) input reason = ⊥
 
--- the input is read by `check`, and by `run` without an expression where the packet is good
+-- a command that may wait: `main` runs it
+abbrev pub MayWait : Request → Type 0
+MayWait (flood workers) = Unit {0}
+MayWait _ = ⊥
+
+-- the input is read by `check` and `replay`, and by `run` without an expression where the packet is good
 abbrev pub ReadsInput : Request → Type 0
 ReadsInput check = Unit {0}
+ReadsInput replay = Unit {0}
 ReadsInput (run digits) = (packet : List ℕ) × SpellsPacket digits packet
 ReadsInput _ = ⊥
 
@@ -55,6 +66,7 @@ abbrev pub IsFailureOf : Request → Failure → Type 0
 IsFailureOf request ReadFailed = ReadsInput request
 IsFailureOf request WriteFailed = ⊥
 IsFailureOf request OutOfMemory = Unit {0}
+IsFailureOf request SpawnFailed = ⊥
 
 -- the same of an input of which the bytes may be known
 
@@ -79,14 +91,39 @@ IsAnswerText request known _ text = ⊥
 abbrev pub WritesAnswer : Request → Option (List ℕ) → Status → Option (List ℕ) → Option (List ℕ) → Type 0
 WritesAnswer request known status before after = (text : List ℕ) × IsAnswerText request known status text × Appends before after text
 
+-- the input was read to its end, and the replies to that script were written, and nothing else
+abbrev pub WritesReplies : Option (List ℕ) → Status → Option (List ℕ) → Option (List ℕ) → Type 0
+WritesReplies known Done before after =
+    (script text : List ℕ) × IsInput known script × IsScriptText script text × Appends before after text
+WritesReplies known _ before after = ⊥
+
+-- what a command writes that ends with a status
+abbrev pub Writes : Request → Option (List ℕ) → Status → Option (List ℕ) → Option (List ℕ) → Type 0
+Writes replay known status before after = WritesReplies known status before after
+Writes request known status before after = WritesAnswer request known status before after
+
 -- the same of the command that the words name
 abbrev pub WritesAnswerTo : List Text → Option (List ℕ) → Status → Option (List ℕ) → Option (List ℕ) → Type 0
 WritesAnswerTo words known status before after =
-    (request : Request) × (request_in words ≡ Some request) × WritesAnswer request known status before after
+    (request : Request) × (request_in words ≡ Some request) × Writes request known status before after
 
--- the words may fail in this way: reading fails only where the command that they name reads
+-- the words ask for a command that may wait
+abbrev pub AskToWait : List Text → Type 0
+AskToWait words = (faults_in words ≡ []) × ((request : Request) × (request_in words ≡ Some request) × MayWait request)
+
+-- a command may fail in this way: reading fails only where it reads, and writing where it does not wait
+abbrev pub MayFail : Request → Failure → Type 0
+MayFail request ReadFailed = ReadsInput request
+MayFail request WriteFailed = MayWait request → ⊥
+MayFail request OutOfMemory = Unit {0}
+MayFail request SpawnFailed = ⊥
+
+-- the same of words, which may also ask for a text
 abbrev pub MayFailBy : List Text → Failure → Type 0
-MayFailBy words failure = failure ≡ ReadFailed → (request : Request) × (request_in words ≡ Some request) × ReadsInput request
+MayFailBy words ReadFailed = (request : Request) × (request_in words ≡ Some request) × ReadsInput request
+MayFailBy words WriteFailed = AskToWait words → ⊥
+MayFailBy words OutOfMemory = Unit {0}
+MayFailBy words SpawnFailed = ⊥
 
 -- of the line of such a failure a beginning was told, the whole where it could be written
 abbrev pub TellsFailure : List Text → Option (List ℕ) → Option (List ℕ) → Type 0

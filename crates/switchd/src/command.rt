@@ -5,15 +5,17 @@ ghost use Rattle.std.specs.Option.{option_map};
 ghost use Rattle.clap.specs.Walk.{first_of};
 ghost use Rattle.clap.specs.Words.{FailsBy, app_of, found_of, rows_of};
 ghost use Rattle.clap.specs.declared.builder.command.Command.TheViews.{out-Command};
-ghost use Rattle.switchd.specs.CommandLine.{command_line, compile_line, faults_in, request_in, request_named, request_of, run_line, run_or_judge, value_in};
+ghost use Rattle.switchd.specs.CommandLine.{command_line, compile_line, faults_in, flood_line, query_request, request_in, request_named, request_of, run_line, run_or_judge, value_in};
 
 use crate::help;
+use clap::builder::ValueParser;
 use clap::{Arg, ArgMatches, Command, Error};
+use read_section::WORKERS;
 use std::alloc::{AllocError, Global};
 
-/// A command of the program, with its arguments.
+/// A command that has one result.
 #[derive(Clone, Copy, Debug, PartialEq, Eq)]
-pub enum Subcommand<'a> {
+pub enum Query<'a> {
     First,
     Check,
     Compile {
@@ -27,6 +29,15 @@ pub enum Subcommand<'a> {
         packet: &'a str,
         expression: &'a str,
     },
+}
+
+/// A command of the program, with its arguments.
+#[derive(Clone, Copy, Debug, PartialEq, Eq)]
+pub enum Subcommand<'a> {
+    Query(Query<'a>),
+    Replay,
+    /// `workers` is their number as it is written.
+    Flood { workers: &'a str },
 }
 
 fn compile_command<'a>(alloc: Global) -> Result<Command<'a>, AllocError>
@@ -62,6 +73,22 @@ fn run_command<'a>(alloc: Global) -> Result<Command<'a>, AllocError>
         .arg(expression)
 }
 
+fn flood_command<'a>(alloc: Global) -> Result<Command<'a>, AllocError>
+    ensures app { IfOk result (λ command. app_of command ≡ flood_line) }
+    ensures local { IfOk result (λ command. (out-Command command).has_globals ≡ false) }
+{
+    let workers = Arg::new(alloc, "workers")
+        .long("workers")
+        .value_name("N")
+        .required(true)
+        .value_parser(ValueParser::unsigned(1, WORKERS as u64))
+        .help(help::FLOOD_WORKERS);
+    Command::new(alloc, "flood")
+        .about(help::FLOOD)
+        .after_help(help::FLOOD_MORE)
+        .arg(workers)
+}
+
 fn program<'a>(alloc: Global) -> Result<Command<'a>, AllocError>
     ensures { IfOk result (λ program. app_of program ≡ command_line) }
 {
@@ -73,6 +100,10 @@ fn program<'a>(alloc: Global) -> Result<Command<'a>, AllocError>
         .after_help(help::CHECK_MORE);
     let compile = compile_command(alloc)?;
     let run = run_command(alloc)?;
+    let replay = Command::new(alloc, "replay")
+        .about(help::REPLAY)
+        .after_help(help::REPLAY_MORE);
+    let flood = flood_command(alloc)?;
     Command::new(alloc, "dswitch")
         .bin_name("dswitch")?
         .about(help::PROGRAM)
@@ -83,7 +114,9 @@ fn program<'a>(alloc: Global) -> Result<Command<'a>, AllocError>
         .subcommand(first)?
         .subcommand(check)?
         .subcommand(compile)?
-        .subcommand(run)
+        .subcommand(run)?
+        .subcommand(replay)?
+        .subcommand(flood)
 }
 
 // The value of an argument, which a required one has.
@@ -93,14 +126,14 @@ fn value_of<'a>(found: &ArgMatches<'a>, id: &str) -> &'a str
     found.get_str(id).unwrap_or("")
 }
 
-fn run_or_judge<'a>(found: &ArgMatches<'a>) -> Subcommand<'a>
-    ensures { request_of result
+fn run_or_judge<'a>(found: &ArgMatches<'a>) -> Query<'a>
+    ensures { query_request result
         ≡ run_or_judge (value_in (rows_of (found_of found.now)) (codes "packet")) (first_of (codes "expr") (rows_of (found_of found.now))) }
 {
     let packet = value_of(found, "packet");
     match found.get_str("expr") {
-        None => Subcommand::Run { packet },
-        Some(expression) => Subcommand::Judge { packet, expression },
+        None => Query::Run { packet },
+        Some(expression) => Query::Judge { packet, expression },
     }
 }
 
@@ -109,12 +142,16 @@ fn subcommand_of<'a>(name: &str, found: &ArgMatches<'a>) -> Option<Subcommand<'a
     ensures { option_map request_of result ≡ request_named name.now (rows_of (found_of found.now)) }
 {
     match name {
-        "first" => Some(Subcommand::First),
-        "check" => Some(Subcommand::Check),
-        "compile" => Some(Subcommand::Compile {
+        "first" => Some(Subcommand::Query(Query::First)),
+        "check" => Some(Subcommand::Query(Query::Check)),
+        "compile" => Some(Subcommand::Query(Query::Compile {
             expression: value_of(found, "EXPR"),
+        })),
+        "run" => Some(Subcommand::Query(run_or_judge(found))),
+        "replay" => Some(Subcommand::Replay),
+        "flood" => Some(Subcommand::Flood {
+            workers: value_of(found, "workers"),
         }),
-        "run" => Some(run_or_judge(found)),
         _ => None,
     }
 }

@@ -1,9 +1,11 @@
 //! How a run of the program ends: its exit status, and why a command failed (docs/COMMANDS.md, "Statuses").
 
 ghost use Rattle.std.specs.Prelude.{◌≡◌};
-ghost use Rattle.switchd.specs.Ending.{AppendsBeginning, line_of};
+ghost use Rattle.switchd.specs.Ending.{AppendsBeginning, failure_of, failure_of_replay, line_of};
 ghost use Rattle.switchd.specs.declared.ending.Failure.TheVariants.{OutOfMemory};
 
+use crate::serve_fault::ServeFault;
+use control::ReplayFault;
 use std::alloc::AllocError;
 use std::io::{ErrorKind, Write};
 
@@ -26,6 +28,8 @@ pub enum Failure {
     /// Results could not be written or flushed.
     WriteFailed,
     OutOfMemory,
+    /// A worker's thread could not be started.
+    SpawnFailed,
 }
 
 impl Failure {
@@ -36,6 +40,7 @@ impl Failure {
             Failure::ReadFailed => "failed E1\n",
             Failure::WriteFailed => "failed E2\n",
             Failure::OutOfMemory => "failed E3\n",
+            Failure::SpawnFailed => "failed J1\n",
         }
     }
 
@@ -70,5 +75,29 @@ impl From<AllocError> for Failure {
 
     fn from(_error: AllocError) -> Failure {
         Failure::OutOfMemory
+    }
+}
+
+impl From<ServeFault> for Failure {
+    ghost from_gives = { λ fault failure. failure ≡ failure_of fault };
+
+    fn from(fault: ServeFault) -> Failure {
+        match fault {
+            ServeFault::SpawnFailed => Failure::SpawnFailed,
+            ServeFault::WriteFailed => Failure::WriteFailed,
+            ServeFault::OutOfMemory => Failure::OutOfMemory,
+        }
+    }
+}
+
+impl From<ReplayFault> for Failure {
+    ghost from_gives = { λ fault failure. failure ≡ failure_of_replay fault };
+
+    fn from(fault: ReplayFault) -> Failure {
+        match fault {
+            ReplayFault::ReadFailed => Failure::ReadFailed,
+            ReplayFault::WriteFailed => Failure::WriteFailed,
+            ReplayFault::OutOfMemory => Failure::OutOfMemory,
+        }
     }
 }

@@ -1,33 +1,24 @@
 //! The command `first`: one packet through two versions.
 
-ghost use Rattle.std.specs.Prelude.{◌≡◌, ◌<◌, IfOk, List, None, OnOk, Some, length, ℕ};
+ghost use Rattle.std.specs.Prelude.{◌≡◌, ◌<◌, IfOk, List, OnOk, Some, ℕ};
 ghost use Rattle.bpf_verify.specs.Accepted.{IsAccepted};
 ghost use Rattle.config_image.specs.Image.{Group};
 ghost use Rattle.config_image.specs.Lookup.{BeginsWithImage};
-ghost use Rattle.member_group.specs.Command.{after};
-ghost use Rattle.member_group.specs.Refusal.{first_refusal};
 ghost use Rattle.retire.specs.Publish.{HasFreeRow};
 ghost use Rattle.switchd.specs.FirstPath.{first_lines, line_text};
 ghost use Rattle.switchd.specs.FirstTable.{IsLineOf, IsOpenedWith, IsRunOf, KeepsVersions, PublishesProgram, RunsInSection, Selects, SelectsNow};
 ghost use Rattle.versions.specs.Free.{number_after};
 ghost use Rattle.versions.specs.declared.layout.TheConstants.{LAST_NUMBER};
 
+use crate::sample::{SAMPLE_GROUP, SAMPLE_PACKET, applied, program};
 use bpf_insn::Words;
 use bpf_machine::{Outcome, run};
-use bpf_verify::Program;
 use config_image::{find_group, selector_of};
-use ipv4_fields::Endpoint;
-use member_group::{Command, Config, Refusal};
+use member_group::{Command, Config};
 use read_section::{OpenFault, Operator, Worker, open};
 use retire::Retire;
 use std::alloc::{AllocError, Global};
 use std::fmt;
-
-/// The sample packet: 29 bytes of UDP over IPv4 from 10.0.0.1:5000 to 10.0.0.2:53, with the payload `a`.
-pub const SAMPLE_PACKET: &[u8] = &[
-    0x45, 0x00, 0x00, 0x1d, 0x00, 0x00, 0x00, 0x00, 0x40, 0x11, 0x00, 0x00, 0x0a, 0x00, 0x00, 0x01,
-    0x0a, 0x00, 0x00, 0x02, 0x13, 0x88, 0x00, 0x35, 0x00, 0x09, 0x00, 0x00, 0x61,
-];
 
 // ldb [9]; jeq #17,0,1; ret #65535; ret #0
 const FIRST_PROGRAM: &[u64] = &[
@@ -64,36 +55,6 @@ impl fmt::Display for Line {
             f,
             "version {version} value {value} steps {steps} kept {kept}"
         )
-    }
-}
-
-// 10.0.0.2:53, where the sample packet goes.
-const SAMPLE_GROUP: Endpoint = Endpoint {
-    address: 0x0a00_0002,
-    port: 53,
-};
-
-// The words are a program (`accepted`), so it is made of them but for want of memory.
-fn program(alloc: Global, words: &[u64]) -> Result<Program<Global>, AllocError>
-    requires accepted { IsAccepted words.now }
-    ensures words { IfOk result (λ program. program.words ≡ words.now) }
-    ensures charge { IfOk result (λ program. program.charge ≡ length words.now) }
-{
-    match Program::new(Vec::from_slice(alloc, words)?) {
-        Ok(program) => Ok(program),
-        Err(_) => unreachable!(),
-    }
-}
-
-// No command that is applied here is refused, but for want of memory.
-fn applied(config: &Config, command: &Command) -> Result<Config, AllocError>
-    requires { first_refusal command.now config.now ≡ None }
-    ensures { IfOk result (λ next. next ≡ after command.now config.now) }
-{
-    match config.apply(command) {
-        Ok(next) => Ok(next),
-        Err(Refusal::OutOfMemory) => Err(AllocError),
-        Err(_) => unreachable!(),
     }
 }
 

@@ -9,7 +9,8 @@ Results go to standard output. Exit status:
   1  refused: one line `refused CODE` or `refused CODE NUMBER` on standard output
   2  wrong arguments: a message on standard error
   3  failed: one line on standard error, `failed E1` where standard input could not be read,
-     `failed E2` where results could not be written, `failed E3` where memory ran out
+     `failed E2` where results could not be written, `failed E3` where memory ran out,
+     `failed J1` where a worker's thread could not be started
 
 `dswitch help COMMAND` says what a command reads and prints, and gives an example.";
 
@@ -76,3 +77,37 @@ Examples:
   value 4 steps 2 kept 4
   $ dswitch run --packet 45000014 --expr 'ip and less 28'
   accept";
+
+pub const REPLAY: &str = "Answer a script of control lines and packets";
+
+pub const REPLAY_MORE: &str = "\
+Reads lines from standard input, and prints one line for each before it reads on. A new switch has
+no groups, and is version 0. KEY and TO are ADDRESS:PORT, ID is a number, HEX an IPv4 packet.
+  add KEY, remove KEY                              ok version N
+  join KEY ID TO, leave KEY ID                     ok version N
+  selector KEY asm TEXT, selector KEY none         ok version N
+  filter KEY ID asm TEXT, filter KEY ID expr TEXT  ok version N
+  filter KEY ID none                               ok version N
+  packet HEX                                       version N, and what becomes of the packet
+  show                                             version N groups G members M charge C
+  sweep                                            reclaimed FIRST COUNT
+A line that is refused prints `refused CODE` or `refused CODE NUMBER` and changes nothing.
+
+Example:
+  $ printf 'add 10.0.0.2:53\\njoin 10.0.0.2:53 1 127.0.0.1:9001\\nshow\\n' | dswitch replay
+  ok version 1
+  ok version 2
+  version 2 groups 1 members 1 charge 9";
+
+pub const FLOOD: &str = "Judge 4096 datagrams in worker threads while versions are replaced";
+
+pub const FLOOD_WORKERS: &str = "How many worker threads, from 1 to 16";
+
+pub const FLOOD_MORE: &str = "\
+Reads nothing. Each worker judges its share of 4096 datagrams, and what is to be delivered goes to
+an outbox in memory; meanwhile 64 new versions are tried. Prints how often each came, as one line:
+  malformed A nogroup B nomembers C dropped D delivered E sendfailed F receivefailed G
+
+Example:
+  $ dswitch flood --workers 4
+  malformed 1024 nogroup 1024 nomembers 0 dropped 0 delivered 2048 sendfailed 0 receivefailed 0";

@@ -9,20 +9,30 @@ mod command;
 mod ending;
 mod expression_commands;
 mod first_path;
+mod flood;
+mod flood_jobs;
+mod flood_versions;
 mod help;
 mod input;
 mod packet;
 mod program_commands;
+mod queries;
+mod replaying;
+mod sample;
+mod serve_fault;
 mod stop;
 #[cfg(test)]
 mod tests;
 mod tool;
+mod traffic;
+mod waiting;
 
 use ending::{Failure, Status};
 use std::env::Env;
 use std::io::{ErrorKind, LineWriter, Write};
 use std::process::ExitCode;
 use std::{env, io};
+use waiting::run_waiting;
 
 // The words after the program's name.
 fn arguments<R: Env + AllocGlobal>(rt: &R) -> io::Result<Vec<String>> {
@@ -50,12 +60,16 @@ fn main(rt: HostRuntime) -> ExitCode {
     let Ok(mut out) = LineWriter::new(rt.alloc(), rt.stdout()) else {
         return ExitCode::from(Failure::OutOfMemory.report(&mut errs) as u8);
     };
-    let status = tool::tool(
+    let ended = tool::tool(
         rt.alloc(),
         words.as_slice(),
         rt.stdin(),
         &mut out,
         &mut errs,
     );
-    ExitCode::from(status.unwrap())
+    let status = match ended {
+        Some(status) => status,
+        None => run_waiting(&rt, rt.alloc(), words.as_slice(), &mut out, &mut errs) as u8,
+    };
+    ExitCode::from(status)
 }

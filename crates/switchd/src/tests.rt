@@ -3,9 +3,11 @@
 mod examples;
 mod expressions;
 mod failures;
+mod flood;
 mod packets;
 mod programs;
 mod replacing;
+mod replay;
 mod streams;
 mod words;
 

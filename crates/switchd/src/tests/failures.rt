@@ -9,7 +9,7 @@ use std::test::Fail;
 const PROGRAM: &[u8] = b"ldb [9]; jeq #17,0,1; ret #65535; ret #0";
 
 // Of each command a result, and of each that refuses a refusal.
-const COMMANDS: [(&[&str], &[u8]); 10] = [
+const COMMANDS: [(&[&str], &[u8]); 11] = [
     (&["first"], b""),
     (&["--help"], b""),
     (&["--version"], b""),
@@ -20,6 +20,7 @@ const COMMANDS: [(&[&str], &[u8]); 10] = [
     (&["run", "--packet", SAMPLE_PACKET], PROGRAM),
     (&["run", "--packet", "0"], PROGRAM),
     (&["run", "--packet", SAMPLE_PACKET, "--expr", "ip"], b""),
+    (&["replay"], b"add 10.0.0.2:53\nshow\n"),
 ];
 
 #[test]

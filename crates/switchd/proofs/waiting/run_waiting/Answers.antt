@@ -1,0 +1,39 @@
+use Rattle.std.proofs.Common.{◌≡◌, ◌∙◌, Some, ap, subst, sym}
+use Rattle.switchd.specs.declared.command.Subcommand.{Subcommand}
+use Rattle.switchd.specs.declared.ending.Failure.TheVariants.{OutOfMemory}
+use Rattle.switchd.specs.declared.ending.Status.{Status}
+use Rattle.switchd.specs.declared.ending.Status.TheVariants.{Done, Failed, Misused}
+use Rattle.switchd.specs.declared.waiting.TheConstants.{DATAGRAMS}
+use Rattle.switchd.specs.CommandLine.{request_of}
+use Rattle.switchd.specs.Flood.{WritesFlood}
+use Rattle.switchd.specs.Waiting.{TellsWaitingFailure}
+use Rattle.switchd.proofs.waiting.run_waiting.Goals as goal
+use Rattle.switchd.proofs.waiting.run_waiting.Goals.{in-Err, in-Ok-Flood}
+
+pub returns-clause-done : goal.returns-clause-done
+returns-clause-done g c = λ ended. elim c.match-read_words.branch [
+  | in-Ok-Flood w ↦
+      let flooded = w.run_flood.ensures.done (sym w.result-is ∙ ended) in
+      record {
+        workers = w.in-Ok-Flood.workers.now;
+        count = flooded.0;
+        asked = w.in-Ok-Flood.ensures.named ∙ ap (λ (s : Subcommand). Some (request_of s)) w.in-Ok-Flood.field-0-is;
+        is_workers = flooded.1;
+        written = subst (λ out. WritesFlood flooded.0 DATAGRAMS (g.W.Write.contents c.args.out.now) (g.W.Write.contents out)) (sym w.out-is) flooded.2;
+      }
+  | in-Err w ↦ let failed : ◌≡◌ {A = Status} Failed Done = sym w.report.ensures.failed ∙ (sym w.result-is ∙ ended) in cc
+]
+
+pub returns-clause-misused : goal.returns-clause-misused
+returns-clause-misused g c = λ ended. elim c.match-read_words.branch [
+  | in-Ok-Flood w ↦ (w.in-Ok-Flood.workers.now, w.in-Ok-Flood.ensures.named ∙ ap (λ (s : Subcommand). Some (request_of s)) w.in-Ok-Flood.field-0-is, w.run_flood.ensures.misused (sym w.result-is ∙ ended))
+  | in-Err w ↦ let failed : ◌≡◌ {A = Status} Failed Misused = sym w.report.ensures.failed ∙ (sym w.result-is ∙ ended) in cc
+]
+
+pub returns-clause-failed : goal.returns-clause-failed
+returns-clause-failed g c = λ ended. elim c.match-read_words.branch [
+  | in-Ok-Flood w ↦ subst (λ errs. TellsWaitingFailure (g.E.Write.contents c.args.errs.now) (g.E.Write.contents errs)) (sym w.errs-is)
+      (w.run_flood.ensures.failed (sym w.result-is ∙ ended))
+  | in-Err w ↦ subst (λ errs. TellsWaitingFailure (g.E.Write.contents c.args.errs.now) (g.E.Write.contents errs)) (sym w.errs-is)
+      (OutOfMemory, (λ e. cc), w.report.ensures.told)
+]

@@ -1,0 +1,39 @@
+//! Why worker threads have no result (docs/COMMANDS.md, "Statuses").
+
+ghost use Rattle.std.specs.Prelude.{◌≡◌};
+ghost use Rattle.switchd.specs.Flood.{fault_of_run};
+ghost use Rattle.switchd.specs.declared.serve_fault.ServeFault.TheVariants.{OutOfMemory};
+
+use dispatch::RunFault;
+use std::alloc::AllocError;
+use thiserror::Error;
+
+/// Why worker threads have no result.
+#[derive(Debug, PartialEq, Eq, Drop, Error)]
+pub enum ServeFault {
+    #[error("J1: a thread could not be started")]
+    SpawnFailed,
+    #[error("E2: the totals could not be written")]
+    WriteFailed,
+    #[error("E3: memory was refused")]
+    OutOfMemory,
+}
+
+impl From<AllocError> for ServeFault {
+    ghost from_gives = { λ _ fault. fault ≡ OutOfMemory };
+
+    fn from(_error: AllocError) -> ServeFault {
+        ServeFault::OutOfMemory
+    }
+}
+
+impl From<RunFault> for ServeFault {
+    ghost from_gives = { λ run fault. fault ≡ fault_of_run run };
+
+    fn from(run: RunFault) -> ServeFault {
+        match run {
+            RunFault::SpawnFailed => ServeFault::SpawnFailed,
+            RunFault::OutOfMemory => ServeFault::OutOfMemory,
+        }
+    }
+}
