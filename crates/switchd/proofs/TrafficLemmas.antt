@@ -1,5 +1,5 @@
 -- The datagrams and the versions of `flood`, one more at a time.
-use Rattle.std.proofs.Common.{◌≡◌, ◌∙◌, ◌+◌, ◌%◌, ◌==◌, ◌++◌, ◌∷◌, Bool, List, [], ap, cond, false, map, refl, true, ℕ}
+use Rattle.std.proofs.Common.{◌≡◌, ◌∙◌, ◌+◌, ◌%◌, ◌==◌, ◌++◌, ◌∷◌, Bool, [], ap, cond, false, map, refl, true, ℕ}
 use Rattle.std.specs.List.{filter}
 use Rattle.std.proofs.Math.Numerals.{add-one}
 use Rattle.std.proofs.lemmas.List.{append-nil, map-append}

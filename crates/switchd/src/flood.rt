@@ -1,6 +1,6 @@
 //! The command `flood`: datagrams over worker threads, while versions are replaced (docs/COMMANDS.md, "flood").
 
-ghost use Rattle.std.specs.Prelude.{◌≡◌, ◌≢◌, ◌≤◌, Err, IfErr, IfOk, OnErr, OnOk, map, vec_len};
+ghost use Rattle.std.specs.Prelude.{◌≡◌, ◌≢◌, ◌≤◌, IfErr, IfOk, OnOk, map, vec_len};
 ghost use Rattle.versions.specs.declared.layout.TheConstants.{WORKERS};
 ghost use Rattle.switchd.specs.Flood.{IsFlooded, WritesFlood, WritesTotals};
 ghost use Rattle.switchd.specs.FloodVersions.{successor_at};

@@ -1,6 +1,6 @@
 //! The versions of `flood`: a group of three members, and its successors, which select in turn (docs/COMMANDS.md, "flood").
 
-ghost use Rattle.std.specs.Prelude.{◌≡◌, IfOk, None, Some, map};
+ghost use Rattle.std.specs.Prelude.{◌≡◌, IfOk, None, map};
 ghost use Rattle.bpf_verify.specs.Accepted.{IsAccepted};
 ghost use Rattle.member_group.specs.Command.{after};
 ghost use Rattle.member_group.specs.Refusal.{first_refusal};

@@ -1,7 +1,6 @@
-use Rattle.std.proofs.Common.{◌≡◌, ◌∙◌, ◌+◌, ◌++◌, ◌∷◌, List, Some, [], ap, arith, length, map, subst, sym, ℕ}
+use Rattle.std.proofs.Common.{◌∙◌, ◌+◌, ◌++◌, ◌∷◌, List, Some, [], ap, arith, length, map, subst, sym, ℕ}
 use Rattle.std.proofs.lemmas.List.{map-append}
 use Rattle.std.proofs.lemmas.List.Elements.{All-pop, All-push, All-same}
-use Rattle.dispatch.specs.Batch.{Parts}
 use Rattle.dispatch.specs.Device.{SourceValue}
 use Rattle.switchd.specs.Flood.{AreStartsOf, HasRoom, IsNew}
 use Rattle.switchd.proofs.FloodLemmas.{FloodJob, start_of, starts_more}

@@ -1,4 +1,4 @@
-use Rattle.std.proofs.Common.{◌∙◌, Err, Ok, Result, Some, inl, inr, map, string_bytes, sym, ◌≡◌}
+use Rattle.std.proofs.Common.{◌∙◌, Err, Ok, Result, inl, inr, map, string_bytes, sym, ◌≡◌}
 use Rattle.clap.specs.Words.{kind_of}
 use Rattle.switchd.specs.declared.ending.Failure.{Failure}
 use Rattle.switchd.specs.declared.ending.Failure.TheVariants.{OutOfMemory}

@@ -1,4 +1,4 @@
-use Rattle.std.proofs.Common.{◌≡◌, ◌∙◌, ◌%◌, ◌++◌, ◌∷◌, List, [], ap, ap₂, arith, eq-eqb, length, length-append, ne_eqb, sym, ℕ}
+use Rattle.std.proofs.Common.{◌∙◌, ◌%◌, ◌++◌, ◌∷◌, List, [], ap, ap₂, arith, eq-eqb, length, length-append, ne_eqb, sym, ℕ}
 use Rattle.switchd.specs.Traffic.{datagram_at, share_of}
 use Rattle.switchd.proofs.TrafficLemmas.{share_passed, share_taken}
 use Rattle.switchd.proofs.traffic.share.Goals as goal
