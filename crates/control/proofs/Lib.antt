@@ -8,6 +8,7 @@ mod LineLemmas
 mod OneLineLemmas
 mod OneFaultLemmas
 mod OneAnswerLemmas
+mod OneTextLemmas
 mod MeetLemmas
 mod JudgeLemmas
 mod ReadyLemmas

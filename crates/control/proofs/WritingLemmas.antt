@@ -1,7 +1,7 @@
 -- Texts that are written in parts.
 use Rattle.std.proofs.Common.{◌≡◌, ◌∙◌, ◌-◌, ◌++◌, Err, List, None, Ok, Option, Result, Some, [], ap, append_assoc, append-nil, arith, drop, length, refl, sym, take, ℕ}
 use Rattle.std.proofs.lemmas.List.{length-drop, take-append-drop, take_all}
-use Rattle.std.specs.Prelude.{IsErrAnd, OnErr}
+use Rattle.std.specs.Prelude.{IsErrAnd}
 use Rattle.std.specs.Io.KnownBytes.{Appends}
 use Rattle.control.specs.Replay.{WasWritten}
 use Rattle.control.specs.Streams.{KeepsOrForgets}
@@ -59,32 +59,6 @@ failed_in_part failures before mid after bytes left so_far kept = record {
   beginning = so_far.is;
   written = written_before_failure failures before mid after so_far.told so_far.written kept;
 }
-
--- a text in two pieces, of which the first failed
-pub first_in_part : (failures : ℕ) (before after : Option (List ℕ)) (first then : List ℕ) → IsWrittenInPart failures before after first → IsWrittenInPart failures before after (first ++ then)
-first_in_part failures before after first then cut = record {
-  told = cut.told;
-  untold = cut.untold ++ then;
-  beginning = ap (λ bytes. bytes ++ then) cut.beginning ∙ append_assoc cut.told cut.untold then;
-  written = cut.written;
-}
-
--- or the second
-pub second_in_part : (failures : ℕ) (before mid after : Option (List ℕ)) (first then : List ℕ) → Appends before mid first → IsWrittenInPart failures mid after then → IsWrittenInPart failures before after (first ++ then)
-second_in_part failures before mid after first then one cut = record {
-  told = first ++ cut.told;
-  untold = cut.untold;
-  beginning = ap (λ bytes. first ++ bytes) cut.beginning ∙ sym (append_assoc first cut.told cut.untold);
-  written = written_more failures before mid after first cut.told one cut.written;
-}
-
-pub on_err : {A E : Type 0} {P : Type 0} (result : Result A E) → P → OnErr result P
-on_err (Ok done) holds = tt
-on_err (Err fault) holds = holds
-
-pub on_err_too : {A E : Type 0} {P Q : Type 0} (result : Result A E) → (P → Q) → OnErr result P → OnErr result Q
-on_err_too (Ok done) follows holds = tt
-on_err_too (Err fault) follows holds = follows holds
 
 -- an error that is told by its fault
 pub err_is : {A E : Type 0} (result : Result A E) (fault : E) → IsErrAnd result (λ told. told ≡ fault) → result ≡ Err fault

@@ -80,3 +80,7 @@ pub data IsScriptText : List ℕ → List ℕ → Type 0 where
   all_ended : (lines text : List ℕ) (last : Standing) → AreAnswered lines text last → IsScriptText lines text
   last_unended : (lines text line reply : List ℕ) (now last : Standing) → AreAnswered lines text now → Lacks 10 line →
       0 < length line → RepliesTo now line reply last → IsScriptText (lines ++ line) (text ++ (reply ++ 10 ∷ []))
+
+-- a script has one text
+abbrev pub HasOneText : Type 0
+HasOneText = (script one other : List ℕ) → IsScriptText script one → IsScriptText script other → one ≡ other

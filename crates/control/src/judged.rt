@@ -5,18 +5,21 @@ ghost use Rattle.control.specs.Field.{endpoint_text};
 ghost use Rattle.control.specs.Script.{judged_text, verdict_text};
 ghost use Rattle.control.specs.declared.reply.TheConstants.{REPLY_LIMIT};
 
-use crate::reply::Reply;
+use crate::reply::{NUMBER_LIMIT, Reply};
 use dispatch::Verdict;
 use ipv4_fields::Endpoint;
 
-// The most digits of a byte, and the most bytes of an endpoint, of a group with a member, and of a verdict.
+// The most digits of a byte and of a port.
 const BYTE_LIMIT: usize = 3;
 
-const ENDPOINT_LIMIT: usize = 21;
+const PORT_LIMIT: usize = 5;
 
-const PLACE_LIMIT: usize = 42;
+// The most bytes of an endpoint, of a group with a member, and of a verdict, which begins with `deliver ` then.
+const ENDPOINT_LIMIT: usize = 4 * (BYTE_LIMIT + 1) + PORT_LIMIT;
 
-const VERDICT_LIMIT: usize = 93;
+const PLACE_LIMIT: usize = ENDPOINT_LIMIT + 1 + NUMBER_LIMIT;
+
+const VERDICT_LIMIT: usize = 8 + PLACE_LIMIT + 1 + ENDPOINT_LIMIT + 1 + NUMBER_LIMIT;
 
 impl Reply {
     fn push_byte(&mut self, byte: u8)

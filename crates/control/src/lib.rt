@@ -1,7 +1,9 @@
-//! Control lines: one line of text in, one reply out (docs/COMMANDS.md, "Control lines").
+//! Control lines, one reply each, and scripts of them and of packets (docs/COMMANDS.md, "Control lines", "replay").
 //!
 //! A line changes the configuration and publishes the next version of it, or tells of the current one, or sweeps. Its text is
-//! read, its programs are made and all memory is taken before the operator does anything.
+//! read, its programs are made and all memory is taken before the operator does anything. `replay` gives the lines of an `Input` to
+//! a switch of its own, and writes the replies to an `Output`; `FromRead` and `ToWrite` are these over the standard library's
+//! readers and writers.
 //!
 //! `Reason` is why a line is refused, or a command of the program (docs/COMMANDS.md, "Refusals").
 #![tactic(auto)]
@@ -13,6 +15,7 @@ ghost use Rattle.control.specs.Answer.{DoesNothing, HasOneAnswer, IsRefusal, IsR
 ghost use Rattle.control.specs.Making.{IsAnswered, IsOutcome, IsShown};
 ghost use Rattle.control.specs.Reply.{reply_text};
 ghost use Rattle.control.specs.Request.{AsksForOneThing};
+ghost use Rattle.control.specs.Script.{HasOneText};
 
 mod change;
 mod fault;
@@ -115,6 +118,13 @@ pub fn one_reply()
     ensures { HasOneAnswer }
 {
     filter_parse::one_value();
+}
+
+/// Law: a script has one text. It runs nothing.
+pub fn one_text()
+    ensures { HasOneText }
+{
+    one_reply();
 }
 
 /// Law: the configurations without groups agree, one of texts and one that an operator may open with; `line` goes on from there. It

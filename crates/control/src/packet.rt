@@ -10,7 +10,8 @@ use bpf_machine::MAX_PACKET;
 use hex::FromHexError;
 use std::alloc::{AllocError, Global};
 
-/// The packet that the digits write, or why they write none. That all are digits is tested before their number.
+/// The packet that the digits write, two a byte, of either case. The outer `Err` is want of memory. The inner one is `BadForm` where
+/// there is an odd number of characters or one is no digit, else `PacketTooLong` where there are more than 65,535 bytes.
 pub fn packet_of_hex(alloc: Global, digits: &[u8]) -> Result<Result<Vec<u8>, Reason>, OutOfMemory>
     ensures packet { IfOk result (λ read. MatchResult read
         (λ packet. SpellsPacket digits.now packet.items)

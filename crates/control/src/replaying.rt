@@ -16,7 +16,9 @@ const CHUNK: usize = 8192;
 /// Answers each line that the reader gives by one line, from the configuration without groups on.
 ///
 /// A reply is written before the next read. Of a line it holds no more than shows that it is too long. All workers meet the
-/// operator after each line, so no publication is busy.
+/// operator after each line, so no publication is busy. It ends at the first read of 0 bytes, or at the first fault: at `ReadFailed`
+/// it has answered each line that was read whole, at `WriteFailed` a beginning of the replies was written, and at `OutOfMemory` the
+/// replies to some first lines.
 pub fn replay<R: Input, W: Output>(
     alloc: Global,
     reader: &mut R,

@@ -12,7 +12,7 @@ use std::marker::Model;
 pub const REPLY_LIMIT: usize = 128;
 
 // The most digits of a number of 64 bits.
-const NUMBER_LIMIT: usize = 20;
+pub(crate) const NUMBER_LIMIT: usize = 20;
 
 /// What a line is answered.
 #[derive(Clone, Copy, Debug, PartialEq, Eq)]

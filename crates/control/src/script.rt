@@ -54,7 +54,7 @@ impl Script {
     {
         let reply = self.switch.answer(alloc, &self.held)?;
         self.held.clear();
-        let Ok(()) = write_line(writer, reply.bytes()) else {
+        let Ok(()) = write_line(writer, &reply) else {
             return Err(ReplayFault::WriteFailed);
         };
         Ok(())

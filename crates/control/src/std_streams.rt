@@ -1,20 +1,18 @@
 //! Inputs and outputs over the standard library's readers and writers.
 
-ghost use Rattle.std.specs.Prelude.{◌≡◌, ◌≤◌, ◌<◌, IfOk, length};
-ghost use Rattle.std.specs.Io.KnownBytes.{ReadConsumes, WriteAppends};
+ghost use Rattle.std.specs.Prelude.{◌≡◌, ◌<◌};
 ghost use Rattle.dispatch.specs.Memory.{MOST_FAILURES};
 ghost use Rattle.control.specs.declared.std_streams.TheConstants.{READ_LIMIT};
 
 use crate::streams::{Input, Output};
 use dispatch::Failed;
-use std::io::{ErrorKind, Read, Write};
+use std::io::{Read, Write};
 use std::marker::Model;
 
 /// How many bytes an input over a reader gives at most.
 pub const READ_LIMIT: u64 = 1 << 63;
 
-/// The bytes of a reader. It fails where a read of the reader does, but for one that was interrupted, which is made again; and
-/// after `READ_LIMIT` bytes.
+/// The bytes of a reader. It fails where a read of the reader does, also where one was interrupted; and after `READ_LIMIT` bytes.
 ///
 /// Contracts see how often it failed; what it reads is no longer told where 2^64 - 1 reads failed, and then it reads no more, and
 /// answers as at the end.
@@ -34,6 +32,7 @@ impl<R: Read> Model for FromRead<R> {
 }
 
 impl<R: Read> FromRead<R> {
+    /// Takes the reader, which has not failed yet.
     pub fn new(reader: R) -> FromRead<R>
         ensures opened { result ≡ record { failures = 0; coming = R.remaining reader; left = READ_LIMIT } }
     {
@@ -43,21 +42,6 @@ impl<R: Read> FromRead<R> {
             failures: 0,
         }
     }
-}
-
-// One read, made again where it was interrupted.
-fn read_again<R: Read>(reader: &mut R, buf: &mut [u8]) -> Result<usize, Failed>
-    ensures within { IfOk result (λ size. size ≤ length buf.new) }
-    ensures consumes { ReadConsumes (R.remaining reader.old) (R.remaining reader.new) result buf.new }
-{
-    for _ in 0..u64::MAX {
-        match reader.read(buf) {
-            Ok(size) => return Ok(size),
-            Err(error) if error.kind() == ErrorKind::Interrupted => {}
-            Err(_) => return Err(Failed),
-        }
-    }
-    Err(Failed)
 }
 
 impl<R: Read> Input for FromRead<R> {
@@ -71,7 +55,7 @@ impl<R: Read> Input for FromRead<R> {
         let answer = if room == 0 && !buf.is_empty() {
             Err(Failed)
         } else {
-            read_again(&mut self.reader, &mut buf[..room])
+            self.reader.read(&mut buf[..room]).map_err(|_| Failed)
         };
         match answer {
             Ok(size) => self.left -= size as u64,
@@ -81,8 +65,8 @@ impl<R: Read> Input for FromRead<R> {
     }
 }
 
-/// A writer. It fails where a write of the writer does, but for one that was interrupted, which is made again; and where the
-/// writer takes none of some bytes.
+/// A writer. It fails where a write of the writer does, also where one was interrupted; and where the writer takes none of some
+/// bytes.
 ///
 /// It ends by `into_inner`. Contracts see how often it failed, and the name of its borrow; what it wrote is no longer told where
 /// 2^64 - 1 writes failed, and then it writes no more, and answers as if all were taken.
@@ -103,6 +87,7 @@ impl<'a, W: Write> Model for ToWrite<'a, W> {
 }
 
 impl<'a, W: Write> ToWrite<'a, W> {
+    /// Borrows the writer, which has not failed yet.
     pub fn new(writer: &'a mut W) -> ToWrite<'a, W>
         ensures opened { result ≡ record {
           borrow = writer.entry.ghost_name;
@@ -128,24 +113,6 @@ impl<'a, W: Write> ToWrite<'a, W> {
     }
 }
 
-// One write of some bytes, made again where it was interrupted.
-fn write_again<W: Write>(writer: &mut W, bytes: &[u8]) -> Result<usize, Failed>
-    requires { 0 < length bytes.now }
-    ensures within { IfOk result (λ size. size ≤ length bytes.now) }
-    ensures not_none { IfOk result (λ size. 0 < size) }
-    ensures appends { WriteAppends (W.contents writer.old) (W.contents writer.new) result bytes.now }
-{
-    for _ in 0..u64::MAX {
-        match writer.write(bytes) {
-            Ok(0) => return Err(Failed),
-            Ok(size) => return Ok(size),
-            Err(error) if error.kind() == ErrorKind::Interrupted => {}
-            Err(_) => return Err(Failed),
-        }
-    }
-    Err(Failed)
-}
-
 impl<W: Write> Output for ToWrite<'_, W> {
     ghost use Rattle.std.specs.Borrow.{GName};
 
@@ -159,10 +126,12 @@ impl<W: Write> Output for ToWrite<'_, W> {
         if bytes.is_empty() || self.failures == u64::MAX {
             return Ok(bytes.len());
         }
-        let answer = write_again(self.writer, bytes);
-        if answer.is_err() {
-            self.failures += 1;
+        match self.writer.write(bytes) {
+            Ok(0) | Err(_) => {
+                self.failures += 1;
+                Err(Failed)
+            }
+            Ok(size) => Ok(size),
         }
-        answer
     }
 }

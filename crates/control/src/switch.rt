@@ -14,7 +14,7 @@ use crate::reason::Reason;
 use crate::reply::{Answer, Reply};
 use dispatch::judge;
 use member_group::Config;
-use read_section::{Operator, Worker, open};
+use read_section::{OpenFault, Operator, Worker, open};
 use std::alloc::{AllocError, Global};
 
 /// An operator and the workers of its table. The first of them judges packets.
@@ -52,11 +52,14 @@ impl Switch {
     pub(crate) fn open(alloc: Global) -> Result<Switch, AllocError>
         ensures ready { IfOk result (λ switch. IsReady switch.operator switch.workers.items at_start) }
     {
-        let Ok((mut operator, mut workers)) = open(Config::new(alloc)) else {
-            return Err(AllocError);
-        };
-        meet_all(&mut operator, &mut workers);
-        Ok(Switch { operator, workers })
+        match open(Config::new(alloc)) {
+            Ok((mut operator, mut workers)) => {
+                meet_all(&mut operator, &mut workers);
+                Ok(Switch { operator, workers })
+            }
+            Err(OpenFault::OutOfMemory) => Err(AllocError),
+            Err(OpenFault::TooBig) => unreachable!(),
+        }
     }
 
     /// Does what a line asks for, and makes its reply. The workers have met the operator again then.

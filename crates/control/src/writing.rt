@@ -5,6 +5,7 @@ ghost use Rattle.std.specs.Io.KnownBytes.{Appends};
 ghost use Rattle.dispatch.specs.Device.{CountsFailure};
 ghost use Rattle.control.specs.Writing.{IsWrittenInPart};
 
+use crate::reply::{REPLY_LIMIT, Reply};
 use crate::streams::Output;
 use dispatch::Failed;
 
@@ -23,13 +24,16 @@ fn write_all<W: Output>(writer: &mut W, bytes: &[u8]) -> Result<(), Failed>
     Ok(())
 }
 
-/// Writes a line and its LF.
-pub(crate) fn write_line<W: Output>(writer: &mut W, line: &[u8]) -> Result<(), Failed>
-    ensures written { OnOk result (Appends (W.state writer.old).taken (W.state writer.new).taken (line.now ++ 10 ∷ [])) }
-    ensures beginning { OnErr result (IsWrittenInPart (W.state writer.new).failures (W.state writer.old).taken (W.state writer.new).taken (line.now ++ 10 ∷ [])) }
+/// Writes a reply and its LF, at once where the output takes that.
+pub(crate) fn write_line<W: Output>(writer: &mut W, reply: &Reply) -> Result<(), Failed>
+    ensures written { OnOk result (Appends (W.state writer.old).taken (W.state writer.new).taken (reply.now ++ 10 ∷ [])) }
+    ensures beginning { OnErr result (IsWrittenInPart (W.state writer.new).failures (W.state writer.old).taken (W.state writer.new).taken (reply.now ++ 10 ∷ [])) }
     ensures device_failed { CountsFailure result (W.state writer.old).failures (W.state writer.new).failures }
     ensures rest_kept { W.rest writer.new ≡ W.rest writer.old }
 {
-    write_all(writer, line)?;
-    write_all(writer, b"\n")
+    let line = reply.bytes();
+    let mut bytes = [0; REPLY_LIMIT + 1];
+    bytes[..line.len()].copy_from_slice(line);
+    bytes[line.len()] = b'\n';
+    write_all(writer, &bytes[..line.len() + 1])
 }

@@ -6,7 +6,7 @@ ghost use Rattle.dispatch.specs.Device.{CountsFailure};
 ghost use Rattle.control.specs.Streams.{TakesFront};
 
 use crate::packet::{PacketLine, read_packet_line};
-use crate::{FromRead, Input, Output, ToWrite};
+use crate::{FromRead, Input, Output, ToWrite, replay};
 use dispatch::Failed;
 use std::alloc::Global;
 use std::io;
@@ -75,15 +75,13 @@ impl Write for InSteps<'_> {
     }
 }
 
-const STEPS: [Step; 9] = [
+const STEPS: [Step; 7] = [
     Step::Moves(1),
-    Step::Fails(ErrorKind::Interrupted),
     Step::Fails(ErrorKind::Interrupted),
     Step::Moves(2),
     Step::Fails(ErrorKind::BrokenPipe),
     Step::Moves(9),
     Step::Moves(0),
-    Step::Fails(ErrorKind::Interrupted),
     Step::Fails(ErrorKind::WouldBlock),
 ];
 
@@ -98,24 +96,34 @@ fn reads_of_a_slice(rt: HostRuntime) -> Result<(), Fail> {
     Ok(())
 }
 
+// An interrupted read or write is a failure as others are.
 #[test]
-fn reads_fail_or_are_made_again(rt: HostRuntime) -> Result<(), Fail> {
+fn reads_that_fail(rt: HostRuntime) -> Result<(), Fail> {
     let mut input = FromRead::new(in_steps(rt.alloc(), &STEPS));
     let mut buf = [0; 4];
     assert_eq!(rt; input.read(&mut []), Ok(0));
-    for answer in [Ok(2), Err(Failed), Ok(4), Ok(0), Err(Failed), Ok(0)] {
+    for answer in [
+        Err(Failed),
+        Ok(2),
+        Err(Failed),
+        Ok(4),
+        Ok(0),
+        Err(Failed),
+        Ok(0),
+    ] {
         assert_eq!(rt; input.read(&mut buf), answer);
     }
     Ok(())
 }
 
 #[test]
-fn writes_fail_or_are_made_again(rt: HostRuntime) -> Result<(), Fail> {
+fn writes_that_fail(rt: HostRuntime) -> Result<(), Fail> {
     let mut writer = in_steps(rt.alloc(), &STEPS);
     let mut output = ToWrite::new(&mut writer);
     assert_eq!(rt; output.write(b""), Ok(0));
     for answer in [
         Ok(1),
+        Err(Failed),
         Ok(2),
         Err(Failed),
         Ok(4),
@@ -127,6 +135,23 @@ fn writes_fail_or_are_made_again(rt: HostRuntime) -> Result<(), Fail> {
     }
     assert_eq!(rt; output.into_inner().bytes.as_slice(), b"aababcd".as_slice());
     Ok(())
+}
+
+// The reads behind the end would fail.
+#[test]
+fn first_end_ends_the_script(rt: HostRuntime) {
+    let steps = [
+        Step::Moves(4),
+        Step::Moves(0),
+        Step::Fails(ErrorKind::BrokenPipe),
+    ];
+    let mut input = FromRead::new(in_steps(rt.alloc(), &steps));
+    let mut replies = Vec::new(rt.alloc());
+    let mut output = ToWrite::new(&mut replies);
+    let answer = replay(rt.alloc(), &mut input, &mut output);
+    let _ = output.into_inner();
+    assert_eq!(rt; answer, Ok(()));
+    assert_eq!(rt; replies.as_slice(), b"refused C1\n".as_slice());
 }
 
 fn write_once<O: Output>(output: &mut O, bytes: &[u8]) -> Result<usize, Failed>

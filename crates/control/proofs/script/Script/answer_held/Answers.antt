@@ -1,13 +1,11 @@
-use Rattle.std.proofs.Common.{◌++◌, ◌∷◌, List, [], subst, ℕ}
-use Rattle.std.specs.Io.KnownBytes.{Appends}
+use Rattle.std.proofs.Common.{List, subst, ℕ}
 use Rattle.control.specs.Script.{RepliesTo}
-use Rattle.control.specs.Writing.{IsWrittenInPart}
 use Rattle.control.proofs.script.Script.answer_held.Goals as goal
 
 pub returns-in_default-clause-answers : goal.returns-in_default-clause-answers
 returns-in_default-clause-answers g c = λ now ready.
     let said = c.in_ok-reply.ensures.replies now ready in
-    let cut = subst (λ (line : List ℕ). IsWrittenInPart (g.W.Output.state c.write_line.new.writer).failures (g.W.Output.state c.args.writer.now).taken (g.W.Output.state c.write_line.new.writer).taken (line ++ 10 ∷ [])) c.bytes.ensures.line c.in_default.ensures.beginning in
+    let cut = c.in_default.ensures.beginning in
     record {
       reply = c.in_ok-reply.reply;
       next = said.0;
@@ -26,6 +24,6 @@ returns-clause-answers g c = (
     next = said.0;
     replies = subst (λ (line : List ℕ). RepliesTo now line c.in_ok-reply.reply said.0) c.deref.ensures.value said.1;
     ready = said.2;
-    written = subst (λ (line : List ℕ). Appends (g.W.Output.state c.args.writer.now).taken (g.W.Output.state c.write_line.new.writer).taken (line ++ 10 ∷ [])) c.bytes.ensures.line c.in-Ok.ensures.written;
+    written = c.in-Ok.ensures.written;
   },
 )

@@ -8,8 +8,8 @@ use Rattle.control.proofs.switch.Switch.open.Goals as goal
 pub meet_all-requires : goal.meet_all-requires
 meet_all-requires c = record { outside = subst (AreOutside c.in-Ok.operator.table) (sym c.deref_mut.ensures.value) (opened_outside c.in-Ok.operator.table _ c.in-Ok.workers.items c.in-Ok.ensures.workers) }
 
-pub returns : goal.returns
-returns c =
+pub returns-in-Ok : goal.returns-in-Ok
+returns-in-Ok c =
     let met = c.meet_all.ensures.met in
     let long : length c.meet_all.new.workers ≡ c.in-Ok.workers.len = met.outside.count ∙ sym (c.in-Ok.workers.ok.0 ∙ c.in-Ok.ensures.workers.count) in
     record {
