@@ -1,6 +1,6 @@
 //! Dispatching: what becomes of one packet in one version (docs/SWITCH.md, "Verdicts"), of the datagrams that a worker receives
-//! ("Batches", "Workers"), and tallies of it ("Tallies"). No call takes memory but those that open or reserve,
-//! and `run_workers`.
+//! ("Batches", "Workers"), and tallies of it ("Tallies"). No call takes memory but `Tally::open`, `Datagrams::push`,
+//! `Sends::with_room` and `run_workers`.
 #![tactic(auto)]
 
 ghost use Rattle.std.specs.Prelude.{◌≡◌, ◌≤◌, List, length};
