@@ -1,7 +1,8 @@
 -- The jobs of `flood`: their counters stay those of one tally, and the totals are their sums.
-use Rattle.std.proofs.Common.{◌≡◌, ◌∙◌, ◌+◌, ◌++◌, ◌∷◌, Bool, Err, List, Ok, Result, [], ap, ap₂, false, inl, inr, length, map, refl, subst, sym, true, zero-add, ℕ}
+use Rattle.std.proofs.Common.{◌≡◌, ◌∙◌, ◌+◌, ◌++◌, ◌∷◌, Bool, Err, List, Ok, Result, [], ap, ap₂, arith, false, inl, inr, length, map, refl, subst, sym, true, zero-add, ℕ}
 use Rattle.std.proofs.lemmas.List.{map-append}
-use Rattle.std.proofs.lemmas.List.Elements.{All-append, All-cons, All-head, All-nil, All-push, All-same, All-tail, All-weaker}
+use Rattle.std.proofs.lemmas.List.Elements.{All-append, All-cons, All-from_get_or, All-head, All-map, All-nil, All-push, All-same, All-tail, All-weaker}
+use Rattle.std.proofs.lemmas.Option.{get_or_from_slice_get}
 use Rattle.std.specs.List.{All}
 use Rattle.atomic_table.specs.Seated.{TableId}
 use Rattle.dispatch.specs.contracts.memory.DatagramsSource.TheImpl.{ghosts as datagrams_source}
@@ -22,8 +23,12 @@ use Rattle.dispatch.specs.Device.{SourceValue}
 use Rattle.dispatch.specs.Job.{IsJob, runs_to_the_end, then_goes_on}
 use Rattle.dispatch.specs.Tally.{AreCountersOf, CounterValue, place_of, sum_of_counts, times, total_of}
 use Rattle.dispatch.specs.Workers.{AreDone}
+use Rattle.read_section.specs.Operator.{AreOpenedWorkers}
+use Rattle.read_section.specs.Worker.{WorkerValue}
+use Rattle.versions.specs.View.{new_worker}
 use Rattle.switchd.specs.declared.flood_jobs.TheConstants.{BUFFER, LIMIT}
-use Rattle.switchd.specs.Flood.{AreRun, AreStarts, AreStartsOf, HasRoom, IsFlooded, IsNew, empty_outbox, parts_of, shared_source}
+use Rattle.switchd.specs.Flood.{AreRun, AreStarts, AreStartsOf, HasRoom, IsFlooded, IsNew, IsNewWorker, empty_outbox, parts_of, shared_source}
+use Rattle.switchd.specs.FloodVersions.{opening_version}
 use Rattle.switchd.proofs.TrafficLemmas.{map_more}
 
 -- ---- a job's counter stays one of its tally
@@ -120,6 +125,16 @@ run_of (job ∷ jobs) (d ∷ dones) done room =
       run_of jobs dones done.1 (All-tail (λ (job : FloodJob). HasRoom (length job.buffer.items) job.limit) job jobs room),
     )
 
+-- the workers of a new table
+pub opened_workers : (table : TableId) (workers : List WorkerValue) → AreOpenedWorkers table opening_version workers → All (IsNewWorker table) workers
+opened_workers table workers opened =
+    let at_first : WorkerValue = record { table = table; view = new_worker opening_version 0 } in
+    All-from_get_or (IsNewWorker table) workers at_first (λ k inside. (k, get_or_from_slice_get workers k _ at_first (opened.each k (omega (arith, opened.count)))))
+
+pub starting_workers : (table : TableId) (jobs : List FloodJob) → All (λ (job : FloodJob). IsNewWorker table job.worker) jobs
+    → All (λ (start : Parts). IsNewWorker table start.worker) (map start_of jobs)
+starting_workers table jobs = All-map (λ (start : Parts). IsNewWorker table start.worker) start_of jobs
+
 counters_of : (dones : List FloodDone) → map (λ (end : Parts). end.counter) (map end_of dones) ≡ map counter_of dones
 counters_of [] = refl
 counters_of (done ∷ dones) = ap (λ (rest : List CounterValue). done.counter ∷ rest) (counters_of dones)
@@ -139,8 +154,11 @@ module _ (table : TableId) (left all : List CounterValue) (dones : List FloodDon
     }
 
     -- the counters that were left over counted nothing
-    pub flooded : (totals : Totals) → ((kind : Kind) → total_of totals kind ≡ sum_of_counts kind all) → IsFlooded workers datagrams totals
-    flooded totals sums = record {
+    pub flooded : (versions : TableId) → All (λ (start : Parts). IsNewWorker versions start.worker) starts → (totals : Totals) → ((kind : Kind) → total_of totals kind ≡ sum_of_counts kind all)
+        → IsFlooded workers datagrams totals
+    flooded versions new_workers totals sums = record {
+      versions = versions;
+      new_workers = new_workers;
       table = table;
       starts = starts;
       ends = map end_of dones;

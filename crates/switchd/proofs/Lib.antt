@@ -2,8 +2,8 @@ mod CommandLineLemmas
 mod FloodLemmas
 mod StandardFacts
 mod EndingLemmas
-mod PacketLemmas
 mod RequestLemmas
+mod RepliesLemmas
 mod StopLemmas
 mod WriteLemmas
 pub mod FirstLemmas

@@ -5,6 +5,7 @@ use Rattle.hex.proofs.HexLemmas.{decode_of-ok}
 use Rattle.clap.specs.Words.{HasKind, IsAmong, Text, kind_of}
 use Rattle.clap.specs.declared.error.Error.{Error}
 use Rattle.clap.specs.declared.error.kind.ErrorKind.TheVariants as kind
+use Rattle.control.specs.Packet.{IsRefusalOfHex, SpellsPacket}
 use Rattle.control.specs.Program.{IsExpressionFault}
 use Rattle.control.specs.declared.reason.Reason.{Reason}
 use Rattle.filter_compile.specs.Answer.{IsPacket}
@@ -19,7 +20,6 @@ use Rattle.switchd.specs.FirstPath.{first_lines}
 use Rattle.switchd.specs.declared.first_path.Line.{Line}
 use Rattle.switchd.proofs.WriteLemmas.{first_text_of, versions_of}
 use Rattle.switchd.specs.Input.{IsInput}
-use Rattle.switchd.specs.Packet.{IsRefusalOfHex, SpellsPacket}
 use Rattle.switchd.specs.Stop.{IsStopBy}
 use Rattle.switchd.specs.Request.{IsFailureOf, IsRefusal, IsResultOf, IsStopOf, MayFailBy}
 

@@ -1,8 +1,12 @@
--- What `clap` finds in words that are written out.
-use Rattle.std.proofs.Common.{◌≡◌, ◌∷◌, [], Some, codes, refl}
+-- What `clap` finds in words that are written out, and what `flood` is given (docs/COMMANDS.md, "flood").
+use Rattle.std.proofs.Common.{◌≡◌, ◌∷◌, [], Some, codes, length, refl, slice_index}
 use Rattle.clap.proofs.OnLiterals.{clap_on_literals}
 use Rattle.clap.specs.declared.error.kind.ErrorKind.TheVariants.{DisplayHelp, DisplayVersion, InvalidSubcommand, MissingRequiredArgument, MissingSubcommand, UnknownArgument, ValueValidation}
+use Rattle.switchd.specs.declared.flood_versions.TheConstants.{PUBLICATIONS}
+use Rattle.switchd.specs.declared.waiting.TheConstants.{DATAGRAMS}
 use Rattle.switchd.specs.CommandLine.{faults_in, flood, request_in}
+use Rattle.switchd.specs.FloodVersions.{at_port, selector_at}
+use Rattle.switchd.specs.Traffic.{datagram_at}
 
 in_first : faults_in (codes "first" ∷ []) ≡ []
 unfolding clap_on_literals
@@ -55,3 +59,29 @@ in_flood_of_a_letter = refl
 in_flood_alone : faults_in (codes "flood" ∷ []) ≡ MissingRequiredArgument ∷ []
 unfolding clap_on_literals
 in_flood_alone = refl
+
+-- ---- what `flood` is given
+
+datagrams : DATAGRAMS ≡ 4096
+datagrams = refl
+
+publications : PUBLICATIONS ≡ 64
+publications = refl
+
+-- 127.0.0.1:9001
+first_member : at_port 9001 ≡ record { address = 2130706433; port = 9001 }
+first_member = refl
+
+-- `ret #0`, then `ret #1`
+selects_the_first : selector_at 0 ≡ 1688849860263936 ∷ []
+selects_the_first = refl
+
+selects_the_second : selector_at 1 ≡ 1688849860263937 ∷ []
+selects_the_second = refl
+
+-- the low byte of the destination port
+to_port_54 : slice_index (datagram_at 2) 23 ≡ 54
+to_port_54 = refl
+
+is_cut : length (datagram_at 3) ≡ 27
+is_cut = refl

@@ -35,6 +35,6 @@ failure_of_replay replay_fault.ReadFailed = ReadFailed
 failure_of_replay replay_fault.WriteFailed = WriteFailed
 failure_of_replay replay_fault.OutOfMemory = OutOfMemory
 
--- a beginning of the text was appended, the whole where the writer took it
+-- a beginning of the text was appended, possibly none of it or the whole
 abbrev pub AppendsBeginning : Option (List ℕ) → Option (List ℕ) → List ℕ → Type 0
 AppendsBeginning before after text = (told left : List ℕ) × Appends before after told × (text ≡ told ++ left)

@@ -14,9 +14,11 @@ use Rattle.dispatch.specs.Memory.{SendsValue, outbox_of}
 use Rattle.dispatch.specs.Tally.{CounterValue, sum_of_counts, total_of}
 use Rattle.dispatch.specs.Totals.{totals_text}
 use Rattle.read_section.specs.Worker.{WorkerValue}
+use Rattle.versions.specs.View.{new_worker}
 use Rattle.switchd.specs.declared.flood_jobs.TheConstants.{BUFFER, LIMIT}
 use Rattle.switchd.specs.declared.serve_fault.ServeFault.{ServeFault}
 use Rattle.switchd.specs.declared.serve_fault.ServeFault.TheVariants.{OutOfMemory, SpawnFailed}
+use Rattle.switchd.specs.FloodVersions.{opening_version}
 use Rattle.switchd.specs.Traffic.{numbers_below, share_of}
 
 abbrev pub fault_of_run : RunFault → ServeFault
@@ -31,6 +33,10 @@ parts_of worker counter datagrams sends =
 -- a counter of a tally that counted nothing yet
 abbrev pub IsNew : TableId → CounterValue → Type 0
 IsNew table counter = counter ≡ record { table = table; log = [] }
+
+-- a worker of a table that was opened with the opening version, which has made no step yet
+abbrev pub IsNewWorker : TableId → WorkerValue → Type 0
+IsNewWorker table worker = (w : ℕ) × (worker ≡ record { table = table; view = new_worker opening_version w })
 
 -- the source of a worker's share, and an outbox that was sent nothing
 abbrev pub shared_source : ℕ → ℕ → ℕ → SourceValue
@@ -60,11 +66,13 @@ AreRun [] (end ∷ ends) = ⊥
 AreRun (start ∷ starts) [] = ⊥
 AreRun (start ∷ starts) (end ∷ ends) = IsJob BUFFER LIMIT start end × AreRun starts ends
 
--- the totals are what such jobs counted in all
+-- the totals are what such jobs of workers of one table counted in all
 pub record IsFlooded (workers datagrams : ℕ) (totals : Totals) : Type 0 where
+  pub versions : TableId
   pub table : TableId
   pub starts : List Parts
   pub ends : List Parts
+  pub new_workers : All (λ (start : Parts). IsNewWorker versions start.worker) starts
   pub are_starts : AreStarts table workers datagrams starts
   pub run_to_the_end : AreRun starts ends
   pub sum_exact : (kind : Kind) → total_of totals kind ≡ sum_of_counts kind (map (λ (end : Parts). end.counter) ends)

@@ -6,7 +6,6 @@ pub mod FirstTable
 pub mod Flood
 pub mod FloodVersions
 pub mod Input
-pub mod Packet
 pub mod Request
 pub mod Stop
 pub mod Traffic

@@ -2,9 +2,10 @@
 use Rattle.std.specs.Prelude.{◌≡◌, ◌++◌, ◌⊎◌, List, Option, Some, [], codes, ℕ}
 use Rattle.std.specs.Io.KnownBytes.{Appends}
 use Rattle.clap.specs.Words.{Text}
+use Rattle.control.specs.Packet.{IsRefusalOfHex, SpellsPacket}
 use Rattle.control.specs.Program.{IsAssemblyFault, IsExpressionFault}
 use Rattle.control.specs.Reason.{refusal_text}
-use Rattle.control.specs.Script.{IsScriptText}
+use Rattle.control.specs.Script.{AreAnswered, IsScriptText, Standing}
 use Rattle.control.specs.declared.reason.Reason.{Reason}
 use Rattle.switchd.specs.declared.answer.Answer.{Answer}
 use Rattle.switchd.specs.declared.answer.Answer.TheVariants.{Versions}
@@ -18,8 +19,7 @@ use Rattle.switchd.specs.Answer.{IsCheckAnswer, IsCompileAnswer, IsJudgeAnswer, 
 use Rattle.switchd.specs.CommandLine.{Request, check, compile, faults_in, first, flood, judge, replay, request_in, run}
 use Rattle.switchd.specs.Ending.{AppendsBeginning, line_of}
 use Rattle.switchd.specs.FirstPath.{first_text}
-use Rattle.switchd.specs.Input.{IsInput}
-use Rattle.switchd.specs.Packet.{IsRefusalOfHex, SpellsPacket}
+use Rattle.switchd.specs.Input.{BeginsInput, IsInput}
 
 -- the two lines of the first path
 abbrev pub IsFirstAnswer : Answer → Type 0
@@ -125,6 +125,44 @@ MayFailBy words WriteFailed = AskToWait words → ⊥
 MayFailBy words OutOfMemory = Unit {0}
 MayFailBy words SpawnFailed = ⊥
 
--- of the line of such a failure a beginning was told, the whole where it could be written
-abbrev pub TellsFailure : List Text → Option (List ℕ) → Option (List ℕ) → Type 0
-TellsFailure words before after = (failure : Failure) × MayFailBy words failure × AppendsBeginning before after (line_of failure)
+-- ---- what a command that failed has written
+
+-- the replies to some first lines of the input were written, and nothing else
+pub record RepliesToFirstLines (known before after : Option (List ℕ)) : Type 0 where
+  pub lines : List ℕ
+  pub text : List ℕ
+  pub last : Standing
+  pub read : BeginsInput known lines
+  pub answered : AreAnswered lines text last
+  pub written : Appends before after text
+
+-- this is the text of some first lines of the input, or of all of it
+abbrev pub IsTextOfInput : Option (List ℕ) → List ℕ → Type 0
+IsTextOfInput known text =
+    ((lines : List ℕ) × (last : Standing) × BeginsInput known lines × AreAnswered lines text last)
+    ⊎ ((script : List ℕ) × IsInput known script × IsScriptText script text)
+
+-- of the replies to these a beginning was written, and nothing else
+abbrev pub WritesBeginningOfReplies : Option (List ℕ) → Option (List ℕ) → Option (List ℕ) → Type 0
+WritesBeginningOfReplies known before after = (text : List ℕ) × IsTextOfInput known text × AppendsBeginning before after text
+
+-- what was written before each failure: what is promised of a failed write is promised of `replay` alone
+abbrev pub WritesBefore : Request → Failure → Option (List ℕ) → Option (List ℕ) → Option (List ℕ) → Type 0
+WritesBefore replay ReadFailed known before after = RepliesToFirstLines known before after
+WritesBefore replay WriteFailed known before after = WritesBeginningOfReplies known before after
+WritesBefore replay OutOfMemory known before after = RepliesToFirstLines known before after
+WritesBefore replay SpawnFailed known before after = ⊥
+WritesBefore request WriteFailed known before after = Unit {0}
+WritesBefore request _ known before after = after ≡ before
+
+-- the same of the command that words without a fault name
+abbrev pub WritesBeforeBy : List Text → Failure → Option (List ℕ) → Option (List ℕ) → Option (List ℕ) → Type 0
+WritesBeforeBy words failure known before after =
+    faults_in words ≡ [] → (request : Request) → request_in words ≡ Some request → WritesBefore request failure known before after
+
+-- a command failed in a way in which it may; a beginning of the failure's line was told
+pub record EndsInFailure (words : List Text) (known before after told_before told_after : Option (List ℕ)) : Type 0 where
+  pub failure : Failure
+  pub may_fail : MayFailBy words failure
+  pub written : WritesBeforeBy words failure known before after
+  pub told : AppendsBeginning told_before told_after (line_of failure)

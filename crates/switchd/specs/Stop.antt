@@ -3,22 +3,16 @@ use Rattle.std.specs.Prelude.{◌≡◌}
 use Rattle.bpf_asm.specs.declared.fault.AsmFault.{AsmFault}
 use Rattle.bpf_asm.specs.declared.fault.AsmFault.TheVariants as assembly
 use Rattle.control.specs.declared.reason.Reason.{Reason}
-use Rattle.control.specs.declared.reason.Reason.TheVariants.{Assembly, BadForm, Compiling, Expression}
+use Rattle.control.specs.declared.reason.Reason.TheVariants.{Assembly, Compiling, Expression}
 use Rattle.filter_compile.specs.declared.fault.CompileFault.{CompileFault}
 use Rattle.filter_compile.specs.declared.fault.CompileFault.TheVariants as compiling
 use Rattle.filter_parse.specs.declared.fault.ParseFault.{ParseFault}
 use Rattle.filter_parse.specs.declared.fault.ParseFault.TheVariants as expression
-use Rattle.hex.specs.declared.error.FromHexError.{FromHexError}
-use Rattle.hex.specs.declared.error.FromHexError.TheVariants as hex
 use Rattle.switchd.specs.declared.ending.Failure.TheVariants.{OutOfMemory}
 use Rattle.switchd.specs.declared.stop.Stop.{Stop}
 use Rattle.switchd.specs.declared.stop.Stop.TheVariants.{Failed, Refused}
 
 -- a fault refuses, but want of memory fails
-abbrev pub stop_of_hex : FromHexError → Stop
-stop_of_hex hex.OutOfMemory = Failed OutOfMemory
-stop_of_hex error = Refused BadForm
-
 abbrev pub stop_of_assembly : AsmFault → Stop
 stop_of_assembly assembly.OutOfMemory = Failed OutOfMemory
 stop_of_assembly fault = Refused (Assembly fault)

@@ -4,7 +4,7 @@ use Rattle.std.specs.Str.Parse.{IsNumeral, digits_value, without_leading_plus}
 use Rattle.clap.specs.Words.{Text}
 use Rattle.versions.specs.declared.layout.TheConstants.{WORKERS}
 use Rattle.switchd.specs.declared.ending.Failure.{Failure}
-use Rattle.switchd.specs.declared.ending.Failure.TheVariants.{ReadFailed}
+use Rattle.switchd.specs.declared.ending.Failure.TheVariants.{ReadFailed, WriteFailed}
 use Rattle.switchd.specs.declared.waiting.TheConstants.{DATAGRAMS}
 use Rattle.switchd.specs.CommandLine.{flood, request_in}
 use Rattle.switchd.specs.Ending.{AppendsBeginning, line_of}
@@ -29,6 +29,10 @@ pub record WritesFor (words : List Text) (before after : Option (List ℕ)) : Ty
 abbrev pub LackWorkers : List Text → Type 0
 LackWorkers words = (workers : Text) × (request_in words ≡ Some (flood workers)) × ((count : ℕ) → IsWorkers workers count → ⊥)
 
--- of the line of a failure, which was no failed read, a beginning was told, the whole where it could be written
-abbrev pub TellsWaitingFailure : Option (List ℕ) → Option (List ℕ) → Type 0
-TellsWaitingFailure before after = (failure : Failure) × (failure ≢ ReadFailed) × AppendsBeginning before after (line_of failure)
+-- it failed in one of these ways, not in reading; nothing was written but where a write failed, and a beginning of the failure's line
+-- was told
+pub record EndsInWaitingFailure (before after told_before told_after : Option (List ℕ)) : Type 0 where
+  pub failure : Failure
+  pub no_read : failure ≢ ReadFailed
+  pub written : failure ≢ WriteFailed → after ≡ before
+  pub told : AppendsBeginning told_before told_after (line_of failure)

@@ -1,8 +1,9 @@
 //! The command `flood`: datagrams over worker threads, while versions are replaced (docs/COMMANDS.md, "flood").
 
 ghost use Rattle.std.specs.Prelude.{◌≡◌, ◌≢◌, ◌≤◌, IfErr, IfOk, OnOk, map, vec_len};
+ghost use Rattle.std.specs.List.{All};
 ghost use Rattle.versions.specs.declared.layout.TheConstants.{WORKERS};
-ghost use Rattle.switchd.specs.Flood.{IsFlooded, WritesFlood, WritesTotals};
+ghost use Rattle.switchd.specs.Flood.{IsFlooded, IsNewWorker, WritesFlood, WritesTotals};
 ghost use Rattle.switchd.specs.FloodVersions.{successor_at};
 ghost use Rattle.switchd.specs.Traffic.{numbers_below};
 ghost use Rattle.switchd.specs.declared.flood_versions.TheConstants.{PUBLICATIONS};
@@ -22,6 +23,7 @@ use std::thread::Threads;
 // The table at its opening version, and the versions that are to follow.
 fn open_versions(alloc: Global) -> Result<(Operator, Vec<Worker>, Vec<Config>), AllocError>
     ensures workers { IfOk result (λ opened. vec_len opened.1 ≡ WORKERS) }
+    ensures opening { IfOk result (λ opened. All (IsNewWorker opened.0.table) opened.1.items) }
     ensures successors { IfOk result (λ opened. opened.2.items ≡ map successor_at (numbers_below PUBLICATIONS)) }
 {
     let opening = opening(alloc)?;

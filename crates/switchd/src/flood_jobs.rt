@@ -4,7 +4,7 @@ ghost use Rattle.std.specs.Prelude.{◌≡◌, ◌+◌, ◌<◌, ◌≤◌, ◌+
 ghost use Rattle.std.specs.List.{All};
 ghost use Rattle.atomic_table.specs.Seated.{TableId};
 ghost use Rattle.dispatch.specs.Memory.{outbox_of};
-ghost use Rattle.switchd.specs.Flood.{AreStarts, HasRoom, IsNew, empty_outbox, parts_of};
+ghost use Rattle.switchd.specs.Flood.{AreStarts, HasRoom, IsNew, IsNewWorker, empty_outbox, parts_of};
 ghost use Rattle.switchd.specs.Traffic.{share_of};
 
 use crate::sample::SAMPLE_PACKET;
@@ -29,6 +29,7 @@ fn job(
     datagrams: usize,
 ) -> Result<Job<Datagrams, Sends>, AllocError>
     requires { 0 < workers }
+    ensures worker { IfOk result (λ job. job.worker ≡ worker) }
     ensures counter { IfOk result (λ job. job.counter ≡ counter) }
     ensures share { IfOk result (λ job. job.source ≡ share_of place workers datagrams) }
     ensures empty { IfOk result (λ job. outbox_of job.outbox ≡ empty_outbox) }
@@ -59,6 +60,8 @@ pub fn jobs(
     ensures one_a_worker { IfOk result (λ jobs. vec_len jobs ≡ workers) }
     ensures starts { (table : TableId) → All (IsNew table) counters.old.items
         → IfOk result (λ jobs. AreStarts table workers datagrams (map (λ job. parts_of job.worker job.counter job.source job.outbox) jobs.items)) }
+    ensures workers { (versions : TableId) → All (IsNewWorker versions) seats.old.items
+        → IfOk result (λ jobs. All (λ job. IsNewWorker versions job.worker) jobs.items) }
     ensures buffers { IfOk result (λ jobs. All (λ job. HasRoom (length job.buffer.items) job.limit) jobs.items) }
     ensures left { OnOk result (vec_len counters.new + workers ≡ vec_len counters.old) }
     ensures new { (table : TableId) → All (IsNew table) counters.old.items → OnOk result (All (IsNew table) counters.new.items) }

@@ -14,7 +14,6 @@ mod flood_jobs;
 mod flood_versions;
 mod help;
 mod input;
-mod packet;
 mod program_commands;
 mod queries;
 mod replaying;

@@ -2,10 +2,12 @@
 
 ghost use Rattle.std.specs.Prelude.{◌≡◌, ◌++◌, IfErr, IfOk, OnOk, codes};
 ghost use Rattle.std.specs.Io.KnownBytes.{Appends};
+ghost use Rattle.control.specs.Packet.{IsRefusalOfHex, SpellsPacket};
 ghost use Rattle.control.specs.Reason.{refusal_text};
 ghost use Rattle.switchd.specs.Answer.{answer_text};
 ghost use Rattle.switchd.specs.CommandLine.{query_request};
-ghost use Rattle.switchd.specs.Request.{IsResultOf, IsStopOf, MayFail, WritesAnswer};
+ghost use Rattle.switchd.specs.Request.{IsResultOf, IsStopOf, MayFail, WritesAnswer, WritesBefore};
+ghost use Rattle.switchd.specs.Stop.{IsStopBy};
 
 use crate::answer::Answer;
 use crate::command::Query;
@@ -13,10 +15,9 @@ use crate::ending::{Failure, Status};
 use crate::expression_commands::{compile, judge};
 use crate::first_path;
 use crate::input::read_whole;
-use crate::packet::packet_of_hex;
 use crate::program_commands::{check, run_program};
 use crate::stop::Stop;
-use control::Reason;
+use control::{Reason, packet_of_hex};
 use std::alloc::Global;
 use std::io::{Read, Write};
 
@@ -28,6 +29,8 @@ pub fn run_query<R: Read + Drop, W: Write>(
     out: &mut W,
 ) -> Result<Status, Failure>
     ensures failed { IfErr result (MayFail (query_request query.entry)) }
+    ensures failed_written { IfErr result (λ failure.
+        WritesBefore (query_request query.entry) failure (R.remaining input) (W.contents out.old) (W.contents out.new)) }
     ensures answered { IfOk result (λ status.
         WritesAnswer (query_request query.entry) (R.remaining input) status (W.contents out.old) (W.contents out.new)) }
 {
@@ -50,14 +53,22 @@ fn find_answer<R: Read + Drop>(alloc: Global, query: Query<'_>, input: R) -> Res
         Query::Check => check(alloc, &read_whole(alloc, input)?),
         Query::Compile { expression } => compile(alloc, expression.as_bytes()),
         Query::Run { packet } => {
-            let packet = packet_of_hex(alloc, packet)?;
+            let packet = read_packet(alloc, packet)?;
             run_program(alloc, &packet, &read_whole(alloc, input)?)
         }
         Query::Judge { packet, expression } => {
-            let packet = packet_of_hex(alloc, packet)?;
+            let packet = read_packet(alloc, packet)?;
             judge(alloc, &packet, expression.as_bytes())
         }
     }
+}
+
+// The packet that the digits write. They are looked at before anything is read.
+fn read_packet(alloc: Global, digits: &str) -> Result<Vec<u8>, Stop>
+    ensures spelt { IfOk result (λ packet. SpellsPacket digits.now packet.items) }
+    ensures refused { IfErr result (IsStopBy (IsRefusalOfHex digits.now)) }
+{
+    packet_of_hex(alloc, digits.as_bytes())?.map_err(Stop::Refused)
 }
 
 fn write_answer<W: Write>(found: &Answer, out: &mut W) -> Result<Status, Failure>

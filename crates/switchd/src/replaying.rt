@@ -2,7 +2,7 @@
 
 ghost use Rattle.std.specs.Prelude.{IfErr, IfOk};
 ghost use Rattle.switchd.specs.CommandLine.{replay};
-ghost use Rattle.switchd.specs.Request.{MayFail, WritesReplies};
+ghost use Rattle.switchd.specs.Request.{MayFail, WritesBefore, WritesReplies};
 
 use crate::ending::{Failure, Status};
 use control::{FromRead, ToWrite, replay};
@@ -16,12 +16,14 @@ pub fn run_replay<R: Read + Drop, W: Write>(
     out: &mut W,
 ) -> Result<Status, Failure>
     ensures failed { IfErr result (MayFail replay) }
+    ensures failed_written { IfErr result (λ failure.
+        WritesBefore replay failure (R.remaining input) (W.contents out.old) (W.contents out.new)) }
     ensures replied { IfOk result (λ status. WritesReplies (R.remaining input) status (W.contents out.old) (W.contents out.new)) }
 {
     let mut output = ToWrite::new(out);
     let answer = replay(alloc, &mut FromRead::new(input), &mut output);
-    let out = output.into_inner();
+    let flushed = output.into_inner().flush();
     answer?;
-    out.flush().map_err(|_| Failure::WriteFailed)?;
+    flushed.map_err(|_| Failure::WriteFailed)?;
     Ok(Status::Done)
 }

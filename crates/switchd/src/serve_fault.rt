@@ -1,4 +1,4 @@
-//! Why worker threads have no result (docs/COMMANDS.md, "Statuses").
+//! Why no totals of worker threads were written (docs/COMMANDS.md, "Statuses").
 
 ghost use Rattle.std.specs.Prelude.{◌≡◌};
 ghost use Rattle.switchd.specs.Flood.{fault_of_run};
@@ -8,7 +8,7 @@ use dispatch::RunFault;
 use std::alloc::AllocError;
 use thiserror::Error;
 
-/// Why worker threads have no result.
+/// Why no totals of worker threads were written.
 #[derive(Debug, PartialEq, Eq, Drop, Error)]
 pub enum ServeFault {
     #[error("J1: a thread could not be started")]

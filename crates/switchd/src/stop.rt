@@ -1,7 +1,7 @@
 //! Why a command has no result: a refusal (docs/COMMANDS.md, "Refusals"), or a failure.
 
 ghost use Rattle.std.specs.Prelude.{◌≡◌};
-ghost use Rattle.switchd.specs.Stop.{stop_of_assembly, stop_of_compiling, stop_of_expression, stop_of_hex};
+ghost use Rattle.switchd.specs.Stop.{stop_of_assembly, stop_of_compiling, stop_of_expression};
 ghost use Rattle.switchd.specs.declared.ending.Failure.TheVariants.{OutOfMemory};
 ghost use Rattle.switchd.specs.declared.stop.Stop.TheVariants.{Failed};
 
@@ -10,7 +10,6 @@ use bpf_asm::AsmFault;
 use control::Reason;
 use filter_compile::CompileFault;
 use filter_parse::ParseFault;
-use hex::FromHexError;
 use std::alloc::AllocError;
 
 /// Why a command has no result.
@@ -33,17 +32,6 @@ impl From<Failure> for Stop {
 
     fn from(failure: Failure) -> Stop {
         Stop::Failed(failure)
-    }
-}
-
-impl From<FromHexError> for Stop {
-    ghost from_gives = { λ error stop. stop ≡ stop_of_hex error };
-
-    fn from(error: FromHexError) -> Stop {
-        match error {
-            FromHexError::OutOfMemory => Stop::Failed(Failure::OutOfMemory),
-            _ => Stop::Refused(Reason::BadForm),
-        }
     }
 }
 

@@ -1,13 +1,17 @@
 //! The program's commands over streams in memory.
 
+mod example_files;
+mod example_scripts;
 mod examples;
 mod expressions;
 mod failures;
 mod flood;
 mod packets;
 mod programs;
+mod random_scripts;
 mod replacing;
 mod replay;
+mod scripts_at_limits;
 mod streams;
 mod words;
 

@@ -4,7 +4,7 @@ ghost use Rattle.std.specs.Prelude.{◌≡◌, ◌≢◌, ◌⊎◌, [], IfErr, 
 ghost use Rattle.clap.specs.Words.{kind_of};
 ghost use Rattle.switchd.specs.CommandLine.{AsksForText, HasMisuse, faults_in, request_of};
 ghost use Rattle.switchd.specs.Ending.{IsStatus, code_of};
-ghost use Rattle.switchd.specs.Request.{AskToWait, MayFail, MayFailBy, MayWait, TellsFailure, Writes, WritesAnswerTo};
+ghost use Rattle.switchd.specs.Request.{AskToWait, EndsInFailure, MayFail, MayFailBy, MayWait, Writes, WritesAnswerTo, WritesBefore, WritesBeforeBy};
 
 use crate::command::{Subcommand, read_words};
 use crate::ending::{Failure, Status};
@@ -43,7 +43,8 @@ pub fn tool<R: Read + Drop, W: Write, E: Write>(
     ensures nothing_written { (result ≡ None) ⊎ (result ≡ Some (code_of Status.Misused)) → out.new ≡ out.old }
 
     ensures failed { result ≡ Some (code_of Status.Failed)
-        → TellsFailure (map string_bytes words.now) (E.contents errs.old) (E.contents errs.new) }
+        → EndsInFailure (map string_bytes words.now) (R.remaining input)
+        (W.contents out.old) (W.contents out.new) (E.contents errs.old) (E.contents errs.new) }
     ensures no_errors { (result ≡ None) ⊎ (result ≡ Some (code_of Status.Done)) ⊎ (result ≡ Some (code_of Status.Refused))
         → errs.new ≡ errs.old }
 {
@@ -80,6 +81,8 @@ fn run_words<R: Read + Drop, W: Write, E: Write>(
     ensures never_failed { result ≡ Ok (Some Status.Failed) → ⊥ }
 
     ensures failed { IfErr result (λ failure. MayFailBy (map string_bytes words.now) failure × (errs.new ≡ errs.old)) }
+    ensures failed_written { IfErr result (λ failure.
+        WritesBeforeBy (map string_bytes words.now) failure (R.remaining input) (W.contents out.old) (W.contents out.new)) }
     ensures no_errors { (result ≡ Ok None) ⊎ (result ≡ Ok (Some Status.Done)) ⊎ (result ≡ Ok (Some Status.Refused))
         → errs.new ≡ errs.old }
 {
@@ -98,6 +101,8 @@ fn run_subcommand<R: Read + Drop, W: Write>(
     ensures waits { result ≡ Ok None → MayWait (request_of command.entry) }
     ensures nothing_written { result ≡ Ok None → out.new ≡ out.old }
     ensures failed { IfErr result (MayFail (request_of command.entry)) }
+    ensures failed_written { IfErr result (λ failure.
+        WritesBefore (request_of command.entry) failure (R.remaining input) (W.contents out.old) (W.contents out.new)) }
     ensures answered { IfOk result (λ ended. IfSome ended (λ status.
         Writes (request_of command.entry) (R.remaining input) status (W.contents out.old) (W.contents out.new))) }
 {
@@ -123,7 +128,7 @@ fn answer<W: Write, E: Write>(
     ensures untold { OnErr result (errs.new ≡ errs.old) }
     ensures no_errors { result ≡ Ok Status.Done → errs.new ≡ errs.old }
     ensures nothing_written { result ≡ Ok Status.Misused → out.new ≡ out.old }
-    ensures no_memory { kind_of fault.now ≡ ErrorKind.OutOfMemory → result ≡ Err Failure.OutOfMemory }
+    ensures no_memory { kind_of fault.now ≡ ErrorKind.OutOfMemory → (result ≡ Err Failure.OutOfMemory) × (out.new ≡ out.old) }
 {
     if fault.kind() == ErrorKind::OutOfMemory {
         return Err(Failure::OutOfMemory);

@@ -3,7 +3,7 @@
 ghost use Rattle.std.specs.Prelude.{◌≡◌, MatchOption, map, string_bytes, ℕ};
 ghost use Rattle.switchd.specs.Flood.{WritesFlood};
 ghost use Rattle.switchd.specs.Request.{AskToWait};
-ghost use Rattle.switchd.specs.Waiting.{IsWorkers, LackWorkers, TellsWaitingFailure, WritesFor};
+ghost use Rattle.switchd.specs.Waiting.{EndsInWaitingFailure, IsWorkers, LackWorkers, WritesFor};
 
 use crate::command::{Subcommand, read_words};
 use crate::ending::{Failure, Status};
@@ -41,7 +41,7 @@ fn worker_count(text: &str) -> Option<usize>
 fn refuse_count<E: Write>(errs: &mut E) -> Status
     ensures { result ≡ Status.Misused }
 {
-    let _ = errs.write_all(b"error: --workers takes a number from 1 to 16\n");
+    let _ = writeln!(errs, "error: --workers takes a number from 1 to {WORKERS}");
     Status::Misused
 }
 
@@ -58,7 +58,8 @@ fn run_flood<R: Threads + Wait + Sync, W: Write, E: Write>(
     ensures never_refused { result ≡ Status.Refused → ⊥ }
     ensures misused { result ≡ Status.Misused → (count : ℕ) → IsWorkers workers.now count → ⊥ }
     ensures nothing_written { result ≡ Status.Misused → out.new ≡ out.old }
-    ensures failed { result ≡ Status.Failed → TellsWaitingFailure (E.contents errs.old) (E.contents errs.new) }
+    ensures failed { result ≡ Status.Failed
+        → EndsInWaitingFailure (W.contents out.old) (W.contents out.new) (E.contents errs.old) (E.contents errs.new) }
 {
     let Some(workers) = worker_count(workers) else {
         return refuse_count(errs);
@@ -83,7 +84,8 @@ pub fn run_waiting<R: Threads + Wait + Sync, W: Write, E: Write>(
     ensures never_refused { result ≡ Status.Refused → ⊥ }
     ensures misused { result ≡ Status.Misused → LackWorkers (map string_bytes words.now) }
     ensures nothing_written { result ≡ Status.Misused → out.new ≡ out.old }
-    ensures failed { result ≡ Status.Failed → TellsWaitingFailure (E.contents errs.old) (E.contents errs.new) }
+    ensures failed { result ≡ Status.Failed
+        → EndsInWaitingFailure (W.contents out.old) (W.contents out.new) (E.contents errs.old) (E.contents errs.new) }
 {
     match read_words(alloc, words) {
         Ok(Subcommand::Flood { workers }) => run_flood(rt, alloc, workers, out, errs),

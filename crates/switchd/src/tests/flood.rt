@@ -1,9 +1,11 @@
 //! `flood`: its totals, that its workers start together, and the words that ask for it.
 
 use super::streams::Sink;
-use super::told;
+use super::{owned, told};
+use crate::ending::Status;
 use crate::flood::flood;
 use crate::serve_fault::ServeFault;
+use crate::tool::tool;
 use crate::waiting::{DATAGRAMS, run_waiting};
 use dispatch::Gate;
 use std::sync::atomic::{AtomicU64, Ordering};
@@ -123,6 +125,7 @@ fn flood_that_is_not_written_is_e2(rt: HostRuntime) -> Result<(), Fail> {
     Ok(())
 }
 
+// As `main` runs it.
 #[test]
 fn flood_is_left_to_main(rt: HostRuntime) -> Result<(), Fail> {
     let cases: [&[&str]; 5] = [
@@ -133,9 +136,24 @@ fn flood_is_left_to_main(rt: HostRuntime) -> Result<(), Fail> {
         &["flood", "--workers", "004"],
     ];
     for words in cases {
-        let (status, out, errs) = told(rt.alloc(), words, b"")?;
+        let words = owned(rt.alloc(), words)?;
+        let mut out = Sink::open(rt.alloc());
+        let mut errs = Sink::open(rt.alloc());
+        let status = tool(
+            rt.alloc(),
+            words.as_slice(),
+            b"".as_slice(),
+            &mut out,
+            &mut errs,
+        );
         assert_eq!(rt; status, None, "{words:?}");
         assert_eq!(rt; (out.writes, errs.writes), (0, 0), "{words:?}");
+        if status.is_none() {
+            let ended = run_waiting(&rt, rt.alloc(), words.as_slice(), &mut out, &mut errs);
+            assert_eq!(rt; ended, Status::Done, "{words:?}");
+            assert_eq!(rt; out.text(), Some(TOTALS), "{words:?}");
+            assert_eq!(rt; errs.text(), Some(""), "{words:?}");
+        }
     }
     Ok(())
 }

@@ -1,7 +1,8 @@
-//! The command `replay`: a session with its packets, and input that fails.
+//! The command `replay`: a session with its packets, the scripts of examples/, and input that fails.
 
+use super::example_scripts::SCRIPTS;
 use super::streams::{Sink, Source};
-use super::{assert_told, owned};
+use super::{assert_told, owned, told};
 use crate::tool::tool;
 use std::io::ErrorKind;
 use std::test::Fail;
@@ -36,44 +37,12 @@ const REPLIES: &str = "ok version 1\n\
     reclaimed 7 0\n\
     refused C1\n";
 
-// The scripts of examples/.
-const FILTER_SCRIPT: &str = "add 10.0.0.2:53\n\
-    join 10.0.0.2:53 1 127.0.0.1:9001\n\
-    join 10.0.0.2:53 2 127.0.0.1:9002\n\
-    packet 4500001d00000000401100000a0000010a000002138800350009000061\n\
-    filter 10.0.0.2:53 1 expr less 28\n\
-    packet 4500001d00000000401100000a0000010a000002138800350009000061\n\
-    sweep\n";
-
-const FILTER_REPLIES: &str = "ok version 1\n\
-    ok version 2\n\
-    ok version 3\n\
-    version 3 deliver 10.0.0.2:53 1 127.0.0.1:9001 29\n\
-    ok version 4\n\
-    version 4 dropped 10.0.0.2:53 1\n\
-    reclaimed 0 4\n";
-
-const CANARY_SCRIPT: &str = "add 10.0.0.2:53\n\
-    join 10.0.0.2:53 1 127.0.0.1:9001\n\
-    join 10.0.0.2:53 2 127.0.0.1:9002\n\
-    join 10.0.0.2:53 3 127.0.0.1:9003\n\
-    selector 10.0.0.2:53 asm ldx 4*([0]&0xf); ldh [x+0]; jeq #5000,0,1; ret #0; ret #1\n\
-    packet 4500001d00000000401100000a0000010a000002138800350009000061\n\
-    packet 4500001d00002000401100000a0000010a000002138800350009000061\n\
-    selector 10.0.0.2:53 none\n\
-    packet 4500001d00000000401100000a0000010a000002138800350009000061\n\
-    show\n";
-
-const CANARY_REPLIES: &str = "ok version 1\n\
-    ok version 2\n\
-    ok version 3\n\
-    ok version 4\n\
-    ok version 5\n\
-    version 5 deliver 10.0.0.2:53 1 127.0.0.1:9001 29\n\
-    version 5 malformed\n\
-    ok version 6\n\
-    version 6 deliver 10.0.0.2:53 3 127.0.0.1:9003 29\n\
-    version 6 groups 1 members 3 charge 15\n";
+#[test]
+fn reply_is_one_write(rt: HostRuntime) -> Result<(), Fail> {
+    let (_, out, _) = told(rt.alloc(), &["replay"], b"show\nsweep\nshow")?;
+    assert_eq!(rt; out.writes, 3);
+    Ok(())
+}
 
 #[test]
 fn script_through_the_command(rt: HostRuntime) -> Result<(), Fail> {
@@ -114,20 +83,8 @@ fn script_that_cannot_be_read_on(rt: HostRuntime) -> Result<(), Fail> {
 
 #[test]
 fn scripts_of_the_examples(rt: HostRuntime) -> Result<(), Fail> {
-    assert_told(
-        &rt,
-        rt.alloc(),
-        &["replay"],
-        FILTER_SCRIPT,
-        0,
-        FILTER_REPLIES,
-    )?;
-    assert_told(
-        &rt,
-        rt.alloc(),
-        &["replay"],
-        CANARY_SCRIPT,
-        0,
-        CANARY_REPLIES,
-    )
+    for (script, replies) in SCRIPTS {
+        assert_told(&rt, rt.alloc(), &["replay"], script, 0, replies)?;
+    }
+    Ok(())
 }

@@ -2,7 +2,7 @@ use Rattle.std.proofs.Common.{◌≡◌, ◌∙◌, ◌++◌, List, ap, arith, l
 use Rattle.std.proofs.lemmas.List.{length-map}
 use Rattle.dispatch.specs.declared.tally.TheConstants.{COUNTERS}
 use Rattle.dispatch.specs.Tally.{CounterValue}
-use Rattle.switchd.proofs.FloodLemmas.{FloodDone, all_counters, counter_of, flooded, run_of}
+use Rattle.switchd.proofs.FloodLemmas.{FloodDone, all_counters, counter_of, flooded, run_of, starting_workers}
 use Rattle.switchd.proofs.flood.count_all.Goals as goal
 
 pub gather-requires : goal.gather-requires
@@ -25,4 +25,5 @@ returns-clause-totals g c =
     let left : List CounterValue = c.jobs.new.counters.items in let dones : List FloodDone = c.in_ok-dones.dones.items in
     let all_is = c.take_back.ensures.counters ∙ ap (λ (kept : List CounterValue). kept ++ map counter_of dones) c.in_ok-reserve.ensures.items in
     flooded table left c.take_back.new.counters.items dones all_is (made.new table opened.each) c.args.workers c.args.datagrams _
-    (made.starts table opened.each) (run_of c.in_ok-jobs.jobs.items dones ended.done_by_batches made.buffers) c.gather.result c.gather.ensures.sum_exact
+    (made.starts table opened.each) (run_of c.in_ok-jobs.jobs.items dones ended.done_by_batches made.buffers)
+    _ (starting_workers _ c.in_ok-jobs.jobs.items (made.workers _ c.in_ok-operator.ensures.opening)) c.gather.result c.gather.ensures.sum_exact

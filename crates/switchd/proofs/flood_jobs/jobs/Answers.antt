@@ -2,7 +2,7 @@ use Rattle.std.proofs.Common.{◌∙◌, ◌+◌, ◌++◌, ◌∷◌, List, Som
 use Rattle.std.proofs.lemmas.List.{map-append}
 use Rattle.std.proofs.lemmas.List.Elements.{All-pop, All-push, All-same}
 use Rattle.dispatch.specs.Device.{SourceValue}
-use Rattle.switchd.specs.Flood.{AreStartsOf, HasRoom, IsNew}
+use Rattle.switchd.specs.Flood.{AreStartsOf, HasRoom, IsNew, IsNewWorker}
 use Rattle.switchd.proofs.FloodLemmas.{FloodJob, start_of, starts_more}
 use Rattle.switchd.proofs.flood_jobs.jobs.Goals as goal
 
@@ -24,5 +24,11 @@ loop-place-preserved c =
             subst (AreStartsOf table c.args.workers c.args.datagrams (place + 1)) (sym (ap (map start_of) pushed.items ∙ map-append start_of jobs (job ∷ [])))
                 (starts_more table c.args.workers c.args.datagrams place (map start_of jobs) (start_of job) (before.4 table new).1
                 (made.counter ∙ popped.1) (ap (λ (d : List (List ℕ)). let value : SourceValue = record { failures = 0; coming = Some d } in value) made.share) made.empty),
+          ),
+      λ versions new.
+          let popped = All-pop (IsNewWorker versions) c.loop-place.seats.items c.pop.new.self.items (Some c.in-Some-Some.worker) c.in-Some-Some.ensures.items (before.5 versions new).0 in (
+            popped.0,
+            All-same (λ (j : FloodJob). IsNewWorker versions j.worker) c.push.new.self.items (jobs ++ job ∷ []) pushed.items
+                (All-push (λ (j : FloodJob). IsNewWorker versions j.worker) jobs job (before.5 versions new).1 (subst (IsNewWorker versions) (sym made.worker) popped.1)),
           ),
     )

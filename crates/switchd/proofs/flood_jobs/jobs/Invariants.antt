@@ -1,7 +1,7 @@
 use Rattle.std.proofs.Common.{◌≡◌, ◌+◌, length, map, vec_len}
 use Rattle.std.specs.List.{All}
 use Rattle.atomic_table.specs.Seated.{TableId}
-use Rattle.switchd.specs.Flood.{AreStartsOf, HasRoom, IsNew, parts_of}
+use Rattle.switchd.specs.Flood.{AreStartsOf, HasRoom, IsNew, IsNewWorker, parts_of}
 use Rattle.switchd.proofs.flood_jobs.jobs.Given as goal
 
 abbrev pub invariant-loop-place : goal.invariant-loop-place
@@ -12,3 +12,5 @@ invariant-loop-place l =
     × All (λ job. HasRoom (length job.buffer.items) job.limit) l.jobs.items
     × ((table : TableId) → All (IsNew table) l.fn.counters.items → All (IsNew table) l.counters.items
     × AreStartsOf table l.workers l.datagrams l.place (map (λ job. parts_of job.worker job.counter job.source job.outbox) l.jobs.items))
+    × ((versions : TableId) → All (IsNewWorker versions) l.fn.seats.items → All (IsNewWorker versions) l.seats.items
+    × All (λ job. IsNewWorker versions job.worker) l.jobs.items)

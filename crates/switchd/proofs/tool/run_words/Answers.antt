@@ -1,11 +1,12 @@
-use Rattle.std.proofs.Common.{◌∙◌, Err, Ok, Result, inl, inr, map, string_bytes, sym, ◌≡◌}
+use Rattle.std.proofs.Common.{◌∙◌, Err, Ok, Result, ap, inl, inr, map, string_bytes, sym, ◌≡◌}
 use Rattle.clap.specs.Words.{kind_of}
 use Rattle.switchd.specs.declared.ending.Failure.{Failure}
 use Rattle.switchd.specs.declared.ending.Failure.TheVariants.{OutOfMemory}
 use Rattle.switchd.specs.declared.ending.Status.{Status}
 use Rattle.switchd.specs.declared.ending.Status.TheVariants.{Misused}
 use Rattle.clap.specs.declared.error.kind.ErrorKind.TheVariants as kind
-use Rattle.switchd.specs.Request.{MayFailBy}
+use Rattle.switchd.specs.Request.{MayFailBy, WritesBeforeBy}
+use Rattle.switchd.proofs.RepliesLemmas.{before_text}
 use Rattle.switchd.proofs.RequestLemmas.{text_may_fail}
 use Rattle.switchd.proofs.StopLemmas.{stopped_as}
 use Rattle.switchd.proofs.tool.run_words.Goals as goal
@@ -14,7 +15,7 @@ pub returns-in_ok-answer-in-Err-clause-misused : goal.returns-in_ok-answer-in-Er
 returns-in_ok-answer-in-Err-clause-misused g c = λ ended.
     let status : ◌≡◌ {A = Result Status Failure} (Ok c.in_ok-answer-in-Err.field-0) (Ok Misused) = cc in
     elim c.in-Err.ensures.faults [
-      | inl no_memory ↦ let failed : ◌≡◌ {A = Result Status Failure} (Err OutOfMemory) (Ok Misused) = sym (c.in_ok-answer-in-Err.ensures.no_memory no_memory) ∙ status in cc
+      | inl no_memory ↦ let failed : ◌≡◌ {A = Result Status Failure} (Err OutOfMemory) (Ok Misused) = sym (c.in_ok-answer-in-Err.ensures.no_memory no_memory).0 ∙ status in cc
       | inr among ↦ let asked = c.in_ok-answer-in-Err.ensures.misused status in (kind_of c.in-Err.fault, among, asked.0, asked.1)
     ]
 
@@ -23,6 +24,15 @@ returns-in_err-answer-in-Err-clause-failed g c =
     let words = map string_bytes c.args.words.now in
     let told = c.in_err-answer-in-Err.ensures in
     let failure : Failure = c.in_err-answer-in-Err.field-0.0 in
-    let memory : kind_of c.in-Err.fault ≡ kind.OutOfMemory → failure ≡ OutOfMemory = λ e. let same : ◌≡◌ {A = Result Status Failure} (Err failure) (Err OutOfMemory) = told.no_memory e in cc in
+    let memory : kind_of c.in-Err.fault ≡ kind.OutOfMemory → failure ≡ OutOfMemory = λ e. let same : ◌≡◌ {A = Result Status Failure} (Err failure) (Err OutOfMemory) = (told.no_memory e).0 in cc in
     stopped_as c.from_residual.result (λ (f : Failure). MayFailBy words f × (c.answer.new.errs ≡ c.args.errs.now)) failure c.from_residual.ensures.1
     (text_may_fail words c.in-Err.fault failure c.in-Err.ensures.faults told.failed memory, told.untold)
+
+pub returns-in_err-answer-in-Err-clause-failed_written : goal.returns-in_err-answer-in-Err-clause-failed_written
+returns-in_err-answer-in-Err-clause-failed_written g c =
+    let words = map string_bytes c.args.words.now in
+    let told = c.in_err-answer-in-Err.ensures in
+    let failure : Failure = c.in_err-answer-in-Err.field-0.0 in
+    let memory : kind_of c.in-Err.fault ≡ kind.OutOfMemory → failure ≡ OutOfMemory = λ e. let same : ◌≡◌ {A = Result Status Failure} (Err failure) (Err OutOfMemory) = (told.no_memory e).0 in cc in
+    stopped_as c.from_residual.result (λ (f : Failure). WritesBeforeBy words f (g.R.Read.remaining c.args.input) (g.W.Write.contents c.args.out.now) (g.W.Write.contents c.answer.new.out)) failure c.from_residual.ensures.1
+    (before_text words c.in-Err.fault failure (g.R.Read.remaining c.args.input) (g.W.Write.contents c.args.out.now) (g.W.Write.contents c.answer.new.out) c.in-Err.ensures.faults memory (λ e. ap (λ out. g.W.Write.contents out) (told.no_memory e).1))

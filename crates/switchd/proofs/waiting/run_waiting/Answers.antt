@@ -5,8 +5,9 @@ use Rattle.switchd.specs.declared.ending.Status.{Status}
 use Rattle.switchd.specs.declared.ending.Status.TheVariants.{Done, Failed, Misused}
 use Rattle.switchd.specs.declared.waiting.TheConstants.{DATAGRAMS}
 use Rattle.switchd.specs.CommandLine.{request_of}
+use Rattle.switchd.specs.Ending.{AppendsBeginning, line_of}
 use Rattle.switchd.specs.Flood.{WritesFlood}
-use Rattle.switchd.specs.Waiting.{TellsWaitingFailure}
+use Rattle.switchd.specs.Waiting.{EndsInWaitingFailure}
 use Rattle.switchd.proofs.waiting.run_waiting.Goals as goal
 use Rattle.switchd.proofs.waiting.run_waiting.Goals.{in-Err, in-Ok-Flood}
 
@@ -32,8 +33,14 @@ returns-clause-misused g c = λ ended. elim c.match-read_words.branch [
 
 pub returns-clause-failed : goal.returns-clause-failed
 returns-clause-failed g c = λ ended. elim c.match-read_words.branch [
-  | in-Ok-Flood w ↦ subst (λ errs. TellsWaitingFailure (g.E.Write.contents c.args.errs.now) (g.E.Write.contents errs)) (sym w.errs-is)
-      (w.run_flood.ensures.failed (sym w.result-is ∙ ended))
-  | in-Err w ↦ subst (λ errs. TellsWaitingFailure (g.E.Write.contents c.args.errs.now) (g.E.Write.contents errs)) (sym w.errs-is)
-      (OutOfMemory, (λ e. cc), w.report.ensures.told)
+  | in-Ok-Flood w ↦
+      subst (λ out. EndsInWaitingFailure (g.W.Write.contents c.args.out.now) (g.W.Write.contents out) (g.E.Write.contents c.args.errs.now) (g.E.Write.contents _)) (sym w.out-is)
+      (subst (λ errs. EndsInWaitingFailure (g.W.Write.contents c.args.out.now) (g.W.Write.contents w.run_flood.new.out) (g.E.Write.contents c.args.errs.now) (g.E.Write.contents errs)) (sym w.errs-is)
+      (w.run_flood.ensures.failed (sym w.result-is ∙ ended)))
+  | in-Err w ↦ record {
+    failure = OutOfMemory;
+    no_read = λ e. cc;
+    written = λ e. ap (λ out. g.W.Write.contents out) w.out-is;
+    told = subst (λ errs. AppendsBeginning (g.E.Write.contents c.args.errs.now) (g.E.Write.contents errs) (line_of OutOfMemory)) (sym w.errs-is) w.report.ensures.told;
+  }
 ]
