@@ -6,10 +6,10 @@ use Rattle.bpf_asm.proofs.TargetLemmas.{no_targets_fault, one_code}
 use Rattle.bpf_asm.proofs.TextLemmas.{forms_bad, forms_first, forms_good, forms_none, lines_unique}
 use Rattle.bpf_asm.specs.Assembly.{Assembles, HasFaultOfLines, HasNotBoth, HasOneFault, HasOneValue, IsFaultOf, IsFaultOrMemory, IsFirstOutOfForm, IsLines, fault_of_lines, places_of}
 use Rattle.bpf_asm.specs.Line.{lines_of}
-use Rattle.bpf_asm.specs.Reading.{forms_fault, lines_read}
+use Rattle.bpf_asm.specs.body.Reading.{forms_fault, lines_read}
 use Rattle.bpf_asm.specs.Statement.{Line, Statement, Target, branch, goes_to, jump, plain, skips}
 use Rattle.bpf_asm.specs.Target.{FARTHEST, FARTHEST_BRANCH, IsCode, count_of, defines_again, doubles_fault, first_of, place_fault, statement_fault, statements_of, target_fault, targets_fault, with_name}
-use Rattle.bpf_asm.specs.View.{UnlessMemory}
+use Rattle.bpf_asm.specs.body.View.{UnlessMemory}
 
 -- the fault of a text, as it is found
 abbrev pub found_fault : List ℕ → Option AsmFault

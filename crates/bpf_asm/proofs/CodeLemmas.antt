@@ -5,10 +5,10 @@ use Rattle.std.proofs.lemmas.List.{append-nil, length_push}
 use Rattle.bpf_insn.specs.Word.{word_of}
 use Rattle.bpf_asm.specs.declared.fault.AsmFault.{AsmFault}
 use Rattle.bpf_asm.specs.Line.{lines_of}
-use Rattle.bpf_asm.specs.Reading.{line_at}
+use Rattle.bpf_asm.specs.body.Reading.{line_at}
 use Rattle.bpf_asm.specs.Statement.{Line, Statement}
 use Rattle.bpf_asm.specs.Target.{IsCode, count_of, first_of, statement_fault, statements_of, targets_fault, with_statement}
-use Rattle.bpf_asm.specs.View.{AddsWord, lines_left}
+use Rattle.bpf_asm.specs.body.View.{AddsWord, lines_left}
 
 -- the lines that are left of a text
 abbrev pub lines_at : Option (Bor (List ℕ)) → List Line

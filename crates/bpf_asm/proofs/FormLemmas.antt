@@ -4,7 +4,7 @@ use Rattle.std.specs.Str.{bytes_eq}
 use Rattle.std.proofs.lemmas.Bool.{and_parts, eqb-true}
 use Rattle.std.proofs.lemmas.Option.{cond_some}
 use Rattle.std.proofs.lemmas.Slice.Eq.{bytes_eq-Decides}
-use Rattle.bpf_asm.specs.Reading.{Form, absolute_form, after_mark, after_number, after_word, bracket_in, cell_form, cell_or, closed_in, constant_form, form_in, header_form, header_in, indexed_form, indexed_or, marked_in, name_form, named_in, nothing, skip_form, ◌>>=◌}
+use Rattle.bpf_asm.specs.body.Reading.{Form, absolute_form, after_mark, after_number, after_word, bracket_in, cell_form, cell_or, closed_in, constant_form, form_in, header_form, header_in, indexed_form, indexed_or, marked_in, name_form, named_in, nothing, skip_form, ◌>>=◌}
 use Rattle.bpf_asm.specs.Statement.{absolute, cell, constant, header, indexed}
 use Rattle.bpf_asm.specs.Token.{Token, mark, number, stray, word}
 

@@ -11,7 +11,7 @@ use Rattle.bpf_insn.specs.declared.instruction.Operand.TheVariants.{K, X}
 use Rattle.bpf_insn.specs.declared.instruction.Test.{Test}
 use Rattle.bpf_insn.specs.declared.instruction.Test.TheVariants.{CommonBit, Equal, Greater, GreaterOrEqual}
 use Rattle.bpf_asm.proofs.FormLemmas.{by_name, form_tokens, nothing_found}
-use Rattle.bpf_asm.specs.Reading.{Form, absolute_form, alone, cell_form, cell_operand, constant_form, header_form, indexed_form, insn_in, name_form, nothing, on_name, operand_of, operation_of, operation_or, other_insn, return_of, short_load, skip_form, test_of, word_load, x_load}
+use Rattle.bpf_asm.specs.body.Reading.{Form, absolute_form, alone, cell_form, cell_operand, constant_form, header_form, indexed_form, insn_in, name_form, nothing, on_name, operand_of, operation_of, operation_or, other_insn, return_of, short_load, skip_form, test_of, word_load, x_load}
 use Rattle.bpf_asm.specs.Statement.{SpellsInsn, operand, operation_name, test_name}
 use Rattle.bpf_asm.specs.Token.{word}
 

@@ -11,7 +11,7 @@ use Rattle.bpf_asm.specs.declared.fault.AsmFault.TheVariants.{DoubleLabel}
 use Rattle.bpf_asm.specs.Assembly.{places_of}
 use Rattle.bpf_asm.specs.Statement.{Line, Statement}
 use Rattle.bpf_asm.specs.Target.{count_of, doubles_fault, labels_from, place_in}
-use Rattle.bpf_asm.specs.View.{Defines}
+use Rattle.bpf_asm.specs.body.View.{Defines}
 
 -- the first of two places, none where there is none
 abbrev pub first_place : Option ℕ → Option ℕ → Option ℕ

@@ -9,7 +9,7 @@ use Rattle.std.proofs.lemmas.Fmt.{decimal-digits_value, decimal_digit, decimal_i
 use Rattle.std.proofs.lemmas.List.{drop_more}
 use Rattle.std.proofs.lemmas.Option.{cond_some}
 use Rattle.std.proofs.lemmas.Str.Parse.{IsNumeralModel}
-use Rattle.bpf_asm.specs.Reading.{next_value, number_of, numeral, numeral_after}
+use Rattle.bpf_asm.specs.body.Reading.{next_value, number_of, numeral, numeral_after}
 use Rattle.bpf_asm.specs.Token.{SpellsNumber}
 
 -- behind a digit that is none nothing is read

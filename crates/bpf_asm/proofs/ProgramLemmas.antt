@@ -12,7 +12,7 @@ use Rattle.bpf_asm.proofs.FitLemmas.{fields_fit}
 use Rattle.bpf_asm.proofs.ShownLemmas.{lines_of-line}
 use Rattle.bpf_asm.specs.Assembly.{Assembles, places_of}
 use Rattle.bpf_asm.specs.Line.{lines_of}
-use Rattle.bpf_asm.specs.Reading.{line}
+use Rattle.bpf_asm.specs.body.Reading.{line}
 use Rattle.bpf_asm.specs.Statement.{Line, Spells_line}
 use Rattle.bpf_asm.specs.Target.{IsCode, IsInsnOf, doubles_fault, statements_of}
 use Rattle.bpf_asm.specs.Text.{printed, printed_insn, printed_line}

@@ -8,7 +8,7 @@ use Rattle.std.proofs.lemmas.Bool.{and_from, and_parts, cond-false, cond-true, e
 use Rattle.std.proofs.lemmas.List.{drop_at, length-drop, take-append-drop, take_at}
 use Rattle.bpf_asm.proofs.NumberLemmas.{number-spelled, number_is}
 use Rattle.bpf_asm.proofs.TokenLemmas.{is_ascii_alphanumeric-first, is_in_word-first, tokens_after-drop, tokens_of-first, tokens_of-nil}
-use Rattle.bpf_asm.specs.Reading.{more_of, number_of, number_token, token_at, tokens_after, tokens_of}
+use Rattle.bpf_asm.specs.body.Reading.{more_of, number_of, number_token, token_at, tokens_after, tokens_of}
 use Rattle.bpf_asm.specs.Token.{BeginsWith, IsLongestRun, IsTokens, SpellsToken, Token, begins_word, is_gap, is_in_word, is_mark, mark, number, stray, word}
 
 -- ---- kinds of bytes

@@ -6,7 +6,7 @@ use Rattle.bpf_insn.specs.declared.instruction.Insn.{Insn}
 use Rattle.bpf_insn.specs.declared.instruction.Test.{Test}
 use Rattle.bpf_asm.proofs.FormLemmas.{after_mark_is, bind, by_name, form_is, form_tokens, nothing_found}
 use Rattle.bpf_asm.proofs.InsnLemmas.{insn_is, operand_is, test_is}
-use Rattle.bpf_asm.specs.Reading.{Form, absolute_form, after_mark, at_end, branch_in, branch_or, cell_form, constant_form, far_of, form_in, header_form, indexed_form, insn_in, label_or, line, line_in, name_form, near_in, nothing, operand_of, rest_in, skip_form, statement_in, test_of, unbranched, unbranched_in}
+use Rattle.bpf_asm.specs.body.Reading.{Form, absolute_form, after_mark, at_end, branch_in, branch_or, cell_form, constant_form, far_of, form_in, header_form, indexed_form, insn_in, label_or, line, line_in, name_form, near_in, nothing, operand_of, rest_in, skip_form, statement_in, test_of, unbranched, unbranched_in}
 use Rattle.bpf_asm.specs.Statement.{Line, SpellsParts, SpellsRest, SpellsStatement, Statement, Target, branch, far_target, goes_to, jump, near_target, operand, plain, skips, test_name}
 use Rattle.bpf_asm.specs.Token.{Token, mark, number, stray, word}
 

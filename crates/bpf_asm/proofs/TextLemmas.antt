@@ -6,7 +6,7 @@ use Rattle.bpf_asm.specs.declared.fault.AsmFault.TheVariants.{Syntax}
 use Rattle.bpf_asm.proofs.ReadLemmas.{line_read}
 use Rattle.bpf_asm.proofs.SpelledLemmas.{tokens_read, tokens_spelled}
 use Rattle.bpf_asm.proofs.StatementLemmas.{line_is}
-use Rattle.bpf_asm.specs.Reading.{form_fault, forms_fault, line, line_at, line_in, read_line, tokens_of}
+use Rattle.bpf_asm.specs.body.Reading.{form_fault, forms_fault, line, line_at, line_in, read_line, tokens_of}
 use Rattle.bpf_asm.specs.Statement.{Line, Spells_line}
 use Rattle.bpf_asm.specs.Target.{first_of}
 

@@ -5,7 +5,7 @@ use Rattle.std.specs.Int.{is_in_range}
 use Rattle.std.specs.List.{prefix_len}
 use Rattle.std.proofs.Math.Numerals.{one-add}
 use Rattle.std.proofs.lemmas.Bool.{cond-false, cond-true}
-use Rattle.bpf_asm.specs.Reading.{more_of, number_of, number_token, token_at, tokens_after, tokens_of}
+use Rattle.bpf_asm.specs.body.Reading.{more_of, number_of, number_token, token_at, tokens_after, tokens_of}
 use Rattle.bpf_asm.specs.Token.{begins_word, is_gap, is_in_word, is_mark, mark, stray, word}
 
 -- what is skipped is dropped

@@ -4,8 +4,7 @@ pub mod Statement
 pub mod Target
 pub mod Assembly
 pub mod Text
-pub mod Reading
-pub mod View
+pub mod body
 pub use Rattle.bpf_insn.specs.Table
 pub use Rattle.bpf_insn.specs.Word
 pub use Rattle.bpf_verify.specs.Accepted

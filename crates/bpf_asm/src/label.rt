@@ -5,9 +5,9 @@ ghost use Rattle.std.specs.Map.{update};
 ghost use Rattle.std.specs.Option.{option_map};
 ghost use Rattle.std.specs.Str.{bytes_eq};
 ghost use Rattle.bpf_asm.specs.Assembly.{places_of};
-ghost use Rattle.bpf_asm.specs.Reading.{lines_read};
+ghost use Rattle.bpf_asm.specs.body.Reading.{lines_read};
 ghost use Rattle.bpf_asm.specs.Target.{count_of, doubles_fault};
-ghost use Rattle.bpf_asm.specs.View.{Defines, IsDefinedAgain, UnlessMemory, line_of, place_among};
+ghost use Rattle.bpf_asm.specs.body.View.{Defines, IsDefinedAgain, UnlessMemory, line_of, place_among};
 
 use crate::fault::AsmFault;
 use crate::line::{Line, first_line, line_or_empty};

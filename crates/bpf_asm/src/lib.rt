@@ -44,6 +44,3 @@ pub fn one_value()
     ensures one_fault { HasOneFault }
     ensures not_both { HasNotBoth }
 {}
-
-#[cfg(test)]
-mod tests;

@@ -3,8 +3,8 @@
 ghost use Rattle.std.specs.Prelude.{◌≡◌, ◌∷◌, ◌+◌, ◌≤◌, MatchOption, length};
 ghost use Rattle.std.specs.Option.{option_map};
 ghost use Rattle.bpf_asm.specs.Line.{ends_line, lines_of};
-ghost use Rattle.bpf_asm.specs.Reading.{forms_fault, line_at, read_line, rest_in, tokens_of};
-ghost use Rattle.bpf_asm.specs.View.{fault_in, left_len, line_of, lines_left, statement_of};
+ghost use Rattle.bpf_asm.specs.body.Reading.{forms_fault, line_at, read_line, rest_in, tokens_of};
+ghost use Rattle.bpf_asm.specs.body.View.{fault_in, left_len, line_of, lines_left, statement_of};
 
 use crate::fault::AsmFault;
 use crate::operand::after_mark;
@@ -37,7 +37,7 @@ pub(crate) fn first_line(text: &[u8]) -> (&[u8], Option<&[u8]>)
 }
 
 // An instruction, or nothing.
-#[tactic(auto, unfolding(crate::specs::Reading::rest_in))]
+#[tactic(auto, unfolding(crate::specs::body::Reading::rest_in))]
 fn statement_or_nothing(line: &[u8]) -> Option<Option<Statement<'_>>>
     ensures { option_map (option_map statement_of) result ≡ rest_in (tokens_of line.now) }
 {
@@ -49,7 +49,7 @@ fn statement_or_nothing(line: &[u8]) -> Option<Option<Statement<'_>>>
 }
 
 /// Reads a line, or tells that it is in no form.
-#[tactic(auto, unfolding(crate::specs::Reading::read_line, crate::specs::Reading::line_in))]
+#[tactic(auto, unfolding(crate::specs::body::Reading::read_line, crate::specs::body::Reading::line_in))]
 pub(crate) fn read_line(line: &[u8]) -> Option<Line<'_>>
     ensures { option_map line_of result ≡ read_line line.now }
 {

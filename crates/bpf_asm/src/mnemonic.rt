@@ -2,7 +2,7 @@
 
 ghost use Rattle.std.specs.Prelude.{◌≡◌};
 ghost use Rattle.std.specs.Str.{bytes_eq};
-ghost use Rattle.bpf_asm.specs.Reading.{operation_of, test_of};
+ghost use Rattle.bpf_asm.specs.body.Reading.{operation_of, test_of};
 
 use bpf_insn::{Operation, Test};
 
@@ -13,7 +13,7 @@ pub(crate) fn is_name(word: &[u8], name: &str) -> bool
     word == name.as_bytes()
 }
 
-#[tactic(auto, unfolding(crate::specs::Reading::operation_of))]
+#[tactic(auto, unfolding(crate::specs::body::Reading::operation_of))]
 pub(crate) fn operation_of(name: &[u8]) -> Option<Operation>
     ensures { result ≡ operation_of name.now }
 {
@@ -42,7 +42,7 @@ pub(crate) fn operation_of(name: &[u8]) -> Option<Operation>
     }
 }
 
-#[tactic(auto, unfolding(crate::specs::Reading::test_of))]
+#[tactic(auto, unfolding(crate::specs::body::Reading::test_of))]
 pub(crate) fn test_of(name: &[u8]) -> Option<Test>
     ensures { result ≡ test_of name.now }
 {

@@ -1,7 +1,7 @@
 //! Numbers as they are written: `0`, decimal without a leading zero, or `0x` and hexadecimal digits of either case.
 
 ghost use Rattle.std.specs.Prelude.{◌≡◌, ◌≤◌, ◌^◌, ◌<◌, ◌+◌, ◌*◌};
-ghost use Rattle.bpf_asm.specs.Reading.{next_value, number_of, numeral};
+ghost use Rattle.bpf_asm.specs.body.Reading.{next_value, number_of, numeral};
 
 fn next(value: u32, radix: u32, digit: u8) -> Option<u32>
     requires lower { 2 ≤ radix }
@@ -12,7 +12,7 @@ fn next(value: u32, radix: u32, digit: u8) -> Option<u32>
     value.checked_mul(radix)?.checked_add(digit)
 }
 
-#[tactic(auto, unfolding(crate::specs::Reading::numeral))]
+#[tactic(auto, unfolding(crate::specs::body::Reading::numeral))]
 fn numeral(radix: u32, digits: &[u8]) -> Option<u32>
     requires lower { 2 ≤ radix }
     requires upper { radix ≤ 36 }
@@ -29,7 +29,7 @@ fn numeral(radix: u32, digits: &[u8]) -> Option<u32>
 }
 
 /// Tells the number that a run of letters and digits spells, where it is one below 2^32.
-#[tactic(auto, unfolding(crate::specs::Reading::number_of))]
+#[tactic(auto, unfolding(crate::specs::body::Reading::number_of))]
 pub(crate) fn number_of(run: &[u8]) -> Option<u32>
     ensures { result ≡ number_of run.now }
 {

@@ -2,8 +2,8 @@
 
 ghost use Rattle.std.specs.Prelude.{◌≡◌, codes};
 ghost use Rattle.std.specs.Option.{option_map};
-ghost use Rattle.bpf_asm.specs.Reading.{after_mark, after_number, after_word, bracket_in, closed_in, form_in, header_in, marked_in, named_in, tokens_of};
-ghost use Rattle.bpf_asm.specs.View.{form_of};
+ghost use Rattle.bpf_asm.specs.body.Reading.{after_mark, after_number, after_word, bracket_in, closed_in, form_in, header_in, marked_in, named_in, tokens_of};
+ghost use Rattle.bpf_asm.specs.body.View.{form_of};
 
 use crate::mnemonic::is_name;
 use crate::token::{Token, first_token};
@@ -20,7 +20,7 @@ pub(crate) enum Form<'a> {
     Name(&'a [u8]),
 }
 
-#[tactic(auto, unfolding(crate::specs::Reading::after_mark))]
+#[tactic(auto, unfolding(crate::specs::body::Reading::after_mark))]
 pub(crate) fn after_mark(line: &[u8], mark: u8) -> Option<&[u8]>
     ensures { option_map (λ rest. tokens_of rest.now) result ≡ after_mark mark (tokens_of line.now) }
 {
@@ -30,7 +30,7 @@ pub(crate) fn after_mark(line: &[u8], mark: u8) -> Option<&[u8]>
     }
 }
 
-#[tactic(auto, unfolding(crate::specs::Reading::after_word))]
+#[tactic(auto, unfolding(crate::specs::body::Reading::after_word))]
 fn after_word<'a>(line: &'a [u8], name: &[u8]) -> Option<&'a [u8]>
     ensures { option_map (λ rest. tokens_of rest.now) result ≡ after_word name.now (tokens_of line.now) }
 {
@@ -40,7 +40,7 @@ fn after_word<'a>(line: &'a [u8], name: &[u8]) -> Option<&'a [u8]>
     }
 }
 
-#[tactic(auto, unfolding(crate::specs::Reading::after_number))]
+#[tactic(auto, unfolding(crate::specs::body::Reading::after_number))]
 fn after_number(line: &[u8]) -> Option<(u32, &[u8])>
     ensures { option_map (λ found. (found.0, tokens_of found.1.now)) result ≡ after_number (tokens_of line.now) }
 {
@@ -51,7 +51,7 @@ fn after_number(line: &[u8]) -> Option<(u32, &[u8])>
 }
 
 // `k]`
-#[tactic(auto, unfolding(crate::specs::Reading::closed_in))]
+#[tactic(auto, unfolding(crate::specs::body::Reading::closed_in))]
 fn closed(line: &[u8]) -> Option<(u32, &[u8])>
     ensures { option_map (λ found. (found.0, tokens_of found.1.now)) result ≡ closed_in (tokens_of line.now) }
 {
@@ -60,7 +60,7 @@ fn closed(line: &[u8]) -> Option<(u32, &[u8])>
 }
 
 // `k]` or `x+k]`, behind `[`
-#[tactic(auto, unfolding(crate::specs::Reading::bracket_in))]
+#[tactic(auto, unfolding(crate::specs::body::Reading::bracket_in))]
 fn bracket(line: &[u8]) -> Option<(Form<'_>, &[u8])>
     ensures { option_map (λ found. (form_of found.0, tokens_of found.1.now)) result ≡ bracket_in (tokens_of line.now) }
 {
@@ -77,7 +77,7 @@ fn bracket(line: &[u8]) -> Option<(Form<'_>, &[u8])>
 }
 
 // `*([k]&0xf)`, behind a number that has to be 4
-#[tactic(auto, unfolding(crate::specs::Reading::header_in))]
+#[tactic(auto, unfolding(crate::specs::body::Reading::header_in))]
 fn header(four: u32, line: &[u8]) -> Option<(Form<'_>, &[u8])>
     ensures { option_map (λ found. (form_of found.0, tokens_of found.1.now)) result ≡ header_in four (tokens_of line.now) }
 {
@@ -96,7 +96,7 @@ fn header(four: u32, line: &[u8]) -> Option<(Form<'_>, &[u8])>
 }
 
 // A word: `M` before `[k]`, or a name that stands alone.
-#[tactic(auto, unfolding(crate::specs::Reading::named_in))]
+#[tactic(auto, unfolding(crate::specs::body::Reading::named_in))]
 fn named<'a>(name: &'a [u8], line: &'a [u8]) -> Option<(Form<'a>, &'a [u8])>
     ensures { option_map (λ found. (form_of found.0, tokens_of found.1.now)) result ≡ named_in name.now (tokens_of line.now) }
 {
@@ -112,7 +112,7 @@ fn named<'a>(name: &'a [u8], line: &'a [u8]) -> Option<(Form<'a>, &'a [u8])>
     }
 }
 
-#[tactic(auto, unfolding(crate::specs::Reading::marked_in))]
+#[tactic(auto, unfolding(crate::specs::body::Reading::marked_in))]
 fn marked(mark: u8, line: &[u8]) -> Option<(Form<'_>, &[u8])>
     ensures { option_map (λ found. (form_of found.0, tokens_of found.1.now)) result ≡ marked_in mark (tokens_of line.now) }
 {
@@ -128,7 +128,7 @@ fn marked(mark: u8, line: &[u8]) -> Option<(Form<'_>, &[u8])>
 }
 
 /// Reads the operand at the front of a line, and gives the rest. A label of a jump is an operand too.
-#[tactic(auto, unfolding(crate::specs::Reading::form_in))]
+#[tactic(auto, unfolding(crate::specs::body::Reading::form_in))]
 pub(crate) fn operand_form(line: &[u8]) -> Option<(Form<'_>, &[u8])>
     ensures { option_map (λ found. (form_of found.0, tokens_of found.1.now)) result ≡ form_in (tokens_of line.now) }
 {

@@ -2,8 +2,8 @@
 
 ghost use Rattle.std.specs.Prelude.{◌≡◌};
 ghost use Rattle.std.specs.Option.{option_map};
-ghost use Rattle.bpf_asm.specs.Reading.{alone, branch_in, cell_operand, far_of, insn_in, near_in, operand_of, other_insn, return_of, short_load, statement_in, tokens_of, unbranched, word_load, x_load};
-ghost use Rattle.bpf_asm.specs.View.{form_of, statement_of, target_of};
+ghost use Rattle.bpf_asm.specs.body.Reading.{alone, branch_in, cell_operand, far_of, insn_in, near_in, operand_of, other_insn, return_of, short_load, statement_in, tokens_of, unbranched, word_load, x_load};
+ghost use Rattle.bpf_asm.specs.body.View.{form_of, statement_of, target_of};
 
 use crate::mnemonic::{is_name, operation_of, test_of};
 use crate::operand::{Form, after_mark, operand_form};
@@ -25,7 +25,7 @@ pub(crate) enum Statement<'a> {
     Branch(Test, Operand, Target<'a>, Target<'a>),
 }
 
-#[tactic(auto, unfolding(crate::specs::Reading::word_load))]
+#[tactic(auto, unfolding(crate::specs::body::Reading::word_load))]
 fn word_load(form: Form) -> Option<Insn>
     ensures { result ≡ word_load (form_of form.entry) }
 {
@@ -39,7 +39,7 @@ fn word_load(form: Form) -> Option<Insn>
     }
 }
 
-#[tactic(auto, unfolding(crate::specs::Reading::short_load))]
+#[tactic(auto, unfolding(crate::specs::body::Reading::short_load))]
 fn short_load(size: Size, form: Form) -> Option<Insn>
     ensures { result ≡ short_load size (form_of form.entry) }
 {
@@ -50,7 +50,7 @@ fn short_load(size: Size, form: Form) -> Option<Insn>
     }
 }
 
-#[tactic(auto, unfolding(crate::specs::Reading::x_load))]
+#[tactic(auto, unfolding(crate::specs::body::Reading::x_load))]
 fn x_load(form: Form) -> Option<Insn>
     ensures { result ≡ x_load (form_of form.entry) }
 {
@@ -63,7 +63,7 @@ fn x_load(form: Form) -> Option<Insn>
     }
 }
 
-#[tactic(auto, unfolding(crate::specs::Reading::cell_operand))]
+#[tactic(auto, unfolding(crate::specs::body::Reading::cell_operand))]
 fn cell_of(form: Form) -> Option<u32>
     ensures { result ≡ cell_operand (form_of form.entry) }
 {
@@ -73,7 +73,7 @@ fn cell_of(form: Form) -> Option<u32>
     }
 }
 
-#[tactic(auto, unfolding(crate::specs::Reading::return_of))]
+#[tactic(auto, unfolding(crate::specs::body::Reading::return_of))]
 fn return_of(form: Form) -> Option<Insn>
     ensures { result ≡ return_of (form_of form.entry) }
 {
@@ -84,7 +84,7 @@ fn return_of(form: Form) -> Option<Insn>
     }
 }
 
-#[tactic(auto, unfolding(crate::specs::Reading::operand_of))]
+#[tactic(auto, unfolding(crate::specs::body::Reading::operand_of))]
 fn operand_of(form: Form) -> Option<Operand>
     ensures { result ≡ operand_of (form_of form.entry) }
 {
@@ -95,7 +95,7 @@ fn operand_of(form: Form) -> Option<Operand>
     }
 }
 
-#[tactic(auto, unfolding(crate::specs::Reading::alone))]
+#[tactic(auto, unfolding(crate::specs::body::Reading::alone))]
 fn alone(insn: Insn, form: Form) -> Option<Insn>
     ensures { result ≡ alone insn (form_of form.entry) }
 {
@@ -106,7 +106,7 @@ fn alone(insn: Insn, form: Form) -> Option<Insn>
 }
 
 // An instruction that is no jump and no operation with an operand.
-#[tactic(auto, unfolding(crate::specs::Reading::other_insn))]
+#[tactic(auto, unfolding(crate::specs::body::Reading::other_insn))]
 fn other_insn(name: &[u8], form: Form) -> Option<Insn>
     ensures { result ≡ other_insn name.now (form_of form.entry) }
 {
@@ -135,7 +135,7 @@ fn other_insn(name: &[u8], form: Form) -> Option<Insn>
     }
 }
 
-#[tactic(auto, unfolding(crate::specs::Reading::insn_in))]
+#[tactic(auto, unfolding(crate::specs::body::Reading::insn_in))]
 fn insn_of(name: &[u8], form: Form) -> Option<Insn>
     ensures { result ≡ insn_in name.now (form_of form.entry) }
 {
@@ -145,7 +145,7 @@ fn insn_of(name: &[u8], form: Form) -> Option<Insn>
     }
 }
 
-#[tactic(auto, unfolding(crate::specs::Reading::far_of))]
+#[tactic(auto, unfolding(crate::specs::body::Reading::far_of))]
 fn far_target(form: Form<'_>) -> Option<Target<'_>>
     ensures { option_map target_of result ≡ far_of (form_of form.entry) }
 {
@@ -156,7 +156,7 @@ fn far_target(form: Form<'_>) -> Option<Target<'_>>
     }
 }
 
-#[tactic(auto, unfolding(crate::specs::Reading::near_in))]
+#[tactic(auto, unfolding(crate::specs::body::Reading::near_in))]
 fn near_target(line: &[u8]) -> Option<(Target<'_>, &[u8])>
     ensures { option_map (λ found. (target_of found.0, tokens_of found.1.now)) result ≡ near_in (tokens_of line.now) }
 {
@@ -167,7 +167,7 @@ fn near_target(line: &[u8]) -> Option<(Target<'_>, &[u8])>
     }
 }
 
-#[tactic(auto, unfolding(crate::specs::Reading::branch_in))]
+#[tactic(auto, unfolding(crate::specs::body::Reading::branch_in))]
 fn branch(test: Test, line: &[u8]) -> Option<Statement<'_>>
     ensures { option_map statement_of result ≡ branch_in test (tokens_of line.now) }
 {
@@ -181,7 +181,7 @@ fn branch(test: Test, line: &[u8]) -> Option<Statement<'_>>
     }
 }
 
-#[tactic(auto, unfolding(crate::specs::Reading::unbranched))]
+#[tactic(auto, unfolding(crate::specs::body::Reading::unbranched))]
 fn unbranched<'a>(name: &[u8], form: Form<'a>) -> Option<Statement<'a>>
     ensures { option_map statement_of result ≡ unbranched name.now (form_of form.entry) }
 {
@@ -193,7 +193,7 @@ fn unbranched<'a>(name: &[u8], form: Form<'a>) -> Option<Statement<'a>>
 }
 
 /// Reads the instruction of a mnemonic and of the line behind it.
-#[tactic(auto, unfolding(crate::specs::Reading::unbranched_in, crate::specs::Reading::statement_in))]
+#[tactic(auto, unfolding(crate::specs::body::Reading::unbranched_in, crate::specs::body::Reading::statement_in))]
 pub(crate) fn read_statement<'a>(name: &[u8], line: &'a [u8]) -> Option<Statement<'a>>
     ensures { option_map statement_of result ≡ statement_in name.now (tokens_of line.now) }
 {

@@ -2,9 +2,9 @@
 
 ghost use Rattle.std.specs.Prelude.{◌≡◌, ◌+◌, ◌^◌, ◌<◌, ◌≤◌, IfErr, IfOk, None, OnOk, Some, length};
 ghost use Rattle.std.specs.Option.{option_map};
-ghost use Rattle.bpf_asm.specs.Reading.{lines_read};
+ghost use Rattle.bpf_asm.specs.body.Reading.{lines_read};
 ghost use Rattle.bpf_asm.specs.Target.{IsCode, IsInsnOf, IsOffset, statement_fault, statements_of, target_fault, targets_fault};
-ghost use Rattle.bpf_asm.specs.View.{AddsWord, UnlessMemory, distance_to, place_among, statement_of, target_of};
+ghost use Rattle.bpf_asm.specs.body.View.{AddsWord, UnlessMemory, distance_to, place_among, statement_of, target_of};
 
 use crate::fault::AsmFault;
 use crate::label::Labels;

@@ -2,9 +2,9 @@
 
 ghost use Rattle.std.specs.Prelude.{◌≡◌, ◌∷◌, ◌≤◌, MatchOption, [], drop, length, take};
 ghost use Rattle.std.specs.List.{prefix_len};
-ghost use Rattle.bpf_asm.specs.Reading.{number_of, number_token, tokens_of};
+ghost use Rattle.bpf_asm.specs.body.Reading.{number_of, number_token, tokens_of};
 ghost use Rattle.bpf_asm.specs.Token.{begins_word, is_gap, is_mark};
-ghost use Rattle.bpf_asm.specs.View.{is_of, token_of};
+ghost use Rattle.bpf_asm.specs.body.View.{is_of, token_of};
 
 use crate::number::number_of;
 

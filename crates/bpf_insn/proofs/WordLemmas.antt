@@ -12,7 +12,7 @@ use Rattle.bpf_insn.specs.declared.instruction.Test.TheVariants.{CommonBit, Equa
 use Rattle.bpf_insn.specs.declared.instruction.WordFault.{WordFault}
 use Rattle.bpf_insn.specs.declared.instruction.WordFault.TheVariants.{BadOpcode, StrayField}
 use Rattle.bpf_insn.specs.declared.decoding.Decoded.{Decoded}
-use Rattle.bpf_insn.specs.Decoded.{decoded_with, tested}
+use Rattle.bpf_insn.specs.body.Decoded.{decoded_with, tested}
 use Rattle.bpf_insn.specs.Table.{Entry, Uses, instruction_with, table, unused_sum, uses_in, uses_of}
 use Rattle.bpf_insn.specs.Word.{FieldsFit, IsInstructionWord, code_of, constant_of, false_jump_of, fields_instruction, instruction_of, true_jump_of, word, word_of}
 

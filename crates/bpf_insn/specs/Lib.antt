@@ -1,3 +1,3 @@
 pub mod Table
 pub mod Word
-pub mod Decoded
+pub mod body

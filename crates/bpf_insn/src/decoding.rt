@@ -5,7 +5,7 @@ ghost use Rattle.std.specs.Int.{from_be_bytes, to_be_bytes, w64};
 ghost use Rattle.bpf_insn.specs.declared.instruction.Insn.TheVariants.{JumpIf};
 ghost use Rattle.bpf_insn.specs.Table.{uses_of};
 ghost use Rattle.bpf_insn.specs.Word.{IsInstructionWord, ReadsInstructionWords, code_of, constant_of, false_jump_of, instruction_of, true_jump_of, word_of};
-ghost use Rattle.bpf_insn.specs.Decoded.{decoded_with, tested};
+ghost use Rattle.bpf_insn.specs.body.Decoded.{decoded_with, tested};
 
 use crate::instruction::{Insn, Offsets, Operand, Operation, Size, Test, WordFault};
 

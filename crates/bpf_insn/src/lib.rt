@@ -12,6 +12,3 @@ mod word_list;
 pub use decoding::instruction_words;
 pub use instruction::{Insn, Offsets, Operand, Operation, Size, Test, WordFault};
 pub use word_list::Words;
-
-#[cfg(test)]
-mod tests;

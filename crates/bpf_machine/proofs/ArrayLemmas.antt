@@ -8,10 +8,10 @@ use Rattle.bpf_insn.specs.declared.instruction.Size.TheVariants.{Byte}
 use Rattle.bpf_machine.specs.declared.execute.TheConstants.{CELL_COUNT}
 use Rattle.bpf_verify.specs.Path.{IsAt}
 use Rattle.bpf_verify.specs.Accepted.{IsAccepted}
-use Rattle.bpf_verify.specs.Pass.{HasCell}
+use Rattle.bpf_verify.specs.body.Pass.{HasCell}
 use Rattle.bpf_machine.specs.Meaning.{Cells, Effect, Ret, Run, Stuck, a_or_end, a_or_stuck, computed, effect, ends, goes_on, header_length, no_cells, one_more, operand_value, run_after, with_cell, x_or_end, x_or_stuck}
-use Rattle.bpf_machine.specs.ArrayMachine.{ArrayEffect, array_effect}
-use Rattle.bpf_machine.specs.ArrayMachine as array
+use Rattle.bpf_machine.specs.body.ArrayMachine.{ArrayEffect, array_effect}
+use Rattle.bpf_machine.specs.body.ArrayMachine as array
 use Rattle.bpf_machine.specs.Packet.{packet_number}
 use Rattle.bpf_machine.proofs.RunLemmas.{run_from, run_from-ends, run_from-goes_on}
 use Rattle.bpf_machine.proofs.SafeLemmas.{IsSafe, safe_first, safe_next, safe_not_stuck}

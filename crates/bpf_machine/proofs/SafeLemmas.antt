@@ -9,7 +9,7 @@ use Rattle.bpf_insn.specs.Word.{IsInstructionWord}
 use Rattle.bpf_insn.proofs.WordLemmas.{instruction_of-sound}
 use Rattle.bpf_verify.specs.Path.{IsAt, IsPath, IsStoredOn, Loads, Stores, StoresAt, program_at, successors}
 use Rattle.bpf_verify.specs.Accepted.{IsAccepted, instruction_fault}
-use Rattle.bpf_verify.specs.Pass.{HasCell}
+use Rattle.bpf_verify.specs.body.Pass.{HasCell}
 use Rattle.bpf_verify.proofs.CellLemmas.{has_cell}
 use Rattle.bpf_verify.proofs.PathLemmas.{IsPath-append}
 use Rattle.bpf_verify.proofs.PlaceLemmas.{IsAt-unique, faultless_at, length-program_at, slice_get-program_at, successors_inside}

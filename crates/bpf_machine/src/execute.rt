@@ -2,9 +2,9 @@
 
 ghost use Rattle.std.specs.Prelude.{◌≡◌, ◌≤◌, if◌then◌else◌, length};
 ghost use Rattle.bpf_machine.specs.declared.execute.Next.TheVariants.{Skip};
-ghost use Rattle.bpf_verify.specs.Pass.{HasCell};
-ghost use Rattle.bpf_machine.specs.ArrayMachine.{a_or_end, array_effect, x_or_end};
-ghost use Rattle.bpf_machine.specs.Next.{effect_of};
+ghost use Rattle.bpf_verify.specs.body.Pass.{HasCell};
+ghost use Rattle.bpf_machine.specs.body.ArrayMachine.{a_or_end, array_effect, x_or_end};
+ghost use Rattle.bpf_machine.specs.body.Next.{effect_of};
 
 use crate::MAX_PACKET;
 use crate::arithmetic::{compute, negative, operand_value};

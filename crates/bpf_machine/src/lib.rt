@@ -6,7 +6,7 @@ ghost use Rattle.std.specs.Prelude.{◌≡◌, ◌+◌, ◌<◌, ◌≤◌, ◌^
 ghost use Rattle.bpf_verify.specs.Path.{IsAt, program_at};
 ghost use Rattle.bpf_verify.specs.Accepted.{IsAccepted};
 ghost use Rattle.bpf_machine.specs.Meaning.{IsSound, MeansByFirstWord, Ret, cost_of, ending_of};
-ghost use Rattle.bpf_verify.specs.Pass.{HasCell};
+ghost use Rattle.bpf_verify.specs.body.Pass.{HasCell};
 
 mod arithmetic;
 mod execute;
@@ -90,6 +90,3 @@ pub fn meaning_by_first_word()
 pub fn sound()
     ensures { (program packet : List ℕ) → IsAccepted program → IsSound program packet }
 {}
-
-#[cfg(test)]
-mod tests;

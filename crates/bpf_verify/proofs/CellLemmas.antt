@@ -10,7 +10,7 @@ use Rattle.bpf_insn.specs.declared.instruction.Insn.TheVariants.{LoadCell, LoadX
 use Rattle.bpf_verify.specs.declared.TheConstants.{CELLS}
 use Rattle.bpf_verify.specs.Path.{Loads, Stores}
 use Rattle.bpf_verify.specs.Accepted.{instruction_fault}
-use Rattle.bpf_verify.specs.Pass.{FindsCell, HasCell, cells_after, joined, joined_at}
+use Rattle.bpf_verify.specs.body.Pass.{FindsCell, HasCell, cells_after, joined, joined_at}
 use Rattle.bpf_verify.proofs.PlaceLemmas.{contains-cons, true_from_none}
 
 -- ---- the cell of an instruction

@@ -5,7 +5,7 @@ use Rattle.bpf_insn.specs.declared.instruction.Insn.{Insn}
 use Rattle.bpf_verify.specs.declared.TheConstants.{MAX_INSTRUCTIONS}
 use Rattle.bpf_verify.specs.Path.{IsAt, IsReturn, successors}
 use Rattle.bpf_verify.specs.Accepted.{IsAccepted, IsFaultless, IsFaultlessBelow}
-use Rattle.bpf_verify.specs.Pass.{IsFaultlessInstruction, NotesLoad, cells_after, joined_at}
+use Rattle.bpf_verify.specs.body.Pass.{IsFaultlessInstruction, NotesLoad, cells_after, joined_at}
 use Rattle.bpf_verify.proofs.CellLemmas.{has_cell}
 use Rattle.bpf_verify.proofs.PlaceLemmas.{successors_below}
 use Rattle.bpf_verify.proofs.StoredLemmas.{IsFirstUnstored, TellsPaths, first_unstored_next, tells_next, tells_none}

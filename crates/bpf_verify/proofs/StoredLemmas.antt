@@ -8,7 +8,7 @@ use Rattle.std.proofs.lemmas.Nat.Bits.{bit_at-zero, bit_at_ones}
 use Rattle.bpf_insn.specs.declared.instruction.Insn.{Insn}
 use Rattle.bpf_verify.specs.declared.TheConstants.{CELLS}
 use Rattle.bpf_verify.specs.Path.{IsAt, IsStoredBefore, IsUnstored, Loads, StepsTo, Stores, StoresAt, successors}
-use Rattle.bpf_verify.specs.Pass.{FindsCell, HasCell, NotesLoad, cells_after, joined_at}
+use Rattle.bpf_verify.specs.body.Pass.{FindsCell, HasCell, NotesLoad, cells_after, joined_at}
 use Rattle.bpf_verify.proofs.CellLemmas.{IsAfter, IsJoined, cells_after-bit, finds_loaded_cell, joined_at-bit, length-joined_at, loaded_cell_below, missed_cell}
 use Rattle.bpf_verify.proofs.PathLemmas.{Reaches, ReachesBelow, below_reaches, nothing_arrives, path_of, path_stores_or_reaches, reaches_below}
 use Rattle.bpf_verify.proofs.PlaceLemmas.{IsAt-unique}

@@ -2,6 +2,6 @@ pub mod Path
 pub mod Accepted
 pub mod Fault
 pub mod Program
-pub mod Pass
+pub mod body
 pub use Rattle.bpf_insn.specs.Table
 pub use Rattle.bpf_insn.specs.Word

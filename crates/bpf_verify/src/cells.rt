@@ -4,7 +4,7 @@ ghost use Rattle.std.specs.Prelude.{◌≡◌, ◌+◌, ◌-◌, ◌^◌, ◌<�
 ghost use Rattle.std.specs.Int.{bit_at};
 ghost use Rattle.std.specs.List.{AllByRecursion};
 ghost use Rattle.bpf_verify.specs.Path.{successors};
-ghost use Rattle.bpf_verify.specs.Pass.{FindsCell, HasCell, NotesLoad, cells_after, joined, joined_at};
+ghost use Rattle.bpf_verify.specs.body.Pass.{FindsCell, HasCell, NotesLoad, cells_after, joined, joined_at};
 
 use crate::CELLS;
 use bpf_insn::Insn;

@@ -2,7 +2,7 @@
 
 ghost use Rattle.std.specs.Prelude.{◌≡◌, ◌∷◌, ◌+◌, ◌<◌, [], IfSome};
 ghost use Rattle.bpf_verify.specs.Accepted.{targets_fault};
-ghost use Rattle.bpf_verify.specs.Pass.{IsFaultAt};
+ghost use Rattle.bpf_verify.specs.body.Pass.{IsFaultAt};
 
 use crate::MAX_INSTRUCTIONS;
 use crate::fault::Fault;

@@ -8,7 +8,7 @@ ghost use Rattle.std.specs.Prelude.{◌≡◌, ◌+◌, ◌<◌, ◌≤◌, ◌^
 ghost use Rattle.bpf_verify.specs.Path.{program_at};
 ghost use Rattle.bpf_verify.specs.Accepted.{HasFault, IsAccepted};
 ghost use Rattle.bpf_verify.specs.Fault.{IsFirstFault};
-ghost use Rattle.bpf_verify.specs.Pass.{IsFaultAt, IsFaultlessInstruction};
+ghost use Rattle.bpf_verify.specs.body.Pass.{IsFaultAt, IsFaultlessInstruction};
 
 mod cells;
 mod fault;
@@ -138,6 +138,3 @@ pub fn verify<W: Words>(words: &mut W, from: usize, len: usize) -> Result<(), Fa
     let _count = words.count();
     check_program(words, from, len)
 }
-
-#[cfg(test)]
-mod tests;

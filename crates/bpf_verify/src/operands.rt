@@ -4,7 +4,7 @@ ghost use Rattle.std.specs.Prelude.{◌≡◌, ◌<◌, ◌↔◌, IfErr, IfOk, 
 ghost use Rattle.bpf_insn.specs.Word.{instruction_of};
 ghost use Rattle.bpf_verify.specs.Path.{IsReturn};
 ghost use Rattle.bpf_verify.specs.Accepted.{absolute_fault, cell_fault, divisor_fault, instruction_fault, operand_fault, shift_fault, word_fault};
-ghost use Rattle.bpf_verify.specs.Pass.{IsFaultAt};
+ghost use Rattle.bpf_verify.specs.body.Pass.{IsFaultAt};
 
 use crate::fault::Fault;
 use crate::jumps::{check_target, check_targets};

@@ -32,6 +32,3 @@ pub fn no_image_begins_another()
 pub fn row_holds_image()
     ensures { RowHoldsImage }
 {}
-
-#[cfg(test)]
-mod tests;

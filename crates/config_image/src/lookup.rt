@@ -7,7 +7,6 @@ ghost use Rattle.bpf_verify.specs.Program.{ProgramValue};
 ghost use Rattle.config_image.specs.Image.{Group};
 ghost use Rattle.config_image.specs.Lookup.{BeginsWithImage, HasGroup, HasMember, IsGroupFound, IsMemberFound, IsProgramFound, IsRecordOf, members_at};
 
-use crate::word::number;
 use bpf_insn::Words;
 use ipv4_fields::Endpoint;
 use member_group::{GROUP_LIMIT, GROUP_WORDS, HEAD_WORDS, MEMBER_WORDS};
@@ -93,7 +92,7 @@ pub fn find_group<W: Words>(words: &mut W, key: Endpoint) -> Option<FoundGroup>
     ensures words_kept { W.words words.new ≡ W.words words.old }
     ensures rest_kept { W.rest words.new ≡ W.rest words.old }
 {
-    let number = number(key);
+    let number = key.number();
     let mut low = 0;
     let mut high = words.word(1) as usize;
     'halving: while low < high {
@@ -148,7 +147,8 @@ fn read_filter<W: Words>(words: &mut W, entry: usize) -> Option<ProgramPlace>
 
 /// Tells which member a group has at an index, in words that begin with an image.
 ///
-/// `group` and `index` are counted from 0. Reads three words. Takes no memory.
+/// `group` and `index` are counted from 0. Reads three words. Takes no memory. For who wants the member alone; judging a packet
+/// wants its filter too, and uses `member_with_filter`.
 pub fn member_at<W: Words>(words: &mut W, group: usize, index: usize) -> MemberEntry
     requires { (config : List Group) × (member : Member ProgramValue) × BeginsWithImage (W.words words.old) config × HasMember config group index member }
     ensures member_found { (config : List Group) (member : Member ProgramValue) → BeginsWithImage (W.words words.old) config → HasMember config group index member → IsMemberFound member result }
@@ -173,7 +173,8 @@ pub fn selector_of<W: Words>(words: &mut W, group: usize) -> Option<ProgramPlace
 
 /// Tells where the words of a member's filter stand, in words that begin with an image.
 ///
-/// `group` and `index` are counted from 0. Reads two words. Takes no memory.
+/// `group` and `index` are counted from 0. Reads two words. Takes no memory. For who wants the filter alone; judging a packet
+/// wants the member too, and uses `member_with_filter`.
 pub fn filter_of<W: Words>(words: &mut W, group: usize, index: usize) -> Option<ProgramPlace>
     requires { (config : List Group) × (member : Member ProgramValue) × BeginsWithImage (W.words words.old) config × HasMember config group index member }
     ensures filter_found { (config : List Group) (member : Member ProgramValue) → BeginsWithImage (W.words words.old) config → HasMember config group index member → IsProgramFound (W.words words.old) member.filter result }

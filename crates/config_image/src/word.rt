@@ -3,7 +3,6 @@
 ghost use Rattle.std.specs.Prelude.{◌≡◌, ◌+◌, ◌*◌, ◌/◌, ◌<◌, ◌≤◌, Some, length, slice_get};
 ghost use Rattle.std.specs.List.{All};
 ghost use Rattle.std.specs.Option.{option_map};
-ghost use Rattle.ipv4_fields.specs.Endpoint.{endpoint_number};
 ghost use Rattle.member_group.specs.Charge.{members_of};
 ghost use Rattle.member_group.specs.Group.{IsConfig, IsGroup};
 ghost use Rattle.config_image.specs.Image.{all_member_records, filter_words, group_program_words, group_records, image, member_records, program_words, reference};
@@ -19,12 +18,6 @@ use std::alloc::Allocator;
 // Places of an image are less than a quarter of this, also of one that no row has room for; on the way to the last
 // group or member places grow by less than that again.
 pub(crate) const PLACE_LIMIT: usize = 1 << 26;
-
-pub(crate) fn number(endpoint: Endpoint) -> u64
-    ensures { result ≡ endpoint_number endpoint }
-{
-    u64::from(endpoint.address) * 65536 + u64::from(endpoint.port)
-}
 
 pub(crate) fn program_reference<A: Allocator>(place: usize, program: Option<&Program<A>>) -> u64
     requires { place ≤ PLACE_LIMIT }
@@ -56,7 +49,7 @@ fn group_word<A: Allocator>(
     for group in groups {
         if left < GROUP_WORDS {
             return match left {
-                0 => number(group.key()),
+                0 => group.key().number(),
                 1 => members as u64,
                 2 => group.members().len() as u64,
                 _ => program_reference(place, group.selector()),
@@ -82,7 +75,7 @@ fn member_word<A: Allocator>(members: &[Member<Program<A>>], word: usize, filter
         if left < MEMBER_WORDS {
             return match left {
                 0 => u64::from(member.id),
-                1 => number(member.to),
+                1 => member.to.number(),
                 _ => program_reference(place, member.filter.as_ref()),
             };
         }

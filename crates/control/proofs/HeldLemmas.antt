@@ -3,10 +3,10 @@ use Rattle.std.proofs.Common.{◌≡◌, ◌∙◌, ◌+◌, ◌-◌, ◌<◌, �
 use Rattle.std.proofs.lemmas.Bool.{cases_lt, eqb-true}
 use Rattle.std.proofs.lemmas.List.{length-take-le, take_all}
 use Rattle.std.proofs.Math.Seq.{take-append-add, take-length}
-use Rattle.control.specs.declared.TheConstants.{LINE_LIMIT}
-use Rattle.control.specs.declared.reply.Answer.{Answer}
-use Rattle.control.specs.Agrees.{TextConfig}
-use Rattle.control.specs.Answer.{Answers, bad_line, changed, shown, swept, too_long}
+use Rattle.control_line.specs.declared.TheConstants.{LINE_LIMIT}
+use Rattle.control_line.specs.declared.reply.LineAnswer.{LineAnswer}
+use Rattle.control_line.specs.Agrees.{TextConfig}
+use Rattle.control_line.specs.Answer.{Answers, bad_line, changed, shown, swept, too_long}
 use Rattle.control.specs.Script.{RepliesTo, Standing, to_control, to_long_packet, to_packet}
 
 -- ---- what is held
@@ -41,7 +41,7 @@ module _ (now : Standing) (line : List ℕ) (long : LINE_LIMIT < length line) wh
   still_long : LINE_LIMIT < length (take (suc LINE_LIMIT) line)
   still_long = let n = length-take-le (suc LINE_LIMIT) line (omega arith) in omega arith
 
-  answered_long : (answer : Answer) (next : TextConfig) → Answers now.version now.config (take (suc LINE_LIMIT) line) answer next → Answers now.version now.config line answer next
+  answered_long : (answer : LineAnswer) (next : TextConfig) → Answers now.version now.config (take (suc LINE_LIMIT) line) answer next → Answers now.version now.config line answer next
   answered_long _ _ (too_long held) = too_long long
   answered_long _ _ (bad_line short none) = absurd (omega (arith, still_long))
   answered_long _ _ (changed command answer next short spells changes) = absurd (omega (arith, still_long))

@@ -8,7 +8,7 @@ use Rattle.versions.specs.View.{BeginsWith, read_word_after}
 use Rattle.versions.proofs.MirrorLemmas.{some_same}
 use Rattle.read_section.specs.Operator.{Meets, OperatorValue}
 use Rattle.read_section.specs.Worker.{WorkerValue}
-use Rattle.control.specs.Ready.{AreOutside, IsOutsideAt, MetFirst}
+use Rattle.control.specs.body.Ready.{AreOutside, IsOutsideAt, MetFirst}
 
 -- ---- lists
 

@@ -1,22 +1,22 @@
 -- A script has one text.
-use Rattle.std.proofs.Common.{◌≡◌, ◌∙◌, ◌+◌, ◌<◌, ◌≤◌, ◌++◌, ◌∷◌, ◌⊎◌, List, [], ap, append_assoc, append-nil, arith, codes, inl, inr, length, refl, subst, sym, ℕ}
+use Rattle.std.proofs.Common.{◌≡◌, ◌∙◌, ◌<◌, ◌≤◌, ◌++◌, ◌∷◌, ◌⊎◌, List, [], ap, append_assoc, append-nil, arith, codes, inl, inr, length, refl, subst, sym, ℕ}
 use Rattle.std.proofs.lemmas.List.{append_cancel_left, append_cancel_right}
 use Rattle.dispatch.specs.Verdict.{verdict}
-use Rattle.hex.specs.Hex.{decode_of}
 use Rattle.hex.proofs.HexLemmas.{decode_of-ok}
 use Rattle.read_section.specs.declared.operator.Reclaimed.{Reclaimed}
 use Rattle.retire.specs.declared.fault.PublishFault.TheVariants.{Busy}
-use Rattle.control.specs.declared.TheConstants.{LINE_LIMIT}
-use Rattle.control.specs.declared.reason.Reason.TheVariants.{Publishing}
-use Rattle.control.specs.declared.reply.Answer.{Answer}
-use Rattle.control.specs.declared.reply.Answer.TheVariants.{Published, Refused, Swept}
-use Rattle.control.specs.Agrees.{TextConfig}
-use Rattle.control.specs.Answer.{AreOne, HasOneAnswer, IsOperatorsChoice}
-use Rattle.control.specs.Field.{Lacks}
-use Rattle.control.specs.Packet.{HasNoPacket, IsHex, IsPacketLine, SpellsPacket, SpellsTooMuch}
-use Rattle.control.specs.Reply.{reply_text}
+use Rattle.control_line.specs.declared.TheConstants.{LINE_LIMIT}
+use Rattle.control_line.specs.declared.reason.Reason.TheVariants.{Publishing}
+use Rattle.control_line.specs.declared.reply.LineAnswer.{LineAnswer}
+use Rattle.control_line.specs.declared.reply.LineAnswer.TheVariants.{Published, Refused, Swept}
+use Rattle.control_line.specs.Agrees.{TextConfig}
+use Rattle.control_line.specs.Answer.{AreOne, HasOneAnswer, IsOperatorsChoice}
+use Rattle.ipv4_fields.specs.Cut.{Lacks}
+use Rattle.control.specs.PacketLine.{HasNoPacket, IsPacketLine}
+use Rattle.control_line.specs.Packet.{IsHex, SpellsPacket, SpellsTooMuch}
+use Rattle.control_line.specs.Reply.{reply_text}
 use Rattle.control.specs.Script.{AreAnswered, ComesInScript, HasOneText, IsScriptText, RepliesTo, Standing, all_ended, judged_text, last_unended, no_line, one_more, standing_after, text_value, to_control, to_long_packet, to_packet}
-use Rattle.control.proofs.FieldLemmas.{has_separator}
+use Rattle.ipv4_fields.proofs.TextLemmas.{has_separator}
 
 -- ---- lines that have a packet
 
@@ -49,13 +49,13 @@ same_sweep now one other comes also =
 
 module _ (now : Standing) where
   -- what the operator has to say of a line is settled in a script
-  by_choice : (one other : Answer) (next also : TextConfig) → IsOperatorsChoice one next other also → ComesInScript now one → ComesInScript now other → (one ≡ other) × (next ≡ also)
+  by_choice : (one other : LineAnswer) (next also : TextConfig) → IsOperatorsChoice one next other also → ComesInScript now one → ComesInScript now other → (one ≡ other) × (next ≡ also)
   by_choice (Published version) (Refused (Publishing Busy)) next also choice comes comes' = absurd comes'
   by_choice (Refused (Publishing Busy)) (Published version) next also choice comes comes' = absurd comes
   by_choice (Swept one) (Swept other) next also choice comes comes' = (ap Swept (same_sweep now one other comes comes'), choice)
   by_choice _ _ next also choice comes comes' = absurd choice
 
-  by_answers : (one other : Answer) (next also : TextConfig) → AreOne one next other also → ComesInScript now one → ComesInScript now other → (one ≡ other) × (next ≡ also)
+  by_answers : (one other : LineAnswer) (next also : TextConfig) → AreOne one next other also → ComesInScript now one → ComesInScript now other → (one ≡ other) × (next ≡ also)
   by_answers one other next also (inl same) comes comes' = same
   by_answers one other next also (inr choice) comes comes' = by_choice one other next also choice comes comes'
 

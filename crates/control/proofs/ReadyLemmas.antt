@@ -20,25 +20,25 @@ use Rattle.retire.specs.Sweep.{Sweeps}
 use Rattle.retire.specs.declared.fault.PublishFault.TheVariants.{Busy, Exhausted, TooBig}
 use Rattle.retire.proofs.PublishLemmas.{looked_keeps, number_found}
 use Rattle.retire.proofs.RowLemmas.{contains_later}
-use Rattle.control.specs.declared.reason.Reason.{Reason}
-use Rattle.control.specs.declared.reason.Reason.TheVariants.{Publishing}
-use Rattle.control.specs.declared.reason.Reason.TheVariants as reason
-use Rattle.control.specs.declared.reply.Answer.{Answer}
-use Rattle.control.specs.declared.reply.Answer.TheVariants.{Published, Refused, Shown, Swept}
-use Rattle.control.specs.Agrees.{AgreesNow, TextConfig}
-use Rattle.control.specs.Answer.{Answers, Changes, Does, DoesRefused, bad_line, bad_text, busy, changed, exhausted, published, refused, shown, swept, too_big, too_long}
-use Rattle.control.specs.Ready.{AllFree, Stands}
-use Rattle.control.specs.Request.{Source}
+use Rattle.control_line.specs.declared.reason.Reason.{Reason}
+use Rattle.control_line.specs.declared.reason.Reason.TheVariants.{Publishing}
+use Rattle.control_line.specs.declared.reason.Reason.TheVariants as reason
+use Rattle.control_line.specs.declared.reply.LineAnswer.{LineAnswer}
+use Rattle.control_line.specs.declared.reply.LineAnswer.TheVariants.{Published, Refused, Shown, Swept}
+use Rattle.control_line.specs.Agrees.{AgreesNow, TextConfig}
+use Rattle.control_line.specs.Answer.{Answers, Changes, Does, DoesRefused, bad_line, bad_text, busy, changed, exhausted, published, refused, shown, swept, too_big, too_long}
+use Rattle.control.specs.body.Ready.{AllFree, Stands}
+use Rattle.program_text.specs.Program.{Source}
 use Rattle.control.specs.Script.{ComesInScript, Standing, standing_after}
 use Rattle.member_group.specs.declared.command.Command.{Command}
 
 -- ---- the number that a line tells
 
-abbrev IsNextNumber : ℕ → Answer → Type 0
+abbrev IsNextNumber : ℕ → LineAnswer → Type 0
 IsNextNumber version (Published next) = next ≡ version + 1
 IsNextNumber version _ = Unit {0}
 
-change_number : (version : ℕ) (config next : TextConfig) (command : Command Source) (answer : Answer) → Changes version config command answer next → IsNextNumber version answer
+change_number : (version : ℕ) (config next : TextConfig) (command : Command Source) (answer : LineAnswer) → Changes version config command answer next → IsNextNumber version answer
 change_number version config next command answer (bad_text source why has fault) = tt
 change_number version config next command answer (refused made refusal means first) = tt
 change_number version config next command answer (too_big other leads big) = tt
@@ -46,7 +46,7 @@ change_number version config next command answer (exhausted other leads small la
 change_number version config next command answer (busy other leads small left) = tt
 change_number version config next command answer (published other leads small left) = refl
 
-next_number : (version : ℕ) (config next : TextConfig) (line : List ℕ) (answer : Answer) → Answers version config line answer next → IsNextNumber version answer
+next_number : (version : ℕ) (config next : TextConfig) (line : List ℕ) (answer : LineAnswer) → Answers version config line answer next → IsNextNumber version answer
 next_number version config next line answer (too_long long) = tt
 next_number version config next line answer (bad_line short none) = tt
 next_number version config next line answer (changed command other after short spells changes) = change_number version config next command answer changes
@@ -176,7 +176,7 @@ module _ (before : OperatorValue) (now : Standing) (stands : Stands before now) 
 
   -- ---- each answer comes in a script, and the operator stands where the script does then
 
-  pub comes_and_stands : (line : List ℕ) (answer : Answer) (next : TextConfig) (after : OperatorValue) → Answers now.version now.config line answer next → Does answer before after → AgreesNow next after.view
+  pub comes_and_stands : (line : List ℕ) (answer : LineAnswer) (next : TextConfig) (after : OperatorValue) → Answers now.version now.config line answer next → Does answer before after → AgreesNow next after.view
       → ComesInScript now answer × Stands after (standing_after now answer next)
   comes_and_stands line (Refused why) next after answers does agrees = let (comes, same) = refusal_comes why after does in (comes, stands_same after next same agrees)
   comes_and_stands line (Published version) next after answers (config, publishes) agrees = (tt, stands_published after config publishes version next (next_number now.version now.config next line (Published version) answers) agrees)

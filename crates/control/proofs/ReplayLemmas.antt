@@ -2,14 +2,14 @@
 use Rattle.std.proofs.Common.{◌≡◌, ◌∙◌, ◌≤◌, ◌++◌, Err, List, None, Ok, Option, Result, Some, [], ap, append_assoc, append-nil, inl, inr, length, refl, subst, suc, sym, take, ℕ}
 use Rattle.std.specs.Prelude.{OnOk}
 use Rattle.std.specs.Io.KnownBytes.{Consumes, IsAtEnd}
-use Rattle.control.specs.declared.TheConstants.{LINE_LIMIT}
+use Rattle.control_line.specs.declared.TheConstants.{LINE_LIMIT}
 use Rattle.control.specs.declared.fault.ReplayFault.{ReplayFault}
 use Rattle.control.specs.declared.fault.ReplayFault.TheVariants.{OutOfMemory, ReadFailed, WriteFailed}
 use Rattle.control.specs.declared.script.Script.{Script}
-use Rattle.control.specs.Ready.{AreOutside}
+use Rattle.control.specs.body.Ready.{AreOutside}
 use Rattle.control.specs.Replay.{AnsweredAllLines, AnsweredFirstLines, FailedBy, IsReplayed, WasRead, WroteBeginning}
 use Rattle.control.specs.Script.{at_start, no_line}
-use Rattle.control.specs.ScriptSoFar.{Advances, Ends, IsAt, OutputFailedBy}
+use Rattle.control.specs.body.ScriptSoFar.{Advances, Ends, IsAt, OutputFailedBy}
 use Rattle.control.specs.Streams.{InputValue, KeepsOrForgets, OutputValue}
 use Rattle.control.proofs.WritingLemmas.{appends_nothing}
 

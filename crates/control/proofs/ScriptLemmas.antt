@@ -1,11 +1,11 @@
 -- A script that is read piece by piece: what each piece adds to what was read, answered and written.
 use Rattle.std.proofs.Common.{◌≡◌, ◌∙◌, ◌++◌, ◌∷◌, List, Option, [], ap, append_assoc, append-nil, arith, length, refl, subst, suc, sym, take, ◌<◌, ℕ}
-use Rattle.control.specs.declared.TheConstants.{LINE_LIMIT}
+use Rattle.control_line.specs.declared.TheConstants.{LINE_LIMIT}
 use Rattle.control.specs.declared.script.Script.{Script}
-use Rattle.control.specs.Field.{Lacks}
+use Rattle.ipv4_fields.specs.Cut.{Lacks}
 use Rattle.control.specs.Script.{IsScriptText, RepliesTo, Standing, all_ended, at_start, last_unended, no_line, one_more}
-use Rattle.control.specs.ScriptSoFar.{IsAt, IsCutAtEnd, IsCutShort, IsReadyAt, IsReplied, IsReplyCut, IsStopped, IsWritten}
-use Rattle.control.proofs.FieldLemmas.{lacks-append}
+use Rattle.control.specs.body.ScriptSoFar.{IsAt, IsCutAtEnd, IsCutShort, IsReadyAt, IsReplied, IsReplyCut, IsStopped, IsWritten}
+use Rattle.ipv4_fields.proofs.TextLemmas.{lacks-append}
 use Rattle.control.proofs.HeldLemmas.{held_none, held_of_all, replies_to_whole}
 use Rattle.control.proofs.WritingLemmas.{appends_more, appends_nothing, written_more}
 

@@ -16,20 +16,21 @@ use Rattle.read_section.specs.Section.{held_version}
 use Rattle.read_section.specs.Worker.{WorkerValue, left_from}
 use Rattle.retire.proofs.PublishLemmas.{looked_keeps}
 use Rattle.retire.proofs.RowLemmas.{worker_inside}
-use Rattle.control.specs.declared.TheConstants.{LINE_LIMIT}
-use Rattle.control.specs.declared.reason.Reason.TheVariants.{PacketTooLong}
-use Rattle.control.specs.declared.reply.Answer.{Answer}
-use Rattle.control.specs.declared.reply.Answer.TheVariants.{Published, Refused, Shown, Swept}
-use Rattle.control.specs.Answer.{Answers, Does}
-use Rattle.control.specs.Making.{IsAnswered}
-use Rattle.control.specs.Packet.{HasNoPacket, IsPacketLine, SpellsPacket, SpellsTooMuch}
-use Rattle.control.specs.Ready.{AreOutside, IsOutsideAt, IsReady, MetFirst, Stands}
-use Rattle.control.specs.Reply.{reply_text}
+use Rattle.control_line.specs.declared.TheConstants.{LINE_LIMIT}
+use Rattle.control_line.specs.declared.reason.Reason.TheVariants.{PacketTooLong}
+use Rattle.control_line.specs.declared.reply.LineAnswer.{LineAnswer}
+use Rattle.control_line.specs.declared.reply.LineAnswer.TheVariants.{Published, Refused, Shown, Swept}
+use Rattle.control_line.specs.Answer.{Answers, Does}
+use Rattle.control_line.specs.Answer.{IsAnswered}
+use Rattle.control.specs.PacketLine.{HasNoPacket, IsPacketLine}
+use Rattle.control_line.specs.Packet.{SpellsPacket, SpellsTooMuch}
+use Rattle.control.specs.body.Ready.{AreOutside, IsOutsideAt, IsReady, MetFirst, Stands}
+use Rattle.control_line.specs.Reply.{reply_text}
 use Rattle.control.specs.Script.{RepliesTo, Standing, at_start, judged_text, standing_after, text_value, to_control, to_long_packet, to_packet}
-use Rattle.control.specs.Switch.{JudgesPacket}
-use Rattle.control.proofs.ChangeLemmas.{agrees_with, still_agrees}
+use Rattle.control.specs.body.Switch.{JudgesPacket}
+use Rattle.control_line.proofs.ChangeLemmas.{agrees_with, still_agrees}
 use Rattle.control.proofs.JudgeLemmas.{same_verdict}
-use Rattle.control.proofs.LineLemmas.{nothing_keeps, refused_does_nothing}
+use Rattle.control_line.proofs.LineLemmas.{nothing_keeps, refused_does_nothing}
 use Rattle.control.proofs.MeetLemmas.{holds_of_set, slice_get-set_same}
 use Rattle.control.proofs.ReadyLemmas.{comes_and_stands}
 
@@ -84,7 +85,7 @@ module _ (table : TableId) (config : List Group) where
 
 -- ---- a line without a packet
 
-keeps_table : (answer : Answer) (before after : OperatorValue) → Does answer before after → after.table ≡ before.table
+keeps_table : (answer : LineAnswer) (before after : OperatorValue) → Does answer before after → after.table ≡ before.table
 keeps_table (Refused why) before after does = (nothing_keeps before after (refused_does_nothing why before after does)).table
 keeps_table (Published version) before after (config, publishes) = publishes.table
 keeps_table (Shown version groups members charge) before after same = ap (λ (o : OperatorValue). o.table) same
@@ -93,11 +94,11 @@ keeps_table (Swept reclaimed) before after sweeps =
     ∙ ap (λ (o : OperatorValue). o.table) sweeps.each.no_more
     ∙ looked_keeps (λ (o : OperatorValue). o.table) (λ w x log o. refl) sweeps.each.scans before
 
-pub outside_after_line : (before after : OperatorValue) (workers : List WorkerValue) (line reply : List ℕ) → (answer : Answer) × (reply ≡ reply_text answer) × IsAnswered line before after answer → AreOutside before.table workers → AreOutside after.table workers
+pub outside_after_line : (before after : OperatorValue) (workers : List WorkerValue) (line reply : List ℕ) → (answer : LineAnswer) × (reply ≡ reply_text answer) × IsAnswered line before after answer → AreOutside before.table workers → AreOutside after.table workers
 outside_after_line before after workers line reply (answer, is, done) outside = subst (λ table. AreOutside table workers) (sym (keeps_table answer before after done.steps)) outside
 
 pub line_answered : (before between after : OperatorValue) (workers workers' : List WorkerValue) (line reply : List ℕ) → HasNoPacket line
-    → (answer : Answer) × (reply ≡ reply_text answer) × IsAnswered line before between answer → MetFirst WORKERS between after workers workers'
+    → (answer : LineAnswer) × (reply ≡ reply_text answer) × IsAnswered line before between answer → MetFirst WORKERS between after workers workers'
     → (now : Standing) → IsReady before workers now → Replies now line reply after workers'
 line_answered before between after workers workers' line reply none (answer, is, done) met now ready =
     let (config, answers, agrees) = done.text now.config ready.stands.agrees in

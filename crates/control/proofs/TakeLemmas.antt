@@ -1,11 +1,11 @@
 -- The next bytes of a script, line by line.
 use Rattle.std.proofs.Common.{◌≡◌, ◌∙◌, ◌++◌, ◌∷◌, Err, List, Ok, Option, Result, [], ap, append_assoc, append-nil, refl, subst, suc, sym, take, ℕ}
-use Rattle.control.specs.declared.TheConstants.{LINE_LIMIT}
+use Rattle.control_line.specs.declared.TheConstants.{LINE_LIMIT}
 use Rattle.control.specs.declared.fault.ReplayFault.{ReplayFault}
 use Rattle.control.specs.declared.fault.ReplayFault.TheVariants.{OutOfMemory, ReadFailed, WriteFailed}
 use Rattle.control.specs.declared.script.Script.{Script}
-use Rattle.control.specs.Field.{IsSplitAt, Lacks}
-use Rattle.control.specs.ScriptSoFar.{Advances, AnswersHeld, Ends, IsAt, IsCutShort, IsReadyAt, IsReplied, IsReplyCut, IsStopped}
+use Rattle.ipv4_fields.specs.Cut.{IsSplitAt, Lacks}
+use Rattle.control.specs.body.ScriptSoFar.{Advances, AnswersHeld, Ends, IsAt, IsCutShort, IsReadyAt, IsReplied, IsReplyCut, IsStopped}
 use Rattle.control.specs.Script.{Standing}
 use Rattle.control.proofs.ScriptLemmas.{cut_at_end, ended_in_line, stopped, with_line, with_line_cut, with_part}
 

@@ -5,7 +5,7 @@ use Rattle.std.specs.Prelude.{IsErrAnd}
 use Rattle.std.specs.Io.KnownBytes.{Appends}
 use Rattle.control.specs.Replay.{WasWritten}
 use Rattle.control.specs.Streams.{KeepsOrForgets}
-use Rattle.control.specs.Writing.{IsWrittenInPart}
+use Rattle.control.specs.body.Writing.{IsWrittenInPart}
 
 pub appends_nothing : (known : Option (List ℕ)) → Appends known known []
 appends_nothing None = tt

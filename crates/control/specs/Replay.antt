@@ -4,7 +4,7 @@ use Rattle.std.specs.Io.KnownBytes.{Appends, Consumes, IsAtEnd}
 use Rattle.dispatch.specs.Memory.{MOST_FAILURES}
 use Rattle.control.specs.declared.fault.ReplayFault.{ReplayFault}
 use Rattle.control.specs.declared.fault.ReplayFault.TheVariants.{OutOfMemory, ReadFailed, WriteFailed}
-use Rattle.control.specs.Field.{Lacks}
+use Rattle.ipv4_fields.specs.Cut.{Lacks}
 use Rattle.control.specs.Script.{AreAnswered, IsScriptText, Standing}
 use Rattle.control.specs.Streams.{InputValue, OutputValue}
 

@@ -2,20 +2,22 @@
 -- instruction and no shared word stands here.
 use Rattle.std.specs.Prelude.{◌≡◌, ◌+◌, ◌<◌, ◌≤◌, ◌++◌, ◌∷◌, List, [], codes, decimal, length, ℕ}
 use Rattle.dispatch.specs.Verdict.{returned, verdict}
-use Rattle.dispatch.specs.declared.verdict.Verdict.{Verdict}
-use Rattle.dispatch.specs.declared.verdict.Verdict.TheVariants.{Deliver, Dropped, Malformed, NoGroup, NoMembers}
+use Rattle.packet_verdict.specs.declared.verdict.Verdict.{Verdict}
+use Rattle.packet_verdict.specs.declared.verdict.Verdict.TheVariants.{Deliver, Dropped, Malformed, NoGroup, NoMembers}
 use Rattle.retire.specs.declared.fault.PublishFault.TheVariants.{Busy}
-use Rattle.control.specs.declared.TheConstants.{LINE_LIMIT}
-use Rattle.control.specs.declared.reason.Reason.TheVariants.{PacketTooLong, Publishing}
-use Rattle.control.specs.declared.reply.Answer.{Answer}
-use Rattle.control.specs.declared.reply.Answer.TheVariants.{Published, Refused, Shown, Swept}
-use Rattle.control.specs.Agrees.{TextConfig}
-use Rattle.control.specs.Answer.{Answers}
-use Rattle.control.specs.Field.{Lacks, endpoint_text}
-use Rattle.control.specs.Packet.{HasNoPacket, IsPacketLine, SpellsPacket, SpellsTooMuch}
-use Rattle.control.specs.Program.{TextProgram, text_ending}
-use Rattle.control.specs.Reason.{refusal_text}
-use Rattle.control.specs.Reply.{reply_text}
+use Rattle.control_line.specs.declared.TheConstants.{LINE_LIMIT}
+use Rattle.control_line.specs.declared.reason.Reason.TheVariants.{PacketTooLong, Publishing}
+use Rattle.control_line.specs.declared.reply.LineAnswer.{LineAnswer}
+use Rattle.control_line.specs.declared.reply.LineAnswer.TheVariants.{Published, Refused, Shown, Swept}
+use Rattle.control_line.specs.Agrees.{TextConfig}
+use Rattle.control_line.specs.Answer.{Answers}
+use Rattle.ipv4_fields.specs.Cut.{Lacks}
+use Rattle.ipv4_fields.specs.Endpoint.{endpoint_text}
+use Rattle.control.specs.PacketLine.{HasNoPacket, IsPacketLine}
+use Rattle.control_line.specs.Packet.{SpellsPacket, SpellsTooMuch}
+use Rattle.program_text.specs.Program.{TextProgram, text_ending}
+use Rattle.control_line.specs.Reason.{refusal_text}
+use Rattle.control_line.specs.Reply.{reply_text}
 
 -- where a script stands: the current version, its configuration as the texts mean it, and how many versions were reported as free
 pub record Standing : Type 0 where
@@ -46,7 +48,7 @@ judged_text version verdict = codes "version " ++ decimal version ++ codes " " +
 
 -- Each worker is outside whenever a line is answered. So a publication is never busy, and a sweep reports every version that was
 -- replaced and not yet reported.
-abbrev pub ComesInScript : Standing → Answer → Type 0
+abbrev pub ComesInScript : Standing → LineAnswer → Type 0
 ComesInScript now (Refused (Publishing Busy)) = ⊥
 ComesInScript now (Refused why) = Unit {0}
 ComesInScript now (Published version) = Unit {0}
@@ -54,7 +56,7 @@ ComesInScript now (Shown version groups members charge) = Unit {0}
 ComesInScript now (Swept reclaimed) = (reclaimed.first ≡ now.reported) × (reclaimed.first + reclaimed.count ≡ now.version)
 
 -- where the script stands after an answer that leaves this configuration
-abbrev pub standing_after : Standing → Answer → TextConfig → Standing
+abbrev pub standing_after : Standing → LineAnswer → TextConfig → Standing
 standing_after now (Refused why) next = record now { config = next }
 standing_after now (Published version) next = record now { version = version; config = next }
 standing_after now (Shown version groups members charge) next = record now { config = next }
@@ -62,7 +64,7 @@ standing_after now (Swept reclaimed) next = record now { config = next; reported
 
 -- the reply to a line, and where the script stands then
 pub data RepliesTo (now : Standing) (line : List ℕ) : List ℕ → Standing → Type 0 where
-  to_control : (answer : Answer) (next : TextConfig) → HasNoPacket line → Answers now.version now.config line answer next →
+  to_control : (answer : LineAnswer) (next : TextConfig) → HasNoPacket line → Answers now.version now.config line answer next →
       ComesInScript now answer → RepliesTo now line (reply_text answer) (standing_after now answer next)
   to_packet : (digits packet : List ℕ) → length line ≤ LINE_LIMIT → IsPacketLine line digits → SpellsPacket digits packet →
       RepliesTo now line (judged_text now.version (verdict text_value now.config packet)) now

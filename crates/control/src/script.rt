@@ -1,16 +1,16 @@
 //! A script that is read in pieces: the switch that has answered its lines, and the line that is not ended yet.
 
 ghost use Rattle.std.specs.Prelude.{◌≡◌, ◌≤◌, ◌++◌, IfOk, List, OnOk, Option, [], length, suc, take, ℕ};
-ghost use Rattle.control.specs.declared.TheConstants.{LINE_LIMIT};
-ghost use Rattle.control.specs.Ready.{AreOutside};
-ghost use Rattle.control.specs.ScriptSoFar.{Advances, AnswersHeld, Ends, IsAt, OutputFailedBy};
+ghost use Rattle.control_line.specs.declared.TheConstants.{LINE_LIMIT};
+ghost use Rattle.control.specs.body.Ready.{AreOutside};
+ghost use Rattle.control.specs.body.ScriptSoFar.{Advances, AnswersHeld, Ends, IsAt, OutputFailedBy};
 
-use crate::LINE_LIMIT;
 use crate::fault::ReplayFault;
-use crate::field::split_at;
 use crate::streams::Output;
 use crate::switch::Switch;
 use crate::writing::write_line;
+use control_line::LINE_LIMIT;
+use ipv4_fields::split_at;
 use std::alloc::{AllocError, Global};
 
 /// A script that was answered up to a place of it.

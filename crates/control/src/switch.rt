@@ -4,14 +4,13 @@ ghost use Rattle.std.specs.Prelude.{◌≡◌, ◌≤◌, IfOk, OnOk, length};
 ghost use Rattle.bpf_machine.specs.declared.TheConstants.{MAX_PACKET};
 ghost use Rattle.filter_compile.specs.Answer.{IsPacket};
 ghost use Rattle.versions.specs.declared.layout.TheConstants.{WORKERS};
-ghost use Rattle.control.specs.Ready.{AreOutside, IsReady, MetFirst};
+ghost use Rattle.control.specs.body.Ready.{AreOutside, IsReady, MetFirst};
 ghost use Rattle.control.specs.Script.{RepliesTo, Standing, at_start};
-ghost use Rattle.control.specs.Switch.{JudgesPacket};
+ghost use Rattle.control.specs.body.Switch.{JudgesPacket};
 
-use crate::line;
-use crate::packet::{PacketLine, read_packet_line};
-use crate::reason::Reason;
-use crate::reply::{Answer, Reply};
+use crate::judged::judged_reply;
+use crate::packet_line::{PacketLine, read_packet_line};
+use control_line::{Reason, Reply, line};
 use dispatch::judge;
 use member_group::Config;
 use read_section::{OpenFault, Operator, Worker, open};
@@ -44,7 +43,7 @@ fn judge_packet(worker: &mut Worker, packet: &[u8]) -> Reply
     let version = section.number();
     let verdict = judge(&mut section, packet);
     section.leave();
-    Reply::judged(version, verdict)
+    judged_reply(version, verdict)
 }
 
 impl Switch {
@@ -71,7 +70,7 @@ impl Switch {
     {
         let reply = match read_packet_line(alloc, text)? {
             None => line(alloc, text, &mut self.operator)?,
-            Some(PacketLine::TooLong) => Reply::of(Answer::Refused(Reason::PacketTooLong)),
+            Some(PacketLine::TooLong) => Reply::refused(Reason::PacketTooLong),
             Some(PacketLine::Packet(packet)) => judge_packet(&mut self.workers[0], &packet),
         };
         meet_all(&mut self.operator, &mut self.workers);

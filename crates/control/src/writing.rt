@@ -3,10 +3,10 @@
 ghost use Rattle.std.specs.Prelude.{◌≡◌, ◌++◌, ◌∷◌, List, OnErr, OnOk, [], ℕ};
 ghost use Rattle.std.specs.Io.KnownBytes.{Appends};
 ghost use Rattle.dispatch.specs.Device.{CountsFailure};
-ghost use Rattle.control.specs.Writing.{IsWrittenInPart};
+ghost use Rattle.control.specs.body.Writing.{IsWrittenInPart};
 
-use crate::reply::{REPLY_LIMIT, Reply};
 use crate::streams::Output;
+use control_line::{REPLY_LIMIT, Reply};
 use dispatch::Failed;
 
 // Writes all of the bytes.

@@ -7,10 +7,10 @@ use Rattle.ipv4_fields.specs.declared.endpoint.Flow.{Flow}
 use Rattle.ipv4_fields.specs.Dispatchable.{flow_of}
 use Rattle.member_group.specs.declared.member.Member.{Member}
 use Rattle.member_group.specs.Group.{group_of}
-use Rattle.dispatch.specs.declared.verdict.Verdict.{Verdict}
-use Rattle.dispatch.specs.declared.verdict.Verdict.TheVariants.{Deliver, Dropped}
-use Rattle.dispatch.specs.Datagram.{KeepsNoMore}
-use Rattle.dispatch.specs.Verdict.{choice, flow_verdict, group_verdict, kept, member_verdict, value_of, verdict}
+use Rattle.packet_verdict.specs.declared.verdict.Verdict.{Verdict}
+use Rattle.packet_verdict.specs.declared.verdict.Verdict.TheVariants.{Deliver, Dropped}
+use Rattle.dispatch.specs.body.Datagram.{KeepsNoMore}
+use Rattle.packet_verdict.specs.Verdict.{choice, flow_verdict, group_verdict, kept, member_verdict, value_of, verdict}
 
 kept_no_more : (key : Endpoint) (id : ℕ) (to : Endpoint) (answer : Option ℕ) (packet : List ℕ) → KeepsNoMore (kept key id to answer (length packet)) packet
 kept_no_more key id to None packet = omega arith

@@ -3,7 +3,6 @@ pub mod DeviceLemmas
 pub mod BatchLemmas
 pub mod DatagramLemmas
 pub mod MemoryLemmas
-pub mod VerdictLemmas
 pub mod SumLemmas
 pub mod TallyLemmas
 pub mod WorkerLemmas

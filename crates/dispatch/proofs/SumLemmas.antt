@@ -6,9 +6,9 @@ use Rattle.dispatch.specs.declared.tally.TheConstants.{COUNT_LIMIT}
 use Rattle.std.specs.List.{Contains}
 use Rattle.dispatch.specs.declared.tally_rule.CountView.{CountView}
 use Rattle.dispatch.specs.declared.tally_rule.Load.{Load}
-use Rattle.dispatch.specs.declared.kind.Kind.{Kind}
+use Rattle.packet_verdict.specs.declared.kind.Kind.{Kind}
 use Rattle.dispatch.specs.Tally.{CounterValue, place_of, sum_of_counts, times}
-use Rattle.dispatch.specs.TallyRule.{sum_over}
+use Rattle.dispatch.specs.body.TallyRule.{sum_over}
 
 pub sum_set : (f : CountView → ℕ) (views : List CountView) (i : ℕ) (view other : CountView) → get_elem? views i ≡ some view → sum_over f (set views i other) + f view ≡ sum_over f views + f other
 sum_set f [] i view other e = absurd (some-ne-none view (sym e))

@@ -10,14 +10,14 @@ use Rattle.versions.proofs.ListLemmas.{contains_first}
 use Rattle.atomic_table.specs.Table.{Allows, Joins, Me, Splits, State, keeps, opening, step}
 use Rattle.atomic_table.proofs.Lists.{at_set, at_snoc}
 use Rattle.dispatch.specs.declared.kind.TheConstants.{KINDS}
-use Rattle.dispatch.specs.declared.kind.Kind.{Kind}
-use Rattle.dispatch.specs.declared.kind.Kind.TheVariants.{Delivered, Dropped, Malformed, NoGroup, NoMembers, ReceiveFailed, SendFailed}
+use Rattle.packet_verdict.specs.declared.kind.Kind.{Kind}
+use Rattle.packet_verdict.specs.declared.kind.Kind.TheVariants.{Delivered, Dropped, Malformed, NoGroup, NoMembers, ReceiveFailed, SendFailed}
 use Rattle.dispatch.specs.declared.tally.TheConstants.{COUNTERS, COUNT_LIMIT}
 use Rattle.dispatch.specs.declared.tally_rule.CountView.{CountView}
 use Rattle.dispatch.specs.declared.tally_rule.Load.{Load}
 use Rattle.atomic_table.specs.Seated.{TableId}
 use Rattle.dispatch.specs.Tally.{AreCountersOf, AreOpenedCounters, CounterValue, GaveAtMost, place_of, times}
-use Rattle.dispatch.specs.TallyRule.{IsTallied, Reads, counts, new_counter, nobody, opening_view, sum_over, with_counter, without_counter}
+use Rattle.dispatch.specs.body.TallyRule.{IsTallied, Reads, counts, new_counter, spent_seat, opening_view, sum_over, with_counter, without_counter}
 use Rattle.dispatch.proofs.SumLemmas.{sum_limited, sum_set, sum_snoc, times-append, times_else, times_here, times_limited}
 
 abbrev pub TallyState : Type 0
@@ -36,16 +36,16 @@ word_limited s h place low =
 pub all_counted : (s : TallyState) → IsTallied s → (id : ℕ) (view : CountView) → get_elem? s.views id ≡ some view → view.counters ≡ COUNTERS
     → (place : ℕ) → place < KINDS → slice_index s.words place ≡ times place view.added
 all_counted s h id view e all place low =
-    let others = sum_set (λ v. v.counters) s.views id view nobody e in
-    let sums = sum_set (λ v. times place v.added) s.views id view nobody e in
+    let others = sum_set (λ v. v.counters) s.views id view spent_seat e in
+    let sums = sum_set (λ v. times place v.added) s.views id view spent_seat e in
     let have = h.counters in
-    let none_left : sum_over (λ v. v.counters) (set s.views id nobody) ≡ 0 = omega arith in
-    let bound = sum_limited (λ v. times place v.added) (λ v. v.counters) (set s.views id nobody) (λ j v there. each j v (at_set s.views id j nobody v there)) in
-    let zero_sum = subst (λ n. sum_over (λ v. times place v.added) (set s.views id nobody) ≤ n * COUNT_LIMIT) none_left bound in
+    let none_left : sum_over (λ v. v.counters) (set s.views id spent_seat) ≡ 0 = omega arith in
+    let bound = sum_limited (λ v. times place v.added) (λ v. v.counters) (set s.views id spent_seat) (λ j v there. each j v (at_set s.views id j spent_seat v there)) in
+    let zero_sum = subst (λ n. sum_over (λ v. times place v.added) (set s.views id spent_seat) ≤ n * COUNT_LIMIT) none_left bound in
     let word = h.sums place low in
     omega arith
   where
-    each : (j : ℕ) (v : CountView) → ((j ≡ id) × (nobody ≡ v)) ⊎ ((j ≢ id) × (get_elem? s.views j ≡ some v)) → times place v.added ≤ v.counters * COUNT_LIMIT
+    each : (j : ℕ) (v : CountView) → ((j ≡ id) × (spent_seat ≡ v)) ⊎ ((j ≢ id) × (get_elem? s.views j ≡ some v)) → times place v.added ≤ v.counters * COUNT_LIMIT
     each j v (inl here) = subst (λ (w : CountView). times place w.added ≤ w.counters * COUNT_LIMIT) here.1 (omega arith)
     each j v (inr there) = let few = h.limited j v there.1 in let most = times_limited place v.added in omega arith
 
@@ -195,17 +195,17 @@ splits_counter id view has empty = λ s h there.
     (omega arith, λ place low load never. absurd (let less = never.1 in omega arith)))
 
 -- a seat takes a counter's back
-pub joins_counter : (id other : ℕ) (view taken : CountView) → Joins (IsTallied {S = ℕ}) id view other taken (with_counter view taken) nobody
+pub joins_counter : (id other : ℕ) (view taken : CountView) → Joins (IsTallied {S = ℕ}) id view other taken (with_counter view taken) spent_seat
 joins_counter id other view taken = λ s h there apart taken_there.
     let both = with_counter view taken in
     let at_other = taken_at s other (at_set s.views id other both taken taken_there) apart in
     tallied _ h.words
     (λ q low. let was = h.sums q low in let first = sum_set (λ v. times q v.added) s.views id view both there in
-    let second = sum_set (λ v. times q v.added) (set s.views id both) other taken nobody taken_there in
+    let second = sum_set (λ v. times q v.added) (set s.views id both) other taken spent_seat taken_there in
     let joined = times-append q taken.added view.added in omega arith)
     (let was = h.counters in let first = sum_set (λ v. v.counters) s.views id view both there in
-    let second = sum_set (λ v. v.counters) (set s.views id both) other taken nobody taken_there in omega arith)
-    (fits_set _ (set s.views id both) other nobody
+    let second = sum_set (λ v. v.counters) (set s.views id both) other taken spent_seat taken_there in omega arith)
+    (fits_set _ (set s.views id both) other spent_seat
     (fits_set _ s.views id both (each_fits s h) (
       let mine = h.limited id view there in let its = h.limited other taken at_other in let long = length-append taken.added view.added in omega arith,
       (each_fits s h id view there).1,

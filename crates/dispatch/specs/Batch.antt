@@ -6,22 +6,15 @@ use Rattle.versions.specs.View.{IsTold}
 use Rattle.dispatch.specs.declared.batches.BatchDone.{BatchDone}
 use Rattle.dispatch.specs.declared.batches.BatchFault.{BatchFault}
 use Rattle.dispatch.specs.declared.batches.BatchFault.TheVariants as fault
-use Rattle.dispatch.specs.declared.kind.Kind.{Kind}
-use Rattle.dispatch.specs.declared.kind.Kind.TheVariants as kind
+use Rattle.packet_verdict.specs.declared.kind.Kind.{Kind}
+use Rattle.packet_verdict.specs.declared.kind.Kind.TheVariants as kind
 use Rattle.dispatch.specs.declared.tally.TheConstants.{COUNT_LIMIT}
-use Rattle.dispatch.specs.declared.verdict.Verdict.{Verdict}
-use Rattle.dispatch.specs.declared.verdict.Verdict.TheVariants.{Deliver, Dropped, Malformed, NoGroup, NoMembers}
+use Rattle.packet_verdict.specs.declared.verdict.Verdict.{Verdict}
+use Rattle.packet_verdict.specs.declared.verdict.Verdict.TheVariants.{Deliver}
 use Rattle.dispatch.specs.Device.{Gives, IsAtEnd, OutboxValue, Sent, SourceValue, Takes}
 use Rattle.dispatch.specs.Tally.{CounterValue, counted, place_of}
-use Rattle.dispatch.specs.Verdict.{value_of, verdict}
-
--- as what a verdict is counted
-abbrev pub kind_of : Verdict → Kind
-kind_of Malformed = kind.Malformed
-kind_of NoGroup = kind.NoGroup
-kind_of NoMembers = kind.NoMembers
-kind_of (Dropped group member) = kind.Dropped
-kind_of (Deliver group member to bytes) = kind.Delivered
+pub use Rattle.packet_verdict.specs.Kind.{kind_of}
+use Rattle.packet_verdict.specs.Verdict.{value_of, verdict}
 
 -- what a verdict sends: the first bytes of the packet
 abbrev pub delivery : Verdict → List ℕ → List Sent

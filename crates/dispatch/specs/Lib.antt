@@ -1,10 +1,10 @@
 pub mod Batch
-pub mod Datagram
 pub mod Device
 pub mod Job
 pub mod Memory
 pub mod Tally
-pub mod TallyRule
 pub mod Totals
-pub mod Verdict
 pub mod Workers
+pub mod body
+pub use Rattle.packet_verdict.specs.Kind
+pub use Rattle.packet_verdict.specs.Verdict

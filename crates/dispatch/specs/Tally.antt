@@ -2,8 +2,8 @@
 use Rattle.std.specs.Prelude.{◌≡◌, ◌==◌, ◌+◌, ◌≤◌, ◌∷◌, if◌then◌else◌, List, [], length, ℕ}
 use Rattle.std.specs.List.{All, Contains}
 use Rattle.atomic_table.specs.Seated.{TableId}
-use Rattle.dispatch.specs.declared.kind.Kind.{Kind}
-use Rattle.dispatch.specs.declared.kind.Kind.TheVariants.{Delivered, Dropped, Malformed, NoGroup, NoMembers, ReceiveFailed, SendFailed}
+use Rattle.packet_verdict.specs.declared.kind.Kind.{Kind}
+use Rattle.packet_verdict.specs.declared.kind.Kind.TheVariants.{Delivered, Dropped, Malformed, NoGroup, NoMembers, ReceiveFailed, SendFailed}
 use Rattle.dispatch.specs.declared.kind.Totals.{Totals}
 use Rattle.dispatch.specs.declared.tally.TheConstants.{COUNTERS}
 use Rattle.dispatch.specs.declared.tally_rule.Load.{Load}

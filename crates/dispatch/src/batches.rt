@@ -6,8 +6,8 @@ ghost use Rattle.dispatch.specs.Batch.{IsBatch};
 
 use crate::datagram::handle;
 use crate::device::{Failed, Outbox, Source};
-use crate::kind::Kind;
 use crate::tally::{CountFull, Counter};
+use packet_verdict::Kind;
 use read_section::Worker;
 
 /// How a batch ended.

@@ -3,13 +3,11 @@
 ghost use Rattle.std.specs.Prelude.{◌≡◌, ◌≤◌, OnErr, OnOk, length};
 ghost use Rattle.bpf_machine.specs.declared.TheConstants.{MAX_PACKET};
 ghost use Rattle.dispatch.specs.Batch.{IsFull};
-ghost use Rattle.dispatch.specs.Datagram.{IsDelivered, IsHandled, IsNotCounted, IsUndelivered, JudgesInSection, KeepsNoMore};
+ghost use Rattle.dispatch.specs.body.Datagram.{IsDelivered, IsHandled, IsNotCounted, IsUndelivered, JudgesInSection, KeepsNoMore};
 
 use crate::device::{Failed, Outbox};
-use crate::judge;
-use crate::kind::Kind;
 use crate::tally::{CountFull, Counter};
-use crate::verdict::Verdict;
+use packet_verdict::{Kind, Verdict, judge};
 use read_section::Worker;
 
 // One whole section, in which the packet is judged.

@@ -1,42 +1,27 @@
-//! What a tally counts (docs/SWITCH.md, "Tallies").
+//! Where a tally counts each kind, and the totals of all of them (docs/SWITCH.md, "Tallies").
 
 ghost use Rattle.std.specs.Prelude.{◌≡◌, Some};
 ghost use Rattle.dispatch.specs.Tally.{place_of, total_of};
 ghost use Rattle.dispatch.specs.Totals.{totals_text};
 
+use packet_verdict::Kind;
 use std::fmt;
-
-/// What a tally counts: a verdict, or a device that failed.
-#[derive(Clone, Copy, Debug, PartialEq, Eq)]
-pub enum Kind {
-    Malformed,
-    NoGroup,
-    NoMembers,
-    Dropped,
-    Delivered,
-    /// An outbox failed.
-    SendFailed,
-    /// A source failed.
-    ReceiveFailed,
-}
 
 /// How many kinds there are.
 pub const KINDS: usize = 7;
 
-impl Kind {
-    // Which word of a tally counts the kind.
-    pub(crate) fn place(self) -> usize
-        ensures { result ≡ place_of self }
-    {
-        match self {
-            Kind::Malformed => 0,
-            Kind::NoGroup => 1,
-            Kind::NoMembers => 2,
-            Kind::Dropped => 3,
-            Kind::Delivered => 4,
-            Kind::SendFailed => 5,
-            Kind::ReceiveFailed => 6,
-        }
+// Which word of a tally counts the kind.
+pub(crate) fn place(kind: Kind) -> usize
+    ensures { result ≡ place_of kind }
+{
+    match kind {
+        Kind::Malformed => 0,
+        Kind::NoGroup => 1,
+        Kind::NoMembers => 2,
+        Kind::Dropped => 3,
+        Kind::Delivered => 4,
+        Kind::SendFailed => 5,
+        Kind::ReceiveFailed => 6,
     }
 }
 

@@ -1,66 +1,26 @@
-//! Dispatching: what becomes of one packet in one version (docs/SWITCH.md, "Verdicts"), of the datagrams that a worker receives
-//! ("Batches", "Workers"), and tallies of it ("Tallies"). No call takes memory but `Tally::open`, `Datagrams::push`,
+//! Dispatching: what becomes of the datagrams that a worker receives (docs/SWITCH.md, "Batches", "Workers"), each judged in a
+//! section of its own, and tallies of it ("Tallies"). No call takes memory but `Tally::open`, `Datagrams::push`,
 //! `Sends::with_room` and `run_workers`.
 #![tactic(auto)]
-
-ghost use Rattle.std.specs.Prelude.{◌≡◌, ◌≤◌, List, length};
-ghost use Rattle.bpf_machine.specs.declared.TheConstants.{MAX_PACKET};
-ghost use Rattle.config_image.specs.Image.{Group};
-ghost use Rattle.config_image.specs.Lookup.{BeginsWithImage};
-ghost use Rattle.dispatch.specs.Verdict.{value_of, verdict};
 
 mod batches;
 mod datagram;
 mod device;
 mod job;
 mod kind;
-mod member;
 mod memory;
 mod tally;
 mod tally_rule;
-mod verdict;
 mod worker_job;
 mod workers;
 
-use crate::member::{choose, judge_by_member};
 pub use batches::{BatchDone, BatchFault, batch};
-use bpf_insn::Words;
-use config_image::find_group;
 pub use device::{Failed, Outbox, Source};
-use ipv4_fields::dispatchable;
 pub use job::{Gate, run_job};
-pub use kind::{KINDS, Kind, Totals};
+pub use kind::{KINDS, Totals};
 pub use memory::{Datagrams, Sends};
+pub use packet_verdict::{Kind, Verdict, judge};
 pub use tally::{COUNT_LIMIT, COUNTERS, CountFull, Counter, Tally, gather};
 pub use tally_rule::{CountView, Load, TallyRule};
-pub use verdict::Verdict;
 pub use worker_job::{Done, Job, finish};
 pub use workers::{RunFault, run_workers};
-
-/// Judges a packet by the configuration whose image the words begin with.
-///
-/// `packet` begins with the first byte of its IPv4 header. Takes no memory; reads each header field once, and of the words
-/// those that find the group and the member, and the two programs as far as they run.
-pub fn judge<W: Words>(words: &mut W, packet: &[u8]) -> Verdict
-    requires image { (config : List Group) × BeginsWithImage (W.words words.old) config }
-    requires packet { length packet.now ≤ MAX_PACKET }
-    ensures verdict { (config : List Group) → BeginsWithImage (W.words words.old) config → result ≡ verdict value_of config packet.now }
-    ensures words_kept { W.words words.new ≡ W.words words.old }
-    ensures rest_kept { W.rest words.new ≡ W.rest words.old }
-{
-    let Some(flow) = dispatchable(packet) else {
-        return Verdict::Malformed;
-    };
-    let key = flow.destination;
-    let Some(group) = find_group(words, key) else {
-        return Verdict::NoGroup;
-    };
-    if group.members == 0 {
-        return Verdict::NoMembers;
-    }
-    let index = choose(words, &group, &flow, packet);
-    judge_by_member(words, group.index, index, key, packet)
-}
-
-#[cfg(test)]
-mod tests;

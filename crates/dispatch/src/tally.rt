@@ -3,13 +3,14 @@
 
 ghost use Rattle.std.specs.Prelude.{◌≡◌, ◌+◌, ◌++◌, ◌<◌, ◌↔◌, ◌∷◌, [], IfOk, IsErr, OnErr, OnOk, length, slice_index, ℕ};
 ghost use Rattle.std.specs.Arc.{arc_value};
-ghost use Rattle.dispatch.specs.declared.kind.Kind.{Kind as KindValue};
+ghost use Rattle.packet_verdict.specs.declared.kind.Kind.{Kind as KindValue};
 ghost use Rattle.dispatch.specs.Tally.{AreCountersOf, AreOpenedCounters, GaveAtMost, counted, loaded, place_of, sum_of_counts, times, total_of};
-ghost use Rattle.dispatch.specs.TallyRule.{IsSeatOf, nobody, opening_view, without_counter};
+ghost use Rattle.dispatch.specs.body.TallyRule.{IsSeatOf, spent_seat, opening_view, without_counter};
 
-use crate::kind::{KINDS, Kind, Totals};
+use crate::kind::{KINDS, Totals, place};
 use crate::tally_rule::{Count, Read, SeatCounter, TakeCounter, TallySeat, TallyTable};
 use atomic_table::Table;
+use packet_verdict::Kind;
 use std::alloc::{AllocError, Global};
 use std::marker::Model;
 use std::sync::Arc;
@@ -35,7 +36,7 @@ pub struct Counter {
 impl Model for Counter {
     ghost use Rattle.std.specs.Arc.{arc_value};
     ghost use Rattle.dispatch.specs.Tally.{CounterValue};
-    ghost use Rattle.dispatch.specs.TallyRule.{IsCounterSeat, IsSeatOf};
+    ghost use Rattle.dispatch.specs.body.TallyRule.{IsCounterSeat, IsSeatOf};
 
     ghost Value = { CounterValue };
 
@@ -54,7 +55,7 @@ pub struct Tally {
 impl Model for Tally {
     ghost use Rattle.std.specs.Arc.{arc_value};
     ghost use Rattle.dispatch.specs.Tally.{TallyValue};
-    ghost use Rattle.dispatch.specs.TallyRule.{IsSeatOf, IsTallySeat};
+    ghost use Rattle.dispatch.specs.body.TallyRule.{IsSeatOf, IsTallySeat};
 
     ghost Value = { TallyValue };
 
@@ -88,7 +89,7 @@ fn new_counters(
 ) -> Result<Vec<Counter>, AllocError>
     requires view { seat.old.me.0 ≡ opening_view }
     requires seat { IsSeatOf seat.old.me.1 seat.old.table_id (arc_value table.now).shared.table_id }
-    ensures view { IfOk result (λ counters. seat.new.me.0 ≡ nobody) }
+    ensures view { IfOk result (λ counters. seat.new.me.0 ≡ spent_seat) }
     ensures seat { IfOk result (λ counters. IsSeatOf seat.new.me.1 seat.new.table_id (arc_value table.now).shared.table_id) }
     ensures counters { IfOk result (λ counters. AreOpenedCounters (arc_value table.now).shared.table_id counters.items) }
 {
@@ -112,7 +113,7 @@ impl Counter {
         let table = &self.table;
         table
             .shared
-            .fetch_add::<Count>(&mut self.seat, kind.place(), 1);
+            .fetch_add::<Count>(&mut self.seat, place(kind), 1);
         self.count += 1;
         Ok(())
     }
@@ -139,7 +140,7 @@ impl Tally {
         ensures no_less { GaveAtMost self.old.log (place_of kind) result }
     {
         let table = &self.table;
-        table.shared.load::<Read>(&mut self.seat, kind.place())
+        table.shared.load::<Read>(&mut self.seat, place(kind))
     }
 }
 

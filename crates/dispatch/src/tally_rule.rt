@@ -24,7 +24,7 @@ pub struct CountView {
 pub struct TallyRule;
 
 impl TableRule<u8, CountView, u8> for TallyRule {
-    ghost use Rattle.dispatch.specs.TallyRule.{IsTallied, opening_view};
+    ghost use Rattle.dispatch.specs.body.TallyRule.{IsTallied, opening_view};
 
     ghost holds = { λ _. IsTallied };
 
@@ -39,7 +39,7 @@ pub(crate) type TallySeat = Seat<u8, CountView>;
 pub(crate) struct Count;
 
 impl Play<u8, CountView> for Count {
-    ghost use Rattle.dispatch.specs.TallyRule.{counts};
+    ghost use Rattle.dispatch.specs.body.TallyRule.{counts};
 
     ghost then = { counts };
 }
@@ -47,7 +47,7 @@ impl Play<u8, CountView> for Count {
 pub(crate) struct Read;
 
 impl Play<u8, CountView> for Read {
-    ghost use Rattle.dispatch.specs.TallyRule.{Reads};
+    ghost use Rattle.dispatch.specs.body.TallyRule.{Reads};
 
     ghost then = { Reads };
 }
@@ -55,7 +55,7 @@ impl Play<u8, CountView> for Read {
 pub(crate) struct SeatCounter;
 
 impl Split<CountView> for SeatCounter {
-    ghost use Rattle.dispatch.specs.TallyRule.{new_counter, without_counter};
+    ghost use Rattle.dispatch.specs.body.TallyRule.{new_counter, without_counter};
 
     ghost left = { without_counter };
 
@@ -65,9 +65,9 @@ impl Split<CountView> for SeatCounter {
 pub(crate) struct TakeCounter;
 
 impl Join<CountView> for TakeCounter {
-    ghost use Rattle.dispatch.specs.TallyRule.{nobody, with_counter};
+    ghost use Rattle.dispatch.specs.body.TallyRule.{spent_seat, with_counter};
 
     ghost both = { with_counter };
 
-    ghost spent = { nobody };
+    ghost spent = { spent_seat };
 }

@@ -24,8 +24,8 @@ use Rattle.filter_tree.specs.Outcome.{answer}
 use Rattle.filter_tree.specs.Tree.{ArithTree, accessor}
 use Rattle.filter_tree.specs.Truth.{compared, holds}
 use Rattle.filter_compile.specs.Answer.{IsPacket}
-use Rattle.filter_compile.specs.Header.{DoesAs, ReadsAs, weight_of_access}
-use Rattle.filter_compile.specs.Piece.{Accesses, Checks, ComesWith, Computes, GoesBy, IsInFront, IsPlain, IsPushed, IsWellFormed, KeepsBelow, LoadsStored, Tests}
+use Rattle.filter_compile.specs.body.Header.{DoesAs, ReadsAs, weight_of_access}
+use Rattle.filter_compile.specs.body.Piece.{Accesses, Checks, ComesWith, Computes, GoesBy, IsInFront, IsPlain, IsPushed, IsWellFormed, KeepsBelow, LoadsStored, Tests}
 use Rattle.filter_compile.proofs.PushLemmas.{IsInFront-pushed, after_effect, mean_pushed, well_formed_pushed}
 use Rattle.filter_compile.proofs.TargetLemmas.{in_front-both, in_front-more}
 use Rattle.filter_compile.proofs.CheckLemmas.{loads_next}

@@ -15,7 +15,7 @@ use Rattle.bpf_verify.specs.Accepted.{constant_fault, instruction_fault}
 use Rattle.bpf_verify.specs.Path.{Loads, Stores, successors}
 use Rattle.bpf_verify.proofs.PlaceLemmas.{contains-cons}
 use Rattle.bpf_machine.specs.Meaning.{Cells, a_or_end, computed, holds, mean, operand_value}
-use Rattle.filter_compile.specs.Piece.{Asks, Checks, IsPushed, IsWellFormed, LoadsStored, target}
+use Rattle.filter_compile.specs.body.Piece.{Asks, Checks, IsPushed, IsWellFormed, LoadsStored, target}
 use Rattle.filter_compile.proofs.PushLemmas.{IsInFront-pushed, after_effect, loads_pushed, mean_pushed, well_formed_pushed}
 use Rattle.filter_compile.proofs.TargetLemmas.{in_front-both, target-all, target-front}
 

@@ -7,7 +7,7 @@ use Rattle.filter_tree.specs.Measure.{weight_of_guards, weight_where}
 use Rattle.filter_tree.specs.Outcome.{◌and_then◌, where_so}
 use Rattle.filter_tree.specs.Primitive.{is_first_fragment, is_ip, is_protocol}
 use Rattle.filter_tree.specs.Truth.{any_accessor, any_transport, guards}
-use Rattle.filter_compile.specs.Piece.{Tests}
+use Rattle.filter_compile.specs.body.Piece.{Tests}
 use Rattle.filter_compile.proofs.HeaderLemmas.{and_then_assoc}
 use Rattle.filter_compile.proofs.TestLemmas.{Tests-and, Tests-same, Tests-weight}
 

@@ -34,8 +34,8 @@ use Rattle.filter_compile.specs.declared.ends.End.{End}
 use Rattle.filter_compile.specs.declared.ends.End.TheVariants as end_is
 use Rattle.filter_compile.specs.declared.ends.Part.{Part}
 use Rattle.filter_compile.specs.declared.ends.Part.TheVariants.{Address, Port}
-use Rattle.filter_compile.specs.Header.{end_of, ends_pass, passes, weight_of_ends, weight_of_ports, weight_of_transport}
-use Rattle.filter_compile.specs.Piece.{Asks, Checks, GoesBy, IsPlain, IsPushed, LoadsAs, Tests, target}
+use Rattle.filter_compile.specs.body.Header.{end_of, ends_pass, passes, weight_of_ends, weight_of_ports, weight_of_transport}
+use Rattle.filter_compile.specs.body.Piece.{Asks, Checks, GoesBy, IsPlain, IsPushed, LoadsAs, Tests, target}
 use Rattle.filter_compile.proofs.PushLemmas.{after_effect, mean_pushed, well_formed_pushed}
 use Rattle.filter_compile.proofs.PacketLemmas.{and-high_bits, and-low_bits, number_at-below, packet_number-number_at}
 use Rattle.filter_compile.proofs.TestLemmas.{Tests-loaded, Tests-same, Tests-weight, on_from, plain_loads}

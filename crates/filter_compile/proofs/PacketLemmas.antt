@@ -7,8 +7,14 @@ use Rattle.std.proofs.lemmas.List.{length-take}
 use Rattle.std.proofs.lemmas.List.Elements.{All-drop, All-take}
 use Rattle.bpf_insn.specs.declared.instruction.Size.{Size}
 use Rattle.bpf_machine.specs.Packet.{big_endian_after, byte_count, packet_number}
+use Rattle.bpf_machine.specs.declared.TheConstants.{MAX_PACKET}
+use Rattle.filter_tree.specs.declared.TheConstants as expressions
 use Rattle.ipv4_fields.specs.Field.{number_at}
 use Rattle.ipv4_fields.specs.Field as fields
+
+-- what is a packet for expressions is one for the machine
+pub one_limit : expressions.MAX_PACKET ≡ MAX_PACKET
+one_limit = refl
 
 same_number : (n : ℕ) (bytes : List ℕ) → big_endian_after n bytes ≡ fields.big_endian_after n bytes
 same_number n [] = refl

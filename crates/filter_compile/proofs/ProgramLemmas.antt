@@ -11,7 +11,7 @@ use Rattle.filter_tree.specs.Tree.{Tree}
 use Rattle.filter_tree.specs.Truth.{truth_of}
 use Rattle.filter_compile.specs.declared.TheConstants.{ACCEPTED}
 use Rattle.filter_compile.specs.Answer.{AnswersFor, answer_of}
-use Rattle.filter_compile.specs.Piece.{GoesBy, IsPushed, IsWellFormed, LoadsStored, Tests, target}
+use Rattle.filter_compile.specs.body.Piece.{GoesBy, IsPushed, IsWellFormed, LoadsStored, Tests, target}
 use Rattle.filter_compile.proofs.PushLemmas.{IsInFront-pushed, loads_pushed, mean_pushed, well_formed_last, well_formed_pushed}
 use Rattle.filter_compile.proofs.TargetLemmas.{target-all, target-front}
 use Rattle.filter_compile.proofs.CheckLemmas.{not_empty}

@@ -20,7 +20,7 @@ use Rattle.bpf_verify.specs.Path.{IsAt, IsPathFrom, IsReturn, IsStoredOn, Loads,
 use Rattle.bpf_verify.proofs.PlaceLemmas.{IsAt-unique, contains-cons, successors_forward}
 use Rattle.bpf_machine.specs.Meaning.{Cells, Effect, Ending, effect, ends, goes_on, mean, word_effect}
 use Rattle.bpf_machine.proofs.RunLemmas.{means_by_first_word}
-use Rattle.filter_compile.specs.Piece.{IsInFront, IsPushed, IsWellFormed, LoadsStored}
+use Rattle.filter_compile.specs.body.Piece.{IsInFront, IsPushed, IsWellFormed, LoadsStored}
 
 -- ---- what a run does at the first word
 

@@ -1,7 +1,7 @@
 -- Words in front of others: how many they are, and that the targets behind them stay.
 use Rattle.std.proofs.Common.{◌≡◌, ◌∙◌, ◌++◌, ◌+◌, ◌-◌, ◌≤◌, List, [], ap, append_assoc, arith, drop, length, length-append, refl, sym, ℕ}
 use Rattle.std.proofs.Math.Seq.{drop-append-add}
-use Rattle.filter_compile.specs.Piece.{IsInFront, target}
+use Rattle.filter_compile.specs.body.Piece.{IsInFront, target}
 
 pub target-append : (front words : List ℕ) (n : ℕ) → n ≤ length words → target n (front ++ words) ≡ target n words
 target-append front words n low =

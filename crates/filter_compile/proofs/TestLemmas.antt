@@ -6,8 +6,8 @@ use Rattle.filter_tree.specs.declared.truth.Truth.{Truth}
 use Rattle.filter_tree.specs.declared.truth.Truth.TheVariants.{Fails, No, Yes}
 use Rattle.filter_tree.specs.Outcome.{◌and_then◌, ◌or_else◌, answer, opposite, tested}
 use Rattle.filter_compile.specs.Answer.{IsPacket}
-use Rattle.filter_compile.specs.Header.{Knows}
-use Rattle.filter_compile.specs.Piece.{Asks, GoesBy, IsPlain, IsPushed, LoadsAs, LoadsStored, Tests, target}
+use Rattle.filter_compile.specs.body.Header.{Knows}
+use Rattle.filter_compile.specs.body.Piece.{Asks, GoesBy, IsPlain, IsPushed, LoadsAs, LoadsStored, Tests, target}
 use Rattle.filter_compile.proofs.PushLemmas.{after_effect, mean_pushed, well_formed_pushed}
 use Rattle.filter_compile.proofs.TargetLemmas.{in_front-both, in_front-more, in_front-none, target-all, target-front}
 use Rattle.filter_compile.proofs.CheckLemmas.{loads_next, not_empty}

@@ -1,3 +1,2 @@
 pub mod Answer
-pub mod Piece
-pub mod Header
+pub mod body

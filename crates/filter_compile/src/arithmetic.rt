@@ -6,8 +6,8 @@ ghost use Rattle.bpf_machine.specs.Meaning.{computed};
 ghost use Rattle.filter_tree.specs.Arithmetic.{value_of_arith};
 ghost use Rattle.filter_tree.specs.Measure.{cells_of_arith, weight_of_arith};
 ghost use Rattle.filter_tree.specs.View.{arith_tree_of};
-ghost use Rattle.filter_compile.specs.Header.{DoesAs, ReadsAs, weight_of_access};
-ghost use Rattle.filter_compile.specs.Piece.{Accesses, Computes};
+ghost use Rattle.filter_compile.specs.body.Header.{DoesAs, ReadsAs, weight_of_access};
+ghost use Rattle.filter_compile.specs.body.Piece.{Accesses, Computes};
 
 use crate::code::Code;
 use bpf_insn::{Insn, Operand, Operation};

@@ -4,8 +4,8 @@ ghost use Rattle.std.specs.Prelude.{◌+◌, ◌≤◌, OnOk, length};
 ghost use Rattle.bpf_verify.specs.declared.TheConstants.{MAX_INSTRUCTIONS};
 ghost use Rattle.filter_tree.specs.Prefix.{covers};
 ghost use Rattle.filter_tree.specs.Primitive.{is_between};
-ghost use Rattle.filter_compile.specs.Header.{passes, weight_of_check};
-ghost use Rattle.filter_compile.specs.Piece.{Asks};
+ghost use Rattle.filter_compile.specs.body.Header.{passes, weight_of_check};
+ghost use Rattle.filter_compile.specs.body.Piece.{Asks};
 
 use crate::code::Code;
 use bpf_insn::{Insn, Operand, Operation, Test};

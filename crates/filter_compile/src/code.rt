@@ -4,7 +4,7 @@
 ghost use Rattle.std.specs.Prelude.{◌≡◌, ◌+◌, ◌-◌, ◌≤◌, IfOk, OnOk, [], length};
 ghost use Rattle.bpf_verify.specs.declared.TheConstants.{MAX_INSTRUCTIONS};
 ghost use Rattle.bpf_machine.specs.Meaning.{holds, operand_value};
-ghost use Rattle.filter_compile.specs.Piece.{Checks, IsPushed};
+ghost use Rattle.filter_compile.specs.body.Piece.{Checks, IsPushed};
 ghost use Rattle.bpf_insn.specs.declared.instruction.Insn.TheVariants.{Jump};
 
 use bpf_insn::{Insn, Offsets, Operand, Test};

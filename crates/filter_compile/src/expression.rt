@@ -5,7 +5,7 @@ ghost use Rattle.bpf_verify.specs.declared.TheConstants.{CELLS, MAX_INSTRUCTIONS
 ghost use Rattle.filter_tree.specs.Measure.{cells_of, weight_of};
 ghost use Rattle.filter_tree.specs.Truth.{truth_of};
 ghost use Rattle.filter_tree.specs.View.{tree_of};
-ghost use Rattle.filter_compile.specs.Piece.{Tests};
+ghost use Rattle.filter_compile.specs.body.Piece.{Tests};
 
 use crate::code::Code;
 use filter_tree::Expr;

@@ -7,8 +7,8 @@ ghost use Rattle.bpf_verify.specs.declared.TheConstants.{MAX_INSTRUCTIONS};
 ghost use Rattle.filter_tree.specs.declared.primitive.Transport.TheVariants.{Unnamed};
 ghost use Rattle.filter_tree.specs.Outcome.{tested};
 ghost use Rattle.filter_tree.specs.Primitive.{has_ports, is_first_fragment, is_ip, is_protocol};
-ghost use Rattle.filter_compile.specs.Piece.{Tests};
-ghost use Rattle.filter_compile.specs.Header.{weight_of_transport};
+ghost use Rattle.filter_compile.specs.body.Piece.{Tests};
+ghost use Rattle.filter_compile.specs.body.Header.{weight_of_transport};
 
 use crate::code::Code;
 use bpf_insn::{Insn, Operand, Operation, Size, Test};

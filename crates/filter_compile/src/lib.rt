@@ -62,6 +62,3 @@ pub fn compile<A: Allocator, B: Allocator>(
     code.expression(expr, yes, no)?;
     Ok(Program::charged(code.into_words(), size))
 }
-
-#[cfg(test)]
-mod tests;

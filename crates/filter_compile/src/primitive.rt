@@ -6,8 +6,8 @@ ghost use Rattle.filter_tree.specs.Measure.{weight_of_primitive};
 ghost use Rattle.bpf_machine.specs.Meaning.{holds};
 ghost use Rattle.filter_tree.specs.Outcome.{answer};
 ghost use Rattle.filter_tree.specs.Primitive.{address_passes, port_passes, truth_of_primitive};
-ghost use Rattle.filter_compile.specs.Header.{passes, weight_of_addresses, weight_of_ports};
-ghost use Rattle.filter_compile.specs.Piece.{Tests};
+ghost use Rattle.filter_compile.specs.body.Header.{passes, weight_of_addresses, weight_of_ports};
+ghost use Rattle.filter_compile.specs.body.Piece.{Tests};
 
 use crate::check::Check;
 use crate::code::Code;

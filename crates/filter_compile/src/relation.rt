@@ -9,7 +9,7 @@ ghost use Rattle.filter_tree.specs.Primitive.{is_first_fragment, is_ip, is_proto
 ghost use Rattle.filter_tree.specs.Tree.{relation as relation_tree};
 ghost use Rattle.filter_tree.specs.Truth.{accesses_of_both, guards, holds, truth_of};
 ghost use Rattle.filter_tree.specs.View.{arith_tree_of};
-ghost use Rattle.filter_compile.specs.Piece.{Checks, Tests};
+ghost use Rattle.filter_compile.specs.body.Piece.{Checks, Tests};
 
 use crate::code::Code;
 use bpf_insn::{Insn, Operand, Test};

@@ -18,17 +18,17 @@ viable-front front more (rest, tree, d) = (more ++ rest, tree, subst (λ ts. Spe
 abbrev IsBehind : List Placed → Placed → List Placed → Type 0
 IsBehind front next longer = (between : List Placed) × (longer ≡ front ++ next ∷ between)
 
-compared-fronts : (front other more less : List Placed) (next last : Placed) → front ++ next ∷ more ≡ other ++ last ∷ less →
+reduced_relation-fronts : (front other more less : List Placed) (next last : Placed) → front ++ next ∷ more ≡ other ++ last ∷ less →
     ((front ≡ other) × (next ≡ last)) ⊎ (IsBehind front next other ⊎ IsBehind other last front)
-compared-fronts [] [] more less next last h = inl (refl, cc)
-compared-fronts [] (o ∷ other) more less next last h =
+reduced_relation-fronts [] [] more less next last h = inl (refl, cc)
+reduced_relation-fronts [] (o ∷ other) more less next last h =
     let same : next ≡ o = cc in inr (inl (other, ap (λ p. p ∷ other) (sym same)))
-compared-fronts (f ∷ front) [] more less next last h =
+reduced_relation-fronts (f ∷ front) [] more less next last h =
     let same : f ≡ last = cc in inr (inr (front, ap (λ p. p ∷ front) same))
-compared-fronts (f ∷ front) (o ∷ other) more less next last h =
+reduced_relation-fronts (f ∷ front) (o ∷ other) more less next last h =
     let same : f ≡ o = cc in
     let tails : front ++ next ∷ more ≡ other ++ last ∷ less = cc in
-    elim (compared-fronts front other more less next last tails) [
+    elim (reduced_relation-fronts front other more less next last tails) [
       | inl e ↦ inl (ap (λ p. p ∷ front) same ∙ ap (λ ps. o ∷ ps) e.0, e.1)
       | inr b ↦ elim b [
         | inl w ↦ inr (inl (w.0, ap (λ ps. o ∷ ps) w.1 ∙ ap (λ p. p ∷ (front ++ next ∷ w.0)) (sym same)))
@@ -73,7 +73,7 @@ same-cause one other front next why cause =
 
 same-place : (text : List ℕ) (one other : ParseFault) → FoundAt text one → FoundAt text other → one ≡ other
 same-place text one other (found front more next whole f v stop why) (found rest less last same g w halt cause) =
-    elim (compared-fronts front rest more less next last (sym whole ∙ same)) [
+    elim (reduced_relation-fronts front rest more less next last (sym whole ∙ same)) [
       | inl e ↦ same-cause one other front next why (subst (λ p. Why other front p) (sym e.1) (subst (λ ps. Why other ps last) (sym e.0) cause))
       | inr b ↦ elim b [
         | inl x ↦ absurd (stops-before front x.0 next rest x.1 stop g w)

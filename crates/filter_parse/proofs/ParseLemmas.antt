@@ -10,13 +10,13 @@ use Rattle.filter_parse.specs.declared.token.Token.{Token}
 use Rattle.filter_parse.specs.Fault.{HasFault, HasTree, IsFaultless, deep, faulty, own_fault, unexpected, unfinished}
 use Rattle.filter_parse.specs.Grammar.{Spells}
 use Rattle.filter_parse.specs.Laws.{IsUnambiguous}
-use Rattle.filter_parse.specs.Pass.{pass_of}
+use Rattle.filter_parse.specs.body.Parser.{postfix_of}
 use Rattle.filter_parse.proofs.Gathered.{with_tree}
-use Rattle.filter_parse.specs.Postfix.{built, depths_of, first_depth, truth}
+use Rattle.filter_parse.specs.body.Postfix.{built, depths_of, first_depth, truth}
 use Rattle.filter_parse.specs.Token.{Placed, kinds, tokens_of}
 use Rattle.filter_parse.proofs.RunLemmas.{run-spelt}
 use Rattle.filter_parse.proofs.SpeltLemmas.{IsSpelt, spelt-run}
-use Rattle.filter_parse.proofs.JudgeLemmas.{Says, pass_of-says}
+use Rattle.filter_parse.proofs.JudgeLemmas.{Says, postfix_of-says}
 use Rattle.filter_parse.proofs.PostfixLemmas.{built-tree, depths-tree, same-tree}
 
 pub unambiguous : IsUnambiguous
@@ -25,8 +25,8 @@ unambiguous tokens one other d e =
     let same : with_tree one [] ≡ with_tree other [] = cc in
     same-tree one other same
 
-pub fault-says : (text : List ℕ) (fault : ParseFault) → pass_of text ≡ Err fault → HasFault text fault
-fault-says text fault h = subst (Says text) h (pass_of-says text)
+pub fault-says : (text : List ℕ) (fault : ParseFault) → postfix_of text ≡ Err fault → HasFault text fault
+fault-says text fault h = subst (Says text) h (postfix_of-says text)
 
 -- no token of a faultless list is at fault
 pub faultless-at : (start : List Token) (front more : List Placed) (next : Placed) → IsFaultless start (front ++ next ∷ more) →
@@ -53,13 +53,13 @@ tree-or-fault text tree fault t (deep {tree = other} f d below) =
     let same = ap depth_of (unambiguous (kinds (tokens_of text)) tree other t.spelt d) in
     omega (arith, t.shallow)
 
--- the parts that the pass gathers are those of the text's tree
-parts-say : (text : List ℕ) (items : List Item) → pass_of text ≡ Ok items → IsFaultless [] (tokens_of text) × IsSpelt (kinds (tokens_of text)) items
+-- the parts that the parser puts out are those of the text's tree
+parts-say : (text : List ℕ) (items : List Item) → postfix_of text ≡ Ok items → IsFaultless [] (tokens_of text) × IsSpelt (kinds (tokens_of text)) items
 parts-say text items h =
-    let s = subst (Says text) h (pass_of-says text) in
+    let s = subst (Says text) h (postfix_of-says text) in
     (s.0, spelt-run (kinds (tokens_of text)) items s.1)
 
-pub parts-build : (text : List ℕ) (items : List Item) → pass_of text ≡ Ok items → (tree : Tree) × (built items [] ≡ Some (truth tree ∷ []))
+pub parts-build : (text : List ℕ) (items : List Item) → postfix_of text ≡ Ok items → (tree : Tree) × (built items [] ≡ Some (truth tree ∷ []))
 parts-build text items h =
     let s = parts-say text items h in
     (s.1.0, ap (λ is. built is []) s.1.2 ∙ built-tree s.1.0 [] [])
@@ -67,14 +67,14 @@ parts-build text items h =
 parts-depth : (tree : Tree) (items : List Item) → items ≡ with_tree tree [] → first_depth (depths_of items []) ≡ min (depth_of tree) 65
 parts-depth tree items h = ap (λ is. first_depth (depths_of is [])) h ∙ ap first_depth (depths-tree tree [] [])
 
-pub deep-says : (text : List ℕ) (items : List Item) (depth : ℕ) → pass_of text ≡ Ok items → depth ≡ first_depth (depths_of items []) → 64 < depth →
+pub deep-says : (text : List ℕ) (items : List Item) (depth : ℕ) → postfix_of text ≡ Ok items → depth ≡ first_depth (depths_of items []) → 64 < depth →
     HasFault text (TooDeep (length text))
 deep-says text items depth h measured below =
     let s = parts-say text items h in
     let same = parts-depth s.1.0 items s.1.2 in
     deep s.0 s.1.1 (omega arith)
 
-pub tree-says : (text : List ℕ) (items : List Item) (depth : ℕ) (tree : Tree) → pass_of text ≡ Ok items → depth ≡ first_depth (depths_of items []) → depth ≤ 64 →
+pub tree-says : (text : List ℕ) (items : List Item) (depth : ℕ) (tree : Tree) → postfix_of text ≡ Ok items → depth ≡ first_depth (depths_of items []) → depth ≤ 64 →
     built items [] ≡ Some (truth tree ∷ []) → HasTree text tree
 tree-says text items depth tree h measured above b =
     let s = parts-say text items h in

@@ -9,8 +9,8 @@ use Rattle.filter_tree.specs.Measure.{depth_of, depth_of_arith}
 use Rattle.filter_tree.specs.Tree.{ArithTree, Tree, accessor, conjunction, disjunction, negation, number, operation, packet_length, primitive, relation}
 use Rattle.filter_parse.specs.declared.item.Item.{Item}
 use Rattle.filter_parse.specs.declared.item.Item.TheVariants.{Access, Conjoin, Disjoin, Length, Negate, Number, Operate, Primitive, Relate}
-use Rattle.filter_parse.proofs.Gathered.{with_arith, with_tree}
-use Rattle.filter_parse.specs.Postfix.{Growth, Takes, arithmetic, built, deepened, deeper, depths_of, grown, over_two, truth}
+use Rattle.filter_parse.proofs.Gathered.{and_then-same, and_then-twice, with_arith, with_tree}
+use Rattle.filter_parse.specs.body.Postfix.{Growth, Takes, arithmetic, built, deepened, deeper, depths_of, grown, over_two, truth}
 
 -- what can be built takes its next part
 takes-case : (items : List Item) (found : Option (List Growth)) (whole : List Growth) → option_and_then (built items) found ≡ Some whole →
@@ -21,19 +21,10 @@ takes-case items (Some more) whole h = (more, refl)
 pub takes-next : (item : Item) (items : List Item) (trees whole : List Growth) → built (item ∷ items) trees ≡ Some whole → Takes item trees
 takes-next item items trees whole h = takes-case items (grown item trees) whole h
 
-some-same : (found : Option (List Growth)) → option_and_then (built []) found ≡ found
-some-same None = refl
-some-same (Some trees) = refl
-
-push-case : (items : List Item) (item : Item) (found : Option (List Growth)) →
-    ((trees : List Growth) → built (items ++ item ∷ []) trees ≡ option_and_then (grown item) (built items trees)) →
-    option_and_then (built (items ++ item ∷ [])) found ≡ option_and_then (grown item) (option_and_then (built items) found)
-push-case items item None h = refl
-push-case items item (Some trees) h = h trees
-
 built-push : (items : List Item) (item : Item) (trees : List Growth) → built (items ++ item ∷ []) trees ≡ option_and_then (grown item) (built items trees)
-built-push [] item trees = some-same (grown item trees)
-built-push (first ∷ items) item trees = push-case items item (grown first trees) (built-push items item)
+built-push [] item trees = and_then-same (built []) (λ ts. refl) (grown item trees)
+built-push (first ∷ items) item trees =
+    and_then-twice (built (items ++ item ∷ [])) (built items) (grown item) (built-push items item) (grown first trees)
 
 abbrev waiting_arith : ArithTree → Option (List Growth) → Option (List Growth)
 waiting_arith a found = option_map (λ trees. arithmetic a ∷ trees) found

@@ -27,7 +27,7 @@ use Rattle.filter_parse.specs.declared.token.Token.TheVariants.{Address, Close, 
 use Rattle.filter_parse.specs.Grammar.{Spells, SpellsDirection, SpellsOperand, SpellsPrimitive, SpellsSize, SpellsTransport, SpellsUnary, bracketed, bytes_at, combined, destination, enclosed, four, greater, host, junction, len, less, literal, negated, net, one, operand, port, portrange, proto, protocol, related, simple, source, source_and_destination, tcp, two, udp, unary, undirected, unnamed}
 use Rattle.filter_parse.specs.Token.{begins_word, is_blank, is_number_part, is_word_part, kinds, pair_sign, tokens_of, word_token}
 use Rattle.filter_parse.proofs.AddressLemmas.{lexes-address}
-use Rattle.filter_parse.proofs.LexLemmas.{and-parts, IsAlone, IsRun, Lexes, decimal-run, lexes-decimal, lexes-digits, lexes-one, lexes-sign, lexes-space, lexes-word}
+use Rattle.filter_parse.proofs.LexLemmas.{IsAlone, IsRun, Lexes, and-parts, decimal-run, lexes-decimal, lexes-digits, lexes-one, lexes-sign, lexes-space, lexes-word}
 
 -- the tokens of a printed tree, and others behind them
 abbrev pub size_token : Size → Token

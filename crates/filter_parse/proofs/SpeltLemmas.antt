@@ -1,4 +1,4 @@
--- What the pass reads the grammar spells: each state tells what is spelt so far.
+-- What the parser reads the grammar spells: its state, stack and output tell what is spelt so far.
 use Rattle.std.proofs.Common.{◌≡◌, ◌<◌, ◌≤◌, ◌∙◌, ◌∷◌, ◌++◌, ◌&&◌, Bool, List, None, Option, Some, [], ap, arith, cond, false, nat_eq, nat_le, option_and_then, refl, subst, suc, sym, true, ℕ}
 use Rattle.std.proofs.lemmas.Bool.{eqb-true, leb-true, leb-false}
 use Rattle.filter_tree.specs.declared.arithmetic.Operator.{Operator}
@@ -15,126 +15,125 @@ use Rattle.filter_tree.specs.declared.primitive.Transport.TheVariants.{Tcp, Udp,
 use Rattle.filter_tree.specs.Tree.{ArithTree, Tree, accessor, negation, number, operation, packet_length, primitive, relation}
 use Rattle.filter_parse.specs.declared.item.Item.{Item}
 use Rattle.filter_parse.specs.declared.item.Item.TheVariants.{Access, Negate, Operate, Primitive as PushPrimitive, Relate}
-use Rattle.filter_parse.specs.declared.state.Control.{Control}
-use Rattle.filter_parse.specs.declared.state.Control.TheVariants.{Directed, Expects, Named as HasNamed, Number as HasNumber, Truth as HasTruth, WantsAddress, WantsBits, WantsDash, WantsEnd, WantsFirst, WantsLast, WantsLeast, WantsMost, WantsNetwork, WantsPort, WantsProtocol, WantsSize, WantsSlash, Widened}
-use Rattle.filter_parse.specs.declared.state.Frame.{Frame}
-use Rattle.filter_parse.specs.declared.state.Frame.TheVariants.{Bracket, Compared, Index, Left, Negated, Operand}
+use Rattle.filter_parse.specs.declared.state.State.{State}
+use Rattle.filter_parse.specs.declared.state.State.TheVariants.{Directed, Expects, Named as HasNamed, Number as HasNumber, Truth as HasTruth, WantsAddress, WantsBits, WantsDash, WantsEnd, WantsFirst, WantsLast, WantsLeast, WantsMost, WantsNetwork, WantsPort, WantsProtocol, WantsSize, WantsSlash, Widened}
+use Rattle.filter_parse.specs.declared.state.Pending.{Pending}
+use Rattle.filter_parse.specs.declared.state.Pending.TheVariants.{Bracket, Compared, Index, Joined, Negated, Operated}
 use Rattle.filter_parse.specs.declared.token.Connective.TheVariants.{And, Or}
 use Rattle.filter_parse.specs.declared.token.Token.{Token}
 use Rattle.filter_parse.specs.declared.token.Token.TheVariants.{Address, Close, CloseIndex, Colon, Compares, Connects, Destination, Greater, Host, Length, Less, Named, Net, Not, Number, Open, OpenIndex, Operates, Port, PortRange, Proto, Source}
-use Rattle.filter_parse.specs.Grammar.{Spells, SpellsArith, SpellsDirection, SpellsExpr, SpellsPrimitive, SpellsSize, SpellsTransport, SpellsUnary, bracketed, byte_at, bytes_at, combined, destination, enclosed, four, greater, host, joined, junction, len, less, level_of, literal, named, negated, net, one, operand, port, portrange, proto, protocol, related, simple, source, source_and_destination, source_or_destination, tcp, two, udp, unary, undirected, unnamed}
-use Rattle.filter_parse.specs.Pass.{Reading, accepted, after_name, after_number, after_protocol, after_source, after_truth, begins, begins_direction, begins_truth, compared, completed, declared_name, ends, in_direction, in_primitive, is_numeric, junction_of, looseness, negation_of, reading, reduced, settled, size_of_number, sized_by, taken}
-use Rattle.filter_parse.proofs.Gathered.{run, with_arith, with_tree}
+use Rattle.filter_parse.specs.Grammar.{Spells, SpellsArith, SpellsDirection, SpellsExpr, SpellsPrimitive, SpellsSize, SpellsTransport, SpellsUnary, bracketed, byte_at, bytes_at, combined, destination, enclosed, four, greater, host, joined, junction, len, less, literal, named, negated, net, one, operand, port, portrange, precedence_of, proto, protocol, related, simple, source, source_and_destination, source_or_destination, tcp, two, udp, unary, undirected, unnamed}
+use Rattle.filter_parse.specs.body.Parser.{Parsing, accepted, after_name, after_number, after_protocol, after_source, after_truth, begins, begins_direction, begins_truth, ends, in_direction, in_primitive, is_numeric, junction_of, lookahead_precedence, negation_of, parsing, reduced, reduced_connectives, reduced_name, reduced_operators, reduced_relation, shifted, size_of_number, sized_by}
+use Rattle.filter_parse.proofs.Gathered.{IfAny, run, unless, with_arith, with_tree}
 use Rattle.filter_parse.proofs.RunLemmas.{with_tree-joined}
 
--- an operator that waits on top binds less tightly than a level says
-abbrev pub TopBelow : ℕ → List Frame → Type 0
-TopBelow level (Operand operator ∷ frames) = level_of operator < level
-TopBelow level _ = Unit {0}
+-- an operator that waits on top binds less tightly than a precedence says
+abbrev pub TopBelow : ℕ → List Pending → Type 0
+TopBelow precedence (Operated operator ∷ stack) = precedence_of operator < precedence
+TopBelow precedence _ = Unit {0}
 
 -- what stands open was spelt from the beginning of the tokens to a place, where what it waits for begins
-abbrev pub Waits : List Token → List Frame → List Token → List Item → Type 0
-Waits whole [] at items = (at ≡ whole) × (items ≡ [])
-Waits whole (Left word ∷ frames) at items =
-    (from : List Token) × (a : Tree) × (before : List Item) × SpellsExpr from (Connects word ∷ at) a × (items ≡ with_tree a before) × Waits whole frames from before
-Waits whole (Negated ∷ frames) at items = Waits whole frames (Not ∷ at) items
-Waits whole (Bracket numeric ∷ frames) at items = Waits whole frames (Open ∷ at) items
-Waits whole (Compared relator ∷ frames) at items =
-    (from : List Token) × (a : ArithTree) × (before : List Item) × SpellsArith 0 from (Compares relator ∷ at) a × (items ≡ with_arith a before) × Waits whole frames from before
-Waits whole (Operand operator ∷ frames) at items =
-    (from : List Token) × (a : ArithTree) × (before : List Item) × SpellsArith (level_of operator) from (Operates operator ∷ at) a × (items ≡ with_arith a before) × Waits whole frames from before × TopBelow (level_of operator) frames
-Waits whole (Index p ∷ frames) at items = Waits whole frames (Named p ∷ OpenIndex ∷ at) items
+abbrev pub Waits : List Token → List Pending → List Token → List Item → Type 0
+Waits whole [] at output = (at ≡ whole) × (output ≡ [])
+Waits whole (Joined word ∷ stack) at output =
+    (from : List Token) × (a : Tree) × (before : List Item) × SpellsExpr from (Connects word ∷ at) a × (output ≡ with_tree a before) × Waits whole stack from before
+Waits whole (Negated ∷ stack) at output = Waits whole stack (Not ∷ at) output
+Waits whole (Bracket numeric ∷ stack) at output = Waits whole stack (Open ∷ at) output
+Waits whole (Compared relator ∷ stack) at output =
+    (from : List Token) × (a : ArithTree) × (before : List Item) × SpellsArith 0 from (Compares relator ∷ at) a × (output ≡ with_arith a before) × Waits whole stack from before
+Waits whole (Operated operator ∷ stack) at output =
+    (from : List Token) × (a : ArithTree) × (before : List Item) × SpellsArith (precedence_of operator) from (Operates operator ∷ at) a × (output ≡ with_arith a before) × Waits whole stack from before × TopBelow (precedence_of operator) stack
+Waits whole (Index p ∷ stack) at output = Waits whole stack (Named p ∷ OpenIndex ∷ at) output
 
 -- an expression has been spelt up to a place
-abbrev pub IsTruthAt : List Token → List Frame → List Item → List Token → Type 0
-IsTruthAt whole frames items rest =
-    (from : List Token) × (e : Tree) × (before : List Item) × SpellsExpr from rest e × (items ≡ with_tree e before) × Waits whole frames from before
+abbrev pub IsTruthAt : List Token → List Pending → List Item → List Token → Type 0
+IsTruthAt whole stack output rest =
+    (from : List Token) × (e : Tree) × (before : List Item) × SpellsExpr from rest e × (output ≡ with_tree e before) × Waits whole stack from before
 
--- an arithmetic expression of a level has
-abbrev pub IsNumberAt : ℕ → List Token → List Frame → List Item → List Token → Type 0
-IsNumberAt level whole frames items rest =
-    (from : List Token) × (a : ArithTree) × (before : List Item) × SpellsArith level from rest a × (items ≡ with_arith a before) × Waits whole frames from before
+-- an arithmetic expression of a precedence has
+abbrev pub IsNumberAt : ℕ → List Token → List Pending → List Item → List Token → Type 0
+IsNumberAt precedence whole stack output rest =
+    (from : List Token) × (a : ArithTree) × (before : List Item) × SpellsArith precedence from rest a × (output ≡ with_arith a before) × Waits whole stack from before
 
--- what a state tells of the tokens before the rest
-abbrev pub Knows : List Token → Reading → List Token → Type 0
-Knows whole (reading Expects frames items) rest = Waits whole frames rest items
-Knows whole (reading HasNumber frames items) rest = IsNumberAt 6 whole frames items rest
-Knows whole (reading HasTruth frames items) rest = IsTruthAt whole frames items rest
-Knows whole (reading (HasNamed p) frames items) rest = Waits whole frames (Named p ∷ rest) items
-Knows whole (reading (Directed transport direction) frames items) rest =
-    (from : List Token) × (mid : List Token) × SpellsTransport from mid transport × SpellsDirection mid rest direction × Waits whole frames from items
-Knows whole (reading (Widened transport direction) frames items) rest =
+-- what the parser tells of the tokens before the rest
+abbrev pub Knows : List Token → Parsing → List Token → Type 0
+Knows whole (parsing Expects stack output) rest = Waits whole stack rest output
+Knows whole (parsing HasNumber stack output) rest = IsNumberAt 6 whole stack output rest
+Knows whole (parsing HasTruth stack output) rest = IsTruthAt whole stack output rest
+Knows whole (parsing (HasNamed p) stack output) rest = Waits whole stack (Named p ∷ rest) output
+Knows whole (parsing (Directed transport direction) stack output) rest =
+    (from : List Token) × (mid : List Token) × SpellsTransport from mid transport × SpellsDirection mid rest direction × Waits whole stack from output
+Knows whole (parsing (Widened transport direction) stack output) rest =
     (from : List Token) × (mid : List Token) × SpellsTransport from mid transport
-    × ((after : List Token) → rest ≡ Destination ∷ after → SpellsDirection mid after direction) × Waits whole frames from items
-Knows whole (reading WantsProtocol frames items) rest = Waits whole frames (Named IpName ∷ Proto ∷ rest) items
-Knows whole (reading (WantsAddress direction) frames items) rest =
-    (from : List Token) × SpellsDirection from (Host ∷ rest) direction × Waits whole frames from items
-Knows whole (reading (WantsNetwork direction) frames items) rest =
-    (from : List Token) × SpellsDirection from (Net ∷ rest) direction × Waits whole frames from items
-Knows whole (reading (WantsSlash direction a) frames items) rest =
-    (from : List Token) × SpellsDirection from (Net ∷ Address a ∷ rest) direction × Waits whole frames from items
-Knows whole (reading (WantsBits direction a) frames items) rest =
-    (from : List Token) × SpellsDirection from (Net ∷ Address a ∷ Operates Divide ∷ rest) direction × Waits whole frames from items
-Knows whole (reading (WantsPort transport direction) frames items) rest =
-    (from : List Token) × (mid : List Token) × SpellsTransport from mid transport × SpellsDirection mid (Port ∷ rest) direction × Waits whole frames from items
-Knows whole (reading (WantsFirst transport direction) frames items) rest =
-    (from : List Token) × (mid : List Token) × SpellsTransport from mid transport × SpellsDirection mid (PortRange ∷ rest) direction × Waits whole frames from items
-Knows whole (reading (WantsDash transport direction n) frames items) rest =
-    (from : List Token) × (mid : List Token) × SpellsTransport from mid transport × SpellsDirection mid (PortRange ∷ Number n ∷ rest) direction × Waits whole frames from items
-Knows whole (reading (WantsLast transport direction n) frames items) rest =
+    × ((after : List Token) → rest ≡ Destination ∷ after → SpellsDirection mid after direction) × Waits whole stack from output
+Knows whole (parsing WantsProtocol stack output) rest = Waits whole stack (Named IpName ∷ Proto ∷ rest) output
+Knows whole (parsing (WantsAddress direction) stack output) rest =
+    (from : List Token) × SpellsDirection from (Host ∷ rest) direction × Waits whole stack from output
+Knows whole (parsing (WantsNetwork direction) stack output) rest =
+    (from : List Token) × SpellsDirection from (Net ∷ rest) direction × Waits whole stack from output
+Knows whole (parsing (WantsSlash direction a) stack output) rest =
+    (from : List Token) × SpellsDirection from (Net ∷ Address a ∷ rest) direction × Waits whole stack from output
+Knows whole (parsing (WantsBits direction a) stack output) rest =
+    (from : List Token) × SpellsDirection from (Net ∷ Address a ∷ Operates Divide ∷ rest) direction × Waits whole stack from output
+Knows whole (parsing (WantsPort transport direction) stack output) rest =
+    (from : List Token) × (mid : List Token) × SpellsTransport from mid transport × SpellsDirection mid (Port ∷ rest) direction × Waits whole stack from output
+Knows whole (parsing (WantsFirst transport direction) stack output) rest =
+    (from : List Token) × (mid : List Token) × SpellsTransport from mid transport × SpellsDirection mid (PortRange ∷ rest) direction × Waits whole stack from output
+Knows whole (parsing (WantsDash transport direction n) stack output) rest =
+    (from : List Token) × (mid : List Token) × SpellsTransport from mid transport × SpellsDirection mid (PortRange ∷ Number n ∷ rest) direction × Waits whole stack from output
+Knows whole (parsing (WantsLast transport direction n) stack output) rest =
     (from : List Token) × (mid : List Token) × SpellsTransport from mid transport
-    × SpellsDirection mid (PortRange ∷ Number n ∷ Operates Subtract ∷ rest) direction × Waits whole frames from items
-Knows whole (reading WantsMost frames items) rest = Waits whole frames (Less ∷ rest) items
-Knows whole (reading WantsLeast frames items) rest = Waits whole frames (Greater ∷ rest) items
-Knows whole (reading (WantsSize p) frames items) rest =
-    (from : List Token) × (a : ArithTree) × (before : List Item) × SpellsArith 0 from (Colon ∷ rest) a × (items ≡ with_arith a before)
-    × Waits whole frames (Named p ∷ OpenIndex ∷ from) before
-Knows whole (reading (WantsEnd p size) frames items) rest =
+    × SpellsDirection mid (PortRange ∷ Number n ∷ Operates Subtract ∷ rest) direction × Waits whole stack from output
+Knows whole (parsing WantsMost stack output) rest = Waits whole stack (Less ∷ rest) output
+Knows whole (parsing WantsLeast stack output) rest = Waits whole stack (Greater ∷ rest) output
+Knows whole (parsing (WantsSize p) stack output) rest =
+    (from : List Token) × (a : ArithTree) × (before : List Item) × SpellsArith 0 from (Colon ∷ rest) a × (output ≡ with_arith a before)
+    × Waits whole stack (Named p ∷ OpenIndex ∷ from) before
+Knows whole (parsing (WantsEnd p size) stack output) rest =
     (from : List Token) × (a : ArithTree) × (before : List Item) × (n : Token) × SpellsArith 0 from (Colon ∷ n ∷ rest) a × SpellsSize n size
-    × (items ≡ with_arith a before) × Waits whole frames (Named p ∷ OpenIndex ∷ from) before
+    × (output ≡ with_arith a before) × Waits whole stack (Named p ∷ OpenIndex ∷ from) before
 
-abbrev pub KnowsIfAny : List Token → Option Reading → List Token → Type 0
-KnowsIfAny whole None rest = Unit {0}
-KnowsIfAny whole (Some state) rest = Knows whole state rest
+abbrev pub KnowsIfAny : List Token → Option Parsing → List Token → Type 0
+KnowsIfAny whole found rest = IfAny (λ parser. Knows whole parser rest) found
 
--- what a state tells once the next token has settled it
-abbrev pub Settles : ℕ → List Token → Reading → List Token → Type 0
-Settles level whole (reading HasNumber frames items) rest = IsNumberAt level whole frames items rest × TopBelow level frames
-Settles level whole state rest = Knows whole state rest
+-- what it tells once the lookahead has reduced
+abbrev pub KnowsReduced : ℕ → List Token → Parsing → List Token → Type 0
+KnowsReduced precedence whole (parsing HasNumber stack output) rest = IsNumberAt precedence whole stack output rest × TopBelow precedence stack
+KnowsReduced precedence whole parser rest = Knows whole parser rest
 
-pub arith-looser : {level : ℕ} {from rest : List Token} {a : ArithTree} → SpellsArith level from rest a → (looser : ℕ) → looser ≤ level → SpellsArith looser from rest a
+pub arith-looser : {precedence : ℕ} {from rest : List Token} {a : ArithTree} → SpellsArith precedence from rest a → (looser : ℕ) → looser ≤ precedence → SpellsArith looser from rest a
 arith-looser (operand d) looser h = operand d
 arith-looser (combined operator tight d e) looser h = combined operator (omega arith) d e
 
-level-below : (operator : Operator) → level_of operator < 6
-level-below BitOr = omega arith
-level-below ExclusiveOr = omega arith
-level-below BitAnd = omega arith
-level-below ShiftLeft = omega arith
-level-below ShiftRight = omega arith
-level-below Add = omega arith
-level-below Subtract = omega arith
-level-below Multiply = omega arith
-level-below Divide = omega arith
-level-below Modulo = omega arith
+precedence-below : (operator : Operator) → precedence_of operator < 6
+precedence-below BitOr = omega arith
+precedence-below ExclusiveOr = omega arith
+precedence-below BitAnd = omega arith
+precedence-below ShiftLeft = omega arith
+precedence-below ShiftRight = omega arith
+precedence-below Add = omega arith
+precedence-below Subtract = omega arith
+precedence-below Multiply = omega arith
+precedence-below Divide = omega arith
+precedence-below Modulo = omega arith
 
-top-below : (frames : List Frame) → TopBelow 6 frames
+top-below : (stack : List Pending) → TopBelow 6 stack
 top-below [] = tt
-top-below (Left word ∷ frames) = tt
-top-below (Negated ∷ frames) = tt
-top-below (Bracket numeric ∷ frames) = tt
-top-below (Compared relator ∷ frames) = tt
-top-below (Operand operator ∷ frames) = level-below operator
-top-below (Index p ∷ frames) = tt
+top-below (Joined word ∷ stack) = tt
+top-below (Negated ∷ stack) = tt
+top-below (Bracket numeric ∷ stack) = tt
+top-below (Compared relator ∷ stack) = tt
+top-below (Operated operator ∷ stack) = precedence-below operator
+top-below (Index p ∷ stack) = tt
 
 -- an expression without `and` and `or` that has been spelt takes its place
-module _ (whole rest : List Token) (P : Reading → Type 0)
-    (holds : (frames : List Frame) (items : List Item) → IsTruthAt whole frames items rest → P (reading HasTruth frames items)) where
-  completed-holds : (frames : List Frame) (items : List Item) (from : List Token) (e : Tree) (before : List Item) →
-      SpellsUnary from rest e → items ≡ with_tree e before → Waits whole frames from before → P (completed frames items)
-  completed-holds [] items from e before d is w = holds [] items (from, e, before, unary d, is, w)
-  completed-holds (Left word ∷ frames) items from e before d is (start, a, earlier, left, was, w) =
-      holds frames (items ++ junction_of word ∷ []) (
+module _ (whole rest : List Token) (P : Parsing → Type 0)
+    (holds : (stack : List Pending) (output : List Item) → IsTruthAt whole stack output rest → P (parsing HasTruth stack output)) where
+  reduced_connectives-holds : (stack : List Pending) (output : List Item) (from : List Token) (e : Tree) (before : List Item) →
+      SpellsUnary from rest e → output ≡ with_tree e before → Waits whole stack from before → P (reduced_connectives stack output)
+  reduced_connectives-holds [] output from e before d is w = holds [] output (from, e, before, unary d, is, w)
+  reduced_connectives-holds (Joined word ∷ stack) output from e before d is (start, a, earlier, left, was, w) =
+      holds stack (output ++ junction_of word ∷ []) (
         start,
         joined word a e,
         earlier,
@@ -142,95 +141,89 @@ module _ (whole rest : List Token) (P : Reading → Type 0)
         ap (λ i. i ++ junction_of word ∷ []) (is ∙ ap (with_tree e) was) ∙ with_tree-joined word a e earlier,
         w,
       )
-  completed-holds (Negated ∷ frames) items from e before d is w =
-      completed-holds frames (items ++ Negate ∷ []) (Not ∷ from) (negation e) before (negated d) (ap (λ i. i ++ Negate ∷ []) is) w
-  completed-holds (Bracket numeric ∷ frames) items from e before d is w = holds (Bracket numeric ∷ frames) items (from, e, before, unary d, is, w)
-  completed-holds (Compared relator ∷ frames) items from e before d is w = holds (Compared relator ∷ frames) items (from, e, before, unary d, is, w)
-  completed-holds (Operand operator ∷ frames) items from e before d is w = holds (Operand operator ∷ frames) items (from, e, before, unary d, is, w)
-  completed-holds (Index p ∷ frames) items from e before d is w = holds (Index p ∷ frames) items (from, e, before, unary d, is, w)
+  reduced_connectives-holds (Negated ∷ stack) output from e before d is w =
+      reduced_connectives-holds stack (output ++ Negate ∷ []) (Not ∷ from) (negation e) before (negated d) (ap (λ i. i ++ Negate ∷ []) is) w
+  reduced_connectives-holds (Bracket numeric ∷ stack) output from e before d is w = holds (Bracket numeric ∷ stack) output (from, e, before, unary d, is, w)
+  reduced_connectives-holds (Compared relator ∷ stack) output from e before d is w = holds (Compared relator ∷ stack) output (from, e, before, unary d, is, w)
+  reduced_connectives-holds (Operated operator ∷ stack) output from e before d is w = holds (Operated operator ∷ stack) output (from, e, before, unary d, is, w)
+  reduced_connectives-holds (Index p ∷ stack) output from e before d is w = holds (Index p ∷ stack) output (from, e, before, unary d, is, w)
 
 -- and a primitive that has been spelt
-primitive-holds : (whole rest : List Token) (frames : List Frame) (items : List Item) (from : List Token) (p : Primitive) →
-    SpellsPrimitive from rest p → Waits whole frames from items → Knows whole (completed frames (items ++ PushPrimitive p ∷ [])) rest
-primitive-holds whole rest frames items from p d w =
-    completed-holds whole rest (λ s. Knows whole s rest) (λ fs is t. t) frames (items ++ PushPrimitive p ∷ []) from (primitive p) items (simple d) refl w
+primitive-holds : (whole rest : List Token) (stack : List Pending) (output : List Item) (from : List Token) (p : Primitive) →
+    SpellsPrimitive from rest p → Waits whole stack from output → Knows whole (reduced_connectives stack (output ++ PushPrimitive p ∷ [])) rest
+primitive-holds whole rest stack output from p d w =
+    reduced_connectives-holds whole rest (λ s. Knows whole s rest) (λ fs is t. t) stack (output ++ PushPrimitive p ∷ []) from (primitive p) output (simple d) refl w
 
 -- the operators that wait take their right sides
-reduced-holds : (whole rest : List Token) (level bound : ℕ) (frames : List Frame) (items : List Item) → level ≤ bound →
-    IsNumberAt bound whole frames items rest → TopBelow bound frames → Settles level whole (reduced level frames items) rest
-reduced-holds whole rest level bound [] items low (from, a, before, d, is, w) top = ((from, a, before, arith-looser d level low, is, w), tt)
-reduced-holds whole rest level bound (Left word ∷ frames) items low (from, a, before, d, is, w) top = ((from, a, before, arith-looser d level low, is, w), tt)
-reduced-holds whole rest level bound (Negated ∷ frames) items low (from, a, before, d, is, w) top = ((from, a, before, arith-looser d level low, is, w), tt)
-reduced-holds whole rest level bound (Bracket numeric ∷ frames) items low (from, a, before, d, is, w) top = ((from, a, before, arith-looser d level low, is, w), tt)
-reduced-holds whole rest level bound (Compared relator ∷ frames) items low (from, a, before, d, is, w) top = ((from, a, before, arith-looser d level low, is, w), tt)
-reduced-holds whole rest level bound (Index p ∷ frames) items low (from, a, before, d, is, w) top = ((from, a, before, arith-looser d level low, is, w), tt)
-reduced-holds whole rest level bound (Operand operator ∷ frames) items low (from, a, before, d, is, (start, b, earlier, left, was, w, below)) top =
-    elim (nat_le level (level_of operator))
-    as (λ t. nat_le level (level_of operator) ≡ t → Settles level whole (cond t (reduced level frames (items ++ Operate operator ∷ [])) (reading HasNumber (Operand operator ∷ frames) items)) rest) [
-      | true ↦ λ h. reduced-holds whole rest level (level_of operator) frames (items ++ Operate operator ∷ []) (leb-true level (level_of operator) h) (
+reduced_operators-holds : (whole rest : List Token) (precedence bound : ℕ) (stack : List Pending) (output : List Item) → precedence ≤ bound →
+    IsNumberAt bound whole stack output rest → TopBelow bound stack → KnowsReduced precedence whole (reduced_operators precedence stack output) rest
+reduced_operators-holds whole rest precedence bound [] output low (from, a, before, d, is, w) top = ((from, a, before, arith-looser d precedence low, is, w), tt)
+reduced_operators-holds whole rest precedence bound (Joined word ∷ stack) output low (from, a, before, d, is, w) top = ((from, a, before, arith-looser d precedence low, is, w), tt)
+reduced_operators-holds whole rest precedence bound (Negated ∷ stack) output low (from, a, before, d, is, w) top = ((from, a, before, arith-looser d precedence low, is, w), tt)
+reduced_operators-holds whole rest precedence bound (Bracket numeric ∷ stack) output low (from, a, before, d, is, w) top = ((from, a, before, arith-looser d precedence low, is, w), tt)
+reduced_operators-holds whole rest precedence bound (Compared relator ∷ stack) output low (from, a, before, d, is, w) top = ((from, a, before, arith-looser d precedence low, is, w), tt)
+reduced_operators-holds whole rest precedence bound (Index p ∷ stack) output low (from, a, before, d, is, w) top = ((from, a, before, arith-looser d precedence low, is, w), tt)
+reduced_operators-holds whole rest precedence bound (Operated operator ∷ stack) output low (from, a, before, d, is, (start, b, earlier, left, was, w, below)) top =
+    elim (nat_le precedence (precedence_of operator))
+    as (λ t. nat_le precedence (precedence_of operator) ≡ t → KnowsReduced precedence whole (cond t (reduced_operators precedence stack (output ++ Operate operator ∷ [])) (parsing HasNumber (Operated operator ∷ stack) output)) rest) [
+      | true ↦ λ h. reduced_operators-holds whole rest precedence (precedence_of operator) stack (output ++ Operate operator ∷ []) (leb-true precedence (precedence_of operator) h) (
         start,
         operation b operator a,
         earlier,
-        combined operator (omega arith) left (arith-looser d (suc (level_of operator)) (omega (arith, top))),
+        combined operator (omega arith) left (arith-looser d (suc (precedence_of operator)) (omega (arith, top))),
         ap (λ i. i ++ Operate operator ∷ []) (is ∙ ap (with_arith a) was),
         w,
       ) below
-      | false ↦ λ h. ((from, a, before, arith-looser d level low, is, (start, b, earlier, left, was, w, below)), leb-false level (level_of operator) h)
+      | false ↦ λ h. ((from, a, before, arith-looser d precedence low, is, (start, b, earlier, left, was, w, below)), leb-false precedence (precedence_of operator) h)
     ] refl
 
-level-within : (next : Option Token) → looseness next ≤ 6
-level-within None = omega arith
-level-within (Some (Operates operator)) = omega (arith, level-below operator)
-level-within (Some _) = omega arith
+precedence-within : (lookahead : Option Token) → lookahead_precedence lookahead ≤ 6
+precedence-within None = omega arith
+precedence-within (Some (Operates operator)) = omega (arith, precedence-below operator)
+precedence-within (Some _) = omega arith
 
-truth-settles : (level : ℕ) (whole rest : List Token) (frames : List Frame) (items : List Item) → IsTruthAt whole frames items rest →
-    Settles level whole (reading HasTruth frames items) rest
-truth-settles level whole rest frames items t = t
+truth-reduced : (precedence : ℕ) (whole rest : List Token) (stack : List Pending) (output : List Item) → IsTruthAt whole stack output rest →
+    KnowsReduced precedence whole (parsing HasTruth stack output) rest
+truth-reduced precedence whole rest stack output t = t
 
--- the next token settles what is known
-compared-holds : (whole rest : List Token) (level : ℕ) (end : Bool) (state : Reading) → Settles level whole state rest →
-    Settles level whole (compared end state) rest
-compared-holds whole rest level true (reading HasNumber (Compared relator ∷ frames) items) ((from, b, before, d, is, (start, a, earlier, left, was, w)), top) =
-    completed-holds whole rest (λ s. Settles level whole s rest) (truth-settles level whole rest) frames (items ++ Relate relator ∷ []) start
+-- reductions keep what is known
+reduced_relation-holds : (whole rest : List Token) (precedence : ℕ) (end : Bool) (parser : Parsing) → KnowsReduced precedence whole parser rest →
+    KnowsReduced precedence whole (reduced_relation end parser) rest
+reduced_relation-holds whole rest precedence true (parsing HasNumber (Compared relator ∷ stack) output) ((from, b, before, d, is, (start, a, earlier, left, was, w)), top) =
+    reduced_connectives-holds whole rest (λ s. KnowsReduced precedence whole s rest) (truth-reduced precedence whole rest) stack (output ++ Relate relator ∷ []) start
     (relation a relator b) earlier (related relator left (arith-looser d 0 (omega arith)))
     (ap (λ i. i ++ Relate relator ∷ []) (is ∙ ap (with_arith b) was)) w
-compared-holds whole rest level _ state k = k
+reduced_relation-holds whole rest precedence _ parser k = k
 
-declared-holds : (whole rest : List Token) (level : ℕ) (is : Bool) (p : Protocol) (frames : List Frame) (items : List Item) →
-    Waits whole frames (Named p ∷ rest) items → Settles level whole (declared_name is p frames items) rest
-declared-holds whole rest level true p frames items w =
-    completed-holds whole rest (λ s. Settles level whole s rest) (truth-settles level whole rest) frames (items ++ PushPrimitive (named p) ∷ [])
-    (Named p ∷ rest) (primitive (named p)) items (simple protocol) refl w
-declared-holds whole rest level false p frames items w = w
+declared-holds : (whole rest : List Token) (precedence : ℕ) (is : Bool) (p : Protocol) (stack : List Pending) (output : List Item) →
+    Waits whole stack (Named p ∷ rest) output → KnowsReduced precedence whole (reduced_name is p stack output) rest
+declared-holds whole rest precedence true p stack output w =
+    reduced_connectives-holds whole rest (λ s. KnowsReduced precedence whole s rest) (truth-reduced precedence whole rest) stack (output ++ PushPrimitive (named p) ∷ [])
+    (Named p ∷ rest) (primitive (named p)) output (simple protocol) refl w
+declared-holds whole rest precedence false p stack output w = w
 
-settled-holds : (whole rest : List Token) (next : Option Token) (state : Reading) → Knows whole state rest →
-    Settles (looseness next) whole (settled next state) rest
-settled-holds whole rest next (reading HasNumber frames items) k =
-    compared-holds whole rest (looseness next) (ends next) (reduced (looseness next) frames items)
-    (reduced-holds whole rest (looseness next) 6 frames items (level-within next) k (top-below frames))
-settled-holds whole rest next (reading (HasNamed p) frames items) k =
-    declared-holds whole rest (looseness next) (ends next && negation_of (is_numeric frames)) p frames items k
-settled-holds whole rest next (reading _ frames items) k = k
+reduced-holds : (whole rest : List Token) (lookahead : Option Token) (parser : Parsing) → Knows whole parser rest →
+    KnowsReduced (lookahead_precedence lookahead) whole (reduced lookahead parser) rest
+reduced-holds whole rest lookahead (parsing HasNumber stack output) k =
+    reduced_relation-holds whole rest (lookahead_precedence lookahead) (ends lookahead) (reduced_operators (lookahead_precedence lookahead) stack output)
+    (reduced_operators-holds whole rest (lookahead_precedence lookahead) 6 stack output (precedence-within lookahead) k (top-below stack))
+reduced-holds whole rest lookahead (parsing (HasNamed p) stack output) k =
+    declared-holds whole rest (lookahead_precedence lookahead) (ends lookahead && negation_of (is_numeric stack)) p stack output k
+reduced-holds whole rest lookahead (parsing _ stack output) k = k
 
--- a step that is made only where a test fails
-unless-holds : (whole rest : List Token) (test : Bool) (state : Option Reading) → KnowsIfAny whole state rest →
-    KnowsIfAny whole (cond test None state) rest
-unless-holds whole rest true state k = tt
-unless-holds whole rest false state k = k
+in_direction-holds : (whole rest : List Token) (token : Token) (transport : Transport) (direction : Direction) (stack : List Pending) (output : List Item)
+    (from mid : List Token) → SpellsTransport from mid transport → SpellsDirection mid (token ∷ rest) direction → Waits whole stack from output →
+    KnowsIfAny whole (in_direction token transport direction stack output) rest
+in_direction-holds whole rest Host Unnamed direction stack output from mid unnamed d w = (from, d, w)
+in_direction-holds whole rest Net Unnamed direction stack output from mid unnamed d w = (from, d, w)
+in_direction-holds whole rest Port transport direction stack output from mid t d w = (from, mid, t, d, w)
+in_direction-holds whole rest PortRange transport direction stack output from mid t d w = (from, mid, t, d, w)
+in_direction-holds whole rest _ _ direction stack output from mid t d w = tt
 
-in_direction-holds : (whole rest : List Token) (token : Token) (transport : Transport) (direction : Direction) (frames : List Frame) (items : List Item)
-    (from mid : List Token) → SpellsTransport from mid transport → SpellsDirection mid (token ∷ rest) direction → Waits whole frames from items →
-    KnowsIfAny whole (in_direction token transport direction frames items) rest
-in_direction-holds whole rest Host Unnamed direction frames items from mid unnamed d w = (from, d, w)
-in_direction-holds whole rest Net Unnamed direction frames items from mid unnamed d w = (from, d, w)
-in_direction-holds whole rest Port transport direction frames items from mid t d w = (from, mid, t, d, w)
-in_direction-holds whole rest PortRange transport direction frames items from mid t d w = (from, mid, t, d, w)
-in_direction-holds whole rest _ _ direction frames items from mid t d w = tt
-
-after_source-holds : (whole rest : List Token) (token : Token) (transport : Transport) (frames : List Frame) (items : List Item)
-    (from after : List Token) → SpellsTransport from (Source ∷ after) transport → after ≡ token ∷ rest → Waits whole frames from items →
-    KnowsIfAny whole (after_source transport token frames items) rest
-after_source-holds whole rest (Connects Or) transport frames items from after t e w = (
+after_source-holds : (whole rest : List Token) (token : Token) (transport : Transport) (stack : List Pending) (output : List Item)
+    (from after : List Token) → SpellsTransport from (Source ∷ after) transport → after ≡ token ∷ rest → Waits whole stack from output →
+    KnowsIfAny whole (after_source transport token stack output) rest
+after_source-holds whole rest (Connects Or) transport stack output from after t e w = (
   from,
   Source ∷ after,
   t,
@@ -238,7 +231,7 @@ after_source-holds whole rest (Connects Or) transport frames items from after t 
       rw same source_or_destination,
   w,
 )
-after_source-holds whole rest (Connects And) transport frames items from after t e w = (
+after_source-holds whole rest (Connects And) transport stack output from after t e w = (
   from,
   Source ∷ after,
   t,
@@ -246,66 +239,66 @@ after_source-holds whole rest (Connects And) transport frames items from after t
       rw same source_and_destination,
   w,
 )
-after_source-holds whole rest token transport frames items from after t e w =
-    in_direction-holds whole rest token transport FromSource frames items from (Source ∷ after) t (rw (sym e) source) w
+after_source-holds whole rest token transport stack output from after t e w =
+    in_direction-holds whole rest token transport FromSource stack output from (Source ∷ after) t (rw (sym e) source) w
 
-begins_direction-holds : (whole rest : List Token) (token : Token) (transport : Transport) (frames : List Frame) (items : List Item)
-    (from : List Token) → SpellsTransport from (token ∷ rest) transport → Waits whole frames from items →
-    KnowsIfAny whole (begins_direction transport token frames items) rest
-begins_direction-holds whole rest Source transport frames items from t w = (from, Source ∷ rest, t, source, w)
-begins_direction-holds whole rest Destination transport frames items from t w = (from, Destination ∷ rest, t, destination, w)
-begins_direction-holds whole rest token transport frames items from t w =
-    in_direction-holds whole rest token transport Either frames items from (token ∷ rest) t undirected w
+begins_direction-holds : (whole rest : List Token) (token : Token) (transport : Transport) (stack : List Pending) (output : List Item)
+    (from : List Token) → SpellsTransport from (token ∷ rest) transport → Waits whole stack from output →
+    KnowsIfAny whole (begins_direction transport token stack output) rest
+begins_direction-holds whole rest Source transport stack output from t w = (from, Source ∷ rest, t, source, w)
+begins_direction-holds whole rest Destination transport stack output from t w = (from, Destination ∷ rest, t, destination, w)
+begins_direction-holds whole rest token transport stack output from t w =
+    in_direction-holds whole rest token transport Either stack output from (token ∷ rest) t undirected w
 
-begins_truth-holds : (whole rest : List Token) (token : Token) (frames : List Frame) (items : List Item) →
-    Waits whole frames (token ∷ rest) items → KnowsIfAny whole (begins_truth token frames items) rest
-begins_truth-holds whole rest Not frames items w = w
-begins_truth-holds whole rest Less frames items w = w
-begins_truth-holds whole rest Greater frames items w = w
-begins_truth-holds whole rest token frames items w = begins_direction-holds whole rest token Unnamed frames items (token ∷ rest) unnamed w
+begins_truth-holds : (whole rest : List Token) (token : Token) (stack : List Pending) (output : List Item) →
+    Waits whole stack (token ∷ rest) output → KnowsIfAny whole (begins_truth token stack output) rest
+begins_truth-holds whole rest Not stack output w = w
+begins_truth-holds whole rest Less stack output w = w
+begins_truth-holds whole rest Greater stack output w = w
+begins_truth-holds whole rest token stack output w = begins_direction-holds whole rest token Unnamed stack output (token ∷ rest) unnamed w
 
-begins-holds : (whole rest : List Token) (token : Token) (frames : List Frame) (items : List Item) →
-    Waits whole frames (token ∷ rest) items → KnowsIfAny whole (begins token frames items) rest
-begins-holds whole rest (Number n) frames items w = (Number n ∷ rest, number n, items, operand literal, refl, w)
-begins-holds whole rest Length frames items w = (Length ∷ rest, packet_length, items, operand len, refl, w)
-begins-holds whole rest (Named p) frames items w = w
-begins-holds whole rest Open frames items w = w
-begins-holds whole rest token frames items w =
-    unless-holds whole rest (is_numeric frames) (begins_truth token frames items) (begins_truth-holds whole rest token frames items w)
+begins-holds : (whole rest : List Token) (token : Token) (stack : List Pending) (output : List Item) →
+    Waits whole stack (token ∷ rest) output → KnowsIfAny whole (begins token stack output) rest
+begins-holds whole rest (Number n) stack output w = (Number n ∷ rest, number n, output, operand literal, refl, w)
+begins-holds whole rest Length stack output w = (Length ∷ rest, packet_length, output, operand len, refl, w)
+begins-holds whole rest (Named p) stack output w = w
+begins-holds whole rest Open stack output w = w
+begins-holds whole rest token stack output w =
+    unless (λ s. Knows whole s rest) (is_numeric stack) (begins_truth token stack output) (λ _. begins_truth-holds whole rest token stack output w)
 
-after_number-holds : (whole rest : List Token) (token : Token) (frames : List Frame) (items : List Item) →
-    Settles (looseness (Some token)) whole (reading HasNumber frames items) (token ∷ rest) → KnowsIfAny whole (after_number token frames items) rest
-after_number-holds whole rest (Operates operator) frames items ((from, a, before, d, is, w), top) = (from, a, before, d, is, w, top)
-after_number-holds whole rest (Compares relator) frames items ((from, a, before, d, is, w), top) =
-    unless-holds whole rest (is_numeric frames) (Some (reading Expects (Compared relator ∷ frames) items)) (from, a, before, d, is, w)
-after_number-holds whole rest Close (Bracket numeric ∷ frames) items ((from, a, before, d, is, w), top) =
+after_number-holds : (whole rest : List Token) (token : Token) (stack : List Pending) (output : List Item) →
+    KnowsReduced (lookahead_precedence (Some token)) whole (parsing HasNumber stack output) (token ∷ rest) → KnowsIfAny whole (after_number token stack output) rest
+after_number-holds whole rest (Operates operator) stack output ((from, a, before, d, is, w), top) = (from, a, before, d, is, w, top)
+after_number-holds whole rest (Compares relator) stack output ((from, a, before, d, is, w), top) =
+    unless (λ s. Knows whole s rest) (is_numeric stack) (Some (parsing Expects (Compared relator ∷ stack) output)) (λ _. (from, a, before, d, is, w))
+after_number-holds whole rest Close (Bracket numeric ∷ stack) output ((from, a, before, d, is, w), top) =
     (Open ∷ from, a, before, operand (bracketed d), is, w)
-after_number-holds whole rest CloseIndex (Index p ∷ frames) items ((from, a, before, d, is, w), top) =
+after_number-holds whole rest CloseIndex (Index p ∷ stack) output ((from, a, before, d, is, w), top) =
     (Named p ∷ OpenIndex ∷ from, accessor p a One, before, operand (byte_at d), ap (λ i. i ++ Access p One ∷ []) is, w)
-after_number-holds whole rest Colon (Index p ∷ frames) items ((from, a, before, d, is, w), top) = (from, a, before, d, is, w)
-after_number-holds whole rest _ _ items k = tt
+after_number-holds whole rest Colon (Index p ∷ stack) output ((from, a, before, d, is, w), top) = (from, a, before, d, is, w)
+after_number-holds whole rest _ _ output k = tt
 
-after_truth-holds : (whole rest : List Token) (token : Token) (frames : List Frame) (items : List Item) →
-    IsTruthAt whole frames items (token ∷ rest) → KnowsIfAny whole (after_truth token frames items) rest
-after_truth-holds whole rest (Connects word) frames items (from, e, before, d, is, w) = (from, e, before, d, is, w)
-after_truth-holds whole rest Close (Bracket numeric ∷ frames) items (from, e, before, d, is, w) =
-    completed-holds whole rest (λ s. Knows whole s rest) (λ fs i t. t) frames items (Open ∷ from) e before (enclosed d) is w
-after_truth-holds whole rest _ _ items k = tt
+after_truth-holds : (whole rest : List Token) (token : Token) (stack : List Pending) (output : List Item) →
+    IsTruthAt whole stack output (token ∷ rest) → KnowsIfAny whole (after_truth token stack output) rest
+after_truth-holds whole rest (Connects word) stack output (from, e, before, d, is, w) = (from, e, before, d, is, w)
+after_truth-holds whole rest Close (Bracket numeric ∷ stack) output (from, e, before, d, is, w) =
+    reduced_connectives-holds whole rest (λ s. Knows whole s rest) (λ fs i t. t) stack output (Open ∷ from) e before (enclosed d) is w
+after_truth-holds whole rest _ _ output k = tt
 
-after_protocol-holds : (whole rest : List Token) (p : Protocol) (token : Token) (frames : List Frame) (items : List Item) →
-    Waits whole frames (Named p ∷ token ∷ rest) items → KnowsIfAny whole (after_protocol p token frames items) rest
-after_protocol-holds whole rest IpName Proto frames items w = w
-after_protocol-holds whole rest TcpName token frames items w =
-    begins_direction-holds whole rest token Tcp frames items (Named TcpName ∷ token ∷ rest) tcp w
-after_protocol-holds whole rest UdpName token frames items w =
-    begins_direction-holds whole rest token Udp frames items (Named UdpName ∷ token ∷ rest) udp w
-after_protocol-holds whole rest _ _ frames items w = tt
+after_protocol-holds : (whole rest : List Token) (p : Protocol) (token : Token) (stack : List Pending) (output : List Item) →
+    Waits whole stack (Named p ∷ token ∷ rest) output → KnowsIfAny whole (after_protocol p token stack output) rest
+after_protocol-holds whole rest IpName Proto stack output w = w
+after_protocol-holds whole rest TcpName token stack output w =
+    begins_direction-holds whole rest token Tcp stack output (Named TcpName ∷ token ∷ rest) tcp w
+after_protocol-holds whole rest UdpName token stack output w =
+    begins_direction-holds whole rest token Udp stack output (Named UdpName ∷ token ∷ rest) udp w
+after_protocol-holds whole rest _ _ stack output w = tt
 
-after_name-holds : (whole rest : List Token) (p : Protocol) (token : Token) (frames : List Frame) (items : List Item) →
-    Waits whole frames (Named p ∷ token ∷ rest) items → KnowsIfAny whole (after_name p token frames items) rest
-after_name-holds whole rest p OpenIndex frames items w = w
-after_name-holds whole rest p token frames items w =
-    unless-holds whole rest (is_numeric frames) (after_protocol p token frames items) (after_protocol-holds whole rest p token frames items w)
+after_name-holds : (whole rest : List Token) (p : Protocol) (token : Token) (stack : List Pending) (output : List Item) →
+    Waits whole stack (Named p ∷ token ∷ rest) output → KnowsIfAny whole (after_name p token stack output) rest
+after_name-holds whole rest p OpenIndex stack output w = w
+after_name-holds whole rest p token stack output w =
+    unless (λ s. Knows whole s rest) (is_numeric stack) (after_protocol p token stack output) (λ _. after_protocol-holds whole rest p token stack output w)
 
 source-mid : {mid after : List Token} {direction : Direction} → SpellsDirection mid after direction → direction ≡ FromSource → mid ≡ Source ∷ after
 source-mid undirected e = absurd cc
@@ -314,30 +307,30 @@ source-mid destination e = absurd cc
 source-mid source_or_destination e = absurd cc
 source-mid source_and_destination e = absurd cc
 
-in_primitive-holds : (whole rest : List Token) (control : Control) (token : Token) (frames : List Frame) (items : List Item) →
-    Knows whole (reading control frames items) (token ∷ rest) → KnowsIfAny whole (in_primitive control token frames items) rest
-in_primitive-holds whole rest (Directed transport FromSource) token frames items (from, mid, t, d, w) =
-    after_source-holds whole rest token transport frames items from (token ∷ rest) (subst (λ m. SpellsTransport from m transport) (source-mid d refl) t) refl w
-in_primitive-holds whole rest (Directed transport direction) token frames items (from, mid, t, d, w) =
-    in_direction-holds whole rest token transport direction frames items from mid t d w
-in_primitive-holds whole rest (Widened transport direction) Destination frames items (from, mid, t, d, w) = (from, mid, t, d rest refl, w)
-in_primitive-holds whole rest WantsProtocol (Number n) frames items w =
-    primitive-holds whole rest frames items (Named IpName ∷ Proto ∷ Number n ∷ rest) _ proto w
-in_primitive-holds whole rest (WantsAddress direction) (Address a) frames items (from, d, w) =
-    primitive-holds whole rest frames items from _ (host d) w
-in_primitive-holds whole rest (WantsNetwork direction) (Address a) frames items (from, d, w) = (from, d, w)
-in_primitive-holds whole rest (WantsSlash direction a) (Operates Divide) frames items (from, d, w) = (from, d, w)
-in_primitive-holds whole rest (WantsBits direction a) (Number n) frames items (from, d, w) =
-    primitive-holds whole rest frames items from _ (net d) w
-in_primitive-holds whole rest (WantsPort transport direction) (Number n) frames items (from, mid, t, d, w) =
-    primitive-holds whole rest frames items from _ (port t d) w
-in_primitive-holds whole rest (WantsFirst transport direction) (Number n) frames items (from, mid, t, d, w) = (from, mid, t, d, w)
-in_primitive-holds whole rest (WantsDash transport direction n) (Operates Subtract) frames items (from, mid, t, d, w) = (from, mid, t, d, w)
-in_primitive-holds whole rest (WantsLast transport direction n) (Number m) frames items (from, mid, t, d, w) =
-    primitive-holds whole rest frames items from _ (portrange t d) w
-in_primitive-holds whole rest WantsMost (Number n) frames items w = primitive-holds whole rest frames items (Less ∷ Number n ∷ rest) _ less w
-in_primitive-holds whole rest WantsLeast (Number n) frames items w = primitive-holds whole rest frames items (Greater ∷ Number n ∷ rest) _ greater w
-in_primitive-holds whole rest _ _ frames items k = tt
+in_primitive-holds : (whole rest : List Token) (state : State) (token : Token) (stack : List Pending) (output : List Item) →
+    Knows whole (parsing state stack output) (token ∷ rest) → KnowsIfAny whole (in_primitive state token stack output) rest
+in_primitive-holds whole rest (Directed transport FromSource) token stack output (from, mid, t, d, w) =
+    after_source-holds whole rest token transport stack output from (token ∷ rest) (subst (λ m. SpellsTransport from m transport) (source-mid d refl) t) refl w
+in_primitive-holds whole rest (Directed transport direction) token stack output (from, mid, t, d, w) =
+    in_direction-holds whole rest token transport direction stack output from mid t d w
+in_primitive-holds whole rest (Widened transport direction) Destination stack output (from, mid, t, d, w) = (from, mid, t, d rest refl, w)
+in_primitive-holds whole rest WantsProtocol (Number n) stack output w =
+    primitive-holds whole rest stack output (Named IpName ∷ Proto ∷ Number n ∷ rest) _ proto w
+in_primitive-holds whole rest (WantsAddress direction) (Address a) stack output (from, d, w) =
+    primitive-holds whole rest stack output from _ (host d) w
+in_primitive-holds whole rest (WantsNetwork direction) (Address a) stack output (from, d, w) = (from, d, w)
+in_primitive-holds whole rest (WantsSlash direction a) (Operates Divide) stack output (from, d, w) = (from, d, w)
+in_primitive-holds whole rest (WantsBits direction a) (Number n) stack output (from, d, w) =
+    primitive-holds whole rest stack output from _ (net d) w
+in_primitive-holds whole rest (WantsPort transport direction) (Number n) stack output (from, mid, t, d, w) =
+    primitive-holds whole rest stack output from _ (port t d) w
+in_primitive-holds whole rest (WantsFirst transport direction) (Number n) stack output (from, mid, t, d, w) = (from, mid, t, d, w)
+in_primitive-holds whole rest (WantsDash transport direction n) (Operates Subtract) stack output (from, mid, t, d, w) = (from, mid, t, d, w)
+in_primitive-holds whole rest (WantsLast transport direction n) (Number m) stack output (from, mid, t, d, w) =
+    primitive-holds whole rest stack output from _ (portrange t d) w
+in_primitive-holds whole rest WantsMost (Number n) stack output w = primitive-holds whole rest stack output (Less ∷ Number n ∷ rest) _ less w
+in_primitive-holds whole rest WantsLeast (Number n) stack output w = primitive-holds whole rest stack output (Greater ∷ Number n ∷ rest) _ greater w
+in_primitive-holds whole rest _ _ stack output k = tt
 
 -- the size that a number is
 size-spelt : (n : ℕ) (size : Size) → size_of_number n ≡ Some size → SpellsSize (Number n) size
@@ -353,47 +346,47 @@ size-spelt n size e =
       ] refl
     ] refl e
 
-sized-holds : (whole rest : List Token) (p : Protocol) (n : ℕ) (size : Option Size) (frames : List Frame) (items : List Item) → size_of_number n ≡ size →
-    Knows whole (reading (WantsSize p) frames items) (Number n ∷ rest) → KnowsIfAny whole (sized_by p size frames items) rest
-sized-holds whole rest p n None frames items e k = tt
-sized-holds whole rest p n (Some size) frames items e (from, a, before, d, is, w) = (from, a, before, Number n, d, size-spelt n size e, is, w)
+sized-holds : (whole rest : List Token) (p : Protocol) (n : ℕ) (size : Option Size) (stack : List Pending) (output : List Item) → size_of_number n ≡ size →
+    Knows whole (parsing (WantsSize p) stack output) (Number n ∷ rest) → KnowsIfAny whole (sized_by p size stack output) rest
+sized-holds whole rest p n None stack output e k = tt
+sized-holds whole rest p n (Some size) stack output e (from, a, before, d, is, w) = (from, a, before, Number n, d, size-spelt n size e, is, w)
 
-pub taken-holds : (whole rest : List Token) (token : Token) (state : Reading) → Settles (looseness (Some token)) whole state (token ∷ rest) →
-    KnowsIfAny whole (taken token state) rest
-taken-holds whole rest token (reading Expects frames items) k = begins-holds whole rest token frames items k
-taken-holds whole rest token (reading HasNumber frames items) k = after_number-holds whole rest token frames items k
-taken-holds whole rest token (reading HasTruth frames items) k = after_truth-holds whole rest token frames items k
-taken-holds whole rest token (reading (HasNamed p) frames items) k = after_name-holds whole rest p token frames items k
-taken-holds whole rest (Number n) (reading (WantsSize p) frames items) k = sized-holds whole rest p n (size_of_number n) frames items refl k
-taken-holds whole rest CloseIndex (reading (WantsEnd p size) frames items) (from, a, before, n, d, s, is, w) =
+pub shifted-holds : (whole rest : List Token) (token : Token) (parser : Parsing) → KnowsReduced (lookahead_precedence (Some token)) whole parser (token ∷ rest) →
+    KnowsIfAny whole (shifted token parser) rest
+shifted-holds whole rest token (parsing Expects stack output) k = begins-holds whole rest token stack output k
+shifted-holds whole rest token (parsing HasNumber stack output) k = after_number-holds whole rest token stack output k
+shifted-holds whole rest token (parsing HasTruth stack output) k = after_truth-holds whole rest token stack output k
+shifted-holds whole rest token (parsing (HasNamed p) stack output) k = after_name-holds whole rest p token stack output k
+shifted-holds whole rest (Number n) (parsing (WantsSize p) stack output) k = sized-holds whole rest p n (size_of_number n) stack output refl k
+shifted-holds whole rest CloseIndex (parsing (WantsEnd p size) stack output) (from, a, before, n, d, s, is, w) =
     (Named p ∷ OpenIndex ∷ from, accessor p a size, before, operand (bytes_at n s d), ap (λ i. i ++ Access p size ∷ []) is, w)
-taken-holds whole rest token (reading control frames items) k = in_primitive-holds whole rest control token frames items k
+shifted-holds whole rest token (parsing state stack output) k = in_primitive-holds whole rest state token stack output k
 
 -- the parts are those of a tree that the tokens spell
 abbrev pub IsSpelt : List Token → List Item → Type 0
-IsSpelt whole items = (tree : Tree) × Spells whole tree × (items ≡ with_tree tree [])
+IsSpelt whole output = (tree : Tree) × Spells whole tree × (output ≡ with_tree tree [])
 
-truth-spelt : (whole : List Token) (known items : List Item) → IsTruthAt whole [] known [] → Some known ≡ Some items → IsSpelt whole items
-truth-spelt whole known items (from, e, before, d, is, (start, none)) h =
-    let same : known ≡ items = cc in
+truth-spelt : (whole : List Token) (known output : List Item) → IsTruthAt whole [] known [] → Some known ≡ Some output → IsSpelt whole output
+truth-spelt whole known output (from, e, before, d, is, (start, none)) h =
+    let same : known ≡ output = cc in
     (e, subst (λ ts. SpellsExpr ts [] e) start d, sym same ∙ is ∙ ap (with_tree e) none)
 
-accepted-spelt : (whole : List Token) (state : Reading) (items : List Item) → Settles 0 whole state [] → accepted state ≡ Some items → IsSpelt whole items
-accepted-spelt whole (reading HasTruth [] known) items k h = truth-spelt whole known items k h
-accepted-spelt whole _ items k h = absurd cc
+accepted-spelt : (whole : List Token) (parser : Parsing) (output : List Item) → KnowsReduced 0 whole parser [] → accepted parser ≡ Some output → IsSpelt whole output
+accepted-spelt whole (parsing HasTruth [] known) output k h = truth-spelt whole known output k h
+accepted-spelt whole _ output k h = absurd cc
 
-step-spelt : (whole rest : List Token) (items : List Item) (state : Option Reading) →
-    ((s : Reading) → Knows whole s rest → run rest s ≡ Some items → IsSpelt whole items) →
-    KnowsIfAny whole state rest → option_and_then (run rest) state ≡ Some items → IsSpelt whole items
-step-spelt whole rest items None go k h = absurd cc
-step-spelt whole rest items (Some state) go k h = go state k h
+step-spelt : (whole rest : List Token) (output : List Item) (parser : Option Parsing) →
+    ((s : Parsing) → Knows whole s rest → run rest s ≡ Some output → IsSpelt whole output) →
+    KnowsIfAny whole parser rest → option_and_then (run rest) parser ≡ Some output → IsSpelt whole output
+step-spelt whole rest output None go k h = absurd cc
+step-spelt whole rest output (Some parser) go k h = go parser k h
 
-pub run-holds : (whole rest : List Token) (items : List Item) (state : Reading) → Knows whole state rest → run rest state ≡ Some items → IsSpelt whole items
-run-holds whole [] items state k h = accepted-spelt whole (settled None state) items (settled-holds whole [] None state k) h
-run-holds whole (token ∷ rest) items state k h =
-    step-spelt whole rest items (taken token (settled (Some token) state)) (λ s. run-holds whole rest items s)
-    (taken-holds whole rest token (settled (Some token) state) (settled-holds whole (token ∷ rest) (Some token) state k)) h
+pub run-holds : (whole rest : List Token) (output : List Item) (parser : Parsing) → Knows whole parser rest → run rest parser ≡ Some output → IsSpelt whole output
+run-holds whole [] output parser k h = accepted-spelt whole (reduced None parser) output (reduced-holds whole [] None parser k) h
+run-holds whole (token ∷ rest) output parser k h =
+    step-spelt whole rest output (shifted token (reduced (Some token) parser)) (λ s. run-holds whole rest output s)
+    (shifted-holds whole rest token (reduced (Some token) parser) (reduced-holds whole (token ∷ rest) (Some token) parser k)) h
 
--- what the pass takes for whole is spelt
-pub spelt-run : (tokens : List Token) (items : List Item) → run tokens (reading Expects [] []) ≡ Some items → IsSpelt tokens items
-spelt-run tokens items h = run-holds tokens tokens items (reading Expects [] []) (refl, refl) h
+-- what the parser takes for whole is spelt
+pub spelt-run : (tokens : List Token) (output : List Item) → run tokens (parsing Expects [] []) ≡ Some output → IsSpelt tokens output
+spelt-run tokens output h = run-holds tokens tokens output (parsing Expects [] []) (refl, refl) h

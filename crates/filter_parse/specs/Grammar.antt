@@ -21,17 +21,17 @@ use Rattle.filter_parse.specs.declared.token.Token.{Token}
 use Rattle.filter_parse.specs.declared.token.Token.TheVariants.{Address, Close, CloseIndex, Colon, Compares, Connects, Destination, Greater, Host, Length, Less, Named, Net, Not, Number, Open, OpenIndex, Operates, Port, PortRange, Proto, Source}
 
 -- how tightly an operator binds; all associate to the left
-abbrev pub level_of : Operator → ℕ
-level_of BitOr = 0
-level_of ExclusiveOr = 1
-level_of BitAnd = 2
-level_of ShiftLeft = 3
-level_of ShiftRight = 3
-level_of Add = 4
-level_of Subtract = 4
-level_of Multiply = 5
-level_of Divide = 5
-level_of Modulo = 5
+abbrev pub precedence_of : Operator → ℕ
+precedence_of BitOr = 0
+precedence_of ExclusiveOr = 1
+precedence_of BitAnd = 2
+precedence_of ShiftLeft = 3
+precedence_of ShiftRight = 3
+precedence_of Add = 4
+precedence_of Subtract = 4
+precedence_of Multiply = 5
+precedence_of Divide = 5
+precedence_of Modulo = 5
 
 -- what `and`, `&&`, `or` and `||` make of two trees
 abbrev pub joined : Connective → Tree → Tree → Tree
@@ -86,14 +86,14 @@ pub data SpellsPrimitive : List Token → List Token → Primitive → Type 0 wh
   less : {rest : List Token} {n : ℕ} → SpellsPrimitive (Less ∷ Number n ∷ rest) rest (AtMost n)
   greater : {rest : List Token} {n : ℕ} → SpellsPrimitive (Greater ∷ Number n ∷ rest) rest (AtLeast n)
 
--- an arithmetic expression whose operators outside brackets bind at least as tightly as a level says
+-- an arithmetic expression whose operators outside brackets bind at least as tightly as a precedence says
 mutual
   pub data SpellsArith : ℕ → List Token → List Token → ArithTree → Type 0 where
-    operand : {level : ℕ} {from rest : List Token} {a : ArithTree} → SpellsOperand from rest a → SpellsArith level from rest a
-    combined : {level : ℕ} {from mid rest : List Token} {a b : ArithTree} (operator : Operator) → level ≤ level_of operator →
-        SpellsArith (level_of operator) from (Operates operator ∷ mid) a →
-        SpellsArith (suc (level_of operator)) mid rest b →
-        SpellsArith level from rest (operation a operator b)
+    operand : {precedence : ℕ} {from rest : List Token} {a : ArithTree} → SpellsOperand from rest a → SpellsArith precedence from rest a
+    combined : {precedence : ℕ} {from mid rest : List Token} {a b : ArithTree} (operator : Operator) → precedence ≤ precedence_of operator →
+        SpellsArith (precedence_of operator) from (Operates operator ∷ mid) a →
+        SpellsArith (suc (precedence_of operator)) mid rest b →
+        SpellsArith precedence from rest (operation a operator b)
 
   pub data SpellsOperand : List Token → List Token → ArithTree → Type 0 where
     literal : {rest : List Token} {n : ℕ} → SpellsOperand (Number n ∷ rest) rest (number n)

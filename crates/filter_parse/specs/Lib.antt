@@ -2,5 +2,4 @@ pub mod Token
 pub mod Grammar
 pub mod Fault
 pub mod Laws
-pub mod Pass
-pub mod Postfix
+pub mod body

@@ -3,36 +3,37 @@
 ghost use Rattle.std.specs.Prelude.{◌≡◌, ◌∷◌, IfOk, OnOk, Some, [], map};
 ghost use Rattle.filter_tree.specs.Tree.{Tree};
 ghost use Rattle.filter_tree.specs.View.{arith_tree_of, tree_of};
-ghost use Rattle.filter_parse.specs.Postfix.{IsArithmeticFirst, IsTruthFirst, Takes, arithmetic, built, grown, growth_of, truth};
+ghost use Rattle.filter_parse.specs.body.Stack.{from_top};
+ghost use Rattle.filter_parse.specs.body.Postfix.{IsArithmeticFirst, IsTruthFirst, Takes, arithmetic, built, grown, growth_of, truth};
 
 use crate::OutOfMemory;
 use crate::item::Item;
+use crate::stack::Stack;
 use filter_tree::{Arith, Expr};
 use std::alloc::Allocator;
-use std::collections::VecDeque;
 
 /// A tree that waits for the part that takes it.
 #[derive(Drop)]
-pub enum Part<A: Allocator> {
+pub(crate) enum Part<A: Allocator> {
     Arithmetic(Arith<A>),
     Truth(Expr<A>),
 }
 
-fn pop_arithmetic<A: Allocator>(parts: &mut VecDeque<Part<A>, A>) -> Arith<A>
-    requires { IsArithmeticFirst (map growth_of parts.old.items) }
-    ensures { map growth_of parts.old.items ≡ arithmetic (arith_tree_of result) ∷ map growth_of parts.new.items }
+fn pop_arithmetic<A: Allocator>(parts: &mut Stack<Part<A>, A>) -> Arith<A>
+    requires { IsArithmeticFirst (map growth_of (from_top parts.old)) }
+    ensures { map growth_of (from_top parts.old) ≡ arithmetic (arith_tree_of result) ∷ map growth_of (from_top parts.new) }
 {
-    match parts.pop_front() {
+    match parts.pop() {
         Some(Part::Arithmetic(a)) => a,
         _ => unreachable!(),
     }
 }
 
-fn pop_truth<A: Allocator>(parts: &mut VecDeque<Part<A>, A>) -> Expr<A>
-    requires { IsTruthFirst (map growth_of parts.old.items) }
-    ensures { map growth_of parts.old.items ≡ truth (tree_of result) ∷ map growth_of parts.new.items }
+fn pop_truth<A: Allocator>(parts: &mut Stack<Part<A>, A>) -> Expr<A>
+    requires { IsTruthFirst (map growth_of (from_top parts.old)) }
+    ensures { map growth_of (from_top parts.old) ≡ truth (tree_of result) ∷ map growth_of (from_top parts.new) }
 {
-    match parts.pop_front() {
+    match parts.pop() {
         Some(Part::Truth(e)) => e,
         _ => unreachable!(),
     }
@@ -40,11 +41,11 @@ fn pop_truth<A: Allocator>(parts: &mut VecDeque<Part<A>, A>) -> Expr<A>
 
 fn grow<A: Allocator + Clone>(
     alloc: A,
-    parts: &mut VecDeque<Part<A>, A>,
+    parts: &mut Stack<Part<A>, A>,
     item: Item,
 ) -> Result<(), OutOfMemory>
-    requires { Takes item (map growth_of parts.old.items) }
-    ensures { OnOk result (grown item (map growth_of parts.old.items) ≡ Some (map growth_of parts.new.items)) }
+    requires { Takes item (map growth_of (from_top parts.old)) }
+    ensures { OnOk result (grown item (map growth_of (from_top parts.old)) ≡ Some (map growth_of (from_top parts.new))) }
 {
     let part = match item {
         Item::Number(n) => Part::Arithmetic(Arith::Number(n)),
@@ -75,16 +76,16 @@ fn grow<A: Allocator + Clone>(
             Part::Truth(Expr::Or(left, Box::new(alloc, right)?))
         }
     };
-    parts.push_front(part)?;
+    parts.push(part)?;
     Ok(())
 }
 
 /// Builds the tree that some parts are.
-pub fn build<A: Allocator + Clone>(alloc: A, items: &[Item]) -> Result<Expr<A>, OutOfMemory>
+pub(crate) fn build<A: Allocator + Clone>(alloc: A, items: &[Item]) -> Result<Expr<A>, OutOfMemory>
     requires { (tree : Tree) × (built items.now [] ≡ Some (truth tree ∷ [])) }
     ensures { IfOk result (λ e. built items.now [] ≡ Some (truth (tree_of e) ∷ [])) }
 {
-    let mut parts = VecDeque::new(alloc.clone()?);
+    let mut parts = Stack::new(alloc.clone()?);
     for item in items {
         grow(alloc.clone()?, &mut parts, *item)?;
     }

@@ -1,12 +1,13 @@
 //! The depth of an expression in postfix order, without its tree.
 
 ghost use Rattle.std.specs.Prelude.{◌≡◌, ◌∷◌, IfOk, OnOk, [], map};
-ghost use Rattle.filter_parse.specs.Postfix.{deepened, deeper, depths_of, first_depth, other_depths};
+ghost use Rattle.filter_parse.specs.body.Stack.{from_top};
+ghost use Rattle.filter_parse.specs.body.Postfix.{deepened, deeper, depths_of, first_depth, other_depths};
 
 use crate::OutOfMemory;
 use crate::item::Item;
+use crate::stack::Stack;
 use std::alloc::Allocator;
-use std::collections::VecDeque;
 
 const TOO_DEEP: u32 = 65;
 
@@ -16,18 +17,18 @@ fn deeper(depth: u32) -> u32
     depth.saturating_add(1).min(TOO_DEEP)
 }
 
-fn pop_depth<A: Allocator>(depths: &mut VecDeque<u32, A>) -> u32
-    ensures first { result ≡ first_depth depths.old.items }
-    ensures others { depths.new.items ≡ other_depths depths.old.items }
+fn pop_depth<A: Allocator>(depths: &mut Stack<u32, A>) -> u32
+    ensures first { result ≡ first_depth (from_top depths.old) }
+    ensures others { from_top depths.new ≡ other_depths (from_top depths.old) }
 {
-    match depths.pop_front() {
+    match depths.pop() {
         Some(depth) => depth,
         None => 0,
     }
 }
 
-fn deepen<A: Allocator>(depths: &mut VecDeque<u32, A>, item: Item) -> Result<(), OutOfMemory>
-    ensures { OnOk result (depths.new.items ≡ deepened item depths.old.items) }
+fn deepen<A: Allocator>(depths: &mut Stack<u32, A>, item: Item) -> Result<(), OutOfMemory>
+    ensures { OnOk result (from_top depths.new ≡ deepened item (from_top depths.old)) }
 {
     let depth = match item {
         Item::Number(_) | Item::Length | Item::Primitive(_) => 1,
@@ -38,15 +39,15 @@ fn deepen<A: Allocator>(depths: &mut VecDeque<u32, A>, item: Item) -> Result<(),
             deeper(left.max(right))
         }
     };
-    depths.push_front(depth)?;
+    depths.push(depth)?;
     Ok(())
 }
 
 /// Tells the depth of the tree of some parts, or 65 where it is greater.
-pub fn depth_of<A: Allocator>(alloc: A, items: &[Item]) -> Result<u32, OutOfMemory>
+pub(crate) fn depth_of<A: Allocator>(alloc: A, items: &[Item]) -> Result<u32, OutOfMemory>
     ensures { IfOk result (λ depth. depth ≡ first_depth (depths_of items.now [])) }
 {
-    let mut depths = VecDeque::new(alloc);
+    let mut depths = Stack::new(alloc);
     for item in items {
         deepen(&mut depths, *item)?;
     }

@@ -4,7 +4,7 @@ use filter_tree::{Operator, Primitive, Protocol, Relation, Size};
 
 /// A part of an expression, which takes the parts that it stands over from those before it.
 #[derive(Clone, Copy, Debug, PartialEq, Eq)]
-pub enum Item {
+pub(crate) enum Item {
     Number(u32),
     Length,
     Access(Protocol, Size),

@@ -10,16 +10,21 @@ ghost use Rattle.filter_tree.specs.View.{tree_of};
 ghost use Rattle.filter_parse.specs.Fault.{HasFault, HasTree};
 ghost use Rattle.filter_parse.specs.Laws.{ExcludesFaults, HasOneFault, IsUnambiguous, ReadsBack};
 
+mod arithmetic;
 mod build;
 mod depth;
+mod expression;
 mod fault;
 mod item;
+mod limits;
 mod number;
-mod pass;
+mod parser;
 mod primitive;
-mod recognize;
+mod qualifier;
+mod reduce;
 mod scan;
 mod sign;
+mod stack;
 mod state;
 mod step;
 mod token;
@@ -28,9 +33,8 @@ use build::build;
 use depth::depth_of;
 pub use fault::ParseFault;
 use filter_tree::Expr;
-use recognize::recognize;
+use parser::postfix_of;
 use std::alloc::Allocator;
-pub use token::{Connective, TOO_BIG, Token};
 
 /// The answer of a call that was refused memory.
 pub use std::alloc::AllocError as OutOfMemory;
@@ -48,7 +52,7 @@ pub fn parse<A: Allocator + Clone>(alloc: A, text: &[u8]) -> Result<Expr<A>, Par
     ensures fault { IfErr result (λ fault. (fault ≡ ParseFault.OutOfMemory) ⊎ HasFault text.now fault) }
     ensures every_tree { (tree : Tree) → HasTree text.now tree → IfErr result (λ fault. fault ≡ ParseFault.OutOfMemory) }
 {
-    let items = recognize(alloc.clone()?, text)?;
+    let items = postfix_of(alloc.clone()?, text)?;
     if depth_of(alloc.clone()?, &items)? > MAX_DEPTH {
         return Err(ParseFault::TooDeep { at: text.len() });
     }
@@ -67,6 +71,3 @@ pub fn one_value()
 pub fn reads_back()
     ensures reads_back { ReadsBack }
 {}
-
-#[cfg(test)]
-mod tests;

@@ -130,7 +130,7 @@ fn address_of(text: &[u8]) -> Option<u32>
     Some(u32::from_be_bytes([a, b, c, d]))
 }
 
-pub fn number_or_address(text: &[u8]) -> Token
+pub(crate) fn number_or_address(text: &[u8]) -> Token
     ensures { result ≡ number_or_address text.now }
 {
     if has_dot(text) {

@@ -10,10 +10,10 @@ use crate::token::{Lexeme, Token};
 
 /// A token, the place of its first byte, and the place behind its last.
 #[derive(Clone, Copy, Debug, PartialEq, Eq)]
-pub struct Found {
-    pub token: Token,
-    pub place: usize,
-    pub end: usize,
+pub(crate) struct Found {
+    pub(crate) token: Token,
+    pub(crate) place: usize,
+    pub(crate) end: usize,
 }
 
 fn is_blank(c: u8) -> bool
@@ -94,7 +94,7 @@ fn lexeme(text: &[u8], c: u8, rest: &[u8]) -> Lexeme
 }
 
 /// Finds the next token of a text, at a place or behind blanks that stand there.
-pub fn next_token(text: &[u8], at: usize) -> Option<Found>
+pub(crate) fn next_token(text: &[u8], at: usize) -> Option<Found>
     requires { at ≤ length text.now }
     ensures found { MatchOption result
         (tokens_from 0 at (drop at text.now) ≡ [])

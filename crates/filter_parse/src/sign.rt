@@ -63,7 +63,7 @@ fn qualifier_token(word: &[u8]) -> Token
     }
 }
 
-pub fn word_token(word: &[u8]) -> Token
+pub(crate) fn word_token(word: &[u8]) -> Token
     ensures { result ≡ word_token word.now }
 {
     match name_token(word) {
@@ -72,7 +72,7 @@ pub fn word_token(word: &[u8]) -> Token
     }
 }
 
-pub fn pair_sign(c: u8, d: u8) -> Option<Token>
+pub(crate) fn pair_sign(c: u8, d: u8) -> Option<Token>
     ensures { result ≡ pair_sign c d }
 {
     match (c, d) {
@@ -102,7 +102,7 @@ fn mark(c: u8) -> Token
     }
 }
 
-pub fn sign(c: u8) -> Token
+pub(crate) fn sign(c: u8) -> Token
     ensures { result ≡ sign c }
 {
     match c {

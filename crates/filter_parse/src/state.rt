@@ -1,11 +1,18 @@
-//! What is known of an expression that has been read in part.
+//! The parser's state and what is pending on its stack, in the terms of operator-precedence parsing.
+//!
+//! - Lookahead: the token at hand. To shift it is to take it, which sets the state and may push what is pending.
+//! - State: what has been shifted last, and so what may come next.
+//! - Stack: operators, relations, `not`, `and`, `or` and brackets whose right sides are still to come.
+//! - To reduce is to pop one of them whose right side is whole, and to append it to the output. Before the lookahead is
+//!   shifted, the operators that bind at least as tightly as it are reduced: its precedence decides.
+//! - Output: the parts of the expression in postfix order, each behind the parts that it stands over.
 
 use crate::token::Connective;
-use filter_tree::{Direction, Operator, Protocol, Relation, Transport};
+use filter_tree::{Direction, Operator, Protocol, Relation, Size, Transport};
 
-/// What has been read just before.
+/// What has been shifted last.
 #[derive(Clone, Copy, Debug, PartialEq, Eq)]
-pub enum Control {
+pub(crate) enum State {
     /// Nothing, or what an operand or an expression is to follow.
     Expects,
     /// An arithmetic expression, which may go on.
@@ -43,14 +50,14 @@ pub enum Control {
     /// An accessor up to `:`.
     WantsSize(Protocol),
     /// An accessor up to its size.
-    WantsEnd(Protocol, filter_tree::Size),
+    WantsEnd(Protocol, Size),
 }
 
-/// What is open around it.
+/// What is pending on the stack, until its right side is whole.
 #[derive(Clone, Copy, Debug, PartialEq, Eq)]
-pub enum Frame {
+pub(crate) enum Pending {
     /// An expression and `and` or `or`.
-    Left(Connective),
+    Joined(Connective),
     /// `not`.
     Negated,
     /// `(`, and whether only an arithmetic expression may stand in it.
@@ -58,7 +65,7 @@ pub enum Frame {
     /// An arithmetic expression and a relation.
     Compared(Relation),
     /// An arithmetic expression and an operator.
-    Operand(Operator),
+    Operated(Operator),
     /// A protocol's name and `[`.
     Index(Protocol),
 }

@@ -3,11 +3,11 @@
 use filter_tree::{Operator, Protocol, Relation};
 
 /// What stands for every number above 4294967295, and for an address that is misspelt.
-pub const TOO_BIG: u64 = 1 << 32;
+pub(crate) const TOO_BIG: u64 = 1 << 32;
 
 /// `and` or `or`, as it is spelt.
 #[derive(Clone, Copy, Debug, PartialEq, Eq)]
-pub enum Connective {
+pub(crate) enum Connective {
     /// `and`.
     And,
     /// `or`.
@@ -20,7 +20,7 @@ pub enum Connective {
 
 /// A token of a filter expression.
 #[derive(Clone, Copy, Debug, PartialEq, Eq)]
-pub enum Token {
+pub(crate) enum Token {
     /// `ip`, `tcp`, `udp`, `icmp`.
     Named(Protocol),
     /// `proto`.
@@ -72,7 +72,7 @@ pub enum Token {
 
 /// A token and its number of bytes.
 #[derive(Clone, Copy, Debug, PartialEq, Eq)]
-pub struct Lexeme {
-    pub token: Token,
-    pub len: usize,
+pub(crate) struct Lexeme {
+    pub(crate) token: Token,
+    pub(crate) len: usize,
 }

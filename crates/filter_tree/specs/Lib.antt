@@ -7,4 +7,5 @@ pub mod Arithmetic
 pub mod Primitive
 pub mod Truth
 pub mod Text
+pub mod Answer
 pub use Rattle.ipv4_fields.specs.Field

@@ -25,8 +25,8 @@ pub use prefix::Prefix;
 pub use primitive::{Direction, Primitive, Transport};
 pub use truth::Truth;
 
+/// The most bytes of a packet: an IPv4 header's total length has 16 bits (RFC 791, section 3.1).
+pub const MAX_PACKET: usize = 65_535;
+
 /// The answer of a call that was refused memory.
 pub use std::alloc::AllocError as OutOfMemory;
-
-#[cfg(test)]
-mod tests;

@@ -22,6 +22,8 @@ use std::alloc::Allocator;
 
 impl<A: Allocator> Expr<A> {
     /// Tests whether the expression accepts a packet, which begins with the first byte of its IPv4 header. Takes no memory.
+    ///
+    /// It is the expression's meaning as a slow plain program, to compare compiled programs with.
     pub fn accepts(&self, packet: &[u8]) -> bool
         ensures accepts { IsTrue result ↔ accepts (tree_of self.now) packet.now }
     {
@@ -29,6 +31,8 @@ impl<A: Allocator> Expr<A> {
     }
 
     /// Tells what the expression says of a packet, which begins with the first byte of its IPv4 header. Takes no memory.
+    ///
+    /// It is the expression's meaning as a slow plain program, to compare compiled programs with.
     pub fn truth(&self, packet: &[u8]) -> Truth
         ensures truth { result ≡ truth_of (tree_of self.now) packet.now }
     {

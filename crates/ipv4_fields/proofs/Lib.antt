@@ -2,3 +2,4 @@ pub mod FieldLemmas
 pub mod FlowLemmas
 pub mod FragmentLemmas
 pub mod StandardFacts
+pub mod TextLemmas

@@ -1,7 +1,8 @@
 -- Worked packets, so that a slip in a definition does not check.
-use Rattle.std.specs.Prelude.{◌≡◌, ◌∷◌, List, None, Some, [], refl, take, ℕ}
+use Rattle.std.specs.Fmt.{digits}
+use Rattle.std.specs.Prelude.{◌≡◌, ◌∷◌, List, None, Some, [], codes, refl, take, ℕ}
 use Rattle.ipv4_fields.specs.declared.header.Field.TheVariants.{DestinationPort, FragmentOffset, Ihl, MoreFragments, Protocol, Source, TotalLength, UdpLength, Version}
-use Rattle.ipv4_fields.specs.Endpoint.{endpoint_number}
+use Rattle.ipv4_fields.specs.Endpoint.{endpoint_number, endpoint_text}
 use Rattle.ipv4_fields.specs.Field.{field_of, number_at}
 use Rattle.ipv4_fields.specs.Dispatchable.{flow_of, is_dispatchable}
 
@@ -76,3 +77,13 @@ cut_sample = refl
 
 port_0_of_the_next_address : endpoint_number (record { address = 1; port = 0 }) ≡ 65536
 port_0_of_the_next_address = refl
+
+-- ---- endpoints as texts
+
+sample_text : endpoint_text (record { address = 167772162; port = 53 }) ≡ codes "10.0.0.2:53"
+unfolding digits
+sample_text = refl
+
+greatest_text : endpoint_text (record { address = 4294967295; port = 65535 }) ≡ codes "255.255.255.255:65535"
+unfolding digits
+greatest_text = refl

@@ -1,5 +1,5 @@
--- The number of an endpoint, by which endpoints are ordered.
-use Rattle.std.specs.Prelude.{◌*◌, ◌+◌, ◌<◌, ◌^◌, ℕ}
+-- An endpoint's number, by which endpoints are ordered, and its text.
+use Rattle.std.specs.Prelude.{◌*◌, ◌+◌, ◌/◌, ◌%◌, ◌<◌, ◌^◌, ◌++◌, List, codes, decimal, ℕ}
 use Rattle.ipv4_fields.specs.declared.endpoint.Endpoint.{Endpoint}
 
 -- 32 bits of address, then 16 bits of port
@@ -10,3 +10,12 @@ endpoint_number endpoint = endpoint.address * 65536 + endpoint.port
 pub record IsEndpoint (endpoint : Endpoint) : Type 0 where
   pub address : endpoint.address < 2 ^ 32
   pub port : endpoint.port < 2 ^ 16
+
+-- the four bytes of the address with dots between them, then the port; all decimal without leading zeros
+abbrev pub endpoint_text : Endpoint → List ℕ
+endpoint_text endpoint =
+    decimal (endpoint.address / 2 ^ 24)
+    ++ (codes "." ++ (decimal (endpoint.address / 2 ^ 16 % 256)
+    ++ (codes "." ++ (decimal (endpoint.address / 2 ^ 8 % 256)
+    ++ (codes "." ++ (decimal (endpoint.address % 256)
+    ++ (codes ":" ++ decimal endpoint.port)))))))

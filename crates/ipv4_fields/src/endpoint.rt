@@ -11,6 +11,15 @@ pub struct Endpoint {
     pub port: u16,
 }
 
+impl Endpoint {
+    /// Tells the number by which endpoints are ordered, `address * 65536 + port`.
+    pub fn number(self) -> u64
+        ensures { result ≡ endpoint_number self }
+    {
+        u64::from(self.address) * 65536 + u64::from(self.port)
+    }
+}
+
 /// Where a datagram comes from and where it goes.
 #[derive(Clone, Copy, Debug, PartialEq, Eq)]
 pub struct Flow {

@@ -1,5 +1,5 @@
-//! The header fields of UDP datagrams over IPv4, and which packets are dispatched (RFC 791, section 3.1; RFC 768,
-//! "Format"; docs/SWITCH.md, "Which packets are dispatched"). No call takes memory.
+//! The header fields of UDP datagrams over IPv4, which packets are dispatched (RFC 791, section 3.1; RFC 768, "Format";
+//! docs/SWITCH.md, "Which packets are dispatched"), and endpoints as texts. No call takes memory.
 #![tactic(auto)]
 
 ghost use Rattle.std.specs.Prelude.{◌≡◌, ◌≤◌, ◌+◌, length};
@@ -8,11 +8,13 @@ ghost use Rattle.ipv4_fields.specs.Field.{behind_header, field_of, ihl_of, numbe
 mod datagram;
 mod endpoint;
 mod header;
+mod text;
 
 use byteorder::{ByteOrder, NetworkEndian};
 pub use datagram::dispatchable;
 pub use endpoint::{Endpoint, Flow, ordered_by_number};
 pub use header::Field;
+pub use text::{ENDPOINT_LIMIT, TextBuffer, read_number, split_at};
 
 /// Reads a header field of a packet, `None` exactly where the packet lacks a byte of it.
 ///
@@ -88,6 +90,3 @@ fn word_at(packet: &[u8], place: usize) -> Option<u32>
         None
     }
 }
-
-#[cfg(test)]
-mod tests;

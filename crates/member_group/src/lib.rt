@@ -10,8 +10,6 @@ mod group;
 mod member;
 mod place;
 mod refusal;
-#[cfg(test)]
-mod tests;
 
 pub use command::Command;
 pub use config::{Config, configurations_are_maps};

@@ -12,22 +12,15 @@ use bpf_verify::Program;
 use ipv4_fields::Endpoint;
 use std::alloc::Allocator;
 
-// The number by which keys are ordered.
-fn number_of(endpoint: Endpoint) -> u64
-    ensures { result ≡ endpoint_number endpoint }
-{
-    u64::from(endpoint.address) * 65536 + u64::from(endpoint.port)
-}
-
 // The place of a key's group, or else the place where it would stand.
 pub(crate) fn place_of_key<A: Allocator>(groups: &[Group<A>], key: Endpoint) -> Result<usize, usize>
     requires config { IsConfig groups.now }
     ensures found { IfOk result (IsOnlyAt (has_key key) groups.now) }
     ensures absent { IfErr result (IsGapFor key groups.now) }
 {
-    let number = number_of(key);
+    let number = key.number();
     for at in 0..groups.len() {
-        let other = number_of(groups[at].key());
+        let other = groups[at].key().number();
         if other == number {
             return Ok(at);
         }

@@ -13,15 +13,15 @@ use Rattle.versions.specs.Table.{the_shape}
 use Rattle.versions.proofs.ShapeLemmas.{row_is}
 use Rattle.read_section.specs.declared.worker.Held.{Held}
 use Rattle.read_section.specs.Layout.{IsPublishable}
-use Rattle.read_section.specs.Seat.{IsAt}
+use Rattle.read_section.specs.body.Seat.{TellsStage}
 use Rattle.read_section.specs.Section.{HoldsLastSeen, held_version, held_words}
-use Rattle.read_section.specs.Steps.{Sees}
+use Rattle.read_section.specs.body.Steps.{Sees}
 use Rattle.read_section.specs.View.{Shows}
 use Rattle.read_section.specs.Worker.{Enters, IsInside, IsOutside, WorkerValue, left, left_from, steps}
 use Rattle.read_section.proofs.WorkerSeatLemmas.{some_row, version_is}
 use Rattle.read_section.proofs.WorkerSeatLemmas as seat
 
-pub may_peek_at : (held : Option Held) (stage : Stage) → IsAt held stage → MayPeek stage
+pub may_peek_at : (held : Option Held) (stage : Stage) → TellsStage held stage → MayPeek stage
 may_peek_at None Outside at = tt
 may_peek_at None (Peeked n) at = tt
 may_peek_at None (Announced k) at = absurd at

@@ -1,5 +1,5 @@
 -- What the operator keeps stays true after each of its steps.
-use Rattle.std.proofs.Common.{◌↔◌, ◌≡◌, ℕ, zero, suc, ◌+◌, ◌-◌, ◌*◌, ◌<◌, ◌≤◌, List, [], ◌∷◌, ap, arith, get_or, get_or-set_other, get_or-set_same, length, length-append, length-set, refl, replicate, set, slice_index, slice_set, subst, suc-mul, sym, ◌∙◌}
+use Rattle.std.proofs.Common.{◌↔◌, ◌≡◌, ℕ, zero, suc, ◌+◌, ◌-◌, ◌*◌, ◌<◌, ◌≤◌, List, [], ◌∷◌, ap, arith, get_or, get_or-set_other, get_or-set_same, length, length-append, length-set, refl, replicate, set, slice_index, subst, suc-mul, sym, ◌∙◌}
 use Rattle.std.proofs.lemmas.List.{get_or-append_right, get_or_append_left, length-replicate}
 use mathlib.Core.Logic.{dite}
 use native.Mathlib.Decide.{ℕ_discrete}
@@ -15,20 +15,21 @@ use Rattle.versions.specs.Layout.{current_word, row_begin, rows_begin}
 use Rattle.versions.specs.Step.{entry}
 use Rattle.versions.specs.View.{after_fill, after_proposal, after_scan}
 use Rattle.versions.specs.Free.{IsFree, number_after}
-use Rattle.versions.specs.declared.view.Stage.TheVariants.{Outside}
 use Rattle.versions.specs.State.{new_operator}
-use Rattle.versions.specs.Mirror.{IsCleared}
-use Rattle.versions.specs.World.{opened_with, opening_rows}
+use Rattle.versions.specs.Book.{IsBookAtStart, IsCleared, with_version_in}
+use Rattle.versions.specs.World.{opening_rows}
 use Rattle.versions.specs.Table.{the_shape}
 use Rattle.versions.proofs.ListLemmas.{row_inside, same_row}
 use Rattle.versions.proofs.LogLemmas.{IsFree-on}
-use Rattle.versions.proofs.MirrorLemmas.{IsBook-filled, IsBook-proposed, IsBook-published, IsBook-scanned}
+use Rattle.versions.proofs.BookLemmas.{IsBook-opened, IsBook-filled, IsBook-proposed, IsBook-published, IsBook-scanned}
 use Rattle.versions.proofs.RowLemmas.{length-row, row_behind_image}
 use Rattle.versions.proofs.ShapeLemmas.{all_rows_is, row_is, row_words_is, rows_is, workers_is}
-use Rattle.versions.proofs.WorldLemmas.{IsMirror-opened, IsOpening-rows, light}
-use Rattle.read_section.specs.declared.book.Book.{Book}
-use Rattle.read_section.specs.Layout.{IsPublishable, IsZeroFrom, KeepsZeros}
-use Rattle.read_section.specs.Operator.{IsBookAtStart, IsKeptBy, IsReport, progress_of, put_in}
+use Rattle.versions.proofs.WorldLemmas.{IsOpening-rows, light}
+use Rattle.versions.specs.declared.book.Book.{Book}
+use Rattle.read_section.specs.Layout.{IsPublishable, IsZeroFrom}
+use Rattle.read_section.specs.body.OperatorKept.{KeepsZeros}
+use Rattle.read_section.specs.Operator.{IsReport, put_in}
+use Rattle.read_section.specs.body.OperatorKept.{IsKeptBy}
 use Rattle.read_section.proofs.FilledLemmas.{place_in_rows}
 
 abbrev pub View : Type 0
@@ -57,7 +58,7 @@ module _ (view : View) (config : List Group) (book : Book) (reported : ℕ) (zer
   pub IsKeptBy-filled : (row place word from : ℕ) → row < ROWS → place < ROW_WORDS → KeepsZeros place word (slice_index zeros row) from → from ≤ ROW_WORDS
       → IsKeptBy (after_fill (rows_begin the_shape) (row_begin the_shape row + place) word view) config book reported (set zeros row from)
   IsKeptBy-filled row place word from low small keeps fits = record {
-    steps_told = IsBook-filled the_shape view (progress_of book) h.steps_told (rows_begin the_shape) (row_begin the_shape row + place) word;
+    steps_told = IsBook-filled the_shape view book h.steps_told (rows_begin the_shape) (row_begin the_shape row + place) word;
     number_limited = h.number_limited;
     published_length = h.published_length;
     version_rows_length = h.version_rows_length;
@@ -72,10 +73,10 @@ module _ (view : View) (config : List Group) (book : Book) (reported : ℕ) (zer
     zeros_stand = zeros_stand-filled row place word from low small keeps;
   }
 
-  pub IsKeptBy-published : (row : ℕ) (new : List Group) (book' : Book) → row < the_shape.rows → book.number < LAST_NUMBER → book' ≡ record book { number = book.number + 1; last = slice_set book.last row (book.number + 2) }
+  pub IsKeptBy-published : (row : ℕ) (new : List Group) (book' : Book) → row < the_shape.rows → book.number < LAST_NUMBER → book' ≡ with_version_in row book
       → IsKeptBy (put_in row new view) new book' reported zeros
   IsKeptBy-published row new book' low number is = subst (λ (b : Book). IsKeptBy (put_in row new view) new b reported zeros) (sym is) record {
-    steps_told = IsBook-published the_shape (after_proposal new view) (progress_of book) (IsBook-proposed the_shape view (progress_of book) h.steps_told new) row _ low h.version_rows_length;
+    steps_told = IsBook-published the_shape (after_proposal new view) book (IsBook-proposed the_shape view book h.steps_told new) row _ low h.version_rows_length;
     number_limited = omega arith;
     published_length = omega (arith, length-append view.published (new ∷ []), h.published_length);
     version_rows_length = omega (arith, length-append view.version_rows (row ∷ []), h.version_rows_length);
@@ -87,9 +88,9 @@ module _ (view : View) (config : List Group) (book : Book) (reported : ℕ) (zer
     zeros_stand = h.zeros_stand;
   }
 
-  pub IsKeptBy-scanned : (w x : ℕ) (log : List Entry) (book' : Book) → (length book.cleared ≡ WORKERS → IsCleared w x (progress_of book) (progress_of book')) → IsKeptBy (after_scan w x log view) config book' reported zeros
+  pub IsKeptBy-scanned : (w x : ℕ) (log : List Entry) (book' : Book) → (length book.cleared ≡ WORKERS → IsCleared w x book book') → IsKeptBy (after_scan w x log view) config book' reported zeros
   IsKeptBy-scanned w x log book' cleared = let c = cleared (h.steps_told.cleared_length ∙ workers_is) in record {
-    steps_told = IsBook-scanned the_shape view (progress_of book) h.steps_told w x log (progress_of book') c;
+    steps_told = IsBook-scanned the_shape view book h.steps_told w x log book' c;
     number_limited = let same = c.number in let low = h.number_limited in omega arith;
     published_length = h.published_length;
     version_rows_length = h.version_rows_length;
@@ -153,9 +154,8 @@ module _ (config : List Group) where
   pub IsKeptBy-opened : (book : Book) (zeros : List ℕ) → IsPublishable config → IsBookAtStart book → zeros ≡ length (image config) ∷ replicate (the_shape.rows - 1) 0
       → IsKeptBy (new_operator the_shape config (opening_rows config)) config book 0 zeros
   IsKeptBy-opened book zeros publishable start is =
-      let mirror = IsMirror-opened config (opened_with config).words (record (progress_of book) { stages = replicate the_shape.workers Outside }) refl record { stages = refl; number = start.number; last = start.last; cleared = start.cleared } in
-      let told = mirror.book in let rows = rows_is in record {
-        steps_told = record { number = told.number; last_length = told.last_length; cleared_length = told.cleared_length; cleared = told.cleared; below_last = told.below_last; last_there = told.last_there };
+      let rows = rows_is in record {
+        steps_told = IsBook-opened config (opening_rows config) book start;
         number_limited = let none = start.number in omega arith;
         published_length = refl;
         version_rows_length = refl;

@@ -1,5 +1,5 @@
 mod ListLemmas
-mod RuleLemmas
+mod VersionsRuleLemmas
 mod WorkerKept
 mod OperatorKept
 mod SeatKept

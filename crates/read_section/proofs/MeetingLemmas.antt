@@ -11,11 +11,12 @@ use Rattle.versions.specs.View.{BeginsWith, IsTold, after_peek, after_scan}
 use Rattle.versions.specs.Legal.{MayPeek}
 use Rattle.versions.specs.Table.{the_shape}
 use Rattle.read_section.specs.Layout.{IsPublishable}
-use Rattle.read_section.specs.Operator.{OperatorSeatValue, acts, operator_at, operator_or_none}
-use Rattle.read_section.specs.Plays.{peeks, scans}
-use Rattle.read_section.specs.Seat.{IsOperatorSeat, IsWorkerSeat}
-use Rattle.read_section.specs.View.{nobody, note_of, seen_by, told_by, with_operator, with_worker, with_worker_of, without_worker, worker_alone}
-use Rattle.read_section.specs.Worker.{WorkerValue, steps, worker_at, worker_or_none}
+use Rattle.read_section.specs.body.Seat.{OperatorSeatValue, acts, operator_at, operator_or_none}
+use Rattle.read_section.specs.body.Plays.{peeks, scans}
+use Rattle.read_section.specs.body.Seat.{IsOperatorSeat, IsWorkerSeat}
+use Rattle.read_section.specs.body.SeatView.{nobody, note_of, seen_by, told_by, with_operator, with_worker, with_worker_of, without_worker, worker_alone}
+use Rattle.read_section.specs.Worker.{WorkerValue, steps}
+use Rattle.read_section.specs.body.Seat.{worker_at, worker_or_none}
 use Rattle.read_section.proofs.OperatorKept.{allows_scan}
 use Rattle.read_section.proofs.SeatKept.{joins_note, joins_take, splits_give, splits_note}
 use Rattle.read_section.proofs.WorkerKept.{allows_peek}

@@ -11,13 +11,15 @@ use Rattle.versions.specs.View.{new_worker}
 use Rattle.versions.specs.State.{new_operator}
 use Rattle.versions.specs.World.{opened_with, opening_rows}
 use Rattle.versions.specs.Table.{the_shape}
-use Rattle.versions.proofs.TraceLemmas.{Rule-start}
+use Rattle.versions.proofs.TraceLemmas.{Coheres-start}
 use Rattle.versions.proofs.WorldLemmas.{IsOpening-rows, light, slice_get-end, slice_get-front}
 use Rattle.read_section.specs.Layout.{IsPublishable}
-use Rattle.read_section.specs.Operator.{AreOpenedWorkers, opened_operator, operator_at}
-use Rattle.read_section.specs.Seat.{IsOperatorSeat, IsSeating, IsWorkerSeat}
-use Rattle.read_section.specs.View.{first_seat, spare_alone, without_spare}
-use Rattle.read_section.specs.Worker.{WorkerValue, worker_at}
+use Rattle.read_section.specs.Operator.{AreOpenedWorkers, opened_operator}
+use Rattle.read_section.specs.body.Seat.{operator_at}
+use Rattle.read_section.specs.body.Seat.{IsOperatorSeat, IsSeating, IsWorkerSeat}
+use Rattle.read_section.specs.body.SeatView.{first_seat, spare_alone, without_spare}
+use Rattle.read_section.specs.Worker.{WorkerValue}
+use Rattle.read_section.specs.body.Seat.{worker_at}
 use Rattle.read_section.proofs.SeatKept.{opens, splits_spare}
 use Rattle.read_section.proofs.WorkerSeatLemmas.{Kept, Seated, View}
 
@@ -28,7 +30,7 @@ module _ (config : List Group) where
 
   -- the length of the whole table
   pub length-opened : IsPublishable config → length (opened_with config).words ≡ (1 + the_shape.workers) + the_shape.rows * the_shape.row_words
-  length-opened publishable = (Rule-start the_shape config (opening_rows config) (IsOpening-rows config (light config (charge_of config) refl publishable.1))).words_length
+  length-opened publishable = (Coheres-start the_shape config (opening_rows config) (IsOpening-rows config (light config (charge_of config) refl publishable.1))).words_length
 
   pub may_seat : (v : View) (n id : ℕ) → IsSeating v config n → n < the_shape.workers → Splits (Kept config) id v (without_spare v) (spare_alone the_shape v)
   may_seat v n id h low = subst (λ (y : View). Splits (Kept config) id y (without_spare y) (spare_alone the_shape y)) (sym h.view_is)

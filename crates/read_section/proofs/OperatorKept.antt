@@ -17,24 +17,25 @@ use Rattle.versions.specs.Free.{IsFreeRow, number_after}
 use Rattle.versions.specs.State.{State, after_event, log_of}
 use Rattle.versions.specs.Legal.{IsLegalStep, IsLogOf}
 use Rattle.versions.proofs.ListLemmas.{elem_there, row_inside}
-use Rattle.versions.proofs.Rule.{Rule, log_of_is}
-use Rattle.read_section.specs.declared.rule.SeatView.{SeatView}
-use Rattle.read_section.specs.Plays.{OperatorKnows, fills, publishes, scans}
-use Rattle.read_section.specs.Rule.{IsKept}
-use Rattle.read_section.specs.View.{TellsLog, with_operator}
+use Rattle.versions.proofs.Coherence.{Coheres, log_of_is}
+use Rattle.read_section.specs.declared.versions_rule.SeatView.{SeatView}
+use Rattle.read_section.specs.body.Plays.{OperatorKnows, fills, publishes, scans}
+use Rattle.read_section.specs.body.VersionsRule.{IsLeftByTrace}
+use Rattle.read_section.specs.View.{TellsLog}
+use Rattle.read_section.specs.body.SeatView.{with_operator}
 use Rattle.read_section.proofs.ListLemmas.{contains_snoc}
-use Rattle.read_section.proofs.RuleLemmas.{IsKept-operator, for_operator, loaded, now, rule_now}
+use Rattle.read_section.proofs.VersionsRuleLemmas.{IsLeftByTrace-operator, for_operator, loaded, now, rule_now}
 
 module _ {C : Type 0} (shape : Shape C) where
   -- the words of the table hold what the operator's words hold
-  holds_row : (s : State C) → Rule shape s → (r : ℕ) (config : C) → r < shape.rows
+  holds_row : (s : State C) → Coheres shape s → (r : ℕ) (config : C) → r < shape.rows
       → ((i : ℕ) → i < shape.row_words → slice_index s.operator.row_words (r * shape.row_words + i) ≡ slice_index (shape.row config) i) → HoldsRow shape s.words r config
   holds_row s h r config low holds i small = let l = row_inside r shape.rows i shape.row_words low small in let e : row_begin shape r + i ≡ (1 + shape.workers) + (r * shape.row_words + i) = omega arith in
       ap (λ (q : ℕ). get_or s.words q 0) e ∙ (h.row_words (r * shape.row_words + i) l ∙ holds i small)
 
 module _ {C : Type 0} (shape : Shape C) (IsPublishable : C → Type 0) {S : Type 0} (config : C) where
   abbrev Kept : table.State S (SeatView C) → Type 0
-  Kept = IsKept shape IsPublishable config
+  Kept = IsLeftByTrace shape IsPublishable config
 
   pub allows_fill : (slots id : ℕ) (me : Me S (SeatView C)) (view : OperatorView C) (r place x : ℕ) (at : table.Step S) → me.0.operator ≡ Some view → IsFreeRow shape view r → IsInRow shape r place → x < 2 ^ 64 → at.word ≡ place
       → Allows Kept slots id me place (λ _. x) (λ _. fills shape at me x)
@@ -45,7 +46,7 @@ module _ {C : Type 0} (shape : Shape C) (IsPublishable : C → Type 0) {S : Type
         keeps,
         tt,
         subst (λ ws. Kept record { words = set ws place x; homes = s.homes; views = set s.views id (with_operator me.0 view') }) (sym kept.words)
-            (IsKept-operator shape IsPublishable config s kept id me.0 view view' (Stepped (Fill place x) x ∷ kept.trace) (set st.words place x) there is (kept.legal, may)
+            (IsLeftByTrace-operator shape IsPublishable config s kept id me.0 view view' (Stepped (Fill place x) x ∷ kept.trace) (set st.words place x) there is (kept.legal, may)
             (ap (λ (y : OperatorView C). let u : State C = record { words = set st.words place x; workers = st.workers; operator = after_fill (1 + shape.workers) place x y } in u) (sym mine.1)) ([], sym (append-nil view.published))
             (subst (λ (y : OperatorView C). (c : C) → Contains y.published c → IsPublishable c) (sym mine.1) kept.publishable)),
         for_operator me.0 view is (λ b. OperatorKnows shape me (with_operator me.0 view', me.1) (after_fill (1 + shape.workers) at.word x b))
@@ -74,7 +75,7 @@ module _ {C : Type 0} (shape : Shape C) (IsPublishable : C → Type 0) {S : Type
         keeps,
         tt,
         subst (λ ws. Kept record { words = set ws 0 x; homes = s.homes; views = set s.views id (with_operator me.0 view') }) (sym kept.words)
-            (IsKept-operator shape IsPublishable config s kept id me.0 view view' (Stepped (Publish r) x ∷ Proposed new ∷ kept.trace) (set st.words 0 x) there is ((kept.legal, light), may)
+            (IsLeftByTrace-operator shape IsPublishable config s kept id me.0 view view' (Stepped (Publish r) x ∷ Proposed new ∷ kept.trace) (set st.words 0 x) there is ((kept.legal, light), may)
             (ap (λ (y : OperatorView C). let u : State C = record { words = set st.words 0 x; workers = st.workers; operator = after_publish r x (after_proposal new y) } in u) same) (new ∷ [], refl)
             (λ c there'. contains_snoc IsPublishable view.published new c (subst (λ (y : OperatorView C). (c : C) → Contains y.published c → IsPublishable c) same kept.publishable) publishable there')),
         for_operator me.0 view is (λ y. (at.word ≡ 0) × OperatorKnows shape me (with_operator me.0 view', me.1) (after_publish (x % shape.rows) x (after_proposal new y)))
@@ -102,7 +103,7 @@ module _ {C : Type 0} (shape : Shape C) (IsPublishable : C → Type 0) {S : Type
         tt,
         loaded shape IsPublishable config s (1 + w) (set s.views id (with_operator me.0 view'))
             (subst (λ ws. Kept record { words = ws; homes = s.homes; views = set s.views id (with_operator me.0 view') }) (sym kept.words)
-            (IsKept-operator shape IsPublishable config s kept id me.0 view view' (Stepped (Scan (1 + w)) x ∷ kept.trace) st.words there is (kept.legal, (w, low, refl, is_x)) reached ([], sym (append-nil view.published))
+            (IsLeftByTrace-operator shape IsPublishable config s kept id me.0 view view' (Stepped (Scan (1 + w)) x ∷ kept.trace) st.words there is (kept.legal, (w, low, refl, is_x)) reached ([], sym (append-nil view.published))
             (subst (λ (y : OperatorView C). (c : C) → Contains y.published c → IsPublishable c) (sym mine.1) kept.publishable))),
         for_operator me.0 view is (λ y. (v : ℕ) → at.word ≡ 1 + v → (l : List Entry) × TellsLog shape y v x l × ((b : WorkerView C) → me.0.worker ≡ Some b → b.number ≡ v → l ≡ b.log) × OperatorKnows shape me (with_operator me.0 view', me.1) (after_scan v x l y))
             (λ v q. let same : w ≡ v = omega arith in

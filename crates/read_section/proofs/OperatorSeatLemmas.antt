@@ -13,16 +13,17 @@ use Rattle.versions.specs.Free.{IsFreeRow, number_after}
 use Rattle.versions.specs.Table.{the_shape}
 use Rattle.versions.proofs.ShapeLemmas.{last_number_is, rows_is, workers_is}
 use Rattle.versions.proofs.WorldLemmas.{light}
-use Rattle.read_section.specs.Layout.{Holds, IsPublishable}
-use Rattle.read_section.specs.Operator.{OperatorSeatValue, acts, operator_at, operator_or_none}
-use Rattle.read_section.specs.Plays.{fills, publishes, scans}
-use Rattle.read_section.specs.Seat.{IsOperatorSeat}
-use Rattle.read_section.specs.View.{TellsLog, with_operator}
+use Rattle.read_section.specs.Layout.{HoldsConfig, IsPublishable}
+use Rattle.read_section.specs.body.Seat.{OperatorSeatValue, acts, operator_at, operator_or_none}
+use Rattle.read_section.specs.body.Plays.{fills, publishes, scans}
+use Rattle.read_section.specs.body.Seat.{IsOperatorSeat}
+use Rattle.read_section.specs.View.{TellsLog}
+use Rattle.read_section.specs.body.SeatView.{with_operator}
 use Rattle.read_section.proofs.OperatorKept.{allows_fill, allows_publish, allows_scan}
 use Rattle.read_section.proofs.WorkerSeatLemmas.{Kept, Seated, View}
 
 -- the words of a row, as those of the shape's
-Holds-shape : (view : OperatorView (List Group)) (r : ℕ) (config : List Group) → Holds view r config
+Holds-shape : (view : OperatorView (List Group)) (r : ℕ) (config : List Group) → HoldsConfig view r config
     → (i : ℕ) → i < the_shape.row_words → slice_index view.row_words (r * the_shape.row_words + i) ≡ slice_index (the_shape.row config) i
 unfolding the_shape
 Holds-shape view r config h = h
@@ -47,12 +48,12 @@ module _ (v : View) (h : IsOperatorSeat v) where
     may_fill r i place x free small e fits = allows_fill the_shape IsPublishable config slots' id (v, slots) view r place x (step slots' place x 0 none) h.knows
         (subst (λ (o : OperatorSeatValue). IsFreeRow the_shape o.view r) (sym is) free) (i, small, e) fits refl
 
-    pub may_publish : (r n x : ℕ) (new : List Group) → IsFreeRow the_shape operator.view r → Holds operator.view r new → IsPublishable new → n ≡ number_after operator.view.log + 1 → n ≤ the_shape.last_number → x ≡ current_word the_shape n r
+    pub may_publish : (r n x : ℕ) (new : List Group) → IsFreeRow the_shape operator.view r → HoldsConfig operator.view r new → IsPublishable new → n ≡ number_after operator.view.log + 1 → n ≤ the_shape.last_number → x ≡ current_word the_shape n r
         → Allows (Kept config) slots' id (v, slots) 0 (λ _. x) (λ _. publishes the_shape new (step slots' 0 x 0 none) (v, slots) x)
     may_publish r n x new free holds publishable number low e = let log_is = ap (λ (o : OperatorSeatValue). number_after o.view.log) is in
         allows_publish the_shape IsPublishable config slots' id (v, slots) view r x new (step slots' 0 x 0 none) h.knows
         (subst (λ (o : OperatorSeatValue). IsFreeRow the_shape o.view r) (sym is) free) (light new (charge_of new) refl publishable.1) publishable
-        (Holds-shape view r new (subst (λ (o : OperatorSeatValue). Holds o.view r new) (sym is) holds)) (omega arith) (e ∙ ap (λ (k : ℕ). current_word the_shape k r) (number ∙ ap (λ (k : ℕ). k + 1) (sym log_is))) refl
+        (Holds-shape view r new (subst (λ (o : OperatorSeatValue). HoldsConfig o.view r new) (sym is) holds)) (omega arith) (e ∙ ap (λ (k : ℕ). current_word the_shape k r) (number ∙ ap (λ (k : ℕ). k + 1) (sym log_is))) refl
 
     pub may_scan : (w : ℕ) → w < the_shape.workers → Allows (Kept config) slots' id (v, slots) (1 + w) (λ x. x) (scans the_shape (step slots' (1 + w) 0 0 none) (v, slots))
     may_scan w low = allows_scan the_shape IsPublishable config slots' id (v, slots) view w (step slots' (1 + w) 0 0 none) h.knows low refl

@@ -15,10 +15,10 @@ use Rattle.versions.specs.View.{BeginsWith, new_worker}
 use Rattle.versions.specs.State.{IsOpening, State, new_operator, new_workers, start_of}
 use Rattle.versions.proofs.ListLemmas.{contains_first, elem_below, elem_snoc}
 use Rattle.versions.proofs.MirrorLemmas.{none_some, some_same}
-use Rattle.read_section.specs.declared.rule.SeatView.{SeatView}
-use Rattle.read_section.specs.Rule.{IsKept, IsViewOf, KnowsOperator, KnowsWorker}
-use Rattle.read_section.specs.View.{first_seat, nobody, note_of, published_by, seen_by, spare_alone, told_by, with_worker_of, without_spare, without_worker, worker_alone}
-use Rattle.read_section.proofs.RuleLemmas.{knows_after, now, rule_now}
+use Rattle.read_section.specs.declared.versions_rule.SeatView.{SeatView}
+use Rattle.read_section.specs.body.VersionsRule.{IsLeftByTrace, IsViewOf, KnowsOperator, KnowsWorker}
+use Rattle.read_section.specs.body.SeatView.{first_seat, nobody, note_of, published_by, seen_by, spare_alone, told_by, with_worker_of, without_spare, without_worker, worker_alone}
+use Rattle.read_section.proofs.VersionsRuleLemmas.{knows_after, now, rule_now}
 
 abbrev picked : {P : Type 0} → Dec P → ℕ → ℕ → ℕ
 picked (yes _) a b = a
@@ -75,7 +75,7 @@ module _ {C : Type 0} (shape : Shape C) (config : C) where
 
 module _ {C : Type 0} (shape : Shape C) (IsPublishable : C → Type 0) {S : Type 0} (config : C) where
   abbrev Kept : table.State S (SeatView C) → Type 0
-  Kept = IsKept shape IsPublishable config
+  Kept = IsLeftByTrace shape IsPublishable config
 
   pub opens : (rows : List ℕ) → IsOpening shape config rows → IsPublishable config → Kept (opening (start_of shape config rows).words [] (first_seat shape config rows))
   opens rows is publishable = record {
@@ -108,12 +108,12 @@ module _ {C : Type 0} (shape : Shape C) (IsPublishable : C → Type 0) {S : Type
   StaysKnown s kept seat_of' v left right w =
       ((seat_of' w ≡ length s.views) × KnowsWorker shape right w) ⊎ ((seat_of' w ≡ kept.seat_of w) × (KnowsWorker shape v w → KnowsWorker shape left w))
 
-  IsKept-split : (s : table.State S (SeatView C)) (kept : Kept s) (id : ℕ) (v left right : SeatView C) (seat_of' : ℕ → ℕ) → get_elem? s.views id ≡ some v
+  IsLeftByTrace-split : (s : table.State S (SeatView C)) (kept : Kept s) (id : ℕ) (v left right : SeatView C) (seat_of' : ℕ → ℕ) → get_elem? s.views id ≡ some v
       → IsViewOf shape config (now shape IsPublishable config s kept) seat_of' kept.operator_seat id left → IsViewOf shape config (now shape IsPublishable config s kept) seat_of' kept.operator_seat (length s.views) right
       → ((seat : ℕ) (u : SeatView C) → seat ≢ id → seat < length s.views → IsViewOf shape config (now shape IsPublishable config s kept) kept.seat_of kept.operator_seat seat u → IsViewOf shape config (now shape IsPublishable config s kept) seat_of' kept.operator_seat seat u)
       → ((w : ℕ) → w < shape.workers → StaysKnown s kept seat_of' v left right w) → (KnowsOperator shape v → KnowsOperator shape left)
       → Kept record { words = s.words; homes = s.homes; views = set s.views id left ++ right ∷ [] }
-  IsKept-split s kept id v left right seat_of' at on_left on_right others workers operator = record {
+  IsLeftByTrace-split s kept id v left right seat_of' at on_left on_right others workers operator = record {
     rows = kept.rows;
     trace = kept.trace;
     seat_of = seat_of';
@@ -145,7 +145,7 @@ module _ {C : Type 0} (shape : Shape C) (IsPublishable : C → Type 0) {S : Type
       let given : WorkerView C = record { number = v.spare; stage = Outside; log = []; seen = published_by v.operator } in
       let given_is : new_worker config v.spare ≡ given = ap (λ (l : List C). let y : WorkerView C = record { number = v.spare; stage = Outside; log = []; seen = l } in y) (sym published) in
       let below = elem_below s.views id v at in
-      IsKept-split s kept id v (without_spare v) (spare_alone shape v) (moved_to kept.seat_of v.spare new) at
+      IsLeftByTrace-split s kept id v (without_spare v) (spare_alone shape v) (moved_to kept.seat_of v.spare new) at
       record {
         worker = λ b e. absurd (none_some b (sym none ∙ e));
         operator = ours.operator;
@@ -167,7 +167,7 @@ module _ {C : Type 0} (shape : Shape C) (IsPublishable : C → Type 0) {S : Type
   pub splits_give : (id : ℕ) (v : SeatView C) (view : WorkerView C) → v.worker ≡ Some view → shape.workers ≤ v.spare → Splits Kept id v (without_worker v) (worker_alone shape v)
   splits_give id v view is no_spare s kept at =
       let ours = kept.each_seat id v at in let new : ℕ = length s.views in let mine = ours.worker view is in let st = now shape IsPublishable config s kept in
-      IsKept-split s kept id v (without_worker v) (worker_alone shape v) (moved_to kept.seat_of view.number new) at
+      IsLeftByTrace-split s kept id v (without_worker v) (worker_alone shape v) (moved_to kept.seat_of view.number new) at
       record {
         worker = λ b e. absurd (none_some b e);
         operator = ours.operator;
@@ -192,7 +192,7 @@ module _ {C : Type 0} (shape : Shape C) (IsPublishable : C → Type 0) {S : Type
   pub splits_note : (id : ℕ) (v : SeatView C) (view : WorkerView C) → v.worker ≡ Some view → Splits Kept id v v (note_of shape v)
   splits_note id v view is s kept at =
       let ours = kept.each_seat id v at in let mine = ours.worker view is in let st = now shape IsPublishable config s kept in
-      IsKept-split s kept id v v (note_of shape v) kept.seat_of at ours
+      IsLeftByTrace-split s kept id v v (note_of shape v) kept.seat_of at ours
       record {
         worker = λ b e. absurd (none_some b e);
         operator = λ o e. absurd (none_some o e);
@@ -208,12 +208,12 @@ module _ {C : Type 0} (shape : Shape C) (IsPublishable : C → Type 0) {S : Type
   IsTaken s kept seat_of' id v given both w =
       ((seat_of' w ≡ id) × KnowsWorker shape both w) ⊎ ((seat_of' w ≡ kept.seat_of w) × (KnowsWorker shape v w → KnowsWorker shape both w) × (KnowsWorker shape given w → ⊥))
 
-  IsKept-join : (s : table.State S (SeatView C)) (kept : Kept s) (id : ℕ) (v : SeatView C) (other : ℕ) (given both : SeatView C) (seat_of' : ℕ → ℕ) → get_elem? s.views id ≡ some v → other ≢ id → get_elem? s.views other ≡ some given
+  IsLeftByTrace-join : (s : table.State S (SeatView C)) (kept : Kept s) (id : ℕ) (v : SeatView C) (other : ℕ) (given both : SeatView C) (seat_of' : ℕ → ℕ) → get_elem? s.views id ≡ some v → other ≢ id → get_elem? s.views other ≡ some given
       → IsViewOf shape config (now shape IsPublishable config s kept) seat_of' kept.operator_seat id both
       → ((seat : ℕ) (u : SeatView C) → seat ≢ id → seat ≢ other → IsViewOf shape config (now shape IsPublishable config s kept) kept.seat_of kept.operator_seat seat u → IsViewOf shape config (now shape IsPublishable config s kept) seat_of' kept.operator_seat seat u)
       → ((w : ℕ) → w < shape.workers → IsTaken s kept seat_of' id v given both w) → (KnowsOperator shape v → KnowsOperator shape both) → (KnowsOperator shape given → ⊥)
       → Kept record { words = s.words; homes = s.homes; views = set (set s.views id both) other (nobody shape) }
-  IsKept-join s kept id v other given both seat_of' at apart gives on_both others workers operator no_operator = record {
+  IsLeftByTrace-join s kept id v other given both seat_of' at apart gives on_both others workers operator no_operator = record {
     rows = kept.rows;
     trace = kept.trace;
     seat_of = seat_of';
@@ -248,7 +248,7 @@ module _ {C : Type 0} (shape : Shape C) (IsPublishable : C → Type 0) {S : Type
       → Joins Kept id v other given (with_worker_of v given) (nobody shape)
   joins_take id v other given view is no_operator given_spare no_spare none s kept at apart there =
       let ours = kept.each_seat id v at in let st = now shape IsPublishable config s kept in let gives = given_there s.views id other (with_worker_of v given) given apart there in let from = (kept.each_seat other given gives).worker view is in
-      IsKept-join s kept id v other given (with_worker_of v given) (moved_to kept.seat_of view.number id) at apart gives
+      IsLeftByTrace-join s kept id v other given (with_worker_of v given) (moved_to kept.seat_of view.number id) at apart gives
       record {
         worker = λ b e. subst (λ (y : WorkerView C). (moved_to kept.seat_of view.number id y.number ≡ id) × (get_elem? st.workers y.number ≡ some y)) (some_same view b (sym is ∙ e)) (moved_here kept.seat_of view.number id, from.1);
         operator = ours.operator;
@@ -269,7 +269,7 @@ module _ {C : Type 0} (shape : Shape C) (IsPublishable : C → Type 0) {S : Type
   pub joins_note : (id : ℕ) (v : SeatView C) (other : ℕ) (given : SeatView C) → given.worker ≡ None → given.operator ≡ None → shape.workers ≤ given.spare → Joins Kept id v other given (told_by v given) (nobody shape)
   joins_note id v other given no_worker no_operator given_spare s kept at apart there =
       let ours = kept.each_seat id v at in let gives = given_there s.views id other (told_by v given) given apart there in
-      IsKept-join s kept id v other given (told_by v given) kept.seat_of at apart gives record { worker = ours.worker; operator = ours.operator; spare = ours.spare; told = (kept.each_seat other given gives).told }
+      IsLeftByTrace-join s kept id v other given (told_by v given) kept.seat_of at apart gives record { worker = ours.worker; operator = ours.operator; spare = ours.spare; told = (kept.each_seat other given gives).told }
       (λ seat u not_id not_other f. f)
       (λ w small. inr (refl, (λ knows. knows), ⊎_elim (λ knows. none_some knows.0 (sym no_worker ∙ knows.1)) (λ (up : given.spare ≤ w). absurd (omega arith))))
       (λ knows. knows)

@@ -18,9 +18,9 @@ use Rattle.versions.proofs.ListLemmas.{contains_first}
 use Rattle.versions.proofs.RowLemmas.{length-row}
 use Rattle.versions.proofs.ShapeLemmas.{row_is, row_words_is}
 use Rattle.read_section.specs.declared.worker.Held.{Held}
-use Rattle.read_section.specs.Seat.{IsAt}
+use Rattle.read_section.specs.body.Seat.{TellsStage}
 use Rattle.read_section.specs.Section.{EndsInFetches, IsFetchIn, IsWholeSection, SectionsAreWhole, at_pin, before_fetches, held_words, words_in}
-use Rattle.read_section.specs.Steps.{IsOwnLogOf}
+use Rattle.read_section.specs.body.Steps.{IsOwnLogOf}
 use Rattle.read_section.specs.Worker.{Enters, IsInside, IsOutside, WorkerValue, left, left_from, steps}
 
 -- the fetches that a log ends with
@@ -87,14 +87,14 @@ EndsInFetches-inside worker n r inside own =
     record { fetches = t.0; log = t.1; each = λ j m q e stage c. subst (λ (p : ℕ). IsFetchIn worker.view.number p e.step) (inside_row k n r j m q (sym inside ∙ stage)) (t.2 e c) }
 
 -- what a worker keeps of its section tells whether it is inside
-pub outside_of_none : (held : Option Held) (stage : Stage) → is_some held ≡ false → IsAt held stage → IsOutside stage
+pub outside_of_none : (held : Option Held) (stage : Stage) → is_some held ≡ false → TellsStage held stage → IsOutside stage
 outside_of_none None stage e at = at
 outside_of_none (Some h) stage e at = absurd (true_false e)
   where
     true_false : true ≡ false → ⊥
     true_false e = cc
 
-pub inside_of_some : (held : Option Held) (stage : Stage) → is_some held ≡ true → IsAt held stage → (n : ℕ) × (r : ℕ) × IsInside stage n r
+pub inside_of_some : (held : Option Held) (stage : Stage) → is_some held ≡ true → TellsStage held stage → (n : ℕ) × (r : ℕ) × IsInside stage n r
 inside_of_some None stage e at = absurd (false_true e)
   where
     false_true : false ≡ true → ⊥

@@ -13,24 +13,24 @@ use Rattle.versions.specs.Free.{IsScannedClear, number_after}
 use Rattle.versions.specs.Legal.{MayPeek}
 use Rattle.versions.specs.Safety.{IsOwnLog}
 use Rattle.versions.proofs.ListLemmas.{elem_front}
-use Rattle.versions.proofs.Rule.{Bounds}
+use Rattle.versions.proofs.Coherence.{Bounds}
 use Rattle.versions.proofs.SafetyLemmas.{held_is_kept}
-use Rattle.read_section.specs.declared.rule.SeatView.{SeatView}
-use Rattle.read_section.specs.Plays.{IsWordIn, ShowsSeat, WorkerKnows, announces, fetches, leaves, peeks, pins}
-use Rattle.read_section.specs.Rule.{IsKept}
-use Rattle.read_section.specs.View.{with_worker}
-use Rattle.read_section.proofs.RuleLemmas.{IsKept-worker, for_worker, loaded, now, rule_now, shown}
+use Rattle.read_section.specs.declared.versions_rule.SeatView.{SeatView}
+use Rattle.read_section.specs.body.Plays.{IsWordIn, ShowsSeat, WorkerKnows, announces, fetches, leaves, peeks, pins}
+use Rattle.read_section.specs.body.VersionsRule.{IsLeftByTrace}
+use Rattle.read_section.specs.body.SeatView.{with_worker}
+use Rattle.read_section.proofs.VersionsRuleLemmas.{IsLeftByTrace-worker, for_worker, loaded, now, rule_now, shown}
 
 module _ {C : Type 0} (shape : Shape C) (IsPublishable : C → Type 0) {S : Type 0} (config : C) where
   abbrev Kept : table.State S (SeatView C) → Type 0
-  Kept = IsKept shape IsPublishable config
+  Kept = IsLeftByTrace shape IsPublishable config
 
   pub allows_peek : (slots id : ℕ) (me : Me S (SeatView C)) (view : WorkerView C) (at : table.Step S) → me.0.worker ≡ Some view → shape.workers ≤ me.0.spare → MayPeek view.stage → at.word ≡ 0
       → Allows Kept slots id me 0 (λ n. n) (peeks shape IsPublishable at me)
   allows_peek slots id me view at is no_spare may here s kept deep there fits =
       let x : ℕ = slice_index s.words 0 in let mine = (kept.each_seat id me.0 there).worker view is in let e : x ≡ slice_index (now shape IsPublishable config s kept).words 0 = ap (λ ws. slice_index ws 0) kept.words in
       let seen = up_to (x / shape.rows) (now shape IsPublishable config s kept).operator.published in let f : WorkerView C → WorkerView C = after_peek shape.rows x seen in
-      let step = IsKept-worker shape IsPublishable config s kept id me.0 view (Peek view.number) x f (now shape IsPublishable config s kept).words there is no_spare refl ((view, mine.1, may), e) refl in (
+      let step = IsLeftByTrace-worker shape IsPublishable config s kept id me.0 view (Peek view.number) x f (now shape IsPublishable config s kept).words there is no_spare refl ((view, mine.1, may), e) refl in (
         with_worker me.0 (f view),
         keeps,
         tt,
@@ -44,7 +44,7 @@ module _ {C : Type 0} (shape : Shape C) (IsPublishable : C → Type 0) {S : Type
       → Allows Kept slots id me (1 + view.number) (λ _. x) (λ _. announces shape at me x)
   allows_announce slots id me view n x at is no_spare stage e here s kept deep there fits =
       let mine = (kept.each_seat id me.0 there).worker view is in let f : WorkerView C → WorkerView C = after_announce x in let words = (now shape IsPublishable config s kept).words in
-      let step = IsKept-worker shape IsPublishable config s kept id me.0 view (Announce view.number) x f (set words (1 + view.number) x) there is no_spare refl (view, mine.1, (n, stage, e)) refl in (
+      let step = IsLeftByTrace-worker shape IsPublishable config s kept id me.0 view (Announce view.number) x f (set words (1 + view.number) x) there is no_spare refl (view, mine.1, (n, stage, e)) refl in (
         with_worker me.0 (f view),
         keeps,
         tt,
@@ -57,7 +57,7 @@ module _ {C : Type 0} (shape : Shape C) (IsPublishable : C → Type 0) {S : Type
   allows_pin slots id me view k at is no_spare stage here s kept deep there fits =
       let x : ℕ = slice_index s.words 0 in let mine = (kept.each_seat id me.0 there).worker view is in let e : x ≡ slice_index (now shape IsPublishable config s kept).words 0 = ap (λ ws. slice_index ws 0) kept.words in
       let seen = up_to (x / shape.rows) (now shape IsPublishable config s kept).operator.published in let f : WorkerView C → WorkerView C = after_pin shape.rows x seen in
-      let step = IsKept-worker shape IsPublishable config s kept id me.0 view (Pin view.number) x f (now shape IsPublishable config s kept).words there is no_spare refl ((view, mine.1, (k, stage)), e) refl in (
+      let step = IsLeftByTrace-worker shape IsPublishable config s kept id me.0 view (Pin view.number) x f (now shape IsPublishable config s kept).words there is no_spare refl ((view, mine.1, (k, stage)), e) refl in (
         with_worker me.0 (f view),
         keeps,
         tt,
@@ -80,7 +80,7 @@ module _ {C : Type 0} (shape : Shape C) (IsPublishable : C → Type 0) {S : Type
         elem_front view.seen ok.begins.0 m held.config bound.3 (sym (ap (λ l. get_elem? l m) ok.begins.1) ∙ held.published),
         e ∙ (ap (λ (q : ℕ). get_or st.words q 0) (sym here ∙ is_place) ∙ held.holds i small),
       ) in
-      let step = IsKept-worker shape IsPublishable config s kept id me.0 view (Fetch view.number place) x f st.words there is no_spare refl ((view, mine.1, (k, n, r, stage, in_row)), e) refl in
+      let step = IsLeftByTrace-worker shape IsPublishable config s kept id me.0 view (Fetch view.number place) x f st.words there is no_spare refl ((view, mine.1, (k, n, r, stage, in_row)), e) refl in
       let same : after_fetch place x view ≡ after_fetch at.word x view = ap (λ (q : ℕ). after_fetch q x view) (sym here) in (
         with_worker me.0 (f view),
         keeps,
@@ -95,7 +95,7 @@ module _ {C : Type 0} (shape : Shape C) (IsPublishable : C → Type 0) {S : Type
       → Allows Kept slots id me (1 + view.number) (λ _. 0) (λ _. leaves shape at me 0)
   allows_leave slots id me view k n r at is no_spare stage here s kept deep there fits =
       let mine = (kept.each_seat id me.0 there).worker view is in let f : WorkerView C → WorkerView C = after_leave in let words = (now shape IsPublishable config s kept).words in
-      let step = IsKept-worker shape IsPublishable config s kept id me.0 view (Leave view.number) 0 f (set words (1 + view.number) 0) there is no_spare refl (view, mine.1, (k, n, r, stage, refl)) refl in (
+      let step = IsLeftByTrace-worker shape IsPublishable config s kept id me.0 view (Leave view.number) 0 f (set words (1 + view.number) 0) there is no_spare refl (view, mine.1, (k, n, r, stage, refl)) refl in (
         with_worker me.0 (f view),
         keeps,
         tt,

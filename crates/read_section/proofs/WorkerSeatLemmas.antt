@@ -15,14 +15,15 @@ use Rattle.versions.specs.Legal.{MayPeek}
 use Rattle.versions.specs.Table.{the_shape}
 use Rattle.versions.proofs.ListLemmas.{get_elem_or, row_inside}
 use Rattle.versions.proofs.ShapeLemmas.{row_words_is, rows_is, workers_is}
-use Rattle.read_section.specs.declared.rule.SeatView.{SeatView}
+use Rattle.read_section.specs.declared.versions_rule.SeatView.{SeatView}
 use Rattle.read_section.specs.Layout.{IsPublishable}
-use Rattle.read_section.specs.Plays.{IsWordIn, ShowsSeat, announces, fetches, leaves, peeks, pins}
-use Rattle.read_section.specs.Rule.{IsKept}
-use Rattle.read_section.specs.Seat.{IsSeatAt, IsWorkerSeat}
-use Rattle.read_section.specs.Steps.{FetchesWord, Sees}
-use Rattle.read_section.specs.View.{with_worker}
-use Rattle.read_section.specs.Worker.{IsInside, WorkerValue, steps, worker_at, worker_or_none}
+use Rattle.read_section.specs.body.Plays.{IsWordIn, ShowsSeat, announces, fetches, leaves, peeks, pins}
+use Rattle.read_section.specs.body.VersionsRule.{IsLeftByTrace}
+use Rattle.read_section.specs.body.Seat.{IsSeatAt, IsWorkerSeat}
+use Rattle.read_section.specs.body.Steps.{FetchesWord, Sees}
+use Rattle.read_section.specs.body.SeatView.{with_worker}
+use Rattle.read_section.specs.Worker.{IsInside, WorkerValue, steps}
+use Rattle.read_section.specs.body.Seat.{worker_at, worker_or_none}
 use Rattle.read_section.proofs.WorkerKept.{allows_announce, allows_fetch, allows_leave, allows_peek, allows_pin}
 
 abbrev pub View : Type 0
@@ -32,7 +33,7 @@ abbrev pub Seated : Type 0
 Seated = Me ℕ View
 
 abbrev pub Kept : List Group → Rattle.atomic_table.specs.Table.State ℕ View → Type 0
-Kept config = IsKept the_shape IsPublishable {S = ℕ} config
+Kept config = IsLeftByTrace the_shape IsPublishable {S = ℕ} config
 
 pub some_row : 0 < the_shape.rows
 some_row = omega (arith, rows_is)

@@ -12,14 +12,10 @@ abbrev pub IsPublishable : List Group → Type 0
 IsPublishable config = IsConfig config × (charge_of config ≤ CHARGE_LIMIT)
 
 -- the row of the operator's words holds the configuration's
-abbrev pub Holds : OperatorView (List Group) → ℕ → List Group → Type 0
-Holds view r config =
+abbrev pub HoldsConfig : OperatorView (List Group) → ℕ → List Group → Type 0
+HoldsConfig view r config =
     (i : ℕ) → i < ROW_WORDS → slice_index view.row_words (r * ROW_WORDS + i) ≡ slice_index (row config) i
 
 -- the words of a row are 0 from a place on
 abbrev pub IsZeroFrom : OperatorView (List Group) → ℕ → ℕ → Type 0
 IsZeroFrom view r from = (i : ℕ) → from ≤ i → i < ROW_WORDS → slice_index view.row_words (r * ROW_WORDS + i) ≡ 0
-
--- words that are 0 from the place `from` on are 0 from the place `to` on after a word is stored at a place of them
-abbrev pub KeepsZeros : ℕ → ℕ → ℕ → ℕ → Type 0
-KeepsZeros place word from to = (i : ℕ) → to ≤ i → (i ≡ place → word ≡ 0) × ((i ≡ place → ⊥) → from ≤ i)

@@ -1,9 +1,6 @@
 pub mod Layout
 pub mod View
-pub mod Rule
-pub mod Plays
 pub mod Worker
-pub mod Steps
 pub mod Section
 pub mod Operator
-pub mod Seat
+pub mod body

@@ -1,69 +1,14 @@
--- What a seat at the table knows, and what seats hand to one another (docs/TABLE.md, "Seats").
-use Rattle.std.specs.Prelude.{◌≡◌, ◌+◌, ◌/◌, List, None, Option, Some, [], length, suc, ℕ}
+-- What loads of `current` show a worker, and what scans tell the operator.
+use Rattle.std.specs.Prelude.{◌≡◌, ◌/◌, List, length, suc, ℕ}
 use mathlib.Core.Option.{some}
 use lib.ListN.{get_elem?}
 use Rattle.versions.specs.declared.step.Entry.{Entry}
-use Rattle.versions.specs.declared.view.Stage.TheVariants.{Outside}
-use Rattle.versions.specs.declared.view.WorkerView.{WorkerView}
 use Rattle.versions.specs.declared.view.OperatorView.{OperatorView}
 use Rattle.versions.specs.Layout.{Shape}
 use Rattle.versions.specs.View.{BeginsWith, BeginsWithLog, read_word_after}
 use Rattle.versions.specs.Legal.{IsLogOf}
-use Rattle.versions.specs.State.{new_operator}
-use Rattle.read_section.specs.declared.rule.SeatView.{SeatView}
-
-module _ {C : Type 0} where
-  abbrev pub with_worker : SeatView C → WorkerView C → SeatView C
-  with_worker seat view = record seat { worker = Some view }
-
-  abbrev pub with_operator : SeatView C → OperatorView C → SeatView C
-  with_operator seat view = record seat { operator = Some view }
-
-  abbrev pub seen_by : Option (WorkerView C) → List C
-  seen_by None = []
-  seen_by (Some view) = view.seen
-
-  abbrev pub published_by : Option (OperatorView C) → List C
-  published_by None = []
-  published_by (Some view) = view.published
-
-  -- without its worker, which another seat gets or gives
-  abbrev pub without_worker : SeatView C → SeatView C
-  without_worker seat = record seat { worker = None }
-
-  abbrev pub with_worker_of : SeatView C → SeatView C → SeatView C
-  with_worker_of seat other = record seat { worker = other.worker }
-
-  -- told of what another seat was told
-  abbrev pub told_by : SeatView C → SeatView C → SeatView C
-  told_by seat note = record seat { told = note.told }
-
-  -- without its first spare worker
-  abbrev pub without_spare : SeatView C → SeatView C
-  without_spare seat = record seat { spare = seat.spare + 1 }
 
 module _ {C : Type 0} (shape : Shape C) where
-  -- a seat that knows nobody
-  abbrev pub nobody : SeatView C
-  nobody = record { worker = None; operator = None; spare = shape.workers; told = [] }
-
-  -- the worker of a seat, alone
-  abbrev pub worker_alone : SeatView C → SeatView C
-  worker_alone seat = record { worker = seat.worker; operator = None; spare = seat.spare; told = [] }
-
-  -- the first spare worker of the operator's seat, alone: it made no step, and has seen what is published
-  abbrev pub spare_alone : SeatView C → SeatView C
-  spare_alone seat =
-      record { worker = Some (record { number = seat.spare; stage = Outside; log = []; seen = published_by seat.operator }); operator = None; spare = shape.workers; told = [] }
-
-  -- a note of what the seat's worker has seen
-  abbrev pub note_of : SeatView C → SeatView C
-  note_of seat = record { worker = None; operator = None; spare = shape.workers; told = seen_by seat.worker }
-
-  -- the seat that a table opens with: the operator's, and all workers are spare
-  abbrev pub first_seat : C → List ℕ → SeatView C
-  first_seat config rows = record { worker = None; operator = Some (new_operator shape config rows); spare = 0; told = [] }
-
   -- a load of `current` that gave x showed these versions, from 0 up to the one that it gave
   pub record Shows (x : ℕ) (seen before : List C) : Type 0 where
     pub up_to_version : length seen ≡ suc (x / shape.rows)

@@ -1,26 +1,18 @@
 -- What a contract sees of a Worker.
-use Rattle.std.specs.Prelude.{◌≡◌, ◌+◌, ◌/◌, List, None, Option, Some, [], ℕ}
+use Rattle.std.specs.Prelude.{◌≡◌, ◌+◌, ◌/◌, List, ℕ}
 use Rattle.atomic_table.specs.Seated.{TableId}
 use Rattle.config_image.specs.Image.{Group}
 use Rattle.versions.specs.declared.view.Stage.{Stage}
 use Rattle.versions.specs.declared.view.Stage.TheVariants.{Announced, Inside, Outside, Peeked}
 use Rattle.versions.specs.declared.view.WorkerView.{WorkerView}
-use Rattle.versions.specs.View.{after_announce, after_leave, after_peek, after_pin, new_worker, read_word_of}
+use Rattle.versions.specs.View.{after_announce, after_leave, after_peek, after_pin, read_word_of}
 use Rattle.versions.specs.Table.{the_shape}
-use Rattle.read_section.specs.declared.rule.SeatView.{SeatView}
 use Rattle.read_section.specs.View.{Shows}
 
 -- the table that it is a worker of, and what it knows
 pub record WorkerValue : Type 0 where
   pub table : TableId
   pub view : WorkerView (List Group)
-
-abbrev pub worker_or_none : Option (WorkerView (List Group)) → WorkerView (List Group)
-worker_or_none None = new_worker [] 0
-worker_or_none (Some view) = view
-
-abbrev pub worker_at : TableId → SeatView (List Group) → WorkerValue
-worker_at table seat = record { table = table; view = worker_or_none seat.worker }
 
 -- a worker after steps of its own
 abbrev pub steps : (WorkerView (List Group) → WorkerView (List Group)) → WorkerValue → WorkerValue

@@ -13,15 +13,12 @@ ghost use Rattle.versions.specs.declared.layout.TheConstants.{CHARGE_LIMIT};
 ghost use Rattle.read_section.specs.declared.fault.OpenFault.TheVariants as open_fault;
 ghost use Rattle.read_section.specs.Operator.{AreOpenedWorkers, opened_operator};
 
-mod book;
 mod fault;
 mod operator;
 mod plays;
-mod rule;
 mod seat;
 mod section;
-#[cfg(test)]
-mod tests;
+mod versions_rule;
 mod worker;
 
 use crate::seat::open_table;
@@ -30,10 +27,10 @@ use config_image::image_len;
 pub use fault::OpenFault;
 use member_group::Config;
 pub use operator::{Operator, Reclaimed};
-pub use rule::{Rule, SeatView};
 pub use section::{Section, sections_are_whole};
 use versions::opening_words;
 pub use versions::{CHARGE_LIMIT, LAST_NUMBER, ROWS, WORKERS};
+pub use versions_rule::{SeatView, VersionsRule};
 pub use worker::Worker;
 
 /// Opens a table at version 0, which is `config`, with its operator and its workers. Takes their memory from the

@@ -8,16 +8,16 @@ ghost use Rattle.versions.specs.declared.step.Entry.{Entry};
 ghost use Rattle.versions.specs.Free.{IsFreeRow, number_after};
 ghost use Rattle.versions.specs.Legal.{MayPeek};
 ghost use Rattle.versions.specs.Table.{the_shape};
-ghost use Rattle.read_section.specs.Layout.{Holds, IsPublishable, IsZeroFrom, KeepsZeros};
+ghost use Rattle.read_section.specs.Layout.{HoldsConfig, IsPublishable, IsZeroFrom};
+ghost use Rattle.read_section.specs.body.OperatorKept.{KeepsZeros};
 ghost use Rattle.read_section.specs.Operator.{IsCurrent, IsReport, Meets, filled, opened_operator, published_from, scanned};
 ghost use Rattle.read_section.specs.View.{TellsLog};
 
-use crate::book::Book;
 use crate::seat::{OperatorSeat, WorkerSeat};
 use config_image::ROW_WORDS;
 use member_group::Config;
 use std::marker::Model;
-use versions::{ROWS, WORKERS};
+use versions::{Book, ROWS, WORKERS};
 
 /// The versions from `first` on, `count` of them, may be reused.
 #[derive(Clone, Copy, Debug, PartialEq, Eq)]
@@ -40,7 +40,8 @@ pub struct Operator {
 }
 
 impl Model for Operator {
-    ghost use Rattle.read_section.specs.Operator.{IsKeptBy, OperatorValue};
+    ghost use Rattle.read_section.specs.body.OperatorKept.{IsKeptBy};
+    ghost use Rattle.read_section.specs.Operator.{OperatorValue};
 
     ghost Value = { OperatorValue };
 
@@ -132,7 +133,7 @@ impl Operator {
     /// Publishes, by one store of `current`, a configuration whose row a free row holds. Takes no memory.
     pub fn put(&mut self, row: usize, config: Config)
         requires free { IsFreeRow the_shape self.old.view row }
-        requires holds { Holds self.old.view row config }
+        requires holds { HoldsConfig self.old.view row config }
         requires publishable { IsPublishable config }
         requires number { number_after self.old.view.log < LAST_NUMBER }
         ensures one_publish { self.new ≡ published_from row config self.old }

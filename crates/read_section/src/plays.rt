@@ -2,10 +2,10 @@
 
 ghost use Rattle.versions.specs.Table.{the_shape};
 ghost use Rattle.read_section.specs.Layout.{IsPublishable};
-ghost use Rattle.read_section.specs.Plays.{announces, fetches, fills, leaves, peeks, pins, publishes, scans};
-ghost use Rattle.read_section.specs.View.{nobody, note_of, spare_alone, told_by, with_worker_of, without_spare, without_worker, worker_alone};
+ghost use Rattle.read_section.specs.body.Plays.{announces, fetches, fills, leaves, peeks, pins, publishes, scans};
+ghost use Rattle.read_section.specs.body.SeatView.{nobody, note_of, spare_alone, told_by, with_worker_of, without_spare, without_worker, worker_alone};
 
-use crate::rule::SeatView;
+use crate::versions_rule::SeatView;
 use atomic_table::{Join, Play, Split};
 use member_group::Config;
 use std::marker::{Brand, PhantomData};

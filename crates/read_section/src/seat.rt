@@ -12,18 +12,19 @@ ghost use Rattle.versions.specs.Free.{IsFreeRow, number_after};
 ghost use Rattle.versions.specs.Legal.{MayPeek};
 ghost use Rattle.versions.specs.Table.{the_shape};
 ghost use Rattle.versions.specs.World.{opened_with};
-ghost use Rattle.read_section.specs.Layout.{Holds, IsPublishable};
+ghost use Rattle.read_section.specs.Layout.{HoldsConfig, IsPublishable};
 ghost use Rattle.read_section.specs.View.{TellsLog};
 ghost use Rattle.read_section.specs.Worker.{IsInside, steps};
-ghost use Rattle.read_section.specs.Operator.{AreOpenedWorkers, acts, opened_operator, put_in};
-ghost use Rattle.read_section.specs.Seat.{IsSeatAt, IsSeating};
-ghost use Rattle.read_section.specs.Steps.{FetchesWord, IsOwnLogOf, Sees};
+ghost use Rattle.read_section.specs.Operator.{AreOpenedWorkers, opened_operator, put_in};
+ghost use Rattle.read_section.specs.body.Seat.{acts};
+ghost use Rattle.read_section.specs.body.Seat.{IsSeatAt, IsSeating};
+ghost use Rattle.read_section.specs.body.Steps.{FetchesWord, IsOwnLogOf, Sees};
 
 use crate::plays::{
     Announce, Fetch, Fill, GiveWorker, Leave, NoteSeen, Peek, Pin, Proposal, Publish, Scan,
     SeatSpare, TakeNote, TakeWorker,
 };
-use crate::rule::{SharedTable, TableSeat};
+use crate::versions_rule::{SharedTable, TableSeat};
 use crate::worker::Worker;
 use atomic_table::Table;
 use config_image::ROW_WORDS;
@@ -43,8 +44,9 @@ pub struct WorkerSeat {
 
 impl Model for WorkerSeat {
     ghost use Rattle.std.specs.Arc.{arc_value};
-    ghost use Rattle.read_section.specs.Seat.{IsSeatAt, IsWorkerSeat};
-    ghost use Rattle.read_section.specs.Worker.{WorkerValue, worker_at};
+    ghost use Rattle.read_section.specs.body.Seat.{IsSeatAt, IsWorkerSeat};
+    ghost use Rattle.read_section.specs.Worker.{WorkerValue};
+    ghost use Rattle.read_section.specs.body.Seat.{worker_at};
 
     ghost Value = { WorkerValue };
 
@@ -62,8 +64,8 @@ pub struct OperatorSeat {
 
 impl Model for OperatorSeat {
     ghost use Rattle.std.specs.Arc.{arc_value};
-    ghost use Rattle.read_section.specs.Operator.{OperatorSeatValue, operator_at};
-    ghost use Rattle.read_section.specs.Seat.{IsOperatorSeat, IsSeatAt};
+    ghost use Rattle.read_section.specs.body.Seat.{OperatorSeatValue, operator_at};
+    ghost use Rattle.read_section.specs.body.Seat.{IsOperatorSeat, IsSeatAt};
 
     ghost Value = { OperatorSeatValue };
 
@@ -217,7 +219,7 @@ impl OperatorSeat {
     fn store_current<P: Proposal>(&mut self, config: &Config, row: usize, number: u64)
         requires proposal { P.config ≡ config.now }
         requires free { IsFreeRow the_shape self.old.view row }
-        requires holds { Holds self.old.view row config.now }
+        requires holds { HoldsConfig self.old.view row config.now }
         requires publishable { IsPublishable config.now }
         requires number { number ≡ number_after self.old.view.log + 1 }
         requires limited { number ≤ the_shape.last_number }
@@ -231,7 +233,7 @@ impl OperatorSeat {
 
     pub(crate) fn publish(&mut self, config: &Config, row: usize, number: u64)
         requires free { IsFreeRow the_shape self.old.view row }
-        requires holds { Holds self.old.view row config.now }
+        requires holds { HoldsConfig self.old.view row config.now }
         requires publishable { IsPublishable config.now }
         requires number { number ≡ number_after self.old.view.log + 1 }
         requires limited { number ≤ the_shape.last_number }

@@ -32,14 +32,14 @@ pub struct Worker {
 }
 
 impl Model for Worker {
-    ghost use Rattle.read_section.specs.Seat.{IsAt};
+    ghost use Rattle.read_section.specs.body.Seat.{TellsStage};
     ghost use Rattle.read_section.specs.Worker.{WorkerValue};
 
     ghost Value = { WorkerValue };
 
     ghost view = { λ w. w.seat };
 
-    ghost invariant = { λ w. IsAt w.held w.seat.view.stage };
+    ghost invariant = { λ w. TellsStage w.held w.seat.view.stage };
 }
 
 impl Worker {

@@ -12,12 +12,12 @@ use Rattle.versions.specs.Layout.{row_begin}
 use Rattle.versions.specs.Step.{entry}
 use Rattle.versions.specs.Free.{IsFreeRow}
 use Rattle.versions.specs.Table.{the_shape}
-use Rattle.read_section.specs.Layout.{Holds}
+use Rattle.read_section.specs.Layout.{HoldsConfig}
 use Rattle.read_section.specs.Operator.{OperatorValue, filled}
 use Rattle.read_section.proofs.FilledLemmas.{front_filled, word_at, word_filled, word_kept, words_are}
-use Rattle.retire.specs.Filling.{FillsFrom, FillsFront, FillsRow}
+use Rattle.retire.specs.body.Filling.{FillsFrom, FillsFront, FillsRow}
 use Rattle.retire.specs.Publish.{IsFillOf}
-use Rattle.retire.specs.Sink.{IsFilling, SinkValue, front_of, taken_by}
+use Rattle.retire.specs.body.Sink.{IsFilling, SinkValue, front_of, taken_of}
 use Rattle.retire.proofs.RowLemmas.{contains_first, image_word_of_row, zeros_behind_image}
 
 pub no_fills : (o : OperatorValue) (r : ℕ) (words : List ℕ) → IsFreeRow the_shape o.view r → FillsFrom o o r words
@@ -111,10 +111,10 @@ pub filling_begins : (lent now : OperatorValue) (r : ℕ) → lent ≡ now → I
 filling_begins lent now r is free = subst (λ (l : OperatorValue). IsFilling l now r 0) (sym is) record { inside = omega arith; fills = record { fills = no_fills now r [] free; front = λ i low. absurd (omega arith) } }
 
 -- what was taken tells that the borrow stayed, and which words the row begins with
-pub same_borrow : (sink : SinkValue) (borrow r : ℕ) (words : List ℕ) → taken_by sink ≡ borrow ∷ r ∷ words → sink.borrow ≡ borrow
+pub same_borrow : (sink : SinkValue) (borrow r : ℕ) (words : List ℕ) → taken_of sink ≡ borrow ∷ r ∷ words → sink.borrow ≡ borrow
 same_borrow sink borrow r words took = cc
 
-pub image_filled : (sink : SinkValue) (lent before after : OperatorValue) → after ≡ sink.operator → lent ≡ before → (borrow r : ℕ) (words : List ℕ) → taken_by sink ≡ borrow ∷ r ∷ words → IsFilling lent sink.operator sink.row sink.place → FillsFront before after r words
+pub image_filled : (sink : SinkValue) (lent before after : OperatorValue) → after ≡ sink.operator → lent ≡ before → (borrow r : ℕ) (words : List ℕ) → taken_of sink ≡ borrow ∷ r ∷ words → IsFilling lent sink.operator sink.row sink.place → FillsFront before after r words
 image_filled sink lent before after last is borrow r words took h =
     subst (λ (o : OperatorValue). FillsFront o after r words) is (subst (λ (o : OperatorValue). FillsFront lent o r words) (sym last)
     (subst (FillsFront lent sink.operator r) front (subst (λ (q : ℕ). FillsFront lent sink.operator q (front_of sink.operator sink.row sink.place)) same_row h.fills)))
@@ -150,7 +150,7 @@ module _ (now after : OperatorValue) (r place : ℕ) (low : r < ROWS) (small : p
   pub front_kept : (n : ℕ) (config : List Group) → n ≤ place → HoldsFront now r config n → HoldsFront after r config n
   front_kept n config up front i below = word_kept now after r place 0 low small whole e r i (omega arith) (inr (λ same. omega arith)) ∙ front i below
 
-pub holds_all : (o : OperatorValue) (r len : ℕ) (config : List Group) → RowHolds config → len ≡ length (image config) → HoldsFront o r config len → ZerosBehind o r len → Holds o.view r config
+pub holds_all : (o : OperatorValue) (r len : ℕ) (config : List Group) → RowHolds config → len ≡ length (image config) → HoldsFront o r config len → ZerosBehind o r len → HoldsConfig o.view r config
 holds_all o r len config h is front behind i small = dite (dec_le (suc i) len)
     (λ below. front i (omega arith))
     (λ up. behind i (omega arith) small ∙ sym (zeros_behind_image config h i (omega arith) small))

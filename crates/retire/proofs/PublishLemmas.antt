@@ -10,8 +10,8 @@ use Rattle.versions.specs.Layout.{current_word}
 use Rattle.versions.specs.Step.{entry}
 use Rattle.versions.specs.Free.{IsFree, IsReplaced, IsScannedClear, number_after}
 use Rattle.versions.specs.Table.{the_shape}
-use Rattle.retire.specs.Filling.{FillsRow}
-use Rattle.read_section.specs.Layout.{Holds}
+use Rattle.retire.specs.body.Filling.{FillsRow}
+use Rattle.read_section.specs.Layout.{HoldsConfig}
 use Rattle.read_section.specs.Operator.{OperatorValue, published_from, scanned}
 use Rattle.retire.specs.Publish.{HasFreeRow, HoldsBack, IsBusy, IsLeastFreeRow, LooksForRow, Publishes, Scanned, ScansEach, StandsInRow, TellLogs, after_scans}
 use Rattle.read_section.specs.View.{TellsLog}
@@ -80,7 +80,7 @@ publishes before found full after r config looked least h e =
       reported = h.reported ∙ found_keeps (λ (o : OperatorValue). o.reported) (λ w x log o. refl) before found looked;
     }
 
-pub stands_in_row : (before found full after : OperatorValue) (r : ℕ) (config : List Group) → LooksForRow before found → FillsRow found full r config → Holds full.view r config → after ≡ published_from r config full → StandsInRow before after config
+pub stands_in_row : (before found full after : OperatorValue) (r : ℕ) (config : List Group) → LooksForRow before found → FillsRow found full r config → HoldsConfig full.view r config → after ≡ published_from r config full → StandsInRow before after config
 stands_in_row before found full after r config looked h holds e = subst (λ (o : OperatorValue). StandsInRow before o config) (sym e) record {
   taken = r;
   version_rows = ap (λ l. l ++ r ∷ []) (h.version_rows ∙ found_keeps (λ (o : OperatorValue). o.view.version_rows) (λ w x log o. refl) before found looked);

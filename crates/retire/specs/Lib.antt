@@ -1,4 +1,3 @@
 pub mod Publish
-pub mod Filling
-pub mod Sink
 pub mod Sweep
+pub mod body

@@ -10,7 +10,7 @@ use Rattle.versions.specs.Layout.{current_word, row_begin}
 use Rattle.versions.specs.Step.{entry}
 use Rattle.versions.specs.Free.{IsFree, IsFreeRow, IsReplaced, number_after}
 use Rattle.versions.specs.Table.{the_shape}
-use Rattle.read_section.specs.Layout.{Holds}
+use Rattle.read_section.specs.Layout.{HoldsConfig}
 use Rattle.read_section.specs.View.{TellsLog}
 use Rattle.read_section.specs.Operator.{OperatorValue, scanned}
 
@@ -83,7 +83,7 @@ pub record Publishes (before after : OperatorValue) (config : List Group) : Type
 pub record StandsInRow (before after : OperatorValue) (config : List Group) : Type 0 where
   pub taken : ℕ
   pub version_rows : after.view.version_rows ≡ before.view.version_rows ++ taken ∷ []
-  pub holds : Holds after.view taken config
+  pub holds : HoldsConfig after.view taken config
   pub others : KeepsOtherRows taken before after
 
 -- some scan gave a word from 1 to m + 1

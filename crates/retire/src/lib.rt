@@ -74,6 +74,3 @@ impl Retire for Operator {
         self.report()
     }
 }
-
-#[cfg(test)]
-mod tests;

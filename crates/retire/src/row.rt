@@ -4,9 +4,9 @@ ghost use Rattle.std.specs.Prelude.{◌≡◌, ◌≤◌, IfNone, IfSome};
 ghost use Rattle.config_image.specs.declared.TheConstants.{ROW_WORDS};
 ghost use Rattle.versions.specs.Free.{IsFreeRow};
 ghost use Rattle.versions.specs.Table.{the_shape};
-ghost use Rattle.read_section.specs.Layout.{Holds, IsPublishable};
+ghost use Rattle.read_section.specs.Layout.{HoldsConfig, IsPublishable};
 ghost use Rattle.retire.specs.Publish.{HasFreeRow, IsBusy, IsLeastFreeRow, LooksForRow, ScansEach};
-ghost use Rattle.retire.specs.Filling.{FillsRow};
+ghost use Rattle.retire.specs.body.Filling.{FillsRow};
 
 use crate::sink::fill_image;
 use config_image::image_len;
@@ -53,7 +53,7 @@ pub(crate) fn fill_row(operator: &mut Operator, row: usize, config: &Config)
     requires free { IsFreeRow the_shape operator.old.view row }
     requires publishable { IsPublishable config.now }
     ensures fills { FillsRow operator.old operator.new row config.now }
-    ensures holds { Holds operator.new.view row config.now }
+    ensures holds { HoldsConfig operator.new.view row config.now }
 {
     let len = image_len(config);
     fill_image::<Brand>(operator, row, config);

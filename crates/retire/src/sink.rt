@@ -6,8 +6,8 @@ ghost use Rattle.config_image.specs.Image.{image};
 ghost use Rattle.versions.specs.Free.{IsFreeRow};
 ghost use Rattle.versions.specs.Table.{the_shape};
 ghost use Rattle.read_section.specs.Operator.{OperatorValue};
-ghost use Rattle.retire.specs.Filling.{FillsFront};
-ghost use Rattle.retire.specs.Sink.{taken_by};
+ghost use Rattle.retire.specs.body.Filling.{FillsFront};
+ghost use Rattle.retire.specs.body.Sink.{taken_of};
 
 use config_image::{ROW_WORDS, WordSink, write_image};
 use member_group::Config;
@@ -21,7 +21,7 @@ pub(crate) trait Lent {
 }
 
 impl Lent for Brand {
-    ghost use Rattle.retire.specs.Sink.{no_operator};
+    ghost use Rattle.retire.specs.body.Sink.{no_operator};
 
     ghost operator = { no_operator };
 }
@@ -35,7 +35,7 @@ struct RowSink<'a, L: Lent> {
 }
 
 impl<'a, L: Lent> Model for RowSink<'a, L> {
-    ghost use Rattle.retire.specs.Sink.{IsFilling, SinkValue};
+    ghost use Rattle.retire.specs.body.Sink.{IsFilling, SinkValue};
 
     ghost Value = { SinkValue };
 
@@ -45,7 +45,7 @@ impl<'a, L: Lent> Model for RowSink<'a, L> {
 }
 
 impl<L: Lent> WordSink for RowSink<'_, L> {
-    ghost taken = { taken_by };
+    ghost taken = { taken_of };
 
     ghost room = { λ sink. ROW_WORDS - sink.place };
 

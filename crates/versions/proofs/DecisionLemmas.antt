@@ -8,11 +8,11 @@ use Rattle.versions.specs.declared.view.Stage.TheVariants.{Inside, Peeked}
 use Rattle.versions.specs.Layout.{HoldsRow, IsInRow, current_word}
 use Rattle.versions.specs.Free.{IsFreeRow, number_after}
 use Rattle.versions.specs.State.{State}
-use Rattle.versions.specs.Legal.{CanPublish, IsLegalStep, IsNextOf}
-use Rattle.versions.specs.Mirror.{IsDecided, IsMirror, IsReached}
+use Rattle.versions.specs.Legal.{CanPublish, IsLegalStep, IsNextOf, IsReached}
+use Rattle.versions.specs.body.Mirror.{IsDecided, IsMirror}
 use Rattle.versions.specs.Table.{the_shape}
-use Rattle.versions.proofs.MirrorLemmas.{Rule-reached, in_order, next_of, some_same}
-use Rattle.versions.proofs.Rule.{Bounds}
+use Rattle.versions.proofs.MirrorLemmas.{Coheres-reached, in_order, next_of, some_same}
+use Rattle.versions.proofs.Coherence.{Bounds}
 use Rattle.versions.proofs.ShapeLemmas.{last_number_is, place_below, row_by_division, rows_is}
 
 peeked_same : (m n : ℕ) → Peeked m ≡ Peeked n → m ≡ n
@@ -25,11 +25,11 @@ module _ (s : State (List Group)) (reached : IsReached the_shape s) (words : Lis
   -- the version of a peek is not above the last number
   peeked_low : (w n : ℕ) (x : ℕ) → slice_get progress.stages w ≡ Some (Peeked n) → IsNextOf the_shape s w (Announce w) x → n ≤ LAST_NUMBER
   peeked_low w n x at next =
-      let h = Rule-reached the_shape s reached in let view = next.0 in let is : view.stage ≡ Peeked n = some_same _ _ (sym (m.stages w view next.1) ∙ at) in
+      let h = Coheres-reached the_shape s reached in let view = next.0 in let is : view.stage ≡ Peeked n = some_same _ _ (sym (m.stages w view next.1) ∙ at) in
       let low : n ≤ number_after s.operator.log = subst (Bounds w s.operator (length view.seen)) is (h.each_worker w view next.1).bounds in let all = h.numbered in omega (arith, last_number_is)
 
   pub decided_announce : (w n : ℕ) (found : Option ℕ) → slice_get progress.stages w ≡ Some (Peeked n) → MatchOption found (LAST_NUMBER < n) (λ x. x ≡ n + 1) → IsDecided s (Announce w) found
-  decided_announce w n (Some x) at e = next_of the_shape s words progress m (Rule-reached the_shape s reached) w (Peeked n) (Announce w) x at (n, refl, e)
+  decided_announce w n (Some x) at e = next_of the_shape s words progress m (Coheres-reached the_shape s reached) w (Peeked n) (Announce w) x at (n, refl, e)
   decided_announce w n None at above = λ x next. let low = peeked_low w n x at next in omega arith
 
   pub fetch_in_row : (w k n r place x : ℕ) → slice_get progress.stages w ≡ Some (Inside k n r) → IsNextOf the_shape s w (Fetch w place) x → IsInRow the_shape r place
@@ -38,7 +38,7 @@ module _ (s : State (List Group)) (reached : IsReached the_shape s) (words : Lis
 
   pub fetch_below : (w k n r place x : ℕ) → slice_get progress.stages w ≡ Some (Inside k n r) → IsNextOf the_shape s w (Fetch w place) x → place < TABLE_WORDS
   fetch_below w k n r place x at next =
-      let h = Rule-reached the_shape s reached in let view = next.0 in let is : view.stage ≡ Inside k n r = some_same _ _ (sym (m.stages w view next.1) ∙ at) in
+      let h = Coheres-reached the_shape s reached in let view = next.0 in let is : view.stage ≡ Inside k n r = some_same _ _ (sym (m.stages w view next.1) ∙ at) in
       let held = subst (Bounds w s.operator (length view.seen)) is (h.each_worker w view next.1).bounds in
       place_below r place (h.rows_below n r held.4) (fetch_in_row w k n r place x at next)
 
@@ -46,13 +46,13 @@ module _ (s : State (List Group)) (reached : IsReached the_shape s) (words : Lis
   pub fill_row : (place word x r : ℕ) → IsInRow the_shape r place → IsLegalStep the_shape s (Fill place word) x → IsFreeRow the_shape s.operator r
   fill_row place word x r in_row legal = subst (IsFreeRow the_shape s.operator) (sym (row_by_division legal.0 place legal.2) ∙ row_by_division r place in_row) legal.1
 
-  pub number_low : (r : ℕ) → CanPublish the_shape s r → progress.number < LAST_NUMBER
+  pub number_low : (r : ℕ) → CanPublish the_shape s r → progress.book.number < LAST_NUMBER
   number_low r can = let low = can.number in omega (arith, last_number_is, m.book.number)
 
   pub holds_proposed : (r : ℕ) (config : List Group) → s.operator.proposal ≡ Some config → CanPublish the_shape s r → HoldsRow the_shape words r config
   holds_proposed r config given can = subst (λ l. HoldsRow the_shape l r config) (sym m.words_same) (subst (HoldsRow the_shape s.words r) (some_same _ _ (sym can.proposed ∙ given)) can.holds)
 
-  pub can_publish : (r : ℕ) (config : List Group) → s.operator.proposal ≡ Some config → IsFreeRow the_shape s.operator r → progress.number < LAST_NUMBER → HoldsRow the_shape words r config → CanPublish the_shape s r
+  pub can_publish : (r : ℕ) (config : List Group) → s.operator.proposal ≡ Some config → IsFreeRow the_shape s.operator r → progress.book.number < LAST_NUMBER → HoldsRow the_shape words r config → CanPublish the_shape s r
   can_publish r config given free low held = record {
     free = free;
     config = config;
@@ -61,5 +61,5 @@ module _ (s : State (List Group)) (reached : IsReached the_shape s) (words : Lis
     number = omega (arith, last_number_is, m.book.number);
   }
 
-  pub publish_word : (r : ℕ) → (progress.number + 1) * ROWS + r ≡ current_word the_shape (number_after s.operator.log + 1) r
+  pub publish_word : (r : ℕ) → (progress.book.number + 1) * ROWS + r ≡ current_word the_shape (number_after s.operator.log + 1) r
   publish_word r = ap (λ (n : ℕ). (n + 1) * ROWS + r) m.book.number ∙ ap (λ (k : ℕ). (number_after s.operator.log + 1) * k + r) (sym rows_is)

@@ -12,16 +12,19 @@ use Rattle.versions.specs.declared.view.WorkerView.{WorkerView}
 use Rattle.versions.specs.Layout.{rows_begin}
 use Rattle.versions.specs.View.{after_announce, after_fetch, after_fill, after_leave, after_peek, after_pin, after_publish, after_scan, next_stage, up_to}
 use Rattle.versions.specs.State.{State, after_step, change, log_of}
-use Rattle.versions.specs.Legal.{IsLegalStep, IsNextOf}
-use Rattle.versions.specs.Mirror.{IsCleared, IsMirror, IsReached, counted, moved}
+use Rattle.versions.specs.Legal.{IsLegalStep, IsNextOf, IsReached}
+use Rattle.versions.specs.declared.book.Book.{Book}
+use Rattle.versions.specs.Book.{IsCleared, with_version_in}
+use Rattle.versions.specs.body.Mirror.{IsMirror, moved}
+use Rattle.versions.proofs.BookLemmas.{IsBook-filled, IsBook-published, IsBook-scanned}
 use Rattle.versions.specs.Table.{the_shape}
 use Rattle.versions.proofs.ListLemmas.{elem_below}
-use Rattle.versions.proofs.MirrorLemmas.{IsBook-filled, IsBook-published, IsBook-scanned, IsMirror-moved, IsMirror-operator, Rule-reached, stage_there}
+use Rattle.versions.proofs.MirrorLemmas.{IsMirror-moved, IsMirror-operator, Coheres-reached, stage_there}
 use Rattle.versions.proofs.ShapeLemmas.{last_number_is, place_below, rows_is, workers_is}
 
 module _ (s : State (List Group)) (reached : IsReached the_shape s) (words : List ℕ) (progress : Progress) (m : IsMirror the_shape s words progress) where
   pub worker_below : (w : ℕ) (step : Step) (x : ℕ) → IsNextOf the_shape s w step x → w < WORKERS
-  worker_below w step x next = let h = Rule-reached the_shape s reached in let low = elem_below s.workers w next.0 next.1 in omega (arith, workers_is, h.workers_length)
+  worker_below w step x next = let h = Coheres-reached the_shape s reached in let low = elem_below s.workers w next.0 next.1 in omega (arith, workers_is, h.workers_length)
 
   moved_on : (w : ℕ) (view : WorkerView (List Group)) (f : WorkerView (List Group) → WorkerView (List Group)) (words' kept' : List ℕ) (step : Step) (x : ℕ) → get_elem? s.workers w ≡ some view
       → (f view).stage ≡ next_stage the_shape.rows view.stage step x → kept' ≡ words' → IsMirror the_shape (record s { words = words'; workers = change w f s.workers }) kept' (moved w step x progress)
@@ -45,17 +48,17 @@ module _ (s : State (List Group)) (reached : IsReached the_shape s) (words : Lis
 
   pub follows_fill : (place word x : ℕ) → IsLegalStep the_shape s (Fill place word) x → IsMirror the_shape (after_step the_shape s (Fill place word) x) (set words place x) progress
   follows_fill place word x legal = IsMirror-operator the_shape s words progress m (after_fill (rows_begin the_shape) place x s.operator) (set s.words place x) (set words place x) progress refl
-      (IsBook-filled the_shape s.operator progress m.book (rows_begin the_shape) place x) (ap (λ l. set l place x) m.words_same)
+      (IsBook-filled the_shape s.operator progress.book m.book (rows_begin the_shape) place x) (ap (λ l. set l place x) m.words_same)
 
-  pub follows_publish : (r x : ℕ) → IsLegalStep the_shape s (Publish r) x → IsMirror the_shape (after_step the_shape s (Publish r) x) (set words 0 x) (counted r progress)
-  follows_publish r x legal = IsMirror-operator the_shape s words progress m (after_publish r x s.operator) (set s.words 0 x) (set words 0 x) (counted r progress) refl
-      (IsBook-published the_shape s.operator progress m.book r x legal.0.free.0 (Rule-reached the_shape s reached).version_rows_length) (ap (λ l. set l 0 x) m.words_same)
+  pub follows_publish : (r x : ℕ) → IsLegalStep the_shape s (Publish r) x → IsMirror the_shape (after_step the_shape s (Publish r) x) (set words 0 x) (record progress { book = with_version_in r progress.book })
+  follows_publish r x legal = IsMirror-operator the_shape s words progress m (after_publish r x s.operator) (set s.words 0 x) (set words 0 x) (record progress { book = with_version_in r progress.book }) refl
+      (IsBook-published the_shape s.operator progress.book m.book r x legal.0.free.0 (Coheres-reached the_shape s reached).version_rows_length) (ap (λ l. set l 0 x) m.words_same)
 
-  pub follows_scan : (place x : ℕ) (progress' : Progress) → (length progress.cleared ≡ WORKERS → IsCleared (place - 1) x progress progress') → IsLegalStep the_shape s (Scan place) x
-      → IsMirror the_shape (after_step the_shape s (Scan place) x) words progress'
-  follows_scan place x progress' cleared legal = let c = cleared (m.book.cleared_length ∙ workers_is) in
-      IsMirror-operator the_shape s words progress m (after_scan (place - 1) x (log_of s.workers (place - 1)) s.operator) s.words words progress' c.stages
-      (IsBook-scanned the_shape s.operator progress m.book (place - 1) x (log_of s.workers (place - 1)) progress' c) m.words_same
+  pub follows_scan : (place x : ℕ) (book' : Book) → (length progress.book.cleared ≡ WORKERS → IsCleared (place - 1) x progress.book book') → IsLegalStep the_shape s (Scan place) x
+      → IsMirror the_shape (after_step the_shape s (Scan place) x) words (record progress { book = book' })
+  follows_scan place x book' cleared legal = let c = cleared (m.book.cleared_length ∙ workers_is) in
+      IsMirror-operator the_shape s words progress m (after_scan (place - 1) x (log_of s.workers (place - 1)) s.operator) s.words words (record progress { book = book' }) refl
+      (IsBook-scanned the_shape s.operator progress.book m.book (place - 1) x (log_of s.workers (place - 1)) book' c) m.words_same
 
   pub fill_below : (place word x : ℕ) → IsLegalStep the_shape s (Fill place word) x → place < TABLE_WORDS
   fill_below place word x legal = place_below legal.0 place legal.1.0 legal.2
@@ -63,5 +66,5 @@ module _ (s : State (List Group)) (reached : IsReached the_shape s) (words : Lis
   pub scan_below : (place x : ℕ) → IsLegalStep the_shape s (Scan place) x → (0 < place) × (place ≤ WORKERS)
   scan_below place x legal = let low = legal.1 in let e = legal.2 in (omega arith, omega (arith, workers_is))
 
-  pub publish_below : (r x : ℕ) → IsLegalStep the_shape s (Publish r) x → (r < ROWS) × (progress.number < LAST_NUMBER)
+  pub publish_below : (r x : ℕ) → IsLegalStep the_shape s (Publish r) x → (r < ROWS) × (progress.book.number < LAST_NUMBER)
   publish_below r x legal = let low = legal.0.free.0 in let number = legal.0.number in (omega (arith, rows_is), omega (arith, last_number_is, m.book.number))

@@ -1,13 +1,14 @@
 pub mod StandardFacts
 pub mod ListLemmas
 pub mod LogLemmas
-pub mod Rule
+pub mod Coherence
 pub mod WorkerSteps
 pub mod OperatorSteps
 pub mod TraceLemmas
 pub mod ReuseLemmas
 pub mod SafetyLemmas
 pub mod ShapeLemmas
+pub mod BookLemmas
 pub mod MirrorLemmas
 pub mod RowLemmas
 pub mod DecisionLemmas

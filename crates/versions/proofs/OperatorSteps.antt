@@ -12,11 +12,11 @@ use Rattle.versions.specs.State.{State, after_step, log_of}
 use Rattle.versions.specs.Legal.{IsLegalStep}
 use Rattle.versions.proofs.ListLemmas.{at_set, elem_below, elem_end, elem_prefix, elem_snoc, row_inside, same_row}
 use Rattle.versions.proofs.LogLemmas.{IsFree-of_row}
-use Rattle.versions.proofs.Rule.{Bounds, Rule, bounds-on, holds-on, log_of_is}
+use Rattle.versions.proofs.Coherence.{Bounds, Coheres, bounds-on, holds-on, log_of_is}
 
 module _ {C : Type 0} (shape : Shape C) where
-  pub Rule-after_fill : (s : State C) → Rule shape s → (p y x : ℕ) → IsLegalStep shape s (Fill p y) x → Rule shape (after_step shape s (Fill p y) x)
-  Rule-after_fill s h p y x may =
+  pub Coheres-after_fill : (s : State C) → Coheres shape s → (p y x : ℕ) → IsLegalStep shape s (Fill p y) x → Coheres shape (after_step shape s (Fill p y) x)
+  Coheres-after_fill s h p y x may =
       let r = may.0 in let free = may.1 in let i = may.2.0 in let small = may.2.1 in let is = may.2.2 in let wide = h.words_length in let row_words = h.row_words_length in let many = h.workers_length in
       let inside = row_inside r shape.rows i shape.row_words free.0 small in let off : p - (1 + shape.workers) ≡ r * shape.row_words + i = omega arith in record {
         words_length = length-set s.words p x ∙ h.words_length;
@@ -47,8 +47,8 @@ module _ {C : Type 0} (shape : Shape C) where
             (λ other. ⊎_elim inl (λ t. inr (holds-on shape s.words (set s.words p x) q config (λ j l. get_or-set_other s.words p (row_begin shape q + j) x 0 (λ k. other (same_row shape.row_words q r j i l small (omega arith)))) t)) (h.each_version m config q e f));
       }
 
-  pub Rule-after_publish : (s : State C) → Rule shape s → (r x : ℕ) → IsLegalStep shape s (Publish r) x → Rule shape (after_step shape s (Publish r) x)
-  Rule-after_publish s h r x may =
+  pub Coheres-after_publish : (s : State C) → Coheres shape s → (r x : ℕ) → IsLegalStep shape s (Publish r) x → Coheres shape (after_step shape s (Publish r) x)
+  Coheres-after_publish s h r x may =
       let config = may.0.config in let free = may.0.free in let d = s.operator in let n = number_after d.log in let wide = h.words_length in let many = h.workers_length in let long = h.published_length in
       let laid = h.version_rows_length in
       let news : d.published ++ listed d.proposal ≡ d.published ++ config ∷ [] = ap (λ (o : Option C). d.published ++ listed o) may.0.proposed in let is = may.1 in
@@ -81,8 +81,8 @@ module _ {C : Type 0} (shape : Shape C) where
             (elem_snoc d.published config b m (subst (λ l. get_elem? l m ≡ some b) news e));
       }
 
-  pub Rule-after_scan : (s : State C) → Rule shape s → (w x : ℕ) → x ≡ slice_index s.words (1 + w) → Rule shape (record s { operator = after_scan w x (log_of s.workers w) s.operator })
-  Rule-after_scan s h w x loaded = let d = s.operator in record {
+  pub Coheres-after_scan : (s : State C) → Coheres shape s → (w x : ℕ) → x ≡ slice_index s.words (1 + w) → Coheres shape (record s { operator = after_scan w x (log_of s.workers w) s.operator })
+  Coheres-after_scan s h w x loaded = let d = s.operator in record {
     words_length = h.words_length;
     workers_length = h.workers_length;
     row_words_length = h.row_words_length;
@@ -110,8 +110,8 @@ module _ {C : Type 0} (shape : Shape C) where
     each_version = λ m config r e f. ⊎_elim (λ t. inl (t.0, λ v l. inr (t.1 v l))) inr (h.each_version m config r e f);
   }
 
-  pub Rule-after_proposal : (s : State C) → Rule shape s → (config : C) → Rule shape (record s { operator = after_proposal config s.operator })
-  Rule-after_proposal s h config = record {
+  pub Coheres-after_proposal : (s : State C) → Coheres shape s → (config : C) → Coheres shape (record s { operator = after_proposal config s.operator })
+  Coheres-after_proposal s h config = record {
     words_length = h.words_length;
     workers_length = h.workers_length;
     row_words_length = h.row_words_length;

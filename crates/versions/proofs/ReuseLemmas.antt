@@ -14,8 +14,8 @@ use Rattle.versions.specs.State.{IsOpening, State, after_event, log_of, start_of
 use Rattle.versions.specs.Legal.{IsLegal, IsLegalEvent, IsLegalStep}
 use Rattle.versions.proofs.ListLemmas.{at_set, elem_below, elem_snoc, elem_there}
 use Rattle.versions.proofs.LogLemmas.{IsFree-of_row, IsFree-on}
-use Rattle.versions.proofs.Rule.{Rule, log_of_is}
-use Rattle.versions.proofs.TraceLemmas.{Rule-start, Rule-trace, free_on, only}
+use Rattle.versions.proofs.Coherence.{Coheres, log_of_is}
+use Rattle.versions.proofs.TraceLemmas.{Coheres-start, Coheres-trace, free_on, only}
 
 module _ {C : Type 0} (shape : Shape C) where
   -- where a row was published in again, the earlier version is free
@@ -50,7 +50,7 @@ module _ {C : Type 0} (shape : Shape C) where
   abbrev pub IsLastScanKept : State C → Type 0
   IsLastScanKept s = (w x : ℕ) (log : List Entry) → get_elem? s.operator.scanned_logs w ≡ some log → IsLastScan w x s.operator.log → x ≡ read_word_after log
 
-  IsLastScanKept-scan : (s : State C) → Rule shape s → IsLastScanKept s → (p y : ℕ) → IsLegalStep shape s (Scan p) y → IsLastScanKept (after_event shape s (Stepped (Scan p) y))
+  IsLastScanKept-scan : (s : State C) → Coheres shape s → IsLastScanKept s → (p y : ℕ) → IsLegalStep shape s (Scan p) y → IsLastScanKept (after_event shape s (Stepped (Scan p) y))
   IsLastScanKept-scan s h was p y may w x log at last =
       let v = may.0 in let is = may.2 in let many = h.workers_length in let view = elem_there s.workers v (omega arith) in let ok = h.each_worker v view.0 view.1 in
       let kept = at_set s.operator.scanned_logs (p - 1) w (log_of s.workers (p - 1)) log at in
@@ -62,7 +62,7 @@ module _ {C : Type 0} (shape : Shape C) where
       (λ older. let other = older.0 in ⊎_elim (λ t. let k = t.0 in absurd (other (omega arith))) (λ t. was w x log t.1 older.1) kept)
       last
 
-  IsLastScanKept-event : (s : State C) → Rule shape s → (event : Event C) → IsLastScanKept s → IsLegalEvent shape s event → IsLastScanKept (after_event shape s event)
+  IsLastScanKept-event : (s : State C) → Coheres shape s → (event : Event C) → IsLastScanKept s → IsLegalEvent shape s event → IsLastScanKept (after_event shape s event)
   IsLastScanKept-event s h (Stepped (Peek w) x) was may = was
   IsLastScanKept-event s h (Stepped (Announce w) x) was may = was
   IsLastScanKept-event s h (Stepped (Pin w) x) was may = was
@@ -76,5 +76,5 @@ module _ {C : Type 0} (shape : Shape C) where
   pub last_scan_kept : (config : C) (rows : List ℕ) (trace : List (Event C)) → IsOpening shape config rows → IsLegal shape (start_of shape config rows) trace → IsLastScanKept (state_after shape (start_of shape config rows) trace)
   last_scan_kept config rows [] opening legal = λ w x log at last. absurd last
   last_scan_kept config rows (newest ∷ older) opening legal =
-      IsLastScanKept-event (state_after shape (start_of shape config rows) older) (Rule-trace shape (start_of shape config rows) (Rule-start shape config rows opening) older legal.0) newest
+      IsLastScanKept-event (state_after shape (start_of shape config rows) older) (Coheres-trace shape (start_of shape config rows) (Coheres-start shape config rows opening) older legal.0) newest
       (last_scan_kept config rows older opening legal.0) legal.1

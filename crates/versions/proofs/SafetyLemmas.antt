@@ -10,14 +10,14 @@ use Rattle.versions.specs.declared.view.Stage.TheVariants.{Inside}
 use Rattle.versions.specs.Layout.{HoldsRow, Shape}
 use Rattle.versions.specs.Step.{LoadsCurrent}
 use Rattle.versions.specs.Free.{IsFree}
-use Rattle.versions.specs.State.{Holds, State, start_of, state_after}
-use Rattle.versions.specs.Legal.{IsLegal, IsLegalEvent, IsLegalStep, Loads}
+use Rattle.versions.specs.State.{HoldsVersion, State, start_of, state_after}
+use Rattle.versions.specs.Legal.{IsLegal, IsLegalEvent, IsLegalStep, IsWordAt}
 use Rattle.versions.specs.Reclaimed.{IsReclaimed, IsWordOf, Reclaims}
 use Rattle.versions.specs.Safety.{FetchesPublished, InEveryTrace, IsNewest, KeepsHeld, ListsVersions, LoadsNewest, ScansTell, SeesUpToLastLoad, StepsOnOneWord, ViewsTellTable}
 use Rattle.versions.proofs.ListLemmas.{elem_below, elem_there, same_row}
 use Rattle.versions.proofs.LogLemmas.{IsFree-of_row}
-use Rattle.versions.proofs.Rule.{Bounds, Rule, current_is}
-use Rattle.versions.proofs.TraceLemmas.{Rule-start, Rule-trace, free_on, one_word, rule_of}
+use Rattle.versions.proofs.Coherence.{Bounds, Coheres, current_is}
+use Rattle.versions.proofs.TraceLemmas.{Coheres-start, Coheres-trace, free_on, one_word, rule_of}
 use Rattle.versions.proofs.ReuseLemmas.{last_scan_kept, reused_is_free}
 
 module _ {C : Type 0} (shape : Shape C) where
@@ -29,10 +29,10 @@ module _ {C : Type 0} (shape : Shape C) where
     pub holds : HoldsRow shape s.words r config
     pub not_free : IsFree shape n s.operator.log → ⊥
 
-  held_bounds : (s : State C) → Rule shape s → (w n r : ℕ) (is : Holds s w n r) → Bounds w s.operator (length is.0.seen) (Inside is.1 n r)
+  held_bounds : (s : State C) → Coheres shape s → (w n r : ℕ) (is : HoldsVersion s w n r) → Bounds w s.operator (length is.0.seen) (Inside is.1 n r)
   held_bounds s h w n r is = subst (Bounds w s.operator (length is.0.seen)) is.3 (h.each_worker w is.0 is.2).bounds
 
-  pub held_is_kept : (s : State C) → Rule shape s → (w n r : ℕ) → Holds s w n r → IsKept s n r
+  pub held_is_kept : (s : State C) → Coheres shape s → (w n r : ℕ) → HoldsVersion s w n r → IsKept s n r
   held_is_kept s h w n r is =
       let below = elem_below s.workers w is.0 is.2 in let many = h.workers_length in let long = h.published_length in let knows = held_bounds s h w n r is in
       let not_free : IsFree shape n s.operator.log → ⊥ = λ f. let l = knows.5 n (f.1 w (omega arith)) in omega arith in
@@ -44,12 +44,12 @@ module _ {C : Type 0} (shape : Shape C) where
         not_free = not_free;
       }
 
-  fill_is_free : (s : State C) → Rule shape s → (p y x n : ℕ) → IsLegalStep shape s (Fill p y) x → IsWordOf shape s n p → IsFree shape n s.operator.log
+  fill_is_free : (s : State C) → Coheres shape s → (p y x n : ℕ) → IsLegalStep shape s (Fill p y) x → IsWordOf shape s n p → IsFree shape n s.operator.log
   fill_is_free s h p y x n may word = let q = may.0 in let e = word.2.2 in let f = may.2.2 in
       let same : word.0 ≡ q = same_row shape.row_words word.0 q word.2.0 may.2.0 word.2.1 may.2.1 (omega arith) in
       IsFree-of_row shape s.operator q n may.1 (word.1 ∙ ap some same)
 
-  reclaims_free : (s : State C) → Rule shape s → (event : Event C) (n : ℕ) → IsLegalEvent shape s event → Reclaims shape s n event → IsFree shape n s.operator.log
+  reclaims_free : (s : State C) → Coheres shape s → (event : Event C) (n : ℕ) → IsLegalEvent shape s event → Reclaims shape s n event → IsFree shape n s.operator.log
   reclaims_free s h (Stepped (Peek w) x) n may t = absurd t
   reclaims_free s h (Stepped (Announce w) x) n may t = absurd t
   reclaims_free s h (Stepped (Pin w) x) n may t = absurd t
@@ -61,12 +61,12 @@ module _ {C : Type 0} (shape : Shape C) where
   reclaims_free s h (Proposed config) n may t = absurd t
 
   -- a reclaimed version is free
-  pub reclaimed_is_free : (s : State C) → Rule shape s → (trace : List (Event C)) → IsLegal shape s trace → (n : ℕ) → IsReclaimed shape s trace n → IsFree shape n (state_after shape s trace).operator.log
+  pub reclaimed_is_free : (s : State C) → Coheres shape s → (trace : List (Event C)) → IsLegal shape s trace → (n : ℕ) → IsReclaimed shape s trace n → IsFree shape n (state_after shape s trace).operator.log
   reclaimed_is_free s h [] legal n t = absurd t
   reclaimed_is_free s h (newest ∷ older) legal n t = free_on shape (state_after shape s older) newest n
-      (⊎_elim (reclaimed_is_free s h older legal.0 n) (λ now. reclaims_free (state_after shape s older) (Rule-trace shape s h older legal.0) newest n legal.1 now) t)
+      (⊎_elim (reclaimed_is_free s h older legal.0 n) (λ now. reclaims_free (state_after shape s older) (Coheres-trace shape s h older legal.0) newest n legal.1 now) t)
 
-  newest_is : (s : State C) → Rule shape s → (x : ℕ) → Loads s 0 x → IsNewest shape s x
+  newest_is : (s : State C) → Coheres shape s → (x : ℕ) → IsWordAt s 0 x → IsNewest shape s x
   newest_is s h x loaded = let now = current_is shape s h x loaded in let top = now.0 in let long = h.published_length in record {
     last = ap suc now.0 ∙ sym h.published_length;
     in_its_row = ap (get_elem? s.operator.version_rows) now.0 ∙ now.1;
@@ -74,7 +74,7 @@ module _ {C : Type 0} (shape : Shape C) where
     since_publications = λ n config at. let below = elem_below s.operator.published n config at in omega arith;
   }
 
-  newest_load : (s : State C) → Rule shape s → (step : Step) (x : ℕ) → LoadsCurrent step → IsLegalStep shape s step x → IsNewest shape s x
+  newest_load : (s : State C) → Coheres shape s → (step : Step) (x : ℕ) → LoadsCurrent step → IsLegalStep shape s step x → IsNewest shape s x
   newest_load s h (Peek w) x load may = newest_is s h x may.1
   newest_load s h (Announce w) x load may = absurd load
   newest_load s h (Pin w) x load may = newest_is s h x may.1
@@ -98,7 +98,7 @@ module _ {C : Type 0} (shape : Shape C) where
   pub keeps_held : InEveryTrace shape (KeepsHeld shape)
   keeps_held config rows trace opening legal =
       let s = state_after shape (start_of shape config rows) trace in let h = rule_of shape config rows trace opening legal in record {
-        not_reclaimed = λ w n r holds t. (held_is_kept s h w n r holds).not_free (reclaimed_is_free (start_of shape config rows) (Rule-start shape config rows opening) trace legal n t);
+        not_reclaimed = λ w n r holds t. (held_is_kept s h w n r holds).not_free (reclaimed_is_free (start_of shape config rows) (Coheres-start shape config rows opening) trace legal n t);
         not_filled = λ w n r p y x holds may word. (held_is_kept s h w n r holds).not_free (fill_is_free s h p y x n may word);
         not_free = λ w n r holds. (held_is_kept s h w n r holds).not_free;
         clear_below = λ w n r m holds. (held_bounds s h w n r holds).5 m;
@@ -109,7 +109,7 @@ module _ {C : Type 0} (shape : Shape C) where
   pub fetches_published : InEveryTrace shape (FetchesPublished shape)
   fetches_published config rows trace opening legal =
       let s = state_after shape (start_of shape config rows) trace in let h = rule_of shape config rows trace opening legal in record {
-        fetches = λ w p x may. let order = may.0.2 in let held : Holds s w order.1 order.2 = (may.0.0, order.0, may.0.1, order.3) in let kept = held_is_kept s h w order.1 order.2 held in let at = order.4 in record {
+        fetches = λ w p x may. let order = may.0.2 in let held : HoldsVersion s w order.1 order.2 = (may.0.0, order.0, may.0.1, order.3) in let kept = held_is_kept s h w order.1 order.2 held in let at = order.4 in record {
           version = order.1;
           row = order.2;
           i = at.0;

@@ -14,12 +14,12 @@ use Rattle.versions.specs.Step.{entry, place_of}
 use Rattle.versions.specs.View.{new_worker}
 use Rattle.versions.specs.Free.{IsFree}
 use Rattle.versions.specs.State.{IsOpening, State, after_event, after_step, new_workers, start_of, state_after}
-use Rattle.versions.specs.Legal.{IsLegal, IsLegalEvent, IsLegalStep, Loads}
+use Rattle.versions.specs.Legal.{IsLegal, IsLegalEvent, IsLegalStep, IsWordAt}
 use Rattle.versions.proofs.ListLemmas.{elem_below, get_elem_or}
 use Rattle.versions.proofs.LogLemmas.{IsFree-on}
-use Rattle.versions.proofs.Rule.{Rule, WorkerRule}
-use Rattle.versions.proofs.WorkerSteps.{Rule-after_announce, Rule-after_fetch, Rule-after_leave, Rule-after_peek, Rule-after_pin}
-use Rattle.versions.proofs.OperatorSteps.{Rule-after_fill, Rule-after_proposal, Rule-after_publish, Rule-after_scan}
+use Rattle.versions.proofs.Coherence.{Coheres, WorkerRule}
+use Rattle.versions.proofs.WorkerSteps.{Coheres-after_announce, Coheres-after_fetch, Coheres-after_leave, Coheres-after_peek, Coheres-after_pin}
+use Rattle.versions.proofs.OperatorSteps.{Coheres-after_fill, Coheres-after_proposal, Coheres-after_publish, Coheres-after_scan}
 
 pub only : {A : Type 0} → (x y : A) (m : ℕ) → get_elem? (x ∷ []) m ≡ some y → (m ≡ 0) × (y ≡ x)
 only x y zero e = (refl, sym (some-injective x y e))
@@ -44,8 +44,8 @@ module _ {C : Type 0} (shape : Shape C) where
   replicate_at : (n w : ℕ) (l : List Entry) → get_elem? (replicate n []) w ≡ some l → l ≡ []
   replicate_at n w l e = let below = elem_below (replicate n []) w l e in sym (get_elem_or (replicate n []) w l [] e) ∙ get_or-replicate n w [] [] (omega (arith, length-replicate {A = List Entry} n []))
 
-  pub Rule-start : (config : C) (rows : List ℕ) → IsOpening shape config rows → Rule shape (start_of shape config rows)
-  Rule-start config rows h = record {
+  pub Coheres-start : (config : C) (rows : List ℕ) → IsOpening shape config rows → Coheres shape (start_of shape config rows)
+  Coheres-start config rows h = record {
     words_length = omega (arith, length-append (replicate shape.workers 0) rows, length-replicate {A = ℕ} shape.workers 0, h.whole);
     workers_length = length-new_workers config 0 shape.workers;
     row_words_length = h.whole;
@@ -71,27 +71,27 @@ module _ {C : Type 0} (shape : Shape C) where
         ap (λ (k : ℕ). get_or (start_of shape config rows).words k 0) same ∙ (words_at rows i ∙ (h.first_row i l ∙ ap (λ (y : C). get_or (shape.row y) i 0) (sym (only config b m e).1))));
   }
 
-  Rule-scanned : (s : State C) → Rule shape s → (place x : ℕ) → IsLegalStep shape s (Scan place) x → Rule shape (after_step shape s (Scan place) x)
-  Rule-scanned s h place x may = let is : place - 1 ≡ may.0 = let e = may.2 in omega arith in
-      Rule-after_scan shape s h (place - 1) x (may.3 ∙ ap (slice_index s.words) (let e = may.2 in let g : place ≡ 1 + (place - 1) = omega arith in g))
+  Coheres-scanned : (s : State C) → Coheres shape s → (place x : ℕ) → IsLegalStep shape s (Scan place) x → Coheres shape (after_step shape s (Scan place) x)
+  Coheres-scanned s h place x may = let is : place - 1 ≡ may.0 = let e = may.2 in omega arith in
+      Coheres-after_scan shape s h (place - 1) x (may.3 ∙ ap (slice_index s.words) (let e = may.2 in let g : place ≡ 1 + (place - 1) = omega arith in g))
 
-  pub Rule-after_event : (s : State C) → Rule shape s → (event : Event C) → IsLegalEvent shape s event → Rule shape (after_event shape s event)
-  Rule-after_event s h (Stepped (Peek w) x) may = Rule-after_peek shape s h w x may
-  Rule-after_event s h (Stepped (Announce w) x) may = Rule-after_announce shape s h w x may
-  Rule-after_event s h (Stepped (Pin w) x) may = Rule-after_pin shape s h w x may
-  Rule-after_event s h (Stepped (Fetch w p) x) may = Rule-after_fetch shape s h w p x may
-  Rule-after_event s h (Stepped (Leave w) x) may = Rule-after_leave shape s h w x may
-  Rule-after_event s h (Stepped (Fill p y) x) may = Rule-after_fill shape s h p y x may
-  Rule-after_event s h (Stepped (Publish r) x) may = Rule-after_publish shape s h r x may
-  Rule-after_event s h (Stepped (Scan p) x) may = Rule-scanned s h p x may
-  Rule-after_event s h (Proposed config) may = Rule-after_proposal shape s h config
+  pub Coheres-after_event : (s : State C) → Coheres shape s → (event : Event C) → IsLegalEvent shape s event → Coheres shape (after_event shape s event)
+  Coheres-after_event s h (Stepped (Peek w) x) may = Coheres-after_peek shape s h w x may
+  Coheres-after_event s h (Stepped (Announce w) x) may = Coheres-after_announce shape s h w x may
+  Coheres-after_event s h (Stepped (Pin w) x) may = Coheres-after_pin shape s h w x may
+  Coheres-after_event s h (Stepped (Fetch w p) x) may = Coheres-after_fetch shape s h w p x may
+  Coheres-after_event s h (Stepped (Leave w) x) may = Coheres-after_leave shape s h w x may
+  Coheres-after_event s h (Stepped (Fill p y) x) may = Coheres-after_fill shape s h p y x may
+  Coheres-after_event s h (Stepped (Publish r) x) may = Coheres-after_publish shape s h r x may
+  Coheres-after_event s h (Stepped (Scan p) x) may = Coheres-scanned s h p x may
+  Coheres-after_event s h (Proposed config) may = Coheres-after_proposal shape s h config
 
-  pub Rule-trace : (s : State C) → Rule shape s → (trace : List (Event C)) → IsLegal shape s trace → Rule shape (state_after shape s trace)
-  Rule-trace s h [] legal = h
-  Rule-trace s h (newest ∷ older) legal = Rule-after_event (state_after shape s older) (Rule-trace s h older legal.0) newest legal.1
+  pub Coheres-trace : (s : State C) → Coheres shape s → (trace : List (Event C)) → IsLegal shape s trace → Coheres shape (state_after shape s trace)
+  Coheres-trace s h [] legal = h
+  Coheres-trace s h (newest ∷ older) legal = Coheres-after_event (state_after shape s older) (Coheres-trace s h older legal.0) newest legal.1
 
-  pub rule_of : (config : C) (rows : List ℕ) (trace : List (Event C)) → IsOpening shape config rows → IsLegal shape (start_of shape config rows) trace → Rule shape (state_after shape (start_of shape config rows) trace)
-  rule_of config rows trace opening legal = Rule-trace (start_of shape config rows) (Rule-start config rows opening) trace legal
+  pub rule_of : (config : C) (rows : List ℕ) (trace : List (Event C)) → IsOpening shape config rows → IsLegal shape (start_of shape config rows) trace → Coheres shape (state_after shape (start_of shape config rows) trace)
+  rule_of config rows trace opening legal = Coheres-trace (start_of shape config rows) (Coheres-start config rows opening) trace legal
 
   -- free stays free
   pub free_on : (s : State C) (event : Event C) (n : ℕ) → IsFree shape n s.operator.log → IsFree shape n (after_event shape s event).operator.log
@@ -105,7 +105,7 @@ module _ {C : Type 0} (shape : Shape C) where
   free_on s (Stepped (Scan p) x) n h = IsFree-on shape n (entry (Scan (1 + (p - 1))) x) s.operator.log h
   free_on s (Proposed config) n h = h
 
-  loaded_word : (s : State C) (place x : ℕ) → Loads s place x → s.words ≡ set s.words place x
+  loaded_word : (s : State C) (place x : ℕ) → IsWordAt s place x → s.words ≡ set s.words place x
   loaded_word s place x e = sym (ap (set s.words place) e ∙ set-get_or s.words place 0)
 
   -- a step loads or stores the word at its place, and changes no other

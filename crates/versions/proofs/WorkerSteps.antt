@@ -10,11 +10,11 @@ use Rattle.versions.specs.State.{State, after_step}
 use Rattle.versions.specs.Legal.{IsLegalStep}
 use Rattle.versions.proofs.ListLemmas.{elem_below}
 use Rattle.versions.proofs.LogLemmas.{IsReplaced-scanned_clear}
-use Rattle.versions.proofs.Rule.{Bounds, Rule, begins_further, bounds-peek, current_is, loads-on, own_log-on, read_word-peek, seen_below, seen_is, worker_keeps}
+use Rattle.versions.proofs.Coherence.{Bounds, Coheres, begins_further, bounds-peek, current_is, loads-on, own_log-on, read_word-peek, seen_below, seen_is, worker_keeps}
 
 module _ {C : Type 0} (shape : Shape C) where
-  pub Rule-after_peek : (s : State C) → Rule shape s → (w x : ℕ) → IsLegalStep shape s (Peek w) x → Rule shape (after_step shape s (Peek w) x)
-  Rule-after_peek s h w x may =
+  pub Coheres-after_peek : (s : State C) → Coheres shape s → (w x : ℕ) → IsLegalStep shape s (Peek w) x → Coheres shape (after_step shape s (Peek w) x)
+  Coheres-after_peek s h w x may =
       let view = may.0.0 in let ok = h.each_worker w view may.0.1 in let now = current_is shape s h x may.1 in let top = now.0 in let seen = seen_is shape s h x may.1 in
       let before = seen_below shape s h w view ok in let long = seen.1 in
       worker_keeps shape s h w view (after_peek shape.rows x (up_to (x / shape.rows) s.operator.published)) s.words may.0.1 refl (λ j k. refl) record {
@@ -28,8 +28,8 @@ module _ {C : Type 0} (shape : Shape C) where
         scanned = λ l e. begins_further (entry (Peek view.number) x) (ok.scanned l e);
       }
 
-  pub Rule-after_announce : (s : State C) → Rule shape s → (w x : ℕ) → IsLegalStep shape s (Announce w) x → Rule shape (after_step shape s (Announce w) x)
-  Rule-after_announce s h w x may =
+  pub Coheres-after_announce : (s : State C) → Coheres shape s → (w x : ℕ) → IsLegalStep shape s (Announce w) x → Coheres shape (after_step shape s (Announce w) x)
+  Coheres-after_announce s h w x may =
       let view = may.0 in let n = may.2.0 in let ok = h.each_worker w view may.1 in let below = elem_below s.workers w view may.1 in let many = h.workers_length in let wide = h.words_length in
       let was : n ≤ number_after s.operator.log = subst (Bounds w s.operator (length view.seen)) may.2.1 ok.bounds in let is = may.2.2 in
       worker_keeps shape s h w view (after_announce x) (set s.words (1 + w) x) may.1 (length-set s.words (1 + w) x) (λ j k. get_or-set_other s.words (1 + w) j x 0 k) record {
@@ -43,8 +43,8 @@ module _ {C : Type 0} (shape : Shape C) where
         scanned = λ l e. begins_further (entry (Announce view.number) x) (ok.scanned l e);
       }
 
-  pub Rule-after_pin : (s : State C) → Rule shape s → (w x : ℕ) → IsLegalStep shape s (Pin w) x → Rule shape (after_step shape s (Pin w) x)
-  Rule-after_pin s h w x may =
+  pub Coheres-after_pin : (s : State C) → Coheres shape s → (w x : ℕ) → IsLegalStep shape s (Pin w) x → Coheres shape (after_step shape s (Pin w) x)
+  Coheres-after_pin s h w x may =
       let view = may.0.0 in let k = may.0.2.0 in let ok = h.each_worker w view may.0.1 in let now = current_is shape s h x may.1 in let top = now.0 in let seen = seen_is shape s h x may.1 in
       let long = seen.1 in
       let was : (0 < k) × (k ≤ number_after s.operator.log + 1) = subst (Bounds w s.operator (length view.seen)) may.0.2.1 ok.bounds in let is : read_word_of view.stage ≡ k = ap read_word_of may.0.2.1 in
@@ -59,8 +59,8 @@ module _ {C : Type 0} (shape : Shape C) where
         scanned = λ l e. begins_further (entry (Pin view.number) x) (ok.scanned l e);
       }
 
-  pub Rule-after_fetch : (s : State C) → Rule shape s → (w p x : ℕ) → IsLegalStep shape s (Fetch w p) x → Rule shape (after_step shape s (Fetch w p) x)
-  Rule-after_fetch s h w p x may =
+  pub Coheres-after_fetch : (s : State C) → Coheres shape s → (w p x : ℕ) → IsLegalStep shape s (Fetch w p) x → Coheres shape (after_step shape s (Fetch w p) x)
+  Coheres-after_fetch s h w p x may =
       let view = may.0.0 in let ok = h.each_worker w view may.0.1 in
       worker_keeps shape s h w view (after_fetch p x) s.words may.0.1 refl (λ j k. refl) record {
         read_word = ok.read_word;
@@ -73,8 +73,8 @@ module _ {C : Type 0} (shape : Shape C) where
         scanned = λ l e. begins_further (entry (Fetch view.number p) x) (ok.scanned l e);
       }
 
-  pub Rule-after_leave : (s : State C) → Rule shape s → (w x : ℕ) → IsLegalStep shape s (Leave w) x → Rule shape (after_step shape s (Leave w) x)
-  Rule-after_leave s h w x may =
+  pub Coheres-after_leave : (s : State C) → Coheres shape s → (w x : ℕ) → IsLegalStep shape s (Leave w) x → Coheres shape (after_step shape s (Leave w) x)
+  Coheres-after_leave s h w x may =
       let view = may.0 in let ok = h.each_worker w view may.1 in let below = elem_below s.workers w view may.1 in let many = h.workers_length in let wide = h.words_length in
       worker_keeps shape s h w view after_leave (set s.words (1 + w) 0) may.1 (length-set s.words (1 + w) 0) (λ j k. get_or-set_other s.words (1 + w) j 0 0 k) record {
         read_word = get_or-set_same s.words (1 + w) 0 0 (omega arith);

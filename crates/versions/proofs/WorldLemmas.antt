@@ -1,11 +1,7 @@
 -- A world at its opening, and after one event more.
-use Rattle.std.proofs.Common.{◌≡◌, ◌≢◌, ℕ, zero, suc, ◌+◌, ◌-◌, ◌*◌, ◌<◌, ◌≤◌, List, None, Option, Some, [], ◌∷◌, ◌++◌, ap, append_assoc, arith, get_or, get_or-set_other, get_or-set_same, length, length-append, length-set, refl, replicate, reverse, set, slice_get, slice_index, subst, sym, ◌∙◌}
+use Rattle.std.proofs.Common.{◌≡◌, ℕ, zero, suc, ◌+◌, ◌-◌, ◌*◌, ◌<◌, ◌≤◌, List, None, Option, Some, [], ◌∷◌, ◌++◌, ap, append_assoc, arith, length, length-append, refl, replicate, reverse, slice_get, subst, sym, ◌∙◌}
 use Rattle.std.proofs.lemmas.List.{get_or-replicate, get_or_append_left, length-replicate, reverse-append}
 use Rattle.std.proofs.lemmas.Option.{slice_get-get_or}
-use mathlib.Core.Logic.{dite}
-use native.Mathlib.Decide.{ℕ_discrete}
-use mathlib.Core.Option.{some}
-use lib.ListN.{get_elem?}
 use Rattle.config_image.specs.Image.{Group, row}
 use Rattle.member_group.specs.Charge.{charge_of}
 use Rattle.versions.specs.declared.layout.TheConstants.{CHARGE_LIMIT, ROWS_BEGIN, TABLE_WORDS}
@@ -18,15 +14,17 @@ use Rattle.versions.specs.declared.view.Stage.TheVariants.{Outside}
 use Rattle.versions.specs.declared.view.WorkerView.{WorkerView}
 use Rattle.versions.specs.View.{after_proposal}
 use Rattle.versions.specs.State.{IsOpening, State, after_event, after_step, new_workers, state_after}
-use Rattle.versions.specs.Legal.{IsLegal, IsLegalEvent, IsLegalStep}
-use Rattle.versions.specs.Mirror.{BeginsAtStart, Follows, IsMirror, IsReached}
+use Rattle.versions.specs.Legal.{IsLegal, IsLegalEvent, IsLegalStep, IsReached}
 use Rattle.versions.specs.Table.{the_shape}
-use Rattle.versions.specs.World.{IsProposalAt, IsWorld, opened_with, opening_rows, proposal_by, world_after}
+use Rattle.versions.specs.World.{opened_with, opening_rows, world_after}
+use Rattle.versions.specs.body.Mirror.{BeginsAtStart, Follows, IsMirror}
+use Rattle.versions.specs.body.WorldKept.{IsProposalAt, IsWorld, proposal_by}
+use Rattle.versions.proofs.BookLemmas.{IsBook-opened, IsBook-proposed}
 use Rattle.versions.proofs.ListLemmas.{elem_below}
-use Rattle.versions.proofs.MirrorLemmas.{IsBook-proposed, IsMirror-operator, none_some}
+use Rattle.versions.proofs.MirrorLemmas.{IsMirror-operator, none_some}
 use Rattle.versions.proofs.RowLemmas.{length-row}
 use Rattle.versions.proofs.ShapeLemmas.{all_rows_is, charge_is, charge_limit_is, other_rows_is, row_is, row_words_is, rows_is, workers_is}
-use Rattle.versions.proofs.TraceLemmas.{length-new_workers, new_worker_at, only}
+use Rattle.versions.proofs.TraceLemmas.{length-new_workers, new_worker_at}
 
 length-the_row : (config : List Group) → length (the_shape.row config) ≡ the_shape.row_words
 length-the_row config = ap length (row_is config) ∙ (length-row config ∙ sym row_words_is)
@@ -71,37 +69,14 @@ pub slice_get-end : {A : Type 0} → (xs : List A) (x : A) → slice_get (xs ++ 
 slice_get-end [] x = refl
 slice_get-end (y ∷ xs) x = slice_get-end xs x
 
-zeros_at : (n r : ℕ) → ◌≡◌ {A = ℕ} (get_or (replicate n 0) r 0) 0
-zeros_at zero r = refl
-zeros_at (suc n) zero = refl
-zeros_at (suc n) (suc r) = zeros_at n r
-
--- the row of version 0, and no other, has a version
-first_last : (n r : ℕ) → 0 < n → (◌≡◌ {A = ℕ} (get_or (set (replicate n 0) 0 1) 0 0) 1) × (r ≢ 0 → ◌≡◌ {A = ℕ} (get_or (set (replicate n 0) 0 1) r 0) 0)
-first_last n r some_row = (
-  get_or-set_same {A = ℕ} (replicate n 0) 0 1 0 (omega (arith, length-replicate {A = ℕ} n 0)),
-  λ ne. get_or-set_other {A = ℕ} (replicate n 0) 0 r 1 0 ne ∙ zeros_at n r,
-)
-
 pub IsMirror-opened : (config : List Group) (words : List ℕ) (progress : Progress) → words ≡ (opened_with config).words → BeginsAtStart progress → IsMirror the_shape (opened_with config) words progress
-IsMirror-opened config words progress same h = let some_row : 0 < the_shape.rows = omega (arith, rows_is) in record {
+IsMirror-opened config words progress same h = record {
   words_same = same;
   stages_length = ap length h.stages ∙ length-replicate the_shape.workers Outside;
   stages = λ w view at.
       let is = new_worker_at config 0 the_shape.workers w view at in let below = elem_below (new_workers config 0 the_shape.workers) w view at in let many = length-new_workers config 0 the_shape.workers in
       ap (λ qs. slice_get qs w) h.stages ∙ (slice_get-replicate the_shape.workers w Outside (omega arith) ∙ ap (λ (v : WorkerView (List Group)). Some v.stage) (sym is));
-  book = record {
-    number = h.number;
-    last_length = ap length h.last ∙ (length-set (replicate the_shape.rows 0) 0 1 ∙ length-replicate {A = ℕ} the_shape.rows 0);
-    cleared_length = ap length h.cleared ∙ length-replicate {A = ℕ} the_shape.workers 0;
-    cleared = λ w m low. ((λ none. absurd none), λ lt. let e : slice_index progress.cleared w ≡ 0 = ap (λ l. slice_index l w) h.cleared ∙ zeros_at the_shape.workers w in absurd (omega arith));
-    below_last = λ r m at. let t = only 0 r m at in let m_is = t.0 in
-        let e : slice_index progress.last r ≡ 1 = ap (slice_index progress.last) t.1 ∙ (ap (λ l. slice_index l 0) h.last ∙ (first_last the_shape.rows 0 some_row).0) in omega arith;
-    last_there = λ r m e. dite (ℕ_discrete r 0)
-        (λ zero_is. let one : slice_index progress.last r ≡ 1 = ap (slice_index progress.last) zero_is ∙ (ap (λ l. slice_index l 0) h.last ∙ (first_last the_shape.rows 0 some_row).0) in
-        let m_is : m ≡ 0 = omega arith in ap (get_elem? (0 ∷ [])) m_is ∙ ap some (sym zero_is))
-        (λ other. let none : slice_index progress.last r ≡ 0 = ap (λ l. slice_index l r) h.last ∙ (first_last the_shape.rows r some_row).1 other in absurd (omega arith));
-  };
+  book = IsBook-opened config (opening_rows config) progress.book h.book;
 }
 
 -- the words of an opening, in one piece
@@ -152,7 +127,7 @@ IsWorld-proposed config events table progress found proposed h low =
       charge = h.charge;
       legal = IsLegal-pushed config events (Proposed proposed) h.legal low;
       mirror = subst (λ (t : State (List Group)). IsMirror the_shape t table progress) (sym more)
-          (IsMirror-operator the_shape s table progress h.mirror (after_proposal proposed s.operator) s.words table progress refl (IsBook-proposed the_shape s.operator progress h.mirror.book proposed) h.mirror.words_same);
+          (IsMirror-operator the_shape s table progress h.mirror (after_proposal proposed s.operator) s.words table progress refl (IsBook-proposed the_shape s.operator progress.book h.mirror.book proposed) h.mirror.words_same);
       table_length = h.table_length;
       proposed = subst (λ (t : State (List Group)). IsProposalAt (events ++ Proposed proposed ∷ []) t.operator.proposal (Some (length events))) (sym more) (proposed, slice_get-end events (Proposed proposed), refl);
     }

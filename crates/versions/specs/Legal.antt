@@ -14,7 +14,7 @@ use Rattle.versions.specs.Layout.{HoldsRow, IsInRow, Shape, current_word}
 use Rattle.versions.specs.Step.{IsStepOf}
 use Rattle.versions.specs.View.{stage_after}
 use Rattle.versions.specs.Free.{IsFreeRow, number_after}
-use Rattle.versions.specs.State.{State, state_after}
+use Rattle.versions.specs.State.{IsOpening, State, start_of, state_after}
 
 -- peeks come outside, and inside after the pin; nothing comes between an announce and its pin
 abbrev pub MayPeek : Stage → Type 0
@@ -22,9 +22,9 @@ MayPeek (Announced read_word) = ⊥
 MayPeek _ = Unit {0}
 
 module _ {C : Type 0} where
-  -- a load of the word at a place gives x
-  abbrev pub Loads : State C → ℕ → ℕ → Type 0
-  Loads state place x = x ≡ slice_index state.words place
+  -- the word at a place is x: a load of it gives that
+  abbrev pub IsWordAt : State C → ℕ → ℕ → Type 0
+  IsWordAt state place x = x ≡ slice_index state.words place
 
 module _ {C : Type 0} (shape : Shape C) where
   -- the order of a worker's steps: peek, announce of the last peek's version plus 1, pin, fetches in the row of the held
@@ -57,14 +57,14 @@ module _ {C : Type 0} (shape : Shape C) where
 
   -- the step is legal, and loads or stores x
   abbrev pub IsLegalStep : State C → Step → ℕ → Type 0
-  IsLegalStep state (Peek w) x = IsNextOf state w (Peek w) x × Loads state 0 x
+  IsLegalStep state (Peek w) x = IsNextOf state w (Peek w) x × IsWordAt state 0 x
   IsLegalStep state (Announce w) x = IsNextOf state w (Announce w) x
-  IsLegalStep state (Pin w) x = IsNextOf state w (Pin w) x × Loads state 0 x
-  IsLegalStep state (Fetch w place) x = IsNextOf state w (Fetch w place) x × Loads state place x
+  IsLegalStep state (Pin w) x = IsNextOf state w (Pin w) x × IsWordAt state 0 x
+  IsLegalStep state (Fetch w place) x = IsNextOf state w (Fetch w place) x × IsWordAt state place x
   IsLegalStep state (Leave w) x = IsNextOf state w (Leave w) x
   IsLegalStep state (Fill place word) x = (r : ℕ) × IsFreeRow shape state.operator r × IsInRow shape r place × (word < 2 ^ 64) × (x ≡ word)
   IsLegalStep state (Publish r) x = CanPublish state r × (x ≡ current_word shape (number_after state.operator.log + 1) r)
-  IsLegalStep state (Scan place) x = (w : ℕ) × (w < shape.workers) × (place ≡ 1 + w) × Loads state place x
+  IsLegalStep state (Scan place) x = (w : ℕ) × (w < shape.workers) × (place ≡ 1 + w) × IsWordAt state place x
 
   -- a step is legal with the word that it loads or stores; a proposal is legal where its charge is at most the greatest
   abbrev pub IsLegalEvent : State C → Event C → Type 0
@@ -75,3 +75,12 @@ module _ {C : Type 0} (shape : Shape C) where
   abbrev pub IsLegal : State C → List (Event C) → Type 0
   IsLegal start [] = Unit {0}
   IsLegal start (newest ∷ older) = IsLegal start older × IsLegalEvent (state_after shape start older) newest
+
+  -- a legal trace leads to the state
+  pub record IsReached (s : State C) : Type 0 where
+    pub config : C
+    pub rows : List ℕ
+    pub trace : List (Event C)
+    pub opening : IsOpening shape config rows
+    pub legal : IsLegal (start_of shape config rows) trace
+    pub reached : state_after shape (start_of shape config rows) trace ≡ s

@@ -7,5 +7,6 @@ pub mod Legal
 pub mod Reclaimed
 pub mod Safety
 pub mod Table
-pub mod Mirror
+pub mod Book
 pub mod World
+pub mod body

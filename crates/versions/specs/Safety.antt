@@ -12,7 +12,7 @@ use Rattle.versions.specs.Layout.{Shape, current_word, row_begin, rows_begin}
 use Rattle.versions.specs.Step.{LoadsCurrent, place_of}
 use Rattle.versions.specs.View.{BeginsWith, BeginsWithLog, last_seen, read_word_after, read_word_of, stage_after}
 use Rattle.versions.specs.Free.{IsFree, IsLastIn, IsLastScan, IsScannedClear, number_after}
-use Rattle.versions.specs.State.{Holds, IsOpening, State, after_step, start_of, state_after}
+use Rattle.versions.specs.State.{HoldsVersion, IsOpening, State, after_step, start_of, state_after}
 use Rattle.versions.specs.Legal.{IsLegal, IsLegalStep, IsLogOf}
 use Rattle.versions.specs.Reclaimed.{IsReclaimed, IsWordOf}
 
@@ -49,14 +49,14 @@ module _ {C : Type 0} (shape : Shape C) where
 
   -- no version is reclaimed while a worker holds it
   pub record KeepsHeld (start : State C) (trace : List (Event C)) : Type 0 where
-    pub not_reclaimed : (w n r : ℕ) → Holds (state_after shape start trace) w n r → IsReclaimed shape start trace n → ⊥
-    pub not_filled : (w n r place word x : ℕ) → Holds (state_after shape start trace) w n r → IsLegalStep shape (state_after shape start trace) (Fill place word) x
+    pub not_reclaimed : (w n r : ℕ) → HoldsVersion (state_after shape start trace) w n r → IsReclaimed shape start trace n → ⊥
+    pub not_filled : (w n r place word x : ℕ) → HoldsVersion (state_after shape start trace) w n r → IsLegalStep shape (state_after shape start trace) (Fill place word) x
         → IsWordOf shape (state_after shape start trace) n place → ⊥
-    pub not_free : (w n r : ℕ) → Holds (state_after shape start trace) w n r → IsFree shape n (state_after shape start trace).operator.log → ⊥
+    pub not_free : (w n r : ℕ) → HoldsVersion (state_after shape start trace) w n r → IsFree shape n (state_after shape start trace).operator.log → ⊥
     -- a scan that shows a replaced version clear of the worker shows that the worker holds a later one: what a grace period rests on
-    pub clear_below : (w n r m : ℕ) → Holds (state_after shape start trace) w n r → IsScannedClear w m (state_after shape start trace).operator.log → m < n
+    pub clear_below : (w n r m : ℕ) → HoldsVersion (state_after shape start trace) w n r → IsScannedClear w m (state_after shape start trace).operator.log → m < n
     -- the row is the one in which the version was published, and no later version was published in it
-    pub last_in_row : (w n r : ℕ) → Holds (state_after shape start trace) w n r → IsLastIn r n (state_after shape start trace).operator.version_rows
+    pub last_in_row : (w n r : ℕ) → HoldsVersion (state_after shape start trace) w n r → IsLastIn r n (state_after shape start trace).operator.version_rows
 
   -- worker w holds a published version, and x is the word of its configuration's row at the place's place in the row
   pub record IsPublishedWord (state : State C) (w place x : ℕ) : Type 0 where
@@ -64,7 +64,7 @@ module _ {C : Type 0} (shape : Shape C) where
     pub row : ℕ
     pub i : ℕ
     pub config : C
-    pub held : Holds state w version row
+    pub held : HoldsVersion state w version row
     pub inside : i < shape.row_words
     pub at : place ≡ row_begin shape row + i
     pub published : get_elem? state.operator.published version ≡ some config

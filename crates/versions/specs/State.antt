@@ -39,8 +39,8 @@ module _ {C : Type 0} where
   new_workers config k (suc n) = new_worker config k ∷ new_workers config (suc k) n
 
   -- worker w holds version n, which stands in row r: from the pin that gave n until its next leave
-  abbrev pub Holds : State C → ℕ → ℕ → ℕ → Type 0
-  Holds state w n r = (view : WorkerView C) × (read_word : ℕ) × (get_elem? state.workers w ≡ some view) × (view.stage ≡ Inside read_word n r)
+  abbrev pub HoldsVersion : State C → ℕ → ℕ → ℕ → Type 0
+  HoldsVersion state w n r = (view : WorkerView C) × (read_word : ℕ) × (get_elem? state.workers w ≡ some view) × (view.stage ≡ Inside read_word n r)
 
 module _ {C : Type 0} (shape : Shape C) where
   -- the state after a step that loads or stores x; a peek or pin shows the published versions up to the one that it gives

@@ -9,6 +9,7 @@
 ghost use Rattle.versions.specs.Table.{the_shape};
 ghost use Rattle.versions.specs.Safety.{FetchesPublished, InEveryTrace, KeepsHeld, ListsVersions, LoadsNewest, ScansTell, SeesUpToLastLoad, StepsOnOneWord, ViewsTellTable};
 
+mod book;
 mod fault;
 mod freedom;
 mod layout;
@@ -17,6 +18,7 @@ mod step;
 mod view;
 mod world;
 
+pub use book::Book;
 pub use fault::StepFault;
 pub use freedom::{clear_below, free_versions, least};
 pub use layout::{CHARGE_LIMIT, LAST_NUMBER, ROWS, ROWS_BEGIN, TABLE_WORDS, WORKERS, row_word};
@@ -37,8 +39,3 @@ pub fn every_trace()
     ensures versions_listed { InEveryTrace the_shape (ListsVersions the_shape) }
     ensures one_word { InEveryTrace the_shape (StepsOnOneWord the_shape) }
 {}
-
-#[cfg(test)]
-mod history;
-#[cfg(test)]
-mod tests;

@@ -1,28 +1,23 @@
-//! How far the actors of a world are, kept in a few numbers: it decides which steps are legal.
+//! How far the actors of a world are: where each worker is, and the operator's book. It decides which steps are legal.
 
 ghost use Rattle.std.specs.Prelude.{◌≡◌, ◌+◌, ◌<◌, IsTrue, MatchOption, length, slice_get};
 ghost use Rattle.std.specs.Option.{option_map};
 ghost use Rattle.versions.specs.declared.step.Step.TheVariants.{Announce, Fetch, Fill, Leave, Peek, Pin, Publish, Scan};
 ghost use Rattle.versions.specs.View as view;
-ghost use Rattle.versions.specs.Mirror.{BeginsAtStart, Decides, DecidesProposed, DecidesPublish, DecidesRow, Follows, IsCleared, IsFollowed, counted, moved};
+ghost use Rattle.versions.specs.body.Mirror.{BeginsAtStart, Decides, DecidesProposed, DecidesPublish, Follows, IsFollowed, moved};
 
-use crate::freedom::{clear_below, least};
+use crate::book::Book;
 use crate::layout::{LAST_NUMBER, ROWS, TABLE_WORDS, WORKERS, holds_row, is_in_row, row_of_place};
 use crate::step::Step;
 use crate::view::Stage;
 use member_group::Config;
 use std::alloc::Allocator;
 
-/// Where each worker is, and what the operator's log tells of numbers and free rows.
+/// Where each worker is, and what the operator's log tells.
 #[derive(Drop)]
 pub(crate) struct Progress {
     pub(crate) stages: [Stage; WORKERS],
-    // The number of the current version.
-    pub(crate) number: u64,
-    // For each row one more than the number of its last version, 0 where it was never used.
-    pub(crate) last: [u64; ROWS],
-    // For each worker: the versions below this number were scanned clear of it since they were replaced.
-    pub(crate) cleared: [u64; WORKERS],
+    pub(crate) book: Book,
 }
 
 fn after_peek(stage: Stage, version: u64) -> Stage
@@ -129,20 +124,13 @@ impl Progress {
         }
     }
 
-    fn is_free(&self, row: usize) -> bool
-        ensures decided { DecidesRow self.now row result }
-        ensures a_row { IsTrue result → row < ROWS }
-    {
-        row < ROWS && self.last[row] <= least(&self.cleared)
-    }
-
     fn fill_word(&self, words: &[u64], place: usize, word: u64) -> Option<u64>
         ensures { Decides words.now self.now (Fill place word) result }
     {
         let Some(row) = row_of_place(place) else {
             return None;
         };
-        if !self.is_free(row) {
+        if !self.book.is_free(row) {
             return None;
         }
         Some(word)
@@ -160,10 +148,13 @@ impl Progress {
         let Some(config) = proposal else {
             return None;
         };
-        if !self.is_free(row) || self.number >= LAST_NUMBER || !holds_row(words, row, config) {
+        if !self.book.is_free(row)
+            || self.book.number >= LAST_NUMBER
+            || !holds_row(words, row, config)
+        {
             return None;
         }
-        Some((self.number + 1) * ROWS as u64 + row as u64)
+        Some((self.book.number + 1) * ROWS as u64 + row as u64)
     }
 
     fn scan_word(&self, words: &[u64], place: usize) -> Option<u64>
@@ -203,13 +194,9 @@ impl Progress {
     pub(crate) fn at_start() -> Progress
         ensures { BeginsAtStart result }
     {
-        let mut last = [0; ROWS];
-        last[0] = 1;
         Progress {
             stages: [Stage::Outside; WORKERS],
-            number: 0,
-            last,
-            cleared: [0; WORKERS],
+            book: Book::at_start(),
         }
     }
 
@@ -218,25 +205,6 @@ impl Progress {
         ensures { self.new ≡ moved worker step word self.old }
     {
         self.stages[worker] = next_stage(self.stages[worker], step, word);
-    }
-
-    fn count_version(&mut self, row: usize)
-        requires row { row < ROWS }
-        requires number { self.old.number < LAST_NUMBER }
-        ensures { self.new ≡ counted row self.old }
-    {
-        self.number += 1;
-        self.last[row] = self.number + 1;
-    }
-
-    fn clear(&mut self, worker: usize, word: u64)
-        requires { worker < WORKERS }
-        ensures { length self.old.cleared ≡ WORKERS → IsCleared worker word self.old self.new }
-    {
-        let below = clear_below(self.number, word);
-        if below > self.cleared[worker] {
-            self.cleared[worker] = below;
-        }
     }
 
     pub(crate) fn take(&mut self, words: &mut [u64], step: Step, word: u64)
@@ -259,9 +227,9 @@ impl Progress {
             Step::Fill { place, .. } => words[place] = word,
             Step::Publish { row } => {
                 words[0] = word;
-                self.count_version(row);
+                self.book.count_version(row);
             }
-            Step::Scan { place } => self.clear(place - 1, word),
+            Step::Scan { place } => self.book.take_scan(place - 1, word),
         }
     }
 }

@@ -5,12 +5,13 @@ ghost use Rattle.std.specs.Option.{option_map};
 ghost use Rattle.member_group.specs.Charge.{charge_of};
 ghost use Rattle.versions.specs.declared.fault.StepFault.TheVariants.{NotLegal, OutOfMemory, TooBig};
 ghost use Rattle.versions.specs.declared.step.Event.TheVariants.{Proposed};
-ghost use Rattle.versions.specs.Legal.{IsLegalStep};
-ghost use Rattle.versions.specs.Mirror.{IsDecided, IsReached};
+ghost use Rattle.versions.specs.Legal.{IsLegalStep, IsReached};
 ghost use Rattle.versions.specs.Step.{place_of};
 ghost use Rattle.versions.specs.State.{after_event, after_step};
 ghost use Rattle.versions.specs.Table.{the_shape};
-ghost use Rattle.versions.specs.World.{IsRefusedAs, opened_with, proposal_by};
+ghost use Rattle.versions.specs.World.{FailsWith, opened_with};
+ghost use Rattle.versions.specs.body.Mirror.{IsDecided};
+ghost use Rattle.versions.specs.body.WorldKept.{proposal_by};
 
 use crate::fault::StepFault;
 use crate::layout::{CHARGE_LIMIT, ROW_WORDS, ROWS_BEGIN, TABLE_WORDS, row_word};
@@ -37,7 +38,8 @@ impl<A: Allocator> Model for World<A> {
     ghost use Rattle.std.specs.Prelude.{List};
     ghost use Rattle.config_image.specs.Image.{Group};
     ghost use Rattle.versions.specs.State.{State};
-    ghost use Rattle.versions.specs.World.{IsWorld, world_after};
+    ghost use Rattle.versions.specs.World.{world_after};
+    ghost use Rattle.versions.specs.body.WorldKept.{IsWorld};
 
     ghost Value = { State (List Group) };
 
@@ -100,7 +102,7 @@ impl<A: Allocator> World<A> {
     /// Fails with `TooBig` where the charge is above `CHARGE_LIMIT`, else with `OutOfMemory` where a growth was refused.
     pub fn propose(&mut self, config: Config<A>) -> Result<(), StepFault>
         ensures proposed { OnOk result (self.new ≡ after_event the_shape self.old (Proposed config)) }
-        ensures too_big { IsRefusedAs TooBig result ↔ (CHARGE_LIMIT < charge_of config) }
+        ensures too_big { FailsWith TooBig result ↔ (CHARGE_LIMIT < charge_of config) }
         ensures cause { IfErr result (λ fault. (fault ≡ TooBig) ⊎ (fault ≡ OutOfMemory)) }
         ensures world_kept { OnErr result (self.new ≡ self.old) }
     {
@@ -119,7 +121,7 @@ impl<A: Allocator> World<A> {
     /// Fails with `NotLegal` exactly where no word makes the step legal, also where a worker, row or place is out of range,
     /// else with `OutOfMemory` where a growth was refused.
     pub fn step(&mut self, step: Step) -> Result<u64, StepFault>
-        ensures step_exact { IsRefusedAs NotLegal result ↔ ((word : ℕ) → IsLegalStep the_shape self.old step word → ⊥) }
+        ensures step_exact { FailsWith NotLegal result ↔ ((word : ℕ) → IsLegalStep the_shape self.old step word → ⊥) }
         ensures step_answer { IfOk result (IsLegalStep the_shape self.old step) }
         ensures state_after { IfOk result (λ word. self.new ≡ after_step the_shape self.old step word) }
         ensures one_word { IfOk result (λ word. self.new.words ≡ slice_set self.old.words (place_of step) word) }
@@ -143,7 +145,7 @@ impl<A: Allocator + Clone> World<A> {
     /// Fails with `TooBig` where the charge is above `CHARGE_LIMIT`, else with `OutOfMemory` where memory was refused.
     pub fn new(config: Config<A>) -> Result<World<A>, StepFault>
         ensures opened { IfOk result (λ world. world ≡ opened_with config) }
-        ensures too_big { IsRefusedAs TooBig result ↔ (CHARGE_LIMIT < charge_of config) }
+        ensures too_big { FailsWith TooBig result ↔ (CHARGE_LIMIT < charge_of config) }
         ensures cause { IfErr result (λ fault. (fault ≡ TooBig) ⊎ (fault ≡ OutOfMemory)) }
     {
         if config.charge() > CHARGE_LIMIT {

@@ -2,9 +2,9 @@ use Rattle.std.proofs.Common.{sym}
 use Rattle.std.proofs.lemmas.Result.{IfOk-weaker, MatchResult-weaker, err_from_is_err_and}
 use Rattle.bpf_asm.proofs.AssemblyLemmas.{assembled, forms_refused, labels_refused, refuses_none, targets_refused}
 use Rattle.bpf_asm.specs.Assembly.{Assembles}
-use Rattle.bpf_asm.specs.Reading.{lines_read}
+use Rattle.bpf_asm.specs.body.Reading.{lines_read}
 use Rattle.bpf_asm.specs.Target.{IsCode, statements_of}
-use Rattle.bpf_asm.specs.View.{place_among}
+use Rattle.bpf_asm.specs.body.View.{place_among}
 use Rattle.bpf_asm.proofs.assemble.Goals as goal
 
 pub returns-in_err-check_forms-clause-fault : goal.returns-in_err-check_forms-clause-fault

@@ -3,7 +3,7 @@ use Rattle.bpf_insn.specs.declared.instruction.Insn.TheVariants.{ReturnConstant}
 use Rattle.bpf_verify.specs.Accepted.{IsAccepted}
 use Rattle.filter_tree.specs.View.{tree_of}
 use Rattle.filter_compile.specs.Answer.{AnswersFor}
-use Rattle.filter_compile.specs.Piece.{IsPushed}
+use Rattle.filter_compile.specs.body.Piece.{IsPushed}
 use Rattle.filter_compile.proofs.ProgramLemmas.{program_accepted, program_answers}
 use Rattle.filter_compile.proofs.compile.Goals as goal
 

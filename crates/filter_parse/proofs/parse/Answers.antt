@@ -2,7 +2,7 @@ use Rattle.std.proofs.Common.{◌∙◌, [], ap, inl, inr, length, sym}
 use Rattle.std.proofs.lemmas.Result.{err_from_is_err_and}
 use Rattle.filter_tree.specs.View.{tree_of}
 use Rattle.filter_parse.specs.declared.fault.ParseFault.TheVariants.{TooDeep}
-use Rattle.filter_parse.specs.Postfix.{built, depths_of, first_depth}
+use Rattle.filter_parse.specs.body.Postfix.{built, depths_of, first_depth}
 use Rattle.filter_parse.proofs.ParseLemmas.{deep-says, fault-says, parts-build, tree-or-fault, tree-says}
 use Rattle.filter_parse.proofs.parse.Goals as goal
 

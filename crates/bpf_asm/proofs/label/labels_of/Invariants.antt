@@ -1,6 +1,6 @@
 use Rattle.std.proofs.Common.{◌+◌, ◌<◌, ◌≤◌, length}
-use Rattle.bpf_asm.specs.Reading.{lines_read}
-use Rattle.bpf_asm.specs.View.{left_len, place_among}
+use Rattle.bpf_asm.specs.body.Reading.{lines_read}
+use Rattle.bpf_asm.specs.body.View.{left_len, place_among}
 use Rattle.bpf_asm.proofs.CodeLemmas.{lines_at}
 use Rattle.bpf_asm.proofs.LabelLemmas.{Tracks}
 use Rattle.bpf_asm.proofs.label.labels_of.Given as goal

@@ -1,7 +1,7 @@
 use Rattle.std.proofs.Common.{◌≡◌, ◌+◌, ◌≤◌, length}
 use Rattle.bpf_asm.specs.Line.{lines_of}
-use Rattle.bpf_asm.specs.Reading.{forms_fault}
-use Rattle.bpf_asm.specs.View.{left_len, lines_left}
+use Rattle.bpf_asm.specs.body.Reading.{forms_fault}
+use Rattle.bpf_asm.specs.body.View.{left_len, lines_left}
 use Rattle.bpf_asm.proofs.line.check_forms.Given as goal
 
 abbrev pub invariant-loop-left : goal.invariant-loop-left

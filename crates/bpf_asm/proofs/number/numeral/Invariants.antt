@@ -1,5 +1,5 @@
 use Rattle.std.proofs.Common.{◌≡◌, Some, drop}
-use Rattle.bpf_asm.specs.Reading.{numeral_after}
+use Rattle.bpf_asm.specs.body.Reading.{numeral_after}
 use Rattle.bpf_asm.proofs.number.numeral.Given as goal
 
 abbrev pub invariant-loop-digit : goal.invariant-loop-digit

@@ -1,6 +1,6 @@
 use Rattle.std.proofs.Common.{arith}
-use Rattle.bpf_asm.specs.Reading.{lines_read}
-use Rattle.bpf_asm.specs.View.{line_of, place_among}
+use Rattle.bpf_asm.specs.body.Reading.{lines_read}
+use Rattle.bpf_asm.specs.body.View.{line_of, place_among}
 use Rattle.bpf_asm.proofs.CodeLemmas.{emits_all, emits_more, lines_at, lines_at-some}
 use Rattle.bpf_asm.proofs.target.words_of.Goals as goal
 

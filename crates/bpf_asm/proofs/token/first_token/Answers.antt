@@ -1,6 +1,6 @@
 use Rattle.std.proofs.Common.{◌∙◌, ap, sym, ◌∷◌}
 use Rattle.std.proofs.lemmas.List.{take_rest}
-use Rattle.bpf_asm.specs.Reading.{tokens_of}
+use Rattle.bpf_asm.specs.body.Reading.{tokens_of}
 use Rattle.bpf_asm.specs.Token.{mark, stray}
 use Rattle.bpf_asm.proofs.TokenLemmas.{mark_first, no_front, number_first, stray_first, tokens_of-behind_gap, tokens_of-nil, word_first}
 use Rattle.bpf_asm.proofs.token.first_token.Goals as goal

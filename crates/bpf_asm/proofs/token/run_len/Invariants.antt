@@ -1,6 +1,6 @@
 use Rattle.std.proofs.Common.{◌≡◌, drop, ◌+◌}
 use Rattle.std.specs.List.{prefix_len}
-use Rattle.bpf_asm.specs.View.{is_of}
+use Rattle.bpf_asm.specs.body.View.{is_of}
 use Rattle.bpf_asm.proofs.token.run_len.Given as goal
 
 abbrev pub invariant-loop-i : goal.invariant-loop-i

@@ -1,6 +1,6 @@
 use Rattle.std.proofs.Common.{◌∙◌, Result, refl, rules, subst, sym, take}
 use Rattle.control.specs.declared.fault.ReplayFault.{ReplayFault}
-use Rattle.control.specs.ScriptSoFar.{Advances, Ends}
+use Rattle.control.specs.body.ScriptSoFar.{Advances, Ends}
 use Rattle.control.proofs.ReplayLemmas.{all_lines_answered, cut_in_end, cut_in_take, gave_nothing, nothing_answered, replayed_if, replaying_begins, replaying_on, stopped_in_end, stopped_in_take}
 use Rattle.control.proofs.WritingLemmas.{err_is}
 use Rattle.control.proofs.replaying.replay.Goals as goal

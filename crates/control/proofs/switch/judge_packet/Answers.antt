@@ -16,7 +16,7 @@ returns-clause-judged c =
           (ap (λ (rest : SectionRest). rest.pinned) c.judge-verdict.ensures.rest_kept) c.leave.ensures.ends_in_fetches (search rules);
       seen_grows = c.enter-section.ensures.seen_grows;
       last_seen = newest;
-      reply_is = c.judged.ensures
+      reply_is = c.judged_reply.ensures
           ∙ ap (λ n. judged_text n c.judge-verdict.result) c.number-version.ensures.held_number
           ∙ ap (judged_text (held_version inside)) (c.judge-verdict.ensures.verdict newest.config newest.image);
     }

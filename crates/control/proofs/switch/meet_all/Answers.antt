@@ -1,7 +1,7 @@
 use Rattle.std.proofs.Common.{◌≡◌, ◌<◌, arith, get_or, length, subst}
 use Rattle.std.proofs.lemmas.Option.{slice_get-get_or}
 use Rattle.versions.specs.declared.layout.TheConstants.{WORKERS}
-use Rattle.control.specs.Ready.{MetFirst}
+use Rattle.control.specs.body.Ready.{MetFirst}
 use Rattle.control.proofs.MeetLemmas.{none_met, one_more_met}
 use Rattle.control.proofs.switch.meet_all.Goals as goal
 

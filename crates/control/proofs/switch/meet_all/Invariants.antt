@@ -1,4 +1,4 @@
-use Rattle.control.specs.Ready.{MetFirst}
+use Rattle.control.specs.body.Ready.{MetFirst}
 use Rattle.control.proofs.switch.meet_all.Given as goal
 
 abbrev pub invariant-loop-w : goal.invariant-loop-w

@@ -1,6 +1,6 @@
 use Rattle.std.proofs.Common.{ap, arith, length, refl, true, false, ◌∙◌}
-use Rattle.dispatch.specs.declared.kind.Kind.{Kind}
-use Rattle.dispatch.specs.declared.kind.Kind.TheVariants as kind
+use Rattle.packet_verdict.specs.declared.kind.Kind.{Kind}
+use Rattle.packet_verdict.specs.declared.kind.Kind.TheVariants as kind
 use Rattle.dispatch.specs.Batch.{counted_as, counted_if}
 use Rattle.dispatch.specs.Tally.{CounterValue}
 use Rattle.dispatch.proofs.DatagramLemmas.{on_err, on_err_too, on_ok_too}

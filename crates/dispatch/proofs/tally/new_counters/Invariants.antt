@@ -2,7 +2,7 @@ use Rattle.std.proofs.Common.{◌≡◌, ◌-◌, [], length}
 use Rattle.std.specs.Arc.{arc_value}
 use Rattle.std.specs.List.{All}
 use Rattle.dispatch.specs.declared.tally.TheConstants.{COUNTERS}
-use Rattle.dispatch.specs.TallyRule.{IsSeatOf}
+use Rattle.dispatch.specs.body.TallyRule.{IsSeatOf}
 use Rattle.dispatch.proofs.tally.new_counters.Given as goal
 
 abbrev pub invariant-loop : goal.invariant-loop

@@ -5,7 +5,7 @@ use Rattle.dispatch.specs.declared.kind.TheConstants.{KINDS}
 use Rattle.dispatch.specs.declared.tally_rule.Load.{Load}
 use Rattle.dispatch.specs.declared.tally.TheConstants.{COUNTERS}
 use Rattle.dispatch.specs.Tally.{GaveAtMost, times}
-use Rattle.dispatch.specs.TallyRule.{IsSeatOf}
+use Rattle.dispatch.specs.body.TallyRule.{IsSeatOf}
 use Rattle.dispatch.proofs.tally.sums.Given as goal
 
 abbrev pub invariant-loop-place : goal.invariant-loop-place

@@ -1,7 +1,7 @@
 use Rattle.std.proofs.Common.{◌≡◌, length}
-use Rattle.dispatch.specs.declared.kind.Kind.{Kind}
+use Rattle.packet_verdict.specs.declared.kind.Kind.{Kind}
 use Rattle.dispatch.specs.Tally.{place_of, sum_of_counts, times}
-use Rattle.dispatch.specs.TallyRule.{IsSeatOf}
+use Rattle.dispatch.specs.body.TallyRule.{IsSeatOf}
 use Rattle.dispatch.proofs.tally.take_all.Given as goal
 
 abbrev pub invariant-loop-counter : goal.invariant-loop-counter

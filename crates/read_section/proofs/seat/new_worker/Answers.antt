@@ -3,8 +3,8 @@ use Rattle.atomic_table.specs.Table.{Splits}
 use Rattle.atomic_table.specs.Seated.{TableId}
 use Rattle.config_image.specs.Image.{Group}
 use Rattle.versions.specs.Table.{the_shape}
-use Rattle.read_section.specs.Seat.{IsSeatAt}
-use Rattle.read_section.specs.View.{spare_alone, without_spare}
+use Rattle.read_section.specs.body.Seat.{IsSeatAt}
+use Rattle.read_section.specs.body.SeatView.{spare_alone, without_spare}
 use Rattle.read_section.specs.Worker.{IsOutside, WorkerValue}
 use Rattle.read_section.proofs.OpeningLemmas.{IsSeating-on, IsWorkerSeat-seated, may_seat, seated_worker}
 use Rattle.read_section.proofs.WorkerSeatLemmas.{IsSeatAt-on, Kept, Seated, some_word}

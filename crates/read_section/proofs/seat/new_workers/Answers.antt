@@ -3,7 +3,7 @@ use Rattle.std.specs.Arc.{arc_value}
 use Rattle.versions.specs.declared.layout.TheConstants.{WORKERS}
 use Rattle.versions.specs.Table.{the_shape}
 use Rattle.versions.proofs.ShapeLemmas.{workers_is}
-use Rattle.read_section.specs.Seat.{IsSeating}
+use Rattle.read_section.specs.body.Seat.{IsSeating}
 use Rattle.read_section.specs.Worker.{WorkerValue}
 use Rattle.read_section.proofs.OpeningLemmas.{all_workers, no_workers_yet, one_worker_more, workers_so_far}
 use Rattle.read_section.proofs.seat.new_workers.Goals as goal

@@ -1,5 +1,5 @@
 use Rattle.std.specs.Arc.{arc_value}
-use Rattle.read_section.specs.Seat.{IsSeatAt, IsSeating}
+use Rattle.read_section.specs.body.Seat.{IsSeatAt, IsSeating}
 use Rattle.read_section.proofs.OpeningLemmas.{workers_so_far}
 use Rattle.read_section.proofs.seat.new_workers.Given as goal
 

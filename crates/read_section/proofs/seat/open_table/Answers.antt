@@ -3,7 +3,7 @@ use Rattle.std.specs.Arc.{arc_value}
 use Rattle.config_image.specs.Image.{Group}
 use Rattle.versions.specs.Table.{the_shape}
 use Rattle.read_section.specs.Operator.{AreOpenedWorkers}
-use Rattle.read_section.specs.Seat.{IsSeating}
+use Rattle.read_section.specs.body.Seat.{IsSeating}
 use Rattle.read_section.proofs.OpeningLemmas.{IsOperatorSeat-seated, keeps_at_start, length-opened, seated_operator}
 use Rattle.read_section.proofs.seat.open_table.Goals as goal
 

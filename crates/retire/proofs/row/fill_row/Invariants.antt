@@ -1,7 +1,7 @@
 use Rattle.std.proofs.Common.{ℕ, ◌+◌, ◌-◌, ◌≤◌, ◌≡◌, ◌<◌}
 use Rattle.config_image.specs.declared.TheConstants.{ROW_WORDS}
 use Rattle.read_section.proofs.FilledLemmas.{word_at}
-use Rattle.retire.specs.Filling.{FillsRow}
+use Rattle.retire.specs.body.Filling.{FillsRow}
 use Rattle.retire.proofs.FillingLemmas.{HoldsFront}
 use Rattle.retire.proofs.row.fill_row.Given as goal
 

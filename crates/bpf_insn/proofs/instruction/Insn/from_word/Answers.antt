@@ -1,5 +1,5 @@
 use Rattle.std.proofs.Common.{◌≡◌, ◌∙◌, ap}
-use Rattle.bpf_insn.specs.Decoded.{tested}
+use Rattle.bpf_insn.specs.body.Decoded.{tested}
 use Rattle.bpf_insn.specs.Word.{instruction_of}
 use Rattle.bpf_insn.proofs.WordLemmas.{IfOk-back, bad_opcode, instruction_of-exact, stray_field, tested-decoded_of}
 use Rattle.bpf_insn.proofs.instruction.Insn.from_word.Goals as goal

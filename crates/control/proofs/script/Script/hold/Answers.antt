@@ -1,5 +1,5 @@
 use Rattle.std.proofs.Common.{◌≡◌, ◌∙◌, ◌-◌, ◌++◌, ap, arith, length, min, suc, take}
-use Rattle.control.specs.declared.TheConstants.{LINE_LIMIT}
+use Rattle.control_line.specs.declared.TheConstants.{LINE_LIMIT}
 use Rattle.control.proofs.HeldLemmas.{held_more}
 use Rattle.control.proofs.script.Script.hold.Goals as goal
 

@@ -1,6 +1,6 @@
 use Rattle.std.proofs.Common.{◌≡◌, ◌≤◌, length, suc}
-use Rattle.control.specs.declared.TheConstants.{LINE_LIMIT}
-use Rattle.control.specs.Ready.{AreOutside}
+use Rattle.control_line.specs.declared.TheConstants.{LINE_LIMIT}
+use Rattle.control.specs.body.Ready.{AreOutside}
 use Rattle.control.proofs.TakeLemmas.{IsTakenUpTo}
 use Rattle.control.proofs.script.Script.take.Given as goal
 

@@ -2,12 +2,13 @@ use Rattle.std.proofs.Common.{◌≡◌, ◌∙◌, ◌≤◌, Global, List, Mat
 use Rattle.std.proofs.lemmas.List.{with_items_is}
 use Rattle.std.proofs.lemmas.Option.{slice_get_read}
 use Rattle.versions.specs.declared.layout.TheConstants.{WORKERS}
-use Rattle.control.specs.declared.TheConstants.{LINE_LIMIT}
-use Rattle.control.specs.declared.packet.PacketLine.{PacketLine}
+use Rattle.control_line.specs.declared.TheConstants.{LINE_LIMIT}
+use Rattle.control.specs.declared.packet_line.PacketLine.{PacketLine}
 use Rattle.control.specs.declared.switch.Switch.{Switch}
-use Rattle.control.specs.Packet.{HasNoPacket, IsPacketLine, SpellsPacket}
+use Rattle.control.specs.PacketLine.{HasNoPacket, IsPacketLine}
+use Rattle.control_line.specs.Packet.{SpellsPacket}
 use Rattle.control.specs.PacketLine.{IsPacketRead}
-use Rattle.control.specs.Ready.{AreOutside, MetFirst}
+use Rattle.control.specs.body.Ready.{AreOutside, MetFirst}
 use Rattle.control.proofs.SwitchLemmas.{Replies, line_answered, long_packet_answered, outside_after_line, packet_answered, still_outside}
 use Rattle.control.proofs.switch.Switch.answer.Goals as goal
 use Rattle.control.proofs.switch.Switch.answer.Goals.{in-None+in_ok-reply-in-None, in-Some-TooLong, in-Some-Packet}
@@ -36,7 +37,7 @@ returns c =
     let after = c.meet_all.new in
     let text = c.args.text.now in
     let long : length after.workers ≡ c.match-branch-2.self.workers.len = omega arith in
-    let read = λ (line : Option PacketLine) (is : c.in_ok-read_packet_line.field-0 ≡ line). subst (λ line. MatchOption line (HasNoPacket text) (IsPacketRead text)) is c.in_ok-read_packet_line.ensures in
+    let read = λ (line : Option PacketLine) (is : c.in_ok-read_packet_line.field-0 ≡ line). subst (λ line. MatchOption line (HasNoPacket text) (IsPacketRead text)) is c.in_ok-read_packet_line.ensures.read in
     let met = λ (switch : Switch) (is : c.match-branch-2.self ≡ switch).
     subst (λ (s : Switch). MetFirst WORKERS s.operator after.operator s.workers.items after.workers) is
     (subst (λ workers. MetFirst WORKERS c.match-branch-2.self.operator after.operator workers after.workers) c.deref_mut.ensures.value c.meet_all.ensures.met) in
@@ -50,8 +51,8 @@ returns c =
                 (read None w.in-None.is) w.in_ok-reply-in-None.ensures.answered (met _ w.self-is) now ready)
             | in-Some-TooLong w ↦
                 subst (λ reply. Replies now text reply after.operator after.workers) (sym w.reply-is)
-                (long_packet_answered before.operator after.operator before.workers.items after.workers text w.of-reply.result
-                (read _ (w.in-Some-TooLong.is ∙ ap Some w.in-Some-TooLong.field-0-is)) w.of-reply.ensures (met _ w.self-is) now ready)
+                (long_packet_answered before.operator after.operator before.workers.items after.workers text w.refused-reply.result
+                (read _ (w.in-Some-TooLong.is ∙ ap Some w.in-Some-TooLong.field-0-is)) w.refused-reply.ensures (met _ w.self-is) now ready)
             | in-Some-Packet w ↦
                 let here = slice_get_read before.workers.items WORKERS 0 w.index_mut.result.now (sym c.requires.outside.count) (omega arith) w.index_mut.ensures.value in
                 subst (λ reply. Replies now text reply after.operator after.workers) (sym w.reply-is)

@@ -1,6 +1,6 @@
 use Rattle.std.proofs.Common.{◌≡◌, ◌∙◌, length, subst, sym}
 use Rattle.std.proofs.lemmas.List.{with_items_is}
-use Rattle.control.specs.Ready.{AreOutside, IsReady}
+use Rattle.control.specs.body.Ready.{AreOutside, IsReady}
 use Rattle.control.specs.Script.{at_start}
 use Rattle.control.proofs.SwitchLemmas.{opened_outside, opened_ready}
 use Rattle.control.proofs.switch.Switch.open.Goals as goal

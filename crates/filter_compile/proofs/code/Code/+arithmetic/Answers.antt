@@ -5,8 +5,8 @@ use Rattle.filter_tree.specs.Arithmetic.{value_of_arith}
 use Rattle.filter_tree.specs.Measure.{cells_of_arith, weight_of_arith}
 use Rattle.filter_tree.specs.Tree.{accessor}
 use Rattle.filter_tree.specs.View.{arith_tree_of}
-use Rattle.filter_compile.specs.Header.{weight_of_access}
-use Rattle.filter_compile.specs.Piece.{Computes}
+use Rattle.filter_compile.specs.body.Header.{weight_of_access}
+use Rattle.filter_compile.specs.body.Piece.{Computes}
 use Rattle.filter_compile.proofs.ArithmeticLemmas.{Computes-access, Computes-length, Computes-number, Computes-operation, access_weight}
 use Rattle.filter_compile.proofs.code.Code.+arithmetic.Goals as goal
 

@@ -2,7 +2,7 @@ use Rattle.std.proofs.Common.{false}
 use Rattle.std.proofs.lemmas.Result.{on_ok_weaker}
 use Rattle.filter_tree.specs.Primitive.{is_ip}
 use Rattle.filter_compile.specs.declared.ends.Part.TheVariants.{Address}
-use Rattle.filter_compile.specs.Header.{ends_pass, weight_of_ends}
+use Rattle.filter_compile.specs.body.Header.{ends_pass, weight_of_ends}
 use Rattle.filter_compile.proofs.HeaderLemmas.{Tests-addresses}
 use Rattle.filter_compile.proofs.TestLemmas.{Tests-and}
 use Rattle.filter_compile.proofs.code.Code.addresses.Goals as goal

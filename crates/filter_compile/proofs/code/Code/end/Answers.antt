@@ -1,5 +1,5 @@
 use Rattle.std.proofs.lemmas.Result.{on_ok_weaker}
-use Rattle.filter_compile.specs.Header.{by_header, end_of, passes, weight_of_check}
+use Rattle.filter_compile.specs.body.Header.{by_header, end_of, passes, weight_of_check}
 use Rattle.filter_compile.proofs.HeaderLemmas.{end-below}
 use Rattle.filter_compile.proofs.TestLemmas.{Tests-loaded}
 use Rattle.filter_compile.proofs.code.Code.end.Goals as goal

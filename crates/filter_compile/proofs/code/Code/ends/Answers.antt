@@ -2,7 +2,7 @@ use Rattle.std.proofs.Common.{◌+◌}
 use Rattle.std.proofs.lemmas.Result.{on_ok_weaker}
 use Rattle.filter_tree.specs.Outcome.{tested}
 use Rattle.filter_compile.specs.declared.ends.End.TheVariants.{Destination, Source}
-use Rattle.filter_compile.specs.Header.{by_header, end_of, passes, weight_of_check}
+use Rattle.filter_compile.specs.body.Header.{by_header, end_of, passes, weight_of_check}
 use Rattle.filter_compile.proofs.TestLemmas.{Tests-and, Tests-or}
 use Rattle.filter_compile.proofs.code.Code.ends.Goals as goal
 

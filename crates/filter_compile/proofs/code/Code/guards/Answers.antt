@@ -5,7 +5,7 @@ use Rattle.filter_tree.specs.Outcome.{where_so}
 use Rattle.filter_tree.specs.Primitive.{is_first_fragment, is_ip, is_protocol}
 use Rattle.filter_tree.specs.Truth.{accesses_of_both}
 use Rattle.filter_tree.specs.View.{arith_tree_of}
-use Rattle.filter_compile.specs.Piece.{Tests}
+use Rattle.filter_compile.specs.body.Piece.{Tests}
 use Rattle.filter_compile.proofs.GuardLemmas.{Tests-guards}
 use Rattle.filter_compile.proofs.code.Code.guards.Goals as goal
 

@@ -6,7 +6,7 @@ use Rattle.ipv4_fields.specs.Field.{field_of}
 use Rattle.filter_tree.specs.Outcome.{◌and_then◌, tested}
 use Rattle.filter_tree.specs.Primitive.{has_ports, is_first_fragment, is_ip}
 use Rattle.filter_compile.specs.declared.ends.Part.TheVariants.{Port}
-use Rattle.filter_compile.specs.Header.{ends_pass, weight_of_ends, weight_of_transport}
+use Rattle.filter_compile.specs.body.Header.{ends_pass, weight_of_ends, weight_of_transport}
 use Rattle.filter_compile.proofs.TestLemmas.{Tests-and}
 use Rattle.filter_compile.proofs.HeaderLemmas.{Tests-header, Tests-ports, ends_fail}
 use Rattle.filter_compile.proofs.code.Code.ports.Goals as goal

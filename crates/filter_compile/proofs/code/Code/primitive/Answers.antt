@@ -7,7 +7,7 @@ use Rattle.filter_tree.specs.Outcome.{answer, opposite}
 use Rattle.filter_tree.specs.Measure.{weight_of_primitive}
 use Rattle.filter_tree.specs.Primitive.{is_ip, is_protocol, truth_of_primitive}
 use Rattle.filter_compile.specs.declared.check.Check.TheVariants.{Between, Covered, Equal}
-use Rattle.filter_compile.specs.Header.{weight_of_addresses, weight_of_ports}
+use Rattle.filter_compile.specs.body.Header.{weight_of_addresses, weight_of_ports}
 use Rattle.filter_compile.proofs.HeaderLemmas.{at_most, host_weight, net_weight, port_range_weight, port_weight}
 use Rattle.filter_compile.proofs.TestLemmas.{Tests-and, Tests-not, Tests-same, Tests-weight}
 use Rattle.filter_compile.proofs.code.Code.primitive.Goals as goal

@@ -2,7 +2,8 @@ use Rattle.std.proofs.Common.{slice_set, subst, sym, ℕ, ◌<◌}
 use Rattle.versions.specs.Free.{IsFreeRow}
 use Rattle.versions.specs.Table.{the_shape}
 use Rattle.versions.proofs.ShapeLemmas.{row_words_is}
-use Rattle.read_section.specs.Operator.{IsKeptBy, OperatorValue}
+use Rattle.read_section.specs.body.OperatorKept.{IsKeptBy}
+use Rattle.read_section.specs.Operator.{OperatorValue}
 use Rattle.read_section.proofs.FilledLemmas.{row_inside}
 use Rattle.read_section.proofs.KeeperLemmas.{IsKeptBy-filled}
 use Rattle.read_section.proofs.operator.Operator.fill.Goals as goal

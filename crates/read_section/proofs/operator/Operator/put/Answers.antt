@@ -2,7 +2,8 @@ use Rattle.std.proofs.Common.{ap, arith, subst, sym}
 use Rattle.versions.specs.Free.{IsFreeRow, number_after}
 use Rattle.versions.specs.Table.{the_shape}
 use Rattle.versions.proofs.ShapeLemmas.{last_number_is}
-use Rattle.read_section.specs.Operator.{IsKeptBy, OperatorValue}
+use Rattle.read_section.specs.body.OperatorKept.{IsKeptBy}
+use Rattle.read_section.specs.Operator.{OperatorValue}
 use Rattle.read_section.proofs.KeeperLemmas.{IsKeptBy-published}
 use Rattle.read_section.proofs.operator.Operator.put.Goals as goal
 
@@ -21,4 +22,4 @@ count_version-requires-clause-number c = let number = c.self.invariant.steps_tol
 pub invariant_of-self : goal.invariant_of-self
 invariant_of-self c = let number = c.self.invariant.steps_told.number in let same = ap (λ (o : OperatorValue). number_after o.view.log) c.self.view_is in let low = c.requires.number in
     subst (λ o. IsKeptBy o.view c.args.config c.count_version.new.self c.self.inside.reported c.self.inside.zeros) (sym c.publish.ensures)
-    (IsKeptBy-published _ _ _ _ _ c.self.invariant c.args.row c.args.config c.count_version.new.self c.requires.free.0 (omega arith) c.count_version.ensures)
+    (IsKeptBy-published _ _ _ _ _ c.self.invariant c.args.row c.args.config c.count_version.new.self c.requires.free.0 (omega arith) c.count_version.ensures.counted)

@@ -5,7 +5,7 @@ use Rattle.versions.specs.declared.layout.TheConstants.{ROWS_BEGIN}
 use Rattle.versions.specs.Layout.{row_begin, rows_begin}
 use Rattle.versions.specs.View.{after_fill}
 use Rattle.versions.specs.Table.{the_shape}
-use Rattle.read_section.specs.Operator.{acts}
+use Rattle.read_section.specs.body.Seat.{acts}
 use Rattle.read_section.proofs.OperatorSeatLemmas.{IsOperatorSeat-on, may_fill, operator_after}
 use Rattle.read_section.proofs.WorkerSeatLemmas.{IsSeatAt-on, place_fits, place_inside, place_is, word_inside}
 use Rattle.read_section.proofs.seat.OperatorSeat.fill.Goals as goal

@@ -5,9 +5,10 @@ use Rattle.versions.specs.declared.step.Entry.{Entry}
 use Rattle.versions.specs.declared.view.WorkerView.{WorkerView}
 use Rattle.versions.specs.Legal.{MayPeek}
 use Rattle.versions.specs.Table.{the_shape}
-use Rattle.read_section.specs.Operator.{OperatorSeatValue, operator_or_none}
-use Rattle.read_section.specs.Steps.{Sees}
-use Rattle.read_section.specs.View.{TellsLog, worker_alone}
+use Rattle.read_section.specs.body.Seat.{OperatorSeatValue, operator_or_none}
+use Rattle.read_section.specs.body.Steps.{Sees}
+use Rattle.read_section.specs.View.{TellsLog}
+use Rattle.read_section.specs.body.SeatView.{worker_alone}
 use Rattle.read_section.specs.Worker.{WorkerValue}
 use Rattle.read_section.proofs.MeetingLemmas.{IsOperatorSeat-again, IsWorkerSeat-again, may_give, may_give_back, may_peek_both, may_scan_both, may_take, operator_is, operator_met, peeked, scanned_both, taken, worker_is, worker_met}
 use Rattle.read_section.proofs.WorkerSeatLemmas.{IsSeatAt-on, Seated, few_words, read_word_inside, some_word}

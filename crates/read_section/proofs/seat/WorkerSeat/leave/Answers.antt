@@ -1,7 +1,7 @@
 use Rattle.std.proofs.Common.{ap, arith, refl, subst, sym, ◌+◌, ◌<◌, ◌∙◌}
 use Rattle.atomic_table.specs.Seated.{TableId}
 use Rattle.versions.specs.View.{after_leave}
-use Rattle.read_section.specs.Steps.{IsOwnLogOf}
+use Rattle.read_section.specs.body.Steps.{IsOwnLogOf}
 use Rattle.read_section.proofs.WorkerSeatLemmas.{IsSeatAt-on, IsWorkerSeat-on, few_words, may_leave, read_word_inside, worker_after}
 use Rattle.read_section.proofs.seat.WorkerSeat.leave.Goals as goal
 

@@ -6,7 +6,8 @@ use Rattle.versions.specs.View.{after_peek}
 use Rattle.versions.specs.Legal.{MayPeek}
 use Rattle.versions.specs.Table.{the_shape}
 use Rattle.read_section.specs.Layout.{IsPublishable}
-use Rattle.read_section.specs.Worker.{WorkerValue, worker_at, worker_or_none}
+use Rattle.read_section.specs.Worker.{WorkerValue}
+use Rattle.read_section.specs.body.Seat.{worker_at, worker_or_none}
 use Rattle.read_section.proofs.MeetingLemmas.{IsWorkerSeat-told, may_be_told, may_note, told_seen}
 use Rattle.read_section.proofs.WorkerKept.{allows_peek}
 use Rattle.read_section.proofs.WorkerSeatLemmas.{IsSeatAt-on, IsWorkerSeat-on, Seated, sees, some_word, worker_after}

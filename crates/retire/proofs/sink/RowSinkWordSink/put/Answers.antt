@@ -1,7 +1,7 @@
 use Rattle.std.proofs.Common.{ap, arith, ◌<◌, ◌∙◌, ◌∷◌, ◌++◌, []}
 use Rattle.config_image.specs.declared.TheConstants.{ROW_WORDS}
 use Rattle.read_section.proofs.FilledLemmas.{row_inside}
-use Rattle.retire.specs.Sink.{SinkValue, taken_by}
+use Rattle.retire.specs.body.Sink.{SinkValue, taken_of}
 use Rattle.retire.proofs.FillingLemmas.{front_grows, one_word_more}
 use Rattle.retire.proofs.sink.RowSinkWordSink.put.Goals as goal
 
@@ -19,4 +19,4 @@ pub returns-clause-taken : goal.returns-clause-taken
 returns-clause-taken g c = let h = c.self.invariant in let s = c.self.inside in let e = c.fill.ensures in let room = c.requires in let same = ap (λ (v : SinkValue). v.place) c.self.view_is in
     let small : s.place < ROW_WORDS = omega arith in
     ap (λ l. s.operator.ghost_name ∷ s.row ∷ l) (front_grows s.operator.now s.operator.now c.fill.new.self s.row s.place c.args.word (row_inside s.row h.fills.fills.still_free.0) small e.whole_rows e.one_fill)
-    ∙ ap (λ (v : SinkValue). taken_by v ++ c.args.word ∷ []) c.self.view_is
+    ∙ ap (λ (v : SinkValue). taken_of v ++ c.args.word ∷ []) c.self.view_is

@@ -3,7 +3,7 @@ use Rattle.versions.specs.declared.step.Step.TheVariants.{Fetch}
 use Rattle.versions.specs.declared.view.Stage.TheVariants.{Inside}
 use Rattle.versions.specs.Table.{the_shape}
 use Rattle.versions.proofs.DecisionLemmas.{fetch_below, fetch_in_row}
-use Rattle.versions.proofs.MirrorLemmas.{Rule-reached, next_of}
+use Rattle.versions.proofs.MirrorLemmas.{Coheres-reached, next_of}
 use Rattle.versions.proofs.progress.Progress.fetch_word.Goals as goal
 use Rattle.versions.proofs.progress.Progress.fetch_word.Goals.{then-not-is_in_row-via-then-not-is_in_row, then-not-is_in_row-via-else-not-is_in_row+then-place-ge-TABLE_WORDS}
 
@@ -21,6 +21,6 @@ returns-then-not-is_in_row c = λ s reached m x legal. let held = c.in-Inside in
 
 pub returns : goal.returns
 returns c = λ s reached m. let held = c.in-Inside in let at = sym c.stage.ensures ∙ c.in_ok-row.was ∙ ap Some held.is in (
-  next_of the_shape s c.args.words.now c.args.self.now m (Rule-reached the_shape s reached) c.args.worker (Inside held.read_word held.version held.row) (Fetch c.args.worker c.args.place) (slice_index c.args.words.now c.args.place) at (held.read_word, held.version, held.row, refl, c.is_in_row.ensures.0 c.if-not-is_in_row.false),
+  next_of the_shape s c.args.words.now c.args.self.now m (Coheres-reached the_shape s reached) c.args.worker (Inside held.read_word held.version held.row) (Fetch c.args.worker c.args.place) (slice_index c.args.words.now c.args.place) at (held.read_word, held.version, held.row, refl, c.is_in_row.ensures.0 c.if-not-is_in_row.false),
   ap (λ l. slice_index l c.args.place) m.words_same,
 )

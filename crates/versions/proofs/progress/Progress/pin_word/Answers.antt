@@ -2,11 +2,11 @@ use Rattle.std.proofs.Common.{Some, ap, refl, slice_index, sym, ◌∙◌}
 use Rattle.versions.specs.declared.step.Step.TheVariants.{Pin}
 use Rattle.versions.specs.declared.view.Stage.TheVariants.{Announced}
 use Rattle.versions.specs.Table.{the_shape}
-use Rattle.versions.proofs.MirrorLemmas.{Rule-reached, next_of}
+use Rattle.versions.proofs.MirrorLemmas.{Coheres-reached, next_of}
 use Rattle.versions.proofs.progress.Progress.pin_word.Goals as goal
 
 pub returns-in-Announced : goal.returns-in-Announced
 returns-in-Announced c = λ s reached m. (
-  next_of the_shape s c.args.words.now c.args.self.now m (Rule-reached the_shape s reached) c.args.worker (Announced c.in-Announced.read_word) (Pin c.args.worker) (slice_index c.args.words.now 0) (sym c.stage.ensures ∙ c.in_ok-stage.was ∙ ap Some c.in-Announced.is) (c.in-Announced.read_word, refl),
+  next_of the_shape s c.args.words.now c.args.self.now m (Coheres-reached the_shape s reached) c.args.worker (Announced c.in-Announced.read_word) (Pin c.args.worker) (slice_index c.args.words.now 0) (sym c.stage.ensures ∙ c.in_ok-stage.was ∙ ap Some c.in-Announced.is) (c.in-Announced.read_word, refl),
   ap (λ l. slice_index l 0) m.words_same,
 )

@@ -10,7 +10,7 @@ true_false e = cc
 pub returns-then-not-is_free : goal.returns-then-not-is_free
 returns-then-not-is_free g c = λ s reached m proposed x legal.
     elim c.then-not-is_free.branch [
-      | then-not-is_free-via-then-not-is_free w ↦ true_false (sym ((c.is_free.ensures.decided s reached m.book).1 legal.0.free) ∙ w.if-not-is_free.true)
+      | then-not-is_free-via-then-not-is_free w ↦ true_false (sym ((c.is_free.ensures.free_row_exact s.operator m.book).1 legal.0.free) ∙ w.if-not-is_free.true)
       | then-not-is_free-via-else-not-is_free+then-self-ge-LAST_NUMBER w ↦
           let up = w.if-self-ge-LAST_NUMBER.true in let low = number_low s reached c.args.words.now c.args.self.now m c.args.row legal.0 in absurd (omega arith)
       | then-not-is_free-via-else-not-is_free+else-self-ge-LAST_NUMBER+then-not-holds_row w ↦
@@ -19,6 +19,6 @@ returns-then-not-is_free g c = λ s reached m proposed x legal.
 
 pub returns : goal.returns
 returns g c = λ s reached m proposed. (
-  can_publish s reached c.args.words.now c.args.self.now m c.args.row c.in-Some.config.now (proposed ∙ ap (option_map (λ config. config.now)) c.in-Some.is) ((c.is_free.ensures.decided s reached m.book).0 c.if-not-is_free.false) c.if-self-ge-LAST_NUMBER.false (c.holds_row.ensures.holds.0 c.if-not-holds_row.false),
+  can_publish s reached c.args.words.now c.args.self.now m c.args.row c.in-Some.config.now (proposed ∙ ap (option_map (λ config. config.now)) c.in-Some.is) ((c.is_free.ensures.free_row_exact s.operator m.book).0 c.if-not-is_free.false) c.if-self-ge-LAST_NUMBER.false (c.holds_row.ensures.holds.0 c.if-not-holds_row.false),
   publish_word s reached c.args.words.now c.args.self.now m c.args.row,
 )

@@ -2,7 +2,8 @@ use Rattle.std.proofs.Common.{◌+◌, arith, rules, subst, sym, set}
 use Rattle.versions.specs.declared.step.Step.TheVariants.{Announce, Fetch, Leave, Peek, Pin}
 use Rattle.versions.specs.State.{after_step}
 use Rattle.versions.specs.Legal.{IsLegalStep}
-use Rattle.versions.specs.Mirror.{IsMirror, moved}
+use Rattle.versions.specs.Book.{with_version_in}
+use Rattle.versions.specs.body.Mirror.{IsMirror, moved}
 use Rattle.versions.specs.Table.{the_shape}
 use Rattle.versions.proofs.FollowLemmas.{fill_below, follows_announce, follows_fetch, follows_fill, follows_leave, follows_peek, follows_pin, follows_publish, follows_scan, publish_below}
 use Rattle.versions.proofs.progress.Progress.take.Goals as goal
@@ -53,11 +54,11 @@ returns-in-Fill c = λ s reached m legal. let a = c.in-Fill in
 
 pub returns-in-Publish : goal.returns-in-Publish
 returns-in-Publish c = λ s reached m legal. let a = c.in-Publish in
-    subst (λ progress. IsMirror the_shape (after_step the_shape s c.args.step c.args.word) (set c.args.words.now 0 c.args.word) progress) (sym c.count_version.ensures)
-    (subst (λ step. IsLegalStep the_shape s step c.args.word → IsMirror the_shape (after_step the_shape s step c.args.word) (set c.args.words.now 0 c.args.word) (Rattle.versions.specs.Mirror.counted a.row c.args.self.now)) (sym a.is)
+    subst (λ book. IsMirror the_shape (after_step the_shape s c.args.step c.args.word) (set c.args.words.now 0 c.args.word) (record c.args.self.now { book = book })) (sym c.count_version.ensures.counted)
+    (subst (λ step. IsLegalStep the_shape s step c.args.word → IsMirror the_shape (after_step the_shape s step c.args.word) (set c.args.words.now 0 c.args.word) (record c.args.self.now { book = with_version_in a.row c.args.self.now.book })) (sym a.is)
     (follows_publish s reached c.args.words.now c.args.self.now m a.row c.args.word) legal)
 
 pub returns-in-Scan : goal.returns-in-Scan
 returns-in-Scan c = λ s reached m legal. let a = c.in-Scan in
-    subst (λ step. IsLegalStep the_shape s step c.args.word → IsMirror the_shape (after_step the_shape s step c.args.word) c.args.words.now c.clear.new.self) (sym a.is)
-    (follows_scan s reached c.args.words.now c.args.self.now m a.place c.args.word c.clear.new.self c.clear.ensures) legal
+    subst (λ step. IsLegalStep the_shape s step c.args.word → IsMirror the_shape (after_step the_shape s step c.args.word) c.args.words.now (record c.args.self.now { book = c.take_scan.new.self })) (sym a.is)
+    (follows_scan s reached c.args.words.now c.args.self.now m a.place c.args.word c.take_scan.new.self c.take_scan.ensures.cleared) legal

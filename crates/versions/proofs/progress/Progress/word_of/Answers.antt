@@ -1,5 +1,5 @@
 use Rattle.std.proofs.Common.{subst, sym}
-use Rattle.versions.specs.Mirror.{IsDecided}
+use Rattle.versions.specs.body.Mirror.{IsDecided}
 use Rattle.versions.proofs.progress.Progress.word_of.Goals as goal
 
 pub returns-in-Peek : goal.returns-in-Peek

@@ -1,5 +1,5 @@
 use Rattle.std.proofs.Common.{None, subst, sym}
-use Rattle.versions.specs.World.{IsWorld}
+use Rattle.versions.specs.body.WorldKept.{IsWorld}
 use Rattle.versions.proofs.WorldLemmas.{IsWorld-opened, light}
 use Rattle.versions.proofs.world.World.new.Goals as goal
 

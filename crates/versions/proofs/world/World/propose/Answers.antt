@@ -1,6 +1,6 @@
 use Rattle.std.proofs.Common.{Some, [], ap, length, subst, sym, ◌++◌, ◌∙◌, ◌∷◌, ◌≡◌}
 use Rattle.versions.specs.declared.step.Event.TheVariants.{Proposed}
-use Rattle.versions.specs.World.{IsWorld}
+use Rattle.versions.specs.body.WorldKept.{IsWorld}
 use Rattle.versions.proofs.WorldLemmas.{IsWorld-proposed, light}
 use Rattle.versions.proofs.world.World.propose.Goals as goal
 

@@ -4,9 +4,10 @@ use Rattle.config_image.specs.Image.{Group}
 use Rattle.versions.specs.declared.step.Event.TheVariants.{Stepped}
 use Rattle.versions.specs.State.{State}
 use Rattle.versions.specs.Legal.{IsLegalStep}
-use Rattle.versions.specs.Mirror.{Follows, IsMirror}
+use Rattle.versions.specs.body.Mirror.{Follows, IsMirror}
 use Rattle.versions.specs.Table.{the_shape}
-use Rattle.versions.specs.World.{IsWorld, world_after}
+use Rattle.versions.specs.World.{world_after}
+use Rattle.versions.specs.body.WorldKept.{IsWorld}
 use Rattle.versions.proofs.WorldLemmas.{IsReached-world, IsWorld-stepped, world_after-pushed}
 use Rattle.versions.proofs.TraceLemmas.{one_word}
 use Rattle.versions.specs.Step.{place_of}

@@ -1,5 +1,5 @@
 use Rattle.std.proofs.Common.{subst}
-use Rattle.versions.specs.Mirror.{IsReached}
+use Rattle.versions.specs.Legal.{IsReached}
 use Rattle.versions.specs.Table.{the_shape}
 use Rattle.versions.proofs.WorldLemmas.{IsReached-world}
 use Rattle.versions.proofs.world.World.word.Goals as goal

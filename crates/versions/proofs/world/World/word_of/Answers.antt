@@ -1,7 +1,7 @@
 use Rattle.std.proofs.Common.{ap, subst, sym, ◌∙◌, List}
 use Rattle.config_image.specs.Image.{Group}
 use Rattle.versions.specs.State.{State}
-use Rattle.versions.specs.Mirror.{IsDecided, IsMirror}
+use Rattle.versions.specs.body.Mirror.{IsDecided, IsMirror}
 use Rattle.versions.specs.Table.{the_shape}
 use Rattle.versions.specs.World.{world_after}
 use Rattle.versions.proofs.WorldLemmas.{IsReached-world}

@@ -1,0 +1,223 @@
+-- The command that a parse of the program's words has met, where `clap` finds no fault in them.
+use Rattle.std.proofs.Common.{◌≡◌, ◌∙◌, ◌∷◌, ◌&&◌, ◌||◌, [], ℕ, List, Bool, true, false, not, cond, Option, Some, None, is_some, ap, ap₂, sym, refl, codes, ◌++◌, take, slice_index_or}
+use Rattle.std.specs.Prelude.{find, fold, option_and_then, option_map, unwrap_or}
+use Rattle.std.specs.Borrow.{Bor}
+use Rattle.std.specs.Str.{bytes_eq}
+use Rattle.std.proofs.lemmas.Slice.Eq.{bytes_eq-Decides}
+use Rattle.clap.specs.Kinds.{Kinds, or_else}
+use Rattle.clap.specs.Faults.{check_fault, defaults_fault, entered_fault, settle_fault, other_fault, step_fault, turn_fault, walk_fault, word_fault}
+use Rattle.clap.specs.Simple.{App, Shape, built, entered, label_of, names_of, rows_at, subcommand_of, subcommand_rows, subcommand_rows_of}
+use Rattle.clap.specs.Walk.{answers_to, rows_of, Held, Names, Outcome, Row, Rule, Step, Text, Waiting, Walk, after_flag, after_step}
+use Rattle.clap.specs.Walk.{arg_by_index, done, idle, long_or_other, next, option, plain, plain_word, positional, refused}
+use Rattle.clap.specs.Walk.{short_or_plain, subcommand, subcommand_met, subcommand_or_other, to_positional, trailing, value, waits}
+use Rattle.clap.specs.Walk.{walk, walk_from, walked, walked_from, word_met, nothing_held, finished, settled}
+use Rattle.clap.specs.declared.error.kind.ErrorKind.TheVariants.{DisplayHelp, InvalidSubcommand}
+use Rattle.clap.specs.Matches.{found_of, subcommand_name_of}
+use Rattle.clap.specs.declared.parser.matches.ArgMatches.{ArgMatches}
+use Rattle.clap.specs.declared.parser.matches.ArgMatches.TheViews.{out-ArgMatches, out-SubCommand}
+use Rattle.clap.specs.declared.parser.matches.SubCommand.{SubCommand}
+use Rattle.std.specs.Prelude.{Box}
+use Rattle.std.specs.Box.{box_value}
+use Rattle.clap.specs.Lexer.{long_of, short_of}
+use Rattle.command_line.specs.CommandLine.{Request, command_line, faults_in, request_in, request_named}
+
+none_of_both : (a b : Kinds) → or_else a b ≡ [] → (a ≡ []) × (b ≡ [])
+none_of_both [] b none = (refl, none)
+none_of_both (k ∷ ks) b none = cc
+
+module _ (s : Shape) where
+  abbrev asks_help : Text → Bool
+  asks_help name = bytes_eq name (codes "help") && not s.disable_help_subcommand
+
+  -- what was met, if anything, is no call for help
+  abbrev IsNoHelp : Option (Text × List Text) → Type 0
+  IsNoHelp None = Unit {0}
+  IsNoHelp (Some p) = asks_help p.0 ≡ false
+
+  abbrev StepsOn : Step → Type 0
+  StepsOn (subcommand name) = asks_help name ≡ false
+  StepsOn _ = Unit {0}
+
+  after : (word : Text) (w : Walk) (h : Held) (step : Step) → IsNoHelp w.stopped → StepsOn step
+      → IsNoHelp (after_step s.rules word w h step).stopped
+  after word w h (next waiting) before on = before
+  after word w h (trailing position) before on = before
+  after word w h (subcommand name) before on = on
+  after word w h value before on = go (arg_by_index s.rules w.position)
+    where
+      go : (a : Option Rule) → IsNoHelp (to_positional s.rules a word w h).stopped
+      go None = before
+      go (Some a) = tt
+
+  plain_on : (waiting : Waiting) (word : Text) (h : Held) → StepsOn (plain_word s.rules waiting word h).1
+  plain_on idle word h = tt
+  plain_on (option id) word h = tt
+  plain_on positional word h = tt
+
+  flag_on : (waiting : Waiting) (word : Text) (h : Held) (outcome : Outcome) → StepsOn (after_flag s.rules waiting word h outcome).1
+  flag_on waiting word h done = tt
+  flag_on waiting word h (waits id) = tt
+  flag_on waiting word h plain = plain_on waiting word h
+  flag_on waiting word h refused = plain_on waiting word h
+
+  short_on : (waiting : Waiting) (word : Text) (flags : Option Text) (h : Held) → StepsOn (short_or_plain s.rules waiting word flags h).1
+  short_on waiting word None h = plain_on waiting word h
+  short_on waiting word (Some flags) h = flag_on waiting word _ _
+
+  long_on : (waiting : Waiting) (word : Text) (long : Option (Text × Option Text)) (h : Held) → StepsOn (long_or_other s.rules waiting word long h).1
+  long_on waiting word None h = short_on waiting word (short_of word) h
+  long_on waiting word (Some p) h = flag_on waiting word _ _
+
+  other_on : (name : Option Text) (waiting : Waiting) (position : ℕ) (word : Text) (h : Held) → other_fault s name word h ≡ []
+      → StepsOn (subcommand_or_other s.rules name waiting position word h).1
+  other_on (Some name) waiting position word h none = go (asks_help name) none
+    where
+      go : (b : Bool) → cond b (DisplayHelp ∷ InvalidSubcommand ∷ []) [] ≡ [] → b ≡ false
+      go true e = cc
+      go false e = refl
+  other_on None waiting position word h none = go (bytes_eq word (45 ∷ 45 ∷ []))
+    where
+      go : (b : Bool) → StepsOn (cond b (h, trailing position) (long_or_other s.rules waiting word (long_of word) h)).1
+      go true = tt
+      go false = long_on waiting word (long_of word) h
+
+  word_on : (names : Names) (is_trailing : Bool) (waiting : Waiting) (position : ℕ) (word : Text) (h : Held)
+      → word_fault s names is_trailing waiting word h ≡ [] → StepsOn (word_met s.rules names is_trailing waiting position word h).1
+  word_on names true waiting position word h none = tt
+  word_on names false waiting position word h none = other_on (subcommand_met names waiting word) waiting position word h none
+
+  turn_on : (names : Names) (w : Walk) (word : Text) → IsNoHelp w.stopped → turn_fault s names w word ≡ []
+      → IsNoHelp (walked s.rules names w word).stopped
+  unfolding walked
+  turn_on names w word before none = go w.stopped before none
+    where
+      go : (o : Option (Text × List Text)) → IsNoHelp o
+          → cond (is_some o) [] (or_else (word_fault s names w.is_trailing w.waiting word w.held)
+          (step_fault s w.position (word_met s.rules names w.is_trailing w.waiting w.position word w.held).0
+          (word_met s.rules names w.is_trailing w.waiting w.position word w.held).1)) ≡ []
+          → IsNoHelp (walked_from s.rules names o w word).stopped
+      go (Some p) fine e = fine
+      go None fine e = after word w _ _ before
+          (word_on names w.is_trailing w.waiting w.position word w.held (none_of_both _ _ e).0)
+
+  walk_on : (names : Names) (words : List Text) (w : Walk) → IsNoHelp w.stopped → walk_fault s names w words ≡ []
+      → IsNoHelp (fold (walked s.rules names) w words).stopped
+  unfolding walk_fault
+  walk_on names [] w before none = before
+  walk_on names (x ∷ xs) w before none =
+      let parts = none_of_both (turn_fault s names w x) _ none in
+      walk_on names xs (walked s.rules names w x) (turn_on names w x before parts.0) parts.1
+
+-- the shapes that `clap` builds
+abbrev top : Shape
+top = (built command_line).top
+
+-- the commands, and behind them `clap`'s own, `help`
+abbrev commands : List Shape
+commands = take 6 (built command_line).subs
+
+abbrev help_command : Shape
+help_command = slice_index_or (built command_line).subs 6 top
+
+has_met : (rows : List Row) (has : Bool) → check_fault top rows has ≡ [] → has ≡ true
+has_met rows true none = refl
+has_met rows false none = cc
+
+abbrev Stop : Type 0
+Stop = Option (Text × List Text)
+
+-- ---- what is named is a request
+
+abbrev request_met : Option (Text × List Row) → Option Request
+request_met met = option_and_then (λ named. request_named named.0 named.1) met
+
+abbrev IsRequest : Shape → Type 0
+IsRequest s = (rows : List Row) → is_some (request_named s.name rows) ≡ true
+
+abbrev AreRequests : List Shape → Type 0
+AreRequests [] = Unit {0}
+AreRequests (s ∷ subs) = IsRequest s × AreRequests subs
+
+abbrev found_in : List Shape → Text → Option Shape
+found_in subs word = find (λ s. answers_to word (label_of s)) subs
+
+met_among : (subs : List Shape) (help : Shape) (word : Text) (words : List Text) → AreRequests subs
+    → answers_to word (label_of help) ≡ false
+    → is_some (option_map (λ s. rows_at s words) (found_in (subs ++ help ∷ []) word)) ≡ true
+    → is_some (request_met (option_map (λ s. rows_at s words) (found_in (subs ++ help ∷ []) word))) ≡ true
+met_among [] help word words requests no_help met = go (answers_to word (label_of help)) no_help met
+  where
+    go : (b : Bool) → b ≡ false → is_some (option_map (λ s. rows_at s words) (cond b (Some help) None)) ≡ true
+        → is_some (request_met (option_map (λ s. rows_at s words) (cond b (Some help) None))) ≡ true
+    go true no_help met = cc
+    go false no_help met = cc
+met_among (s ∷ subs) help word words requests no_help met =
+    go (answers_to word (label_of s)) (λ later. met_among subs help word words requests.1 no_help later) met
+  where
+    go : (b : Bool)
+        → (is_some (option_map (λ s. rows_at s words) (found_in (subs ++ help ∷ []) word)) ≡ true
+        → is_some (request_met (option_map (λ s. rows_at s words) (found_in (subs ++ help ∷ []) word))) ≡ true)
+        → is_some (option_map (λ s. rows_at s words) (cond b (Some s) (found_in (subs ++ help ∷ []) word))) ≡ true
+        → is_some (request_met (option_map (λ s. rows_at s words) (cond b (Some s) (found_in (subs ++ help ∷ []) word)))) ≡ true
+    go true later met = requests.0 (rows_at s words).1
+    go false later met = later met
+
+not_named : (word name : Text) → (bytes_eq name word && true) ≡ false → (bytes_eq word name || false) ≡ false
+not_named word name differs = go (bytes_eq word name) refl
+  where
+    go : (b : Bool) → bytes_eq word name ≡ b → (b || false) ≡ false
+    go false e = refl
+    go true e =
+        let same : word ≡ name = (bytes_eq-Decides word name).0 e in
+        let back : bytes_eq name word ≡ true = (bytes_eq-Decides name word).1 (sym same) in
+        sym (ap (λ x. x && true) back) ∙ differs
+
+are_requests : AreRequests commands
+are_requests = ((λ rows. refl), ((λ rows. refl), ((λ rows. refl), ((λ rows. refl), ((λ rows. refl), ((λ rows. refl), tt))))))
+
+entered_request : (stop : Stop) → IsNoHelp top stop → is_some (entered (built command_line) stop) ≡ true
+    → is_some (request_met (entered (built command_line) stop)) ≡ true
+entered_request None no_help met = cc
+entered_request (Some p) no_help met =
+    met_among commands help_command p.0 p.1 are_requests (not_named (codes "help") p.0 no_help) met
+
+-- words without a fault name a command
+pub names_command : (words : List Text) → faults_in words ≡ [] → is_some (request_in words) ≡ true
+names_command words none =
+    let names = names_of (built command_line) in
+    let end = walk top.rules names nothing_held words in
+    let on = none_of_both (walk_fault top names (walk_from nothing_held) words) _ none in
+    let in_command = none_of_both (entered_fault (built command_line) end.stopped) _ on.1 in
+    let in_last = none_of_both (settle_fault top.rules top.args_override_self end.held) _ in_command.1 in
+    let in_defaults = none_of_both (defaults_fault (settled top.rules end.held).rows top.rules) _ in_last.1 in
+    entered_request end.stopped (walk_on top names words (walk_from nothing_held) tt on.0)
+    (has_met (finished top.rules end.held) (is_some (entered (built command_line) end.stopped)) in_defaults.1)
+
+-- ---- what the parse gives
+
+module _ {Z : Type 0} where
+  met_is : (sub : Option (Box SubCommand Z)) (name : Text) (rows : List Row)
+      → Some name ≡ option_map (λ b. (out-SubCommand (box_value b)).name.now) sub
+      → Some rows ≡ option_map (λ p. p.1) (subcommand_rows sub) → subcommand_rows sub ≡ Some (name, rows)
+  met_is None name rows same_name same_rows = cc
+  met_is (Some b) name rows same_name same_rows =
+      let name_is : (out-SubCommand (box_value b)).name.now ≡ name = cc in
+      let rows_is : rows_of (found_of (out-SubCommand (box_value b)).matches) ≡ rows = cc in
+      ap₂ (λ (n : Text) (r : List Row). Some (n, r)) name_is rows_is
+
+-- the name and the rows that the parse gives are those of the command that the words name
+pub request_is : (program : App) (words : List Text) (m : ArgMatches) (name : Text) (rows : List Row) → program ≡ command_line
+    → subcommand_rows_of m ≡ subcommand_of program words → Some name ≡ subcommand_name_of m
+    → Some rows ≡ option_map (λ p. p.1) (subcommand_rows_of m) → request_in words ≡ request_named name rows
+request_is program words m name rows same given name_is rows_is =
+    let met : subcommand_of command_line words ≡ Some (name, rows) =
+    sym (given ∙ ap (λ a. subcommand_of a words) same) ∙ met_is (out-ArgMatches m).subcommand name rows name_is rows_is in
+    ap request_met met
+
+-- ---- values of arguments
+
+-- the value that is read, or another text
+pub read_or : (given : Option (Bor Text)) (other : Bor Text) (text : Option Text) → option_map (λ s. s.now) given ≡ text
+    → (unwrap_or given other).now ≡ unwrap_or text other.now
+read_or None other text is = ap (λ (v : Option Text). unwrap_or v other.now) is
+read_or (Some lent) other text is = ap (λ (v : Option Text). unwrap_or v other.now) is

@@ -1,0 +1,3 @@
+mod CommandLineLemmas
+pub mod EndingLemmas
+mod StandardFacts

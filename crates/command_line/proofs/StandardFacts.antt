@@ -1,0 +1,57 @@
+-- What `clap` finds in words that are written out.
+use Rattle.std.proofs.Common.{◌≡◌, ◌∷◌, [], Some, codes, refl}
+use Rattle.clap.proofs.OnLiterals.{clap_on_literals}
+use Rattle.clap.specs.declared.error.kind.ErrorKind.TheVariants.{DisplayHelp, DisplayVersion, InvalidSubcommand, MissingRequiredArgument, MissingSubcommand, UnknownArgument, ValueValidation}
+use Rattle.command_line.specs.CommandLine.{faults_in, flood, request_in}
+
+in_first : faults_in (codes "first" ∷ []) ≡ []
+unfolding clap_on_literals
+in_first = refl
+
+in_no_words : faults_in [] ≡ MissingSubcommand ∷ []
+unfolding clap_on_literals
+in_no_words = refl
+
+in_unknown_word : faults_in (codes "second" ∷ []) ≡ UnknownArgument ∷ InvalidSubcommand ∷ []
+unfolding clap_on_literals
+in_unknown_word = refl
+
+in_one_word_more : faults_in (codes "first" ∷ codes "first" ∷ []) ≡ UnknownArgument ∷ []
+unfolding clap_on_literals
+in_one_word_more = refl
+
+in_help : faults_in (codes "--help" ∷ []) ≡ DisplayHelp ∷ []
+unfolding clap_on_literals
+in_help = refl
+
+in_help_on_first : faults_in (codes "first" ∷ codes "-h" ∷ []) ≡ DisplayHelp ∷ []
+unfolding clap_on_literals
+in_help_on_first = refl
+
+in_version : faults_in (codes "--version" ∷ []) ≡ DisplayVersion ∷ []
+unfolding clap_on_literals
+in_version = refl
+
+in_flood : faults_in (codes "flood" ∷ codes "--workers" ∷ codes "16" ∷ []) ≡ []
+unfolding clap_on_literals
+in_flood = refl
+
+in_flood_request : request_in (codes "flood" ∷ codes "--workers" ∷ codes "16" ∷ []) ≡ Some (flood (codes "16"))
+unfolding clap_on_literals
+in_flood_request = refl
+
+in_flood_of_none : faults_in (codes "flood" ∷ codes "--workers" ∷ codes "0" ∷ []) ≡ ValueValidation ∷ []
+unfolding clap_on_literals
+in_flood_of_none = refl
+
+in_flood_of_too_many : faults_in (codes "flood" ∷ codes "--workers" ∷ codes "17" ∷ []) ≡ ValueValidation ∷ []
+unfolding clap_on_literals
+in_flood_of_too_many = refl
+
+in_flood_of_a_letter : faults_in (codes "flood" ∷ codes "--workers" ∷ codes "x" ∷ []) ≡ ValueValidation ∷ []
+unfolding clap_on_literals
+in_flood_of_a_letter = refl
+
+in_flood_alone : faults_in (codes "flood" ∷ []) ≡ MissingRequiredArgument ∷ []
+unfolding clap_on_literals
+in_flood_alone = refl

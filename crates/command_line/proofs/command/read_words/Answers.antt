@@ -1,0 +1,25 @@
+use Rattle.std.proofs.Common.{map, None, Option, false, string_bytes, is_some, true, ◌≡◌, ◌∙◌, ap, sym, []}
+use Rattle.clap.specs.Words.{App, app_of, fault_of, found_of, is_simple, is_simple_and_free, rows_of}
+use Rattle.command_line.specs.CommandLine.{Request, command_line, faults_in, request_in}
+use Rattle.command_line.proofs.CommandLineLemmas.{names_command, request_is}
+use Rattle.command_line.proofs.command.read_words.Goals as goal
+
+pub unreachable-requires-in-None : goal.unreachable-requires-in-None
+unreachable-requires-in-None c =
+    let words = map string_bytes c.args.words.now in
+    let program_is : app_of c.in_ok-program.program ≡ command_line = c.in_ok-program.ensures in
+    let none : faults_in words ≡ [] =
+    ap (λ (a : App). fault_of a words) (sym program_is) ∙ c.in_ok-matches.ensures.kinds (ap is_simple_and_free program_is) in
+    let rows = (c.in_ok-matches.ensures.matches (ap is_simple program_is)).1 in
+    let named = request_is (app_of c.in_ok-program.program) words c.in_ok-matches.matches c.in-Some.name.now (rows_of (found_of c.in-Some.found.now))
+    program_is rows c.in-Some.ensures.name c.in-Some.ensures.rows in
+    let known : is_some (request_in words) ≡ true = names_command words none in
+    let is_none : ◌≡◌ {A = Option Request} None (request_in words) = c.in-None.ensures ∙ sym named in
+    let bad : false ≡ true = ap is_some is_none ∙ known in
+    cc
+
+pub returns-clause-faults : goal.returns-clause-faults
+returns-clause-faults c =
+    let words = map string_bytes c.args.words.now in
+    let program_is : app_of c.in_ok-program.program ≡ command_line = c.in_ok-program.ensures in
+    ap (λ (a : App). fault_of a words) (sym program_is) ∙ c.in_ok-matches.ensures.kinds (ap is_simple_and_free program_is)

@@ -1,0 +1,140 @@
+-- The program's command line, as the contracts of `clap` see it.
+use Rattle.std.specs.Prelude.{◌≡◌, ◌≢◌, ◌⊎◌, [], List, None, Option, Some, codes, if◌then◌else◌, option_and_then, true, unwrap_or}
+use Rattle.std.specs.Str.{bytes_eq}
+use Rattle.clap.specs.Walk.{first_of}
+use Rattle.clap.specs.Words.{App, IsAmong, Kinds, Row, Rule, Shape, Text, fault_of, new_app, new_rule, subcommand_of, with_rule, with_subcommand}
+use Rattle.clap.specs.declared.builder.value_parser.ValueParser.TheVariants.{Unsigned}
+use Rattle.clap.specs.declared.error.kind.ErrorKind.{ErrorKind}
+use Rattle.clap.specs.declared.error.kind.ErrorKind.TheVariants.{DisplayHelp, DisplayVersion}
+use Rattle.command_line.specs.declared.command.Query.{Query}
+use Rattle.command_line.specs.declared.command.Query.TheVariants as query
+use Rattle.command_line.specs.declared.command.Subcommand.{Subcommand}
+use Rattle.command_line.specs.declared.command.Subcommand.TheVariants as subcommand
+use Rattle.versions.specs.declared.layout.TheConstants.{WORKERS}
+
+-- a required argument by place, and one by name
+abbrev pub required_argument : Text → Rule
+required_argument id = record (new_rule id) { required = true }
+
+abbrev pub named_argument : Text → Rule
+named_argument id = record (new_rule id) { long = Some id; value_names = 1 }
+
+-- ---- the commands
+
+abbrev pub first_line : App
+first_line = new_app (codes "first")
+
+abbrev pub check_line : App
+check_line = new_app (codes "check")
+
+-- `compile EXPR`
+abbrev pub compile_line : App
+compile_line = with_rule (new_app (codes "compile")) (required_argument (codes "EXPR"))
+
+-- `run --packet HEX`, and an expression or none
+abbrev pub run_line : App
+run_line =
+    with_rule (with_rule (new_app (codes "run")) (record (named_argument (codes "packet")) { required = true }))
+    (named_argument (codes "expr"))
+
+abbrev pub replay_line : App
+replay_line = new_app (codes "replay")
+
+-- `flood --workers N`, N from 1 on
+abbrev pub flood_line : App
+flood_line = with_rule (new_app (codes "flood")) (record (named_argument (codes "workers")) { required = true; parser = Some (Unsigned 1 WORKERS) })
+
+abbrev pub bare : Shape
+bare = (new_app (codes "dswitch")).top
+
+abbrev pub without_commands : App
+without_commands = record {
+  top = record bare { has_version = true; no_binary_name = true; subcommand_required = true };
+  subs = [];
+}
+
+-- a command is required
+abbrev pub command_line : App
+command_line =
+    with_subcommand
+    (with_subcommand
+    (with_subcommand (with_subcommand (with_subcommand (with_subcommand without_commands first_line.top) check_line.top) compile_line.top)
+    run_line.top)
+    replay_line.top)
+    flood_line.top
+
+-- what `clap` finds in the words after the program's name: nothing, where they name a command
+abbrev pub faults_in : List Text → Kinds
+faults_in = fault_of command_line
+
+-- the help or the version is asked for
+abbrev pub AsksForText : Kinds → Type 0
+AsksForText kinds = IsAmong DisplayHelp kinds ⊎ IsAmong DisplayVersion kinds
+
+-- there is a fault beside requests for the help or the version
+abbrev pub HasMisuse : Kinds → Type 0
+HasMisuse kinds = (kind : ErrorKind) × IsAmong kind kinds × (kind ≢ DisplayHelp) × (kind ≢ DisplayVersion)
+
+-- ---- the command that is named
+
+-- a command with its arguments
+pub data Request : Type 0 where
+  first : Request
+  check : Request
+  compile : (expression : Text) → Request
+  run : (packet : Text) → Request
+  judge : (packet expression : Text) → Request
+  replay : Request
+  flood : (workers : Text) → Request
+
+abbrev pub query_request : Query → Request
+query_request query.First = first
+query_request query.Check = check
+query_request (query.Compile expression) = compile expression.now
+query_request (query.Run packet) = run packet.now
+query_request (query.Judge packet expression) = judge packet.now expression.now
+
+abbrev pub request_of : Subcommand → Request
+request_of (subcommand.Query asked) = query_request asked
+request_of subcommand.Replay = replay
+request_of (subcommand.Flood workers) = flood workers.now
+
+-- `run`, with an expression or without
+abbrev pub run_or_judge : Text → Option Text → Request
+run_or_judge packet None = run packet
+run_or_judge packet (Some expression) = judge packet expression
+
+-- the value of an argument, which a required one has
+abbrev pub value_in : List Row → Text → Text
+value_in rows id = unwrap_or (first_of id rows) []
+
+abbrev pub request_named : Text → List Row → Option Request
+request_named name rows =
+    if bytes_eq name (codes "first")
+    then Some first
+    else if bytes_eq name (codes "check")
+    then Some check
+    else if bytes_eq name (codes "compile")
+    then Some (compile (value_in rows (codes "EXPR")))
+    else if bytes_eq name (codes "run")
+    then Some (run_or_judge (value_in rows (codes "packet")) (first_of (codes "expr") rows))
+    else if bytes_eq name (codes "replay")
+    then Some replay
+    else if bytes_eq name (codes "flood")
+    then Some (flood (value_in rows (codes "workers")))
+    else None
+
+-- the command that the words name, with the values that they give its arguments
+abbrev pub request_in : List Text → Option Request
+request_in words = option_and_then (λ named. request_named named.0 named.1) (subcommand_of command_line words)
+
+-- ---- commands that may wait
+
+-- a command that may wait, which runs worker threads
+abbrev pub MayWait : Request → Type 0
+MayWait (flood workers) = Unit {0}
+MayWait _ = ⊥
+
+-- the words ask for a command that may wait
+abbrev pub AskToWait : List Text → Type 0
+AskToWait words = (faults_in words ≡ []) × ((request : Request) × (request_in words ≡ Some request) × MayWait request)

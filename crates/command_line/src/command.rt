@@ -1,0 +1,173 @@
+//! Which command the words name, by `clap` (docs/COMMANDS.md).
+
+ghost use Rattle.std.specs.Prelude.{◌≡◌, IfOk, Some, codes, false, map, string_bytes};
+ghost use Rattle.std.specs.Option.{option_map};
+ghost use Rattle.clap.specs.Walk.{first_of};
+ghost use Rattle.clap.specs.Words.{FailsBy, app_of, found_of, rows_of};
+ghost use Rattle.clap.specs.declared.builder.command.Command.TheViews.{out-Command};
+ghost use Rattle.command_line.specs.CommandLine.{command_line, compile_line, faults_in, flood_line, query_request, request_in, request_named, request_of, run_line, run_or_judge, value_in};
+
+use crate::help;
+use clap::builder::ValueParser;
+use clap::{Arg, ArgMatches, Command, Error};
+use std::alloc::{AllocError, Global};
+use versions::WORKERS;
+
+/// A command that has one result.
+#[derive(Clone, Copy, Debug, PartialEq, Eq)]
+pub enum Query<'a> {
+    First,
+    Check,
+    Compile {
+        expression: &'a str,
+    },
+    Run {
+        packet: &'a str,
+    },
+    /// `run` with an expression in place of a program.
+    Judge {
+        packet: &'a str,
+        expression: &'a str,
+    },
+}
+
+/// A command of the program, with its arguments.
+#[derive(Clone, Copy, Debug, PartialEq, Eq)]
+pub enum Subcommand<'a> {
+    Query(Query<'a>),
+    Replay,
+    /// `workers` is their number as it is written.
+    Flood { workers: &'a str },
+}
+
+fn compile_command<'a>(alloc: Global) -> Result<Command<'a>, AllocError>
+    ensures app { IfOk result (λ command. app_of command ≡ compile_line) }
+    ensures local { IfOk result (λ command. (out-Command command).has_globals ≡ false) }
+{
+    let expression = Arg::new(alloc, "EXPR")
+        .required(true)
+        .help(help::COMPILE_EXPRESSION);
+    Command::new(alloc, "compile")
+        .about(help::COMPILE)
+        .after_help(help::COMPILE_MORE)
+        .arg(expression)
+}
+
+fn run_command<'a>(alloc: Global) -> Result<Command<'a>, AllocError>
+    ensures app { IfOk result (λ command. app_of command ≡ run_line) }
+    ensures local { IfOk result (λ command. (out-Command command).has_globals ≡ false) }
+{
+    let packet = Arg::new(alloc, "packet")
+        .long("packet")
+        .value_name("HEX")
+        .required(true)
+        .help(help::RUN_PACKET);
+    let expression = Arg::new(alloc, "expr")
+        .long("expr")
+        .value_name("TEXT")
+        .help(help::RUN_EXPRESSION);
+    Command::new(alloc, "run")
+        .about(help::RUN)
+        .after_help(help::RUN_MORE)
+        .arg(packet)?
+        .arg(expression)
+}
+
+fn flood_command<'a>(alloc: Global) -> Result<Command<'a>, AllocError>
+    ensures app { IfOk result (λ command. app_of command ≡ flood_line) }
+    ensures local { IfOk result (λ command. (out-Command command).has_globals ≡ false) }
+{
+    let workers = Arg::new(alloc, "workers")
+        .long("workers")
+        .value_name("N")
+        .required(true)
+        .value_parser(ValueParser::unsigned(1, WORKERS as u64))
+        .help(help::FLOOD_WORKERS);
+    Command::new(alloc, "flood")
+        .about(help::FLOOD)
+        .after_help(help::FLOOD_MORE)
+        .arg(workers)
+}
+
+fn program<'a>(alloc: Global) -> Result<Command<'a>, AllocError>
+    ensures { IfOk result (λ program. app_of program ≡ command_line) }
+{
+    let first = Command::new(alloc, "first")
+        .about(help::FIRST)
+        .after_help(help::FIRST_MORE);
+    let check = Command::new(alloc, "check")
+        .about(help::CHECK)
+        .after_help(help::CHECK_MORE);
+    let compile = compile_command(alloc)?;
+    let run = run_command(alloc)?;
+    let replay = Command::new(alloc, "replay")
+        .about(help::REPLAY)
+        .after_help(help::REPLAY_MORE);
+    let flood = flood_command(alloc)?;
+    Command::new(alloc, "dswitch")
+        .bin_name("dswitch")?
+        .about(help::PROGRAM)
+        .after_help(help::STATUSES)
+        .version("0.1.0")
+        .no_binary_name(true)
+        .subcommand_required(true)
+        .subcommand(first)?
+        .subcommand(check)?
+        .subcommand(compile)?
+        .subcommand(run)?
+        .subcommand(replay)?
+        .subcommand(flood)
+}
+
+// The value of an argument, which a required one has.
+fn value_of<'a>(found: &ArgMatches<'a>, id: &str) -> &'a str
+    ensures { result.now ≡ value_in (rows_of (found_of found.now)) id.now }
+{
+    found.get_str(id).unwrap_or("")
+}
+
+fn run_or_judge<'a>(found: &ArgMatches<'a>) -> Query<'a>
+    ensures { query_request result
+        ≡ run_or_judge (value_in (rows_of (found_of found.now)) (codes "packet")) (first_of (codes "expr") (rows_of (found_of found.now))) }
+{
+    let packet = value_of(found, "packet");
+    match found.get_str("expr") {
+        None => Query::Run { packet },
+        Some(expression) => Query::Judge { packet, expression },
+    }
+}
+
+// The command of that name, with its arguments as `clap` found them.
+fn subcommand_of<'a>(name: &str, found: &ArgMatches<'a>) -> Option<Subcommand<'a>>
+    ensures { option_map request_of result ≡ request_named name.now (rows_of (found_of found.now)) }
+{
+    match name {
+        "first" => Some(Subcommand::Query(Query::First)),
+        "check" => Some(Subcommand::Query(Query::Check)),
+        "compile" => Some(Subcommand::Query(Query::Compile {
+            expression: value_of(found, "EXPR"),
+        })),
+        "run" => Some(Subcommand::Query(run_or_judge(found))),
+        "replay" => Some(Subcommand::Replay),
+        "flood" => Some(Subcommand::Flood {
+            workers: value_of(found, "workers"),
+        }),
+        _ => None,
+    }
+}
+
+/// Reads the words after the program's name. `Err` is a fault of the words, or the help or the version that they ask for.
+pub fn read_words<'a>(alloc: Global, words: &'a [String]) -> Result<Subcommand<'a>, Error>
+    ensures faults { FailsBy (faults_in (map string_bytes words.entry.now)) result }
+    ensures named { IfOk result (λ command. request_in (map string_bytes words.entry.now) ≡ Some (request_of command)) }
+{
+    let program = program(alloc)?;
+    let matches = program.try_get_matches_from(words)?;
+    let Some((name, found)) = matches.subcommand() else {
+        unreachable!();
+    };
+    match subcommand_of(name, found) {
+        Some(command) => Ok(command),
+        None => unreachable!(),
+    }
+}

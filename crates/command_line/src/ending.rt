@@ -1,0 +1,90 @@
+//! How a run of the program ends: its exit status, and why a command failed (docs/COMMANDS.md, "Statuses").
+
+ghost use Rattle.std.specs.Prelude.{◌≡◌, ◌≢◌};
+ghost use Rattle.std.specs.IoError.{error_kind};
+ghost use Rattle.command_line.specs.Ending.{AppendsBeginning, line_of};
+ghost use Rattle.command_line.specs.declared.ending.Failure.TheVariants.{OutOfMemory};
+
+use std::alloc::AllocError;
+use std::io::{self, ErrorKind, Write};
+
+/// The exit status.
+#[derive(Clone, Copy, Debug, PartialEq, Eq)]
+pub enum Status {
+    Done = 0,
+    /// The input of the command is at fault.
+    Refused = 1,
+    /// The words are at fault.
+    Misused = 2,
+    Failed = 3,
+}
+
+/// Why a command failed. Neither its words nor its input are to blame.
+#[derive(Clone, Copy, Debug, PartialEq, Eq)]
+pub enum Failure {
+    /// The input could not be read.
+    ReadFailed,
+    /// Results could not be written or flushed.
+    WriteFailed,
+    OutOfMemory,
+    /// A worker's thread could not be started.
+    SpawnFailed,
+}
+
+impl Failure {
+    fn line(self) -> &'static str
+        ensures { result.now ≡ line_of self }
+    {
+        match self {
+            Failure::ReadFailed => "failed E1\n",
+            Failure::WriteFailed => "failed E2\n",
+            Failure::OutOfMemory => "failed E3\n",
+            Failure::SpawnFailed => "failed J1\n",
+        }
+    }
+
+    /// Writes the line `failed CODE`. An error of `errs` changes nothing.
+    pub fn report<E: Write>(self, errs: &mut E) -> Status
+        ensures failed { result ≡ Status.Failed }
+        ensures told { AppendsBeginning (E.contents errs.old) (E.contents errs.new) (line_of self) }
+    {
+        write_what_fits(self.line().as_bytes(), errs);
+        let _ = errs.flush();
+        Status::Failed
+    }
+}
+
+// `write_all`, of which it is known how much was written where the writer fails.
+fn write_what_fits<W: Write>(bytes: &[u8], out: &mut W)
+    ensures { AppendsBeginning (W.contents out.old) (W.contents out.new) bytes.now }
+{
+    let mut rest = bytes;
+    'writing: for _ in 0..u64::MAX {
+        match out.write(rest) {
+            Ok(0) => break,
+            Ok(count) => rest = rest.split_at(count).1,
+            Err(error) if error.kind() == ErrorKind::Interrupted => {}
+            Err(_) => break,
+        }
+    }
+}
+
+impl From<AllocError> for Failure {
+    ghost from_gives = { λ _ failure. failure ≡ OutOfMemory };
+
+    fn from(_error: AllocError) -> Failure {
+        Failure::OutOfMemory
+    }
+}
+
+/// Tells that the arguments are no words: they are bytes, and words are text. `error` is what reading them ended with.
+pub fn refuse_arguments<E: Write>(error: &io::Error, errs: &mut E) -> Status
+    ensures no_memory { error_kind error.now ≡ ErrorKind.OutOfMemory → result ≡ Status.Failed }
+    ensures not_text { error_kind error.now ≢ ErrorKind.OutOfMemory → result ≡ Status.Misused }
+{
+    if error.kind() == ErrorKind::OutOfMemory {
+        return Failure::OutOfMemory.report(errs);
+    }
+    let _ = errs.write_all(b"error: an argument is not valid UTF-8\n");
+    Status::Misused
+}

@@ -1,0 +1,90 @@
+//! The command `replay`: a session with its packets, the scripts of examples/, and input that fails.
+
+use super::example_scripts::SCRIPTS;
+use super::streams::{Sink, Source};
+use super::{assert_told, owned, told};
+use std::io::ErrorKind;
+use std::test::Fail;
+use text_commands::tool;
+
+const SCRIPT: &str = "add 10.0.0.2:53\n\
+    join 10.0.0.2:53 1 127.0.0.1:9001\n\
+    join 10.0.0.2:53 2 127.0.0.1:9002\n\
+    join 10.0.0.2:53 3 127.0.0.1:9003\n\
+    packet 4500001d00000000401100000a0000010a000002138800350009000061\n\
+    leave 10.0.0.2:53 1\n\
+    leave 10.0.0.2:53 1\n\
+    selector 10.0.0.2:53 asm ret #0\n\
+    filter 10.0.0.2:53 3 expr udp and less 28\n\
+    packet 4500001d00000000401100000a0000010a000002138800350009000061\n\
+    show\n\
+    sweep\n\
+    sweep\n\
+    \n";
+
+const REPLIES: &str = "ok version 1\n\
+    ok version 2\n\
+    ok version 3\n\
+    ok version 4\n\
+    version 4 deliver 10.0.0.2:53 3 127.0.0.1:9003 29\n\
+    ok version 5\n\
+    refused G3\n\
+    ok version 6\n\
+    ok version 7\n\
+    version 7 dropped 10.0.0.2:53 3\n\
+    version 7 groups 1 members 2 charge 28\n\
+    reclaimed 0 7\n\
+    reclaimed 7 0\n\
+    refused C1\n";
+
+#[test]
+fn reply_is_one_write(rt: HostRuntime) -> Result<(), Fail> {
+    let (_, out, _) = told(rt.alloc(), &["replay"], b"show\nsweep\nshow")?;
+    assert_eq!(rt; out.writes, 3);
+    Ok(())
+}
+
+#[test]
+fn script_through_the_command(rt: HostRuntime) -> Result<(), Fail> {
+    assert_told(&rt, rt.alloc(), &["replay"], SCRIPT, 0, REPLIES)?;
+    assert_told(&rt, rt.alloc(), &["replay"], "", 0, "")?;
+    assert_told(
+        &rt,
+        rt.alloc(),
+        &["replay"],
+        "show",
+        0,
+        "version 0 groups 0 members 0 charge 2\n",
+    )
+}
+
+// Each line that was read whole is answered before the read that fails.
+#[test]
+fn script_that_cannot_be_read_on(rt: HostRuntime) -> Result<(), Fail> {
+    let words = owned(rt.alloc(), &["replay"])?;
+    let script = b"add 10.0.0.2:53\nshow\nsweep";
+    for (reads, replies) in [
+        (0, ""),
+        (1, ""),
+        (3, "ok version 1\n"),
+        (4, "ok version 1\nversion 1 groups 1 members 0 charge 6\n"),
+        (5, "ok version 1\nversion 1 groups 1 members 0 charge 6\n"),
+    ] {
+        let input = Source::new(script, 6, reads, ErrorKind::BrokenPipe);
+        let mut out = Sink::open(rt.alloc());
+        let mut errs = Sink::open(rt.alloc());
+        let status = tool(rt.alloc(), words.as_slice(), input, &mut out, &mut errs);
+        assert_eq!(rt; status, Some(3), "after {reads} reads");
+        assert_eq!(rt; out.text(), Some(replies), "after {reads} reads");
+        assert_eq!(rt; errs.text(), Some("failed E1\n"), "after {reads} reads");
+    }
+    Ok(())
+}
+
+#[test]
+fn scripts_of_the_examples(rt: HostRuntime) -> Result<(), Fail> {
+    for (script, replies) in SCRIPTS {
+        assert_told(&rt, rt.alloc(), &["replay"], script, 0, replies)?;
+    }
+    Ok(())
+}

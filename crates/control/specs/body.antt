@@ -1,0 +1,4 @@
+pub mod Ready
+pub mod Switch
+pub mod ScriptSoFar
+pub mod Writing

@@ -1,0 +1,9 @@
+mod RequestLemmas
+mod PacketLemmas
+mod ProgramLemmas
+pub mod OverLemmas
+pub mod ChangeLemmas
+pub mod LineLemmas
+mod OneLineLemmas
+mod OneAnswerLemmas
+mod StandardFacts

@@ -1,0 +1,131 @@
+-- What a line is answered, kind by kind, and what a refusal keeps.
+use Rattle.std.proofs.Common.{◌≡◌, ◌∙◌, ◌<◌, ◌≤◌, ◌∷◌, Err, List, Ok, Result, [], ap, inl, inr, length, refl, subst, sym, ℕ}
+use Rattle.std.proofs.lemmas.List.{length-map}
+use Rattle.config_image.specs.Image.{Group}
+use Rattle.member_group.specs.Charge.{charge_of, members_of}
+use Rattle.member_group.specs.declared.command.Command.{Command}
+use Rattle.versions.specs.Free.{number_after}
+use Rattle.read_section.specs.Operator.{OperatorValue}
+use Rattle.read_section.specs.declared.operator.Reclaimed.{Reclaimed}
+use Rattle.retire.specs.Publish.{IsBusy, Scanned, after_scans}
+use Rattle.retire.specs.Sweep.{Sweeps}
+use Rattle.retire.specs.declared.fault.PublishFault.TheVariants.{Busy, Exhausted, TooBig}
+use Rattle.control_line.specs.declared.TheConstants.{LINE_LIMIT}
+use Rattle.control_line.specs.declared.program.LineFault.{LineFault}
+use Rattle.control_line.specs.declared.program.LineFault.TheVariants as failure_of
+use Rattle.control_line.specs.declared.reason.Reason.{Reason}
+use Rattle.control_line.specs.declared.reason.Reason.TheVariants.{Publishing}
+use Rattle.control_line.specs.declared.reason.Reason.TheVariants as reason
+use Rattle.control_line.specs.declared.reply.LineAnswer.{LineAnswer}
+use Rattle.control_line.specs.declared.reply.LineAnswer.TheVariants.{Published, Refused, Shown, Swept}
+use Rattle.control_line.specs.Agrees.{Agrees, AgreesNow, TextConfig, group_over}
+use Rattle.control_line.specs.Answer.{Answers, Does, DoesNothing, DoesRefused, IsRefusedReply, IsReplyTo, LeavesConfig, PublishesNothing, bad_line, changed, charge_of_text, shown, swept, too_long}
+use Rattle.control_line.specs.Answer.{IsAnswered}
+use Rattle.control_line.specs.body.Making.{IsChanged, IsOutcome, IsShown}
+use Rattle.control_line.specs.Reply.{reply_text}
+use Rattle.control_line.specs.Request.{Request, Spells, change, show, sweep}
+use Rattle.program_text.specs.Program.{Source}
+use Rattle.control_line.proofs.ChangeLemmas.{agrees_with, charged_alike, scanned_keeps, still_agrees}
+use Rattle.control_line.proofs.OverLemmas.{members_of-over}
+use Rattle.control_line.proofs.RequestLemmas.{differ}
+
+-- ---- lines
+
+module _ (line : List ℕ) (before : OperatorValue) where
+  pub is_too_long : LINE_LIMIT < length line → IsAnswered line before before (Refused reason.LineTooLong)
+  is_too_long long = record { steps = refl; text = λ config agrees. (config, too_long long, agrees) }
+
+  module _ (short : length line ≤ LINE_LIMIT) where
+    pub is_bad_line : ((request : Request) → Spells line request → ⊥) → IsAnswered line before before (Refused reason.BadForm)
+    is_bad_line none = record { steps = refl; text = λ config agrees. (config, bad_line short none, agrees) }
+
+    is_changed : (command : Command Source) (after : OperatorValue) (answer : LineAnswer) → Spells line (change command) → IsChanged command before after answer → IsAnswered line before after answer
+    is_changed command after answer spells done = record {
+      steps = done.steps;
+      text = λ config agrees. let next = done.text config agrees in (next.0, changed command answer next.0 short spells next.1, next.2);
+    }
+
+    pub change_answered : (command : Command Source) (after : OperatorValue) (result : Result LineAnswer LineFault) → Spells line (change command) → IsOutcome (IsChanged command) before after result → IsOutcome (IsAnswered line) before after result
+    change_answered command after (Ok answer) spells done = is_changed command after answer spells done
+    change_answered command after (Err (failure_of.Refused why)) spells done = is_changed command after (Refused why) spells done
+    change_answered command after (Err failure_of.OutOfMemory) spells same = same
+
+    shown_alike : (config : TextConfig) (real : List Group) → Agrees config real → (version : ℕ) → Shown version (length real) (members_of real) (charge_of real) ≡ Shown version (length config) (members_of config) (charge_of_text config)
+    shown_alike config real agrees version =
+        let groups : length real ≡ length config = ap length agrees.2 ∙ (length-map agrees.0 (group_over (λ both. both.program)) ∙ (sym (length-map agrees.0 (group_over (λ both. both.text))) ∙ ap length (sym agrees.1))) in
+        let members : members_of real ≡ members_of config = ap members_of agrees.2 ∙ (members_of-over (λ both. both.program) agrees.0 ∙ (sym (members_of-over (λ both. both.text) agrees.0) ∙ ap members_of (sym agrees.1))) in
+        ap (λ n. Shown version n (members_of real) (charge_of real)) groups
+        ∙ ap (λ n. Shown version (length config) n (charge_of real)) members
+        ∙ ap (λ n. Shown version (length config) (members_of config) n) (charged_alike config real agrees)
+
+    pub is_shown : Spells line show → (answer : LineAnswer) → IsShown before.view answer → IsAnswered line before before answer
+    is_shown spells answer (real, current, is) = subst (IsAnswered line before before) (sym is) (record {
+      steps = refl;
+      text = λ config agrees. (
+        config,
+        subst (λ a. Answers (number_after before.view.log) config line a config) (sym (shown_alike config real (agrees_with config before.view real current agrees) (number_after before.view.log))) (shown short spells),
+        agrees,
+      );
+    })
+
+    pub is_swept : Spells line sweep → (after : OperatorValue) (reclaimed : Reclaimed) → Sweeps before after reclaimed.first reclaimed.count → IsAnswered line before after (Swept reclaimed)
+    is_swept spells after reclaimed sweeps = record {
+      steps = sweeps;
+      text = λ config agrees. (
+        config,
+        swept reclaimed short spells,
+        still_agrees config before.view after.view (ap (λ (o : OperatorValue). o.view.published) sweeps.reported ∙ scanned_keeps before sweeps.scanned sweeps.each) agrees,
+      );
+    }
+
+-- ---- what a refusal keeps
+
+keeps_same : (before after : OperatorValue) → after ≡ before → PublishesNothing before after
+keeps_same before after same = subst (PublishesNothing before) (sym same) (record { table = refl; published = refl; version_rows = refl; number = refl })
+
+scans_keep_versions : (scans : List Scanned) (before : OperatorValue) → PublishesNothing before (after_scans scans before)
+scans_keep_versions [] before = record { table = refl; published = refl; version_rows = refl; number = refl }
+scans_keep_versions (last ∷ earlier) before =
+    let kept = scans_keep_versions earlier before in
+    record { table = kept.table; published = kept.published; version_rows = kept.version_rows; number = kept.number }
+
+busy_keeps : (before after : OperatorValue) → IsBusy before after → PublishesNothing before after
+busy_keeps before after is_busy = subst (PublishesNothing before) (sym is_busy.scanned.no_more) (scans_keep_versions is_busy.scanned.scans before)
+
+pub nothing_keeps : (before after : OperatorValue) → DoesNothing before after → PublishesNothing before after
+nothing_keeps before after (inl same) = keeps_same before after same
+nothing_keeps before after (inr is_busy) = busy_keeps before after is_busy
+
+pub refused_does_nothing : (why : Reason) (before after : OperatorValue) → DoesRefused why before after → DoesNothing before after
+refused_does_nothing reason.BadForm before after does = inl does
+refused_does_nothing reason.LineTooLong before after does = inl does
+refused_does_nothing reason.PacketTooLong before after does = inl does
+refused_does_nothing (reason.Assembly fault) before after does = inl does
+refused_does_nothing (reason.Words fault) before after does = inl does
+refused_does_nothing (reason.Expression fault) before after does = inl does
+refused_does_nothing (reason.Compiling fault) before after does = inl does
+refused_does_nothing (reason.Command refusal) before after does = inl does
+refused_does_nothing (Publishing TooBig) before after does = inl does
+refused_does_nothing (Publishing Exhausted) before after does = inl does
+refused_does_nothing (Publishing Busy) before after does = inr does
+
+pub refusal_does_nothing : (answer : LineAnswer) (before after : OperatorValue) → Does answer before after → (reply : List ℕ) → reply ≡ reply_text answer → IsRefusedReply reply → DoesNothing before after
+refusal_does_nothing (Refused why) before after does reply is refusal = refused_does_nothing why before after does
+refusal_does_nothing (Published version) before after does reply is (rest, begins) = absurd (differ 0 (sym is ∙ begins) refl)
+refusal_does_nothing (Shown version groups members charge) before after does reply is (rest, begins) = absurd (differ 0 (sym is ∙ begins) refl)
+refusal_does_nothing (Swept reclaimed) before after does reply is (rest, begins) = absurd (differ 2 (sym is ∙ begins) refl)
+
+-- ---- the reply
+
+module _ (line : List ℕ) (before after : OperatorValue) (answer : LineAnswer) (answered : IsAnswered line before after answer) (reply : List ℕ) (is : reply ≡ reply_text answer) where
+  pub is_reply : (config : TextConfig) → AgreesNow config before.view → IsReplyTo config line before after reply
+  is_reply config agrees = let next = answered.text config agrees in (answer, next.0, next.1, is, answered.steps)
+
+  pub leaves_config : (config : TextConfig) → AgreesNow config before.view → LeavesConfig config line before after reply
+  leaves_config config agrees = let next = answered.text config agrees in (answer, next.0, next.1, is, next.2)
+
+  pub does_nothing : IsRefusedReply reply → DoesNothing before after
+  does_nothing refusal = refusal_does_nothing answer before after answered.steps reply is refusal
+
+  pub keeps : IsRefusedReply reply → PublishesNothing before after
+  keeps refusal = nothing_keeps before after (does_nothing refusal)

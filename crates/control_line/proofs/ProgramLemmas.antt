@@ -1,0 +1,13 @@
+-- The program that is made of a text agrees with the one that the text means.
+use Rattle.std.proofs.Common.{List, refl, ℕ}
+use Rattle.bpf_verify.specs.Program.{ProgramValue}
+use Rattle.program_text.specs.Program.{IsProgramOfAssembly, IsProgramOfExpression, assembly, expression, of_tree, of_words}
+use Rattle.control_line.specs.body.Making.{IsMade}
+
+pub made_of_assembly : (text : List ℕ) (program : ProgramValue) → IsProgramOfAssembly text program → IsMade (assembly text) program
+made_of_assembly text program is =
+    (record { text = of_words program.words; program = program; charge = is.charge; ending = λ packet small. refl }, is.assembled, refl)
+
+pub made_of_expression : (text : List ℕ) (program : ProgramValue) → IsProgramOfExpression text program → IsMade (expression text) program
+made_of_expression text program is =
+    (record { text = of_tree is.tree; program = program; charge = is.charge; ending = is.program_for.answers }, is.compilable, refl)

@@ -1,0 +1,106 @@
+-- Worked examples: lines and what they ask for, replies and their texts.
+use Rattle.std.proofs.Common.{◌≡◌, ◌∷◌, None, [], arith, codes, lit<, lit≤, refl}
+use Rattle.std.specs.Fmt.{digits}
+use Rattle.bpf_asm.specs.declared.fault.AsmFault.TheVariants as asm
+use Rattle.bpf_verify.specs.declared.fault.Fault.TheVariants as verify
+use Rattle.ipv4_fields.specs.declared.endpoint.Endpoint.{Endpoint}
+use Rattle.ipv4_fields.specs.Endpoint.{IsEndpoint}
+use Rattle.member_group.specs.declared.command.Command.TheVariants.{AddGroup, Join, SetFilter, SetSelector}
+use Rattle.member_group.specs.declared.refusal.Refusal.TheVariants.{GroupExists, NoMember}
+use Rattle.retire.specs.declared.fault.PublishFault.TheVariants.{Busy}
+use Rattle.control_line.specs.declared.reason.Reason.TheVariants.{Assembly, BadForm, Command, Publishing, Words}
+use Rattle.control_line.specs.declared.reply.LineAnswer.TheVariants.{Published, Refused, Shown, Swept}
+use Rattle.control_line.specs.Agrees.{Agrees, TextConfig}
+use Rattle.control_line.specs.Answer.{Answers, changed, published, refused, shown}
+use Rattle.control_line.specs.Reply.{reply_text}
+use Rattle.control_line.specs.Request.{Spells, change, show}
+use Rattle.program_text.specs.Program.{assembly, expression}
+
+-- 10.0.0.2:53 and 127.0.0.1:9001
+abbrev key : Endpoint
+key = record { address = 167772162; port = 53 }
+
+abbrev to : Endpoint
+to = record { address = 2130706433; port = 9001 }
+
+key_range : IsEndpoint key
+key_range = record { address = lit< tt; port = lit< tt }
+
+to_range : IsEndpoint to
+to_range = record { address = lit< tt; port = lit< tt }
+
+-- ---- lines
+
+adds : Spells (codes "add 10.0.0.2:53") (change (AddGroup key))
+unfolding digits
+adds = (codes "add" ∷ codes "10.0.0.2:53" ∷ [], refl, (key_range, refl))
+
+joins : Spells (codes "join 10.0.0.2:53 1 127.0.0.1:9001") (change (Join key 1 to))
+unfolding digits
+joins = (codes "join" ∷ codes "10.0.0.2:53" ∷ codes "1" ∷ codes "127.0.0.1:9001" ∷ [], refl, (key_range, lit< tt, to_range, refl))
+
+-- two spaces: the second belongs to the text
+selects : Spells (codes "selector 10.0.0.2:53 asm  ret #0") (change (SetSelector key (assembly (codes " ret #0"))))
+unfolding digits
+selects = (codes "selector" ∷ codes "10.0.0.2:53" ∷ codes "asm" ∷ codes " ret #0" ∷ [], refl, (key_range, refl))
+
+-- no text at all
+filters : Spells (codes "filter 10.0.0.2:53 3 expr ") (change (SetFilter key 3 (expression [])))
+unfolding digits
+filters = (codes "filter" ∷ codes "10.0.0.2:53" ∷ codes "3" ∷ codes "expr" ∷ [] ∷ [], refl, (key_range, lit< tt, refl))
+
+shows : Spells (codes "show") show
+shows = refl
+
+-- ---- what a line is answered, from the empty configuration on
+
+empty_agrees : Agrees [] []
+empty_agrees = ([], refl, refl)
+
+abbrev one_group : TextConfig
+one_group = record { key = key; selector = None; members = [] } ∷ []
+
+adds_a_group : Answers 0 [] (codes "add 10.0.0.2:53") (Published 1) one_group
+adds_a_group =
+    changed (AddGroup key) _ _ (lit≤ tt) adds
+    (published _ (record { made = AddGroup key; means = refl; applied = refl; is = refl }) (lit≤ tt) (λ e. absurd (omega arith)))
+
+refuses_it_again : Answers 1 one_group (codes "add 10.0.0.2:53") (Refused (Command GroupExists)) one_group
+refuses_it_again = changed (AddGroup key) _ _ (lit≤ tt) adds (refused (AddGroup key) GroupExists refl refl)
+
+shows_it : Answers 1 one_group (codes "show") (Shown 1 1 0 6) one_group
+shows_it = shown (lit≤ tt) refl
+
+-- ---- replies
+
+published_text : reply_text (Published 7) ≡ codes "ok version 7"
+unfolding digits
+published_text = refl
+
+shown_text : reply_text (Shown 7 1 2 28) ≡ codes "version 7 groups 1 members 2 charge 28"
+unfolding digits
+shown_text = refl
+
+swept : reply_text (Swept (record { first = 0; count = 7 })) ≡ codes "reclaimed 0 7"
+unfolding digits
+swept = refl
+
+bad_line : reply_text (Refused BadForm) ≡ codes "refused C1"
+bad_line = refl
+
+no_member : reply_text (Refused (Command NoMember)) ≡ codes "refused G3"
+no_member = refl
+
+busy : reply_text (Refused (Publishing Busy)) ≡ codes "refused B2"
+busy = refl
+
+syntax_fault : reply_text (Refused (Assembly (asm.Syntax 2))) ≡ codes "refused A1 2"
+unfolding digits
+syntax_fault = refl
+
+jump_outside : reply_text (Refused (Words (verify.JumpOutside 0))) ≡ codes "refused V8 0"
+unfolding digits
+jump_outside = refl
+
+unended : reply_text (Refused (Words verify.NoReturn)) ≡ codes "refused V10"
+unended = refl

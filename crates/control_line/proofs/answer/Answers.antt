@@ -1,0 +1,26 @@
+use Rattle.std.proofs.Common.{subst}
+use Rattle.control_line.specs.Request.{Spells}
+use Rattle.control_line.specs.body.Reading.{command_over, request_of, source_of}
+use Rattle.control_line.proofs.LineLemmas.{change_answered, is_bad_line, is_shown, is_swept, is_too_long}
+use Rattle.control_line.proofs.answer.Goals as goal
+
+pub returns-then-text-gt-LINE_LIMIT : goal.returns-then-text-gt-LINE_LIMIT
+returns-then-text-gt-LINE_LIMIT c = is_too_long c.args.text.now c.args.operator.now c.if-text-gt-LINE_LIMIT.true
+
+pub returns-in-None : goal.returns-in-None
+returns-in-None c = is_bad_line c.args.text.now c.args.operator.now c.if-text-gt-LINE_LIMIT.false c.in-None.ensures
+
+pub returns-in-Some-Change : goal.returns-in-Some-Change
+returns-in-Some-Change c =
+    change_answered c.args.text.now c.args.operator.now c.if-text-gt-LINE_LIMIT.false (command_over source_of c.in-Some-Change.command) c.publish_change.new.operator c.publish_change.result
+    (subst (λ request. Spells c.args.text.now (request_of request)) c.in-Some-Change.field-0-is c.in-Some-Change.ensures) c.publish_change.ensures
+
+pub returns-in-Some-Show : goal.returns-in-Some-Show
+returns-in-Some-Show c =
+    is_shown c.args.text.now c.args.operator.now c.if-text-gt-LINE_LIMIT.false
+    (subst (λ request. Spells c.args.text.now (request_of request)) c.in-Some-Show.field-0-is c.in-Some-Show.ensures) c.shown.result c.shown.ensures
+
+pub returns-in-Some-Sweep : goal.returns-in-Some-Sweep
+returns-in-Some-Sweep c =
+    is_swept c.args.text.now c.args.operator.now c.if-text-gt-LINE_LIMIT.false
+    (subst (λ request. Spells c.args.text.now (request_of request)) c.in-Some-Sweep.field-0-is c.in-Some-Sweep.ensures) c.sweep.new.self c.sweep.result c.sweep.ensures.sweep_exact

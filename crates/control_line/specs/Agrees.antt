@@ -1,0 +1,44 @@
+-- Configurations over the programs that texts mean, and when one agrees with the operator's.
+use Rattle.std.specs.Prelude.{◌≡◌, List, map, option_map, ℕ}
+use Rattle.bpf_machine.specs.Meaning.{ending_of}
+use Rattle.bpf_verify.specs.Program.{ProgramValue}
+use Rattle.filter_compile.specs.Answer.{IsPacket}
+use Rattle.config_image.specs.Image.{Group}
+use Rattle.member_group.specs.Group.{GroupOf}
+use Rattle.member_group.specs.declared.member.Member.{Member}
+use Rattle.versions.specs.declared.view.OperatorView.{OperatorView}
+use Rattle.read_section.specs.Operator.{IsCurrent}
+use Rattle.program_text.specs.Program.{TextProgram, text_charge, text_ending}
+
+abbrev pub TextConfig : Type 0
+TextConfig = List (GroupOf TextProgram)
+
+-- a member, a group and a configuration with another kind of programs
+abbrev pub member_over : {P Q : Type 0} → (P → Q) → Member P → Member Q
+member_over over member = record { id = member.id; to = member.to; filter = option_map over member.filter }
+
+abbrev pub group_over : {P Q : Type 0} → (P → Q) → GroupOf P → GroupOf Q
+group_over over group =
+    record { key = group.key; selector = option_map over group.selector; members = map (member_over over) group.members }
+
+abbrev pub config_over : {P Q : Type 0} → (P → Q) → List (GroupOf P) → List (GroupOf Q)
+config_over over config = map (group_over over) config
+
+-- a program of the operator's is one of the text: the same charge, and the same ending on every packet
+pub record Agreeing : Type 0 where
+  pub text : TextProgram
+  pub program : ProgramValue
+  pub charge : program.charge ≡ text_charge text
+  pub ending : (packet : List ℕ) → IsPacket packet → ending_of program.words packet ≡ text_ending text packet
+
+-- two configurations are the sides of one whose programs are pairs that agree: they have the same keys, the same members,
+-- and a program in the same places, with the same charge and the same ending on every packet
+abbrev pub Agrees : TextConfig → List Group → Type 0
+Agrees text config =
+    (pairs : List (GroupOf Agreeing))
+    × (text ≡ config_over (λ both. both.text) pairs)
+    × (config ≡ config_over (λ both. both.program) pairs)
+
+-- a configuration agrees with the one that the operator published last
+abbrev pub AgreesNow : TextConfig → OperatorView (List Group) → Type 0
+AgreesNow text view = (config : List Group) × IsCurrent view config × Agrees text config

@@ -1,0 +1,155 @@
+-- What a line is answered, and which configuration it leaves (docs/COMMANDS.md, "Control lines").
+use Rattle.std.specs.Prelude.{◌≡◌, ◌+◌, ◌<◌, ◌≤◌, ◌++◌, ◌⊎◌, List, None, Option, Some, codes, length, ℕ}
+use Rattle.member_group.specs.Charge.{charge_by, members_of}
+use Rattle.member_group.specs.Command.{after}
+use Rattle.member_group.specs.Refusal.{first_refusal}
+use Rattle.member_group.specs.declared.command.Command.{Command}
+use Rattle.member_group.specs.declared.command.Command.TheVariants.{AddGroup, ClearFilter, ClearSelector, Join, Leave, RemoveGroup, SetFilter, SetSelector}
+use Rattle.member_group.specs.declared.refusal.Refusal.{Refusal}
+use Rattle.config_image.specs.Image.{Group}
+use Rattle.versions.specs.Free.{number_after}
+use Rattle.versions.specs.declared.layout.TheConstants.{CHARGE_LIMIT, LAST_NUMBER}
+use Rattle.read_section.specs.Operator.{OperatorValue}
+use Rattle.read_section.specs.declared.operator.Reclaimed.{Reclaimed}
+use Rattle.retire.specs.Publish.{IsBusy, Publishes}
+use Rattle.retire.specs.Sweep.{Sweeps}
+use Rattle.retire.specs.declared.fault.PublishFault.TheVariants.{Busy, Exhausted, TooBig}
+use Rattle.program_text.specs.Program.{IsMeaningOf, Source, TextProgram, text_charge}
+use Rattle.control_line.specs.declared.TheConstants.{LINE_LIMIT}
+use Rattle.control_line.specs.declared.reason.Reason.{Reason}
+use Rattle.control_line.specs.declared.reason.Reason.TheVariants.{BadForm, LineTooLong, Publishing}
+use Rattle.control_line.specs.declared.reason.Reason.TheVariants as reason
+use Rattle.control_line.specs.declared.reply.LineAnswer.{LineAnswer}
+use Rattle.control_line.specs.declared.reply.LineAnswer.TheVariants.{Published, Refused, Shown, Swept}
+use Rattle.control_line.specs.Agrees.{AgreesNow, TextConfig}
+use Rattle.control_line.specs.Reply.{reply_text}
+use Rattle.control_line.specs.Reason.{IsRefusalOfText}
+use Rattle.control_line.specs.Request.{Request, Spells, change, show, sweep}
+
+-- the program that a command has, or none
+abbrev pub program_in : {P : Type 0} → Command P → Option P
+program_in (SetSelector key program) = Some program
+program_in (SetFilter key id program) = Some program
+program_in _ = None
+
+-- the command that the texts of a line make
+abbrev pub Means : Command Source → Command TextProgram → Type 0
+Means (AddGroup key) made = made ≡ AddGroup key
+Means (RemoveGroup key) made = made ≡ RemoveGroup key
+Means (Join key id to) made = made ≡ Join key id to
+Means (Leave key id) made = made ≡ Leave key id
+Means (SetSelector key source) made = (program : TextProgram) × IsMeaningOf source program × (made ≡ SetSelector key program)
+Means (ClearSelector key) made = made ≡ ClearSelector key
+Means (SetFilter key id source) made = (program : TextProgram) × IsMeaningOf source program × (made ≡ SetFilter key id program)
+Means (ClearFilter key id) made = made ≡ ClearFilter key id
+
+-- what is charged for a configuration
+abbrev pub charge_of_text : TextConfig → ℕ
+charge_of_text config = charge_by text_charge config
+
+-- the texts make a command that the configuration does not refuse, and this is the next configuration
+pub record LeadsTo (config : TextConfig) (command : Command Source) (next : TextConfig) : Type 0 where
+  pub made : Command TextProgram
+  pub means : Means command made
+  pub applied : first_refusal made config ≡ None
+  pub is : next ≡ after made config
+
+-- What a change is answered at a version and its configuration, and the configuration that it leaves. The refusals come in
+-- this order.
+pub data Changes (version : ℕ) (config : TextConfig) (command : Command Source) : LineAnswer → TextConfig → Type 0 where
+  bad_text : (source : Source) (why : Reason) → program_in command ≡ Some source → IsRefusalOfText source why →
+      Changes version config command (Refused why) config
+  refused : (made : Command TextProgram) (refusal : Refusal) → Means command made →
+      first_refusal made config ≡ Some refusal →
+      Changes version config command (Refused (reason.Command refusal)) config
+  too_big : (next : TextConfig) → LeadsTo config command next → CHARGE_LIMIT < charge_of_text next →
+      Changes version config command (Refused (Publishing TooBig)) config
+  exhausted : (next : TextConfig) → LeadsTo config command next →
+      charge_of_text next ≤ CHARGE_LIMIT → version ≡ LAST_NUMBER →
+      Changes version config command (Refused (Publishing Exhausted)) config
+  busy : (next : TextConfig) → LeadsTo config command next →
+      charge_of_text next ≤ CHARGE_LIMIT → ¬ (version ≡ LAST_NUMBER) →
+      Changes version config command (Refused (Publishing Busy)) config
+  published : (next : TextConfig) → LeadsTo config command next →
+      charge_of_text next ≤ CHARGE_LIMIT → ¬ (version ≡ LAST_NUMBER) →
+      Changes version config command (Published (version + 1)) next
+
+-- The same of a line. Whether a change is refused as busy, and what a sweep reclaims, is the operator's to say.
+pub data Answers (version : ℕ) (config : TextConfig) (line : List ℕ) : LineAnswer → TextConfig → Type 0 where
+  too_long : LINE_LIMIT < length line → Answers version config line (Refused LineTooLong) config
+  bad_line : length line ≤ LINE_LIMIT → ((request : Request) → ¬ Spells line request) →
+      Answers version config line (Refused BadForm) config
+  changed : (command : Command Source) (answer : LineAnswer) (next : TextConfig) → length line ≤ LINE_LIMIT →
+      Spells line (change command) → Changes version config command answer next → Answers version config line answer next
+  shown : length line ≤ LINE_LIMIT → Spells line show →
+      Answers version config line (Shown version (length config) (members_of config) (charge_of_text config)) config
+  swept : (reclaimed : Reclaimed) → length line ≤ LINE_LIMIT → Spells line sweep →
+      Answers version config line (Swept reclaimed) config
+
+-- the operator decides between two answers: whether a publication is made or busy, and what a sweep reclaims
+abbrev pub IsOperatorsChoice : LineAnswer → TextConfig → LineAnswer → TextConfig → Type 0
+IsOperatorsChoice (Published version) next (Refused (Publishing Busy)) also = Unit {0}
+IsOperatorsChoice (Refused (Publishing Busy)) next (Published version) also = Unit {0}
+IsOperatorsChoice (Swept one) next (Swept other) also = next ≡ also
+IsOperatorsChoice one next other also = ⊥
+
+-- two answers and the configurations that they leave are one, or the operator decides between them
+abbrev pub AreOne : LineAnswer → TextConfig → LineAnswer → TextConfig → Type 0
+AreOne one next other also = ((one ≡ other) × (next ≡ also)) ⊎ IsOperatorsChoice one next other also
+
+-- a line has one answer at a version and its configuration, but for what the operator has to say
+abbrev pub HasOneAnswer : Type 0
+HasOneAnswer =
+    (version : ℕ) (config : TextConfig) (line : List ℕ) (one other : LineAnswer) (next also : TextConfig) →
+    Answers version config line one next → Answers version config line other also → AreOne one next other also
+
+-- what the operator does with a refusal: nothing, but for the scans of a publication that is busy
+abbrev pub DoesRefused : Reason → OperatorValue → OperatorValue → Type 0
+DoesRefused (Publishing Busy) before after = IsBusy before after
+DoesRefused _ before after = after ≡ before
+
+-- what it does with each answer
+abbrev pub Does : LineAnswer → OperatorValue → OperatorValue → Type 0
+Does (Refused why) before after = DoesRefused why before after
+Does (Published version) before after = (config : List Group) × Publishes before after config
+Does (Shown version groups members charge) before after = after ≡ before
+Does (Swept reclaimed) before after = Sweeps before after reclaimed.first reclaimed.count
+
+-- a line is answered, for each configuration that agrees with the operator's
+pub record IsAnswered (line : List ℕ) (before after : OperatorValue) (answer : LineAnswer) : Type 0 where
+  pub steps : Does answer before after
+  pub text : (config : TextConfig) → AgreesNow config before.view →
+      (next : TextConfig) × Answers (number_after before.view.log) config line answer next × AgreesNow next after.view
+
+-- nothing is published, and the current version stays
+pub record PublishesNothing (before after : OperatorValue) : Type 0 where
+  pub table : after.table ≡ before.table
+  pub published : after.view.published ≡ before.view.published
+  pub version_rows : after.view.version_rows ≡ before.view.version_rows
+  pub number : number_after after.view.log ≡ number_after before.view.log
+
+-- the reply is the text's, for a configuration that agrees with the operator's
+abbrev pub IsReplyTo : TextConfig → List ℕ → OperatorValue → OperatorValue → List ℕ → Type 0
+IsReplyTo config line before after reply =
+    (answer : LineAnswer)
+    × (next : TextConfig)
+    × Answers (number_after before.view.log) config line answer next
+    × (reply ≡ reply_text answer)
+    × Does answer before after
+
+-- and so is the configuration that it leaves
+abbrev pub LeavesConfig : TextConfig → List ℕ → OperatorValue → OperatorValue → List ℕ → Type 0
+LeavesConfig config line before after reply =
+    (answer : LineAnswer)
+    × (next : TextConfig)
+    × Answers (number_after before.view.log) config line answer next
+    × (reply ≡ reply_text answer)
+    × AgreesNow next after.view
+
+-- nothing is done, but for the scans of a publication that is busy
+abbrev pub DoesNothing : OperatorValue → OperatorValue → Type 0
+DoesNothing before after = (after ≡ before) ⊎ IsBusy before after
+
+-- a reply that refuses
+abbrev pub IsRefusedReply : List ℕ → Type 0
+IsRefusedReply reply = (rest : List ℕ) × (reply ≡ codes "refused " ++ rest)

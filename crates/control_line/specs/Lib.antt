@@ -1,0 +1,11 @@
+pub mod Request
+pub mod Reason
+pub mod Reply
+pub mod Agrees
+pub mod Answer
+pub mod Packet
+pub mod body
+pub use Rattle.ipv4_fields.specs.Endpoint
+pub use Rattle.ipv4_fields.specs.Cut
+pub use Rattle.program_text.specs.Program
+pub use Rattle.program_text.specs.Fault

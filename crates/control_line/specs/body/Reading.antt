@@ -1,0 +1,49 @@
+-- What the steps of reading a line give.
+use Rattle.std.specs.Prelude.{◌∷◌, List, MatchOption, None, Option, Some, [], codes, ℕ}
+use Rattle.member_group.specs.declared.command.Command.{Command}
+use Rattle.member_group.specs.declared.command.Command.TheVariants.{AddGroup, ClearFilter, ClearSelector, Join, Leave, RemoveGroup, SetFilter, SetSelector}
+use Rattle.program_text.specs.Program.{Source, assembly, expression}
+use Rattle.control_line.specs.declared.request.ProgramText.{ProgramText as LentText}
+use Rattle.control_line.specs.declared.request.ProgramText.TheVariants as lent
+use Rattle.control_line.specs.declared.request.Request.{Request as LentRequest}
+use Rattle.control_line.specs.declared.request.Request.TheVariants as lent_request
+use Rattle.control_line.specs.Request.{Request, Spells, change, show, sweep}
+
+-- the fields that a program ends a line with, or none
+abbrev pub program_fields : Option Source → List (List ℕ)
+program_fields None = codes "none" ∷ []
+program_fields (Some (assembly text)) = codes "asm" ∷ text ∷ []
+program_fields (Some (expression text)) = codes "expr" ∷ text ∷ []
+
+-- what a contract sees of a request: the texts without where they lie
+abbrev pub source_of : LentText → Source
+source_of (lent.Assembly text) = assembly text.now
+source_of (lent.Expression text) = expression text.now
+
+-- a command with another kind of programs
+abbrev pub command_over : {P Q : Type 0} → (P → Q) → Command P → Command Q
+command_over over (AddGroup key) = AddGroup key
+command_over over (RemoveGroup key) = RemoveGroup key
+command_over over (Join key id to) = Join key id to
+command_over over (Leave key id) = Leave key id
+command_over over (SetSelector key program) = SetSelector key (over program)
+command_over over (ClearSelector key) = ClearSelector key
+command_over over (SetFilter key id program) = SetFilter key id (over program)
+command_over over (ClearFilter key id) = ClearFilter key id
+
+abbrev pub request_of : LentRequest → Request
+request_of (lent_request.Change command) = change (command_over source_of command)
+request_of lent_request.Show = show
+request_of lent_request.Sweep = sweep
+
+-- what a line asks for, or nothing where it is no line of the table
+abbrev pub IsRead : List ℕ → Option LentRequest → Type 0
+IsRead line result =
+    MatchOption result ((request : Request) → Spells line request → ⊥) (λ request. Spells line (request_of request))
+
+-- the same of a line that asks for a change
+abbrev pub IsCommandRead : List ℕ → Option (Command LentText) → Type 0
+IsCommandRead line result =
+    MatchOption result
+    ((command : Command Source) → Spells line (change command) → ⊥)
+    (λ command. Spells line (change (command_over source_of command)))

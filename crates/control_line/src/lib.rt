@@ -1,0 +1,109 @@
+//! Control lines, one reply each (docs/COMMANDS.md, "Control lines").
+//!
+//! A line changes the configuration and publishes the next version of it, or tells of the current one, or sweeps. Its text is
+//! read, its programs are made and all memory is taken before the operator does anything.
+//!
+//! `Reason` is why a line is refused, or a command of the program (docs/COMMANDS.md, "Refusals").
+#![tactic(auto)]
+
+ghost use Rattle.std.specs.Prelude.{◌≡◌, [], IfOk, OnErr};
+ghost use Rattle.control_line.specs.declared.reply.LineAnswer.{LineAnswer as LineAnswerValue};
+ghost use Rattle.control_line.specs.Agrees.{Agrees, AgreesNow, TextConfig};
+ghost use Rattle.control_line.specs.Answer.{DoesNothing, HasOneAnswer, IsAnswered, IsRefusedReply, IsReplyTo, LeavesConfig, PublishesNothing};
+ghost use Rattle.control_line.specs.body.Making.{IsOutcome, IsShown};
+ghost use Rattle.control_line.specs.Reply.{reply_text};
+ghost use Rattle.control_line.specs.Request.{AsksForOneThing};
+
+mod change;
+mod packet;
+mod program;
+mod reason;
+mod reply;
+mod request;
+
+use change::publish_change;
+pub use packet::packet_of_hex;
+use program::LineFault;
+use read_section::Operator;
+pub use reason::{Code, Reason};
+pub use reply::{LineAnswer, NUMBER_LIMIT, REPLY_LIMIT, Reply};
+use request::{Request, read_request};
+use retire::Retire;
+use std::alloc::{AllocError, Global};
+
+/// The answer of a call that was refused memory.
+pub use std::alloc::AllocError as OutOfMemory;
+
+/// The most bytes of a control line.
+pub const LINE_LIMIT: usize = 262_144;
+
+fn shown(operator: &Operator) -> LineAnswer
+    ensures { IsShown operator.now.view result }
+{
+    let config = operator.config();
+    LineAnswer::Shown {
+        version: operator.number(),
+        groups: config.groups().len(),
+        members: config.members(),
+        charge: config.charge(),
+    }
+}
+
+fn answer(alloc: Global, text: &[u8], operator: &mut Operator) -> Result<LineAnswer, LineFault>
+    ensures { IsOutcome (IsAnswered text.now) operator.old operator.new result }
+{
+    if text.len() > LINE_LIMIT {
+        return Err(LineFault::Refused(Reason::LineTooLong));
+    }
+    match read_request(text) {
+        None => Err(LineFault::Refused(Reason::BadForm)),
+        Some(Request::Change(command)) => publish_change(alloc, command, operator),
+        Some(Request::Show) => Ok(shown(operator)),
+        Some(Request::Sweep) => Ok(LineAnswer::Swept(operator.sweep())),
+    }
+}
+
+/// Answers a control line, which stands in `text` without its LF, and does what it asks for.
+///
+/// A line that is too long is refused first, then one that is none of the table, then a program's text, then the command, then
+/// the publication. A refusal publishes nothing, and does nothing but the scans of a publication that is busy. The text may be
+/// any bytes.
+pub fn line(alloc: Global, text: &[u8], operator: &mut Operator) -> Result<Reply, OutOfMemory>
+    ensures reply { IfOk result (λ reply. (config : TextConfig) → AgreesNow config operator.old.view →
+        IsReplyTo config text.now operator.old operator.new reply) }
+    ensures new_configuration { IfOk result (λ reply. (config : TextConfig) → AgreesNow config operator.old.view →
+        LeavesConfig config text.now operator.old operator.new reply) }
+
+    // One answer is the reply, what was done, and, for each such configuration, what the text means.
+    ensures answered { IfOk result (λ reply. (answer : LineAnswerValue) × (reply ≡ reply_text answer) × IsAnswered text.now operator.old operator.new answer) }
+
+    ensures kept { IfOk result (λ reply. IsRefusedReply reply → PublishesNothing operator.old operator.new) }
+    ensures only_scans { IfOk result (λ reply. IsRefusedReply reply → DoesNothing operator.old operator.new) }
+
+    ensures unchanged { OnErr result (operator.new ≡ operator.old) }
+{
+    match answer(alloc, text, operator) {
+        Ok(answer) => Ok(Reply::of(answer)),
+        Err(LineFault::Refused(reason)) => Ok(Reply::of(LineAnswer::Refused(reason))),
+        Err(LineFault::OutOfMemory) => Err(AllocError),
+    }
+}
+
+/// Law: no line asks for two things. It runs nothing.
+#[tactic(auto, using(crate::proofs::OneLineLemmas::one_thing))]
+pub fn one_request()
+    ensures { AsksForOneThing }
+{}
+
+/// Law: a line has one answer, but for whether a publication is busy and for what a sweep reclaims. It runs nothing.
+pub fn one_reply()
+    ensures { HasOneAnswer }
+{
+    program_text::one_meaning();
+}
+
+/// Law: the configurations without groups agree, one of texts and one that an operator may open with; `line` goes on from there. It
+/// runs nothing.
+pub fn empty_agrees()
+    ensures { Agrees [] [] }
+{}

@@ -1,0 +1,197 @@
+//! Replies: what a line is answered, and its text (docs/COMMANDS.md, "Control lines").
+
+ghost use Rattle.std.specs.Prelude.{◌≡◌, ◌≤◌, ◌<◌, ◌+◌, ◌^◌, ◌++◌, ◌∷◌, [], decimal, length};
+ghost use Rattle.control_line.specs.Reason.{refusal_text};
+ghost use Rattle.control_line.specs.Reply.{reply_text};
+ghost use Rattle.control_line.specs.declared.reply.LineAnswer.TheVariants as answer;
+
+use crate::reason::Reason;
+use ipv4_fields::TextBuffer;
+use read_section::Reclaimed;
+use std::marker::Model;
+
+/// The most bytes of a reply.
+pub const REPLY_LIMIT: usize = 128;
+
+/// The most digits of a number of 64 bits.
+pub const NUMBER_LIMIT: usize = 20;
+
+/// What a line is answered.
+#[derive(Clone, Copy, Debug, PartialEq, Eq)]
+pub enum LineAnswer {
+    /// Nothing was changed.
+    Refused(Reason),
+    /// The new configuration is this version.
+    Published {
+        version: u64,
+    },
+    /// The current configuration's version and measures.
+    Shown {
+        version: u64,
+        groups: usize,
+        members: usize,
+        charge: u64,
+    },
+    /// The versions that may be reused.
+    Swept(Reclaimed),
+}
+
+/// A reply line, without LF. It is built piece by piece, within `REPLY_LIMIT`.
+#[derive(Drop)]
+pub struct Reply {
+    bytes: [u8; REPLY_LIMIT],
+    len: usize,
+}
+
+impl Model for Reply {
+    ghost use Rattle.std.specs.Prelude.{List, ℕ, ◌≤◌, take};
+    ghost use Rattle.control_line.specs.declared.reply.TheConstants.{REPLY_LIMIT};
+
+    ghost Value = { List ℕ };
+
+    ghost view = { λ reply. take reply.len reply.bytes };
+
+    ghost invariant = { λ reply. reply.len ≤ REPLY_LIMIT };
+}
+
+impl Reply {
+    /// Lends the line.
+    pub fn bytes(&self) -> &[u8]
+        ensures line { result.now ≡ self.now }
+        ensures short { length result.now ≤ REPLY_LIMIT }
+    {
+        &self.bytes[..self.len]
+    }
+
+    /// Begins a reply, with no bytes yet.
+    pub fn empty() -> Reply
+        ensures { result ≡ [] }
+    {
+        Reply {
+            bytes: [0; REPLY_LIMIT],
+            len: 0,
+        }
+    }
+
+    /// Appends a text, for which there must be room.
+    pub fn push(&mut self, text: &str)
+        requires room { length self.old + length text.now ≤ REPLY_LIMIT }
+        ensures appended { self.new ≡ self.old ++ text.now }
+        ensures len { length self.new ≡ length self.old + length text.now }
+    {
+        let end = self.len + text.len();
+        self.bytes[self.len..end].copy_from_slice(text.as_bytes());
+        self.len = end;
+    }
+
+    /// Appends a number in decimal. There must be room for `NUMBER_LIMIT` digits.
+    pub fn push_number(&mut self, number: u64)
+        requires room { length self.old + NUMBER_LIMIT ≤ REPLY_LIMIT }
+        ensures appended { self.new ≡ self.old ++ decimal number }
+        ensures len { length self.new ≤ length self.old + NUMBER_LIMIT }
+    {
+        self.push_digits(number);
+    }
+
+    fn push_digits(&mut self, number: u64)
+        requires { length self.old + length (decimal number) ≤ REPLY_LIMIT }
+        ensures { self.new ≡ self.old ++ decimal number }
+    {
+        if number >= 10 {
+            self.push_digits(number / 10);
+        }
+        self.push_digit(b'0' + (number % 10) as u8);
+    }
+
+    fn push_digit(&mut self, digit: u8)
+        requires { length self.old < REPLY_LIMIT }
+        ensures { self.new ≡ self.old ++ digit ∷ [] }
+    {
+        self.bytes[self.len] = digit;
+        self.len += 1;
+    }
+}
+
+impl TextBuffer for Reply {
+    ghost use Rattle.control_line.specs.declared.reply.TheConstants.{REPLY_LIMIT};
+
+    ghost text = { λ reply. reply };
+
+    ghost limit = { REPLY_LIMIT };
+
+    fn append(&mut self, piece: &str) {
+        self.push(piece);
+    }
+
+    fn append_number(&mut self, number: u64) {
+        self.push_digits(number);
+    }
+}
+
+impl Reply {
+    /// The reply that refuses for this reason.
+    pub fn refused(reason: Reason) -> Reply
+        ensures { result ≡ refusal_text reason }
+    {
+        let code = reason.code();
+        let mut reply = Reply::empty();
+        reply.push("refused ");
+        reply.push(code.name);
+        if let Some(number) = code.number {
+            reply.push(" ");
+            reply.push_number(number as u64);
+        }
+        reply
+    }
+
+    fn published(version: u64) -> Reply
+        ensures { result ≡ reply_text (answer.Published version) }
+    {
+        let mut reply = Reply::empty();
+        reply.push("ok version ");
+        reply.push_number(version);
+        reply
+    }
+
+    fn shown(version: u64, groups: usize, members: usize, charge: u64) -> Reply
+        ensures { result ≡ reply_text (answer.Shown version groups members charge) }
+    {
+        let mut reply = Reply::empty();
+        reply.push("version ");
+        reply.push_number(version);
+        reply.push(" groups ");
+        reply.push_number(groups as u64);
+        reply.push(" members ");
+        reply.push_number(members as u64);
+        reply.push(" charge ");
+        reply.push_number(charge);
+        reply
+    }
+
+    fn swept(reclaimed: Reclaimed) -> Reply
+        ensures { result ≡ reply_text (answer.Swept reclaimed) }
+    {
+        let mut reply = Reply::empty();
+        reply.push("reclaimed ");
+        reply.push_number(reclaimed.first);
+        reply.push(" ");
+        reply.push_number(reclaimed.count);
+        reply
+    }
+
+    pub(crate) fn of(answer: LineAnswer) -> Reply
+        ensures { result ≡ reply_text answer }
+    {
+        match answer {
+            LineAnswer::Refused(reason) => Reply::refused(reason),
+            LineAnswer::Published { version } => Reply::published(version),
+            LineAnswer::Shown {
+                version,
+                groups,
+                members,
+                charge,
+            } => Reply::shown(version, groups, members, charge),
+            LineAnswer::Swept(reclaimed) => Reply::swept(reclaimed),
+        }
+    }
+}

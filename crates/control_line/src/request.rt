@@ -1,0 +1,155 @@
+//! What a control line asks for, read from its text (docs/COMMANDS.md, "Control lines").
+
+ghost use Rattle.std.specs.Prelude.{◌≡◌, ◌≢◌, ◌<◌, ◌^◌, ◌++◌, ◌∷◌, ◌↔◌, IsTrue, List, MatchOption, None, Option, codes, decimal, option_map, ℕ};
+ghost use Rattle.ipv4_fields.specs.Endpoint.{IsEndpoint, endpoint_text};
+ghost use Rattle.ipv4_fields.specs.Cut.{Lacks};
+ghost use Rattle.program_text.specs.Program.{Source};
+ghost use Rattle.control_line.specs.Request.{spaced};
+ghost use Rattle.control_line.specs.body.Reading.{IsCommandRead, IsRead, program_fields, source_of};
+
+use ipv4_fields::{Endpoint, read_number, split_at};
+use member_group::Command;
+
+/// The text of a program.
+#[derive(Clone, Copy)]
+pub(crate) enum ProgramText<'a> {
+    Assembly(&'a [u8]),
+    Expression(&'a [u8]),
+}
+
+/// What a line asks for.
+#[derive(Drop)]
+pub(crate) enum Request<'a> {
+    /// A change of the configuration, to be published.
+    Change(Command<ProgramText<'a>>),
+    /// The version and the measures of the current configuration.
+    Show,
+    /// The versions that may be reused.
+    Sweep,
+}
+
+// Tells whether a field is this word.
+fn is_word(field: &[u8], word: &str) -> bool
+    ensures { IsTrue result ↔ (field.now ≡ word.now) }
+{
+    field == word.as_bytes()
+}
+
+// The program behind the other fields, or the word for none.
+fn read_program(fields: &[u8]) -> Option<Option<ProgramText<'_>>>
+    ensures { MatchOption result
+        ((program : Option Source) → fields.now ≢ spaced (program_fields program))
+        (λ program. fields.now ≡ spaced (program_fields (option_map source_of program))) }
+{
+    if is_word(fields, "none") {
+        return Some(None);
+    }
+    let (kind, text) = split_at(b' ', fields)?;
+    if is_word(kind, "asm") {
+        return Some(Some(ProgramText::Assembly(text)));
+    }
+    if is_word(kind, "expr") {
+        return Some(Some(ProgramText::Expression(text)));
+    }
+    None
+}
+
+fn read_selector<'a>(key: Endpoint, fields: &'a [u8]) -> Option<Command<ProgramText<'a>>>
+    requires { IsEndpoint key }
+    ensures { IsCommandRead (codes "selector " ++ (endpoint_text key ++ 32 ∷ fields.now)) result }
+{
+    match read_program(fields)? {
+        None => Some(Command::ClearSelector { key }),
+        Some(ProgramText::Assembly(text)) => Some(Command::SetSelector {
+            key,
+            program: ProgramText::Assembly(text),
+        }),
+        Some(ProgramText::Expression(_)) => None,
+    }
+}
+
+fn read_filter<'a>(key: Endpoint, member: u32, fields: &'a [u8]) -> Option<Command<ProgramText<'a>>>
+    requires { IsEndpoint key }
+    ensures { IsCommandRead (codes "filter " ++ (endpoint_text key ++ 32 ∷ (decimal member ++ 32 ∷ fields.now))) result }
+{
+    match read_program(fields)? {
+        None => Some(Command::ClearFilter { key, member }),
+        Some(program) => Some(Command::SetFilter {
+            key,
+            member,
+            program,
+        }),
+    }
+}
+
+// A line that names a member, behind its first two fields.
+fn read_member_line<'a>(
+    word: &'a [u8],
+    key: Endpoint,
+    fields: &'a [u8],
+) -> Option<Command<ProgramText<'a>>>
+    requires key { IsEndpoint key }
+    requires word { Lacks 32 word.now }
+    requires not_add { word.now ≢ codes "add" }
+    requires not_remove { word.now ≢ codes "remove" }
+    requires not_selector { word.now ≢ codes "selector" }
+    ensures { IsCommandRead (word.now ++ 32 ∷ (endpoint_text key ++ 32 ∷ fields.now)) result }
+{
+    if is_word(word, "leave") {
+        let member = read_number(u32::MAX, fields)?;
+        return Some(Command::Leave { key, member });
+    }
+    let (id, fields) = split_at(b' ', fields)?;
+    let member = read_number(u32::MAX, id)?;
+    if is_word(word, "join") {
+        let to = Endpoint::from_text(fields)?;
+        return Some(Command::Join { key, member, to });
+    }
+    if is_word(word, "filter") {
+        return read_filter(key, member, fields);
+    }
+    None
+}
+
+fn read_command<'a>(word: &'a [u8], fields: &'a [u8]) -> Option<Command<ProgramText<'a>>>
+    requires { Lacks 32 word.now }
+    ensures { IsCommandRead (word.now ++ 32 ∷ fields.now) result }
+{
+    if is_word(word, "add") {
+        let key = Endpoint::from_text(fields)?;
+        return Some(Command::AddGroup { key });
+    }
+    if is_word(word, "remove") {
+        let key = Endpoint::from_text(fields)?;
+        return Some(Command::RemoveGroup { key });
+    }
+    let (key, fields) = split_at(b' ', fields)?;
+    let key = Endpoint::from_text(key)?;
+    if is_word(word, "selector") {
+        return read_selector(key, fields);
+    }
+    read_member_line(word, key, fields)
+}
+
+fn read_word(line: &[u8]) -> Option<Request<'_>>
+    requires { Lacks 32 line.now }
+    ensures { IsRead line.now result }
+{
+    if is_word(line, "show") {
+        return Some(Request::Show);
+    }
+    if is_word(line, "sweep") {
+        return Some(Request::Sweep);
+    }
+    None
+}
+
+/// Reads what a line asks for, or nothing where it is no line of docs/COMMANDS.md, "Control lines".
+pub(crate) fn read_request(line: &[u8]) -> Option<Request<'_>>
+    ensures { IsRead line.now result }
+{
+    match split_at(b' ', line) {
+        None => read_word(line),
+        Some((word, fields)) => Some(Request::Change(read_command(word, fields)?)),
+    }
+}

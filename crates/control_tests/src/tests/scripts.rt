@@ -1,0 +1,280 @@
+//! Scripts and their replies: a whole session, the ends of lines and of the script, lines at their limits, and devices that fail.
+
+ghost use Rattle.std.specs.Prelude.{◌≡◌, ◌++◌, List, OnOk, ℕ};
+ghost use Rattle.control.specs.Script.{IsScriptText};
+
+use control::{FromRead, LINE_LIMIT, ReplayFault, ToWrite, replay};
+use std::alloc::Global;
+use std::io;
+use std::io::{ErrorKind, Read, Write};
+use std::process::Abort;
+use std::test::Fail;
+
+// A reader that gives at most so many bytes at a time, and at a place of them fails.
+#[derive(Drop)]
+struct Pieces<'a> {
+    bytes: &'a [u8],
+    at: usize,
+    most: usize,
+    fails_at: Option<usize>,
+}
+
+fn in_pieces(bytes: &[u8], most: usize) -> Pieces<'_> {
+    Pieces {
+        bytes,
+        at: 0,
+        most,
+        fails_at: None,
+    }
+}
+
+impl Read for Pieces<'_> {
+    fn read(&mut self, buf: &mut [u8]) -> io::Result<usize> {
+        let end = self.fails_at.unwrap_or(self.bytes.len());
+        let left = self.bytes.get(self.at..end).unwrap_or(&[]);
+        if left.is_empty() && self.fails_at.is_some() {
+            return Err(io::Error::from(ErrorKind::BrokenPipe));
+        }
+        let size = left.len().min(buf.len()).min(self.most);
+        buf[..size].copy_from_slice(&left[..size]);
+        self.at = self.at.saturating_add(size);
+        Ok(size)
+    }
+}
+
+// A writer that has room for so many bytes, and takes at most three at a time.
+#[derive(Drop)]
+struct Room {
+    bytes: Vec<u8>,
+    room: usize,
+}
+
+impl Write for Room {
+    fn write(&mut self, buf: &[u8]) -> io::Result<usize> {
+        let size = buf.len().min(3).min(self.room);
+        if size == 0 {
+            return Err(io::Error::from(ErrorKind::BrokenPipe));
+        }
+        self.room = self.room.saturating_sub(size);
+        match self.bytes.extend_from_slice(&buf[..size]) {
+            Ok(()) => Ok(size),
+            Err(_) => Err(io::Error::from(ErrorKind::OutOfMemory)),
+        }
+    }
+
+    fn flush(&mut self) -> io::Result<()> {
+        Ok(())
+    }
+}
+
+// Replays what a reader gives into room for so many bytes; what was written, and how it ended.
+fn replayed(
+    alloc: Global,
+    reader: impl Read + Drop,
+    room: usize,
+) -> (Vec<u8>, Result<(), ReplayFault>) {
+    let mut out = Room {
+        bytes: Vec::new(alloc),
+        room,
+    };
+    let mut output = ToWrite::new(&mut out);
+    let answer = replay(alloc, &mut FromRead::new(reader), &mut output);
+    output.into_inner();
+    let Room { bytes, room: _ } = out;
+    (bytes, answer)
+}
+
+// Bytes are replayed to bytes: what is added is the text of the script.
+fn replay_bytes(alloc: Global, script: &[u8], out: &mut Vec<u8>) -> Result<(), ReplayFault>
+    ensures script_text { OnOk result ((text : List ℕ) × IsScriptText script.now text × (out.new.items ≡ out.old.items ++ text)) }
+{
+    let mut input = FromRead::new(script);
+    let mut output = ToWrite::new(out);
+    let answer = replay(alloc, &mut input, &mut output);
+    let _ = output.into_inner();
+    answer
+}
+
+fn expect(rt: &impl Abort, alloc: Global, script: &[u8], replies: &str) {
+    for most in [1, 7, usize::MAX] {
+        let (written, answer) = replayed(alloc, in_pieces(script, most), usize::MAX);
+        assert_eq!(rt; answer, Ok(()));
+        assert_eq!(rt; written.as_slice(), replies.as_bytes());
+    }
+}
+
+// Its packets are 29 bytes of UDP over IPv4, from 10.0.0.1:5000 to 10.0.0.2:53 with the payload `a`.
+const SCRIPT: &str = "add 10.0.0.2:53\n\
+    join 10.0.0.2:53 1 127.0.0.1:9001\n\
+    join 10.0.0.2:53 2 127.0.0.1:9002\n\
+    join 10.0.0.2:53 3 127.0.0.1:9003\n\
+    packet 4500001d00000000401100000a0000010a000002138800350009000061\n\
+    leave 10.0.0.2:53 1\n\
+    leave 10.0.0.2:53 1\n\
+    selector 10.0.0.2:53 asm ret #0\n\
+    filter 10.0.0.2:53 3 expr udp and less 28\n\
+    packet 4500001d00000000401100000a0000010a000002138800350009000061\n\
+    show\n\
+    sweep\n\
+    sweep\n\
+    \n";
+
+const REPLIES: &str = "ok version 1\n\
+    ok version 2\n\
+    ok version 3\n\
+    ok version 4\n\
+    version 4 deliver 10.0.0.2:53 3 127.0.0.1:9003 29\n\
+    ok version 5\n\
+    refused G3\n\
+    ok version 6\n\
+    ok version 7\n\
+    version 7 dropped 10.0.0.2:53 3\n\
+    version 7 groups 1 members 2 charge 28\n\
+    reclaimed 0 7\n\
+    reclaimed 7 0\n\
+    refused C1\n";
+
+#[test]
+fn script_replies_line_by_line(rt: HostRuntime) {
+    expect(&rt, rt.alloc(), SCRIPT.as_bytes(), REPLIES);
+}
+
+#[test]
+fn bytes_are_replayed_to_bytes(rt: HostRuntime) -> Result<(), Fail> {
+    let mut out = Vec::from_slice(rt.alloc(), b"> ")?;
+    assert_eq!(rt; replay_bytes(rt.alloc(), b"show\nsweep", &mut out), Ok(()));
+    assert_eq!(rt;
+        out.as_slice(),
+        b"> version 0 groups 0 members 0 charge 2\nreclaimed 0 0\n".as_slice()
+    );
+    Ok(())
+}
+
+#[test]
+fn no_bytes_no_replies(rt: HostRuntime) {
+    expect(&rt, rt.alloc(), b"", "");
+}
+
+#[test]
+fn ends_of_lines_and_of_the_script(rt: HostRuntime) {
+    for (script, replies) in [
+        (
+            b"show".as_slice(),
+            "version 0 groups 0 members 0 charge 2\n",
+        ),
+        (b"show\n", "version 0 groups 0 members 0 charge 2\n"),
+        (b"show\r\n", "refused C1\n"),
+        (b"\n", "refused C1\n"),
+        (b"\n\nsweep", "refused C1\nrefused C1\nreclaimed 0 0\n"),
+        (b"sweep\n\0", "reclaimed 0 0\nrefused C1\n"),
+        (b"stop\ntotals\n", "refused C1\nrefused C1\n"),
+    ] {
+        expect(&rt, rt.alloc(), script, replies);
+    }
+}
+
+#[test]
+fn packets_of_a_script(rt: HostRuntime) {
+    for (script, replies) in [
+        (b"packet".as_slice(), "refused C1\n"),
+        (b"packet ", "version 0 malformed\n"),
+        (b"packet 4", "refused C1\n"),
+        (b"packet 4g", "refused C1\n"),
+        (b"packet  45", "refused C1\n"),
+        (b"Packet 45", "refused C1\n"),
+        (
+            b"packet 4500001D00000000401100000a0000010a000002138800350009000061",
+            "version 0 nogroup\n",
+        ),
+        (
+            b"add 10.0.0.2:53\npacket 4500001d00000000401100000a0000010a000002138800350009000061\nremove 10.0.0.2:53\n",
+            "ok version 1\nversion 1 nomembers\nok version 2\n",
+        ),
+    ] {
+        expect(&rt, rt.alloc(), script, replies);
+    }
+}
+
+// A long line, by what it begins with, what is repeated and how often; and its reply.
+const LONG_LINES: [(&str, &str, usize, &str); 6] = [
+    ("", "x", LINE_LIMIT, "refused C1\n"),
+    ("", "x", LINE_LIMIT + 1, "refused C2\n"),
+    ("packet ", "00", 65_535, "version 0 malformed\n"),
+    ("packet ", "00", 65_536, "refused C3\n"),
+    ("packet ", "00", 131_068, "refused C3\n"),
+    ("packet ", "00", 131_069, "refused C2\n"),
+];
+
+#[test]
+fn lines_at_their_limits(rt: HostRuntime) -> Result<(), Fail> {
+    let alloc = rt.alloc();
+    for (begin, text, count, reply) in LONG_LINES {
+        let mut script = super::in_pieces(alloc, &[(begin, 1), (text, count)])?;
+        let (alone, answer) = replayed(alloc, in_pieces(&script, usize::MAX), usize::MAX);
+        assert_eq!(rt; answer, Ok(()));
+        assert_eq!(rt; alone.as_slice(), reply.as_bytes());
+        script.extend_from_slice(b"\nsweep\n")?;
+        let (followed, answer) = replayed(alloc, in_pieces(&script, 1000), usize::MAX);
+        assert_eq!(rt; answer, Ok(()));
+        assert_eq!(rt;
+            &followed[..reply.len().min(followed.len())],
+            reply.as_bytes()
+        );
+        assert!(rt; followed.as_slice().ends_with(b"\nreclaimed 0 0\n"));
+    }
+    Ok(())
+}
+
+// More versions than rows, each free as soon as it is replaced.
+#[test]
+fn no_publication_is_busy(rt: HostRuntime) -> Result<(), Fail> {
+    let alloc = rt.alloc();
+    let script = super::in_pieces(alloc, &[("add 10.0.0.2:53\nremove 10.0.0.2:53\n", 20)])?;
+    let (written, answer) = replayed(alloc, in_pieces(&script, usize::MAX), usize::MAX);
+    assert_eq!(rt; answer, Ok(()));
+    assert!(rt;
+        written
+            .as_slice()
+            .ends_with(b"ok version 39\nok version 40\n")
+    );
+    Ok(())
+}
+
+// The replies of the first so many lines.
+fn first_replies(lines: usize) -> &'static [u8] {
+    let mut left = lines;
+    for (i, byte) in REPLIES.as_bytes().iter().enumerate() {
+        if left == 0 {
+            return &REPLIES.as_bytes()[..i];
+        }
+        if *byte == b'\n' {
+            left = left.saturating_sub(1);
+        }
+    }
+    REPLIES.as_bytes()
+}
+
+#[test]
+fn failed_reads(rt: HostRuntime) {
+    let script = SCRIPT.as_bytes();
+    for place in 0..script.len() {
+        let mut reader = in_pieces(script, 10);
+        reader.fails_at = Some(place);
+        let lines = script[..place]
+            .iter()
+            .filter(|byte| **byte == b'\n')
+            .count();
+        let (written, answer) = replayed(rt.alloc(), reader, usize::MAX);
+        assert_eq!(rt; answer, Err(ReplayFault::ReadFailed));
+        assert_eq!(rt; written.as_slice(), first_replies(lines));
+    }
+}
+
+#[test]
+fn failed_writes(rt: HostRuntime) {
+    for room in 0..REPLIES.len() {
+        let (written, answer) = replayed(rt.alloc(), in_pieces(SCRIPT.as_bytes(), 10), room);
+        assert_eq!(rt; answer, Err(ReplayFault::WriteFailed));
+        assert_eq!(rt; written.as_slice(), &REPLIES.as_bytes()[..room]);
+    }
+}

@@ -1,0 +1,251 @@
+//! Inputs over readers, outputs over writers, and the lines with a packet.
+
+ghost use Rattle.std.specs.Prelude.{◌≡◌, ◌≤◌, IfOk, take};
+ghost use Rattle.std.specs.Io.KnownBytes.{Appends};
+ghost use Rattle.dispatch.specs.Device.{CountsFailure};
+ghost use Rattle.control.specs.Streams.{TakesFront};
+
+use control::{FromRead, Input, Output, PacketLine, ToWrite, read_packet_line, replay};
+use dispatch::Failed;
+use std::alloc::Global;
+use std::io;
+use std::io::{ErrorKind, Read, Write};
+use std::process::Abort;
+use std::test::Fail;
+
+// What a device answers: it gives or takes so many bytes at most, or fails.
+#[derive(Clone, Copy)]
+enum Step {
+    Moves(usize),
+    Fails(ErrorKind),
+}
+
+// A reader or a writer that makes its steps in turn. Behind the last it moves nothing.
+#[derive(Drop)]
+struct InSteps<'a> {
+    steps: &'a [Step],
+    at: usize,
+    bytes: Vec<u8>,
+}
+
+fn in_steps(alloc: Global, steps: &[Step]) -> InSteps<'_> {
+    InSteps {
+        steps,
+        at: 0,
+        bytes: Vec::new(alloc),
+    }
+}
+
+impl InSteps<'_> {
+    fn next(&mut self, len: usize) -> io::Result<usize>
+        ensures { IfOk result (λ size. size ≤ len) }
+    {
+        let Some(step) = self.steps.get(self.at) else {
+            return Ok(0);
+        };
+        self.at = self.at.saturating_add(1);
+        match *step {
+            Step::Moves(most) => Ok(most.min(len)),
+            Step::Fails(kind) => Err(io::Error::from(kind)),
+        }
+    }
+}
+
+// It gives the letter x.
+impl Read for InSteps<'_> {
+    fn read(&mut self, buf: &mut [u8]) -> io::Result<usize> {
+        let size = self.next(buf.len())?;
+        buf[..size].fill(b'x');
+        Ok(size)
+    }
+}
+
+impl Write for InSteps<'_> {
+    fn write(&mut self, buf: &[u8]) -> io::Result<usize> {
+        let size = self.next(buf.len())?;
+        match self.bytes.extend_from_slice(&buf[..size]) {
+            Ok(()) => Ok(size),
+            Err(_) => Err(io::Error::from(ErrorKind::OutOfMemory)),
+        }
+    }
+
+    fn flush(&mut self) -> io::Result<()> {
+        Ok(())
+    }
+}
+
+const STEPS: [Step; 7] = [
+    Step::Moves(1),
+    Step::Fails(ErrorKind::Interrupted),
+    Step::Moves(2),
+    Step::Fails(ErrorKind::BrokenPipe),
+    Step::Moves(9),
+    Step::Moves(0),
+    Step::Fails(ErrorKind::WouldBlock),
+];
+
+#[test]
+fn reads_of_a_slice(rt: HostRuntime) -> Result<(), Fail> {
+    let mut input = FromRead::new(b"show\nsweep".as_slice());
+    let mut buf = [0; 4];
+    for (answer, bytes) in [(4, b"show"), (4, b"\nswe"), (2, b"epwe"), (0, b"epwe")] {
+        assert_eq!(rt; input.read(&mut buf), Ok(answer));
+        assert_eq!(rt; buf.as_slice(), bytes.as_slice());
+    }
+    Ok(())
+}
+
+// An interrupted read or write is a failure as others are.
+#[test]
+fn reads_that_fail(rt: HostRuntime) -> Result<(), Fail> {
+    let mut input = FromRead::new(in_steps(rt.alloc(), &STEPS));
+    let mut buf = [0; 4];
+    assert_eq!(rt; input.read(&mut []), Ok(0));
+    for answer in [
+        Err(Failed),
+        Ok(2),
+        Err(Failed),
+        Ok(4),
+        Ok(0),
+        Err(Failed),
+        Ok(0),
+    ] {
+        assert_eq!(rt; input.read(&mut buf), answer);
+    }
+    Ok(())
+}
+
+#[test]
+fn writes_that_fail(rt: HostRuntime) -> Result<(), Fail> {
+    let mut writer = in_steps(rt.alloc(), &STEPS);
+    let mut output = ToWrite::new(&mut writer);
+    assert_eq!(rt; output.write(b""), Ok(0));
+    for answer in [
+        Ok(1),
+        Err(Failed),
+        Ok(2),
+        Err(Failed),
+        Ok(4),
+        Err(Failed),
+        Err(Failed),
+        Err(Failed),
+    ] {
+        assert_eq!(rt; output.write(b"abcd"), answer);
+    }
+    assert_eq!(rt; output.into_inner().bytes.as_slice(), b"aababcd".as_slice());
+    Ok(())
+}
+
+// The reads behind the end would fail.
+#[test]
+fn first_end_ends_the_script(rt: HostRuntime) {
+    let steps = [
+        Step::Moves(4),
+        Step::Moves(0),
+        Step::Fails(ErrorKind::BrokenPipe),
+    ];
+    let mut input = FromRead::new(in_steps(rt.alloc(), &steps));
+    let mut replies = Vec::new(rt.alloc());
+    let mut output = ToWrite::new(&mut replies);
+    let answer = replay(rt.alloc(), &mut input, &mut output);
+    let _ = output.into_inner();
+    assert_eq!(rt; answer, Ok(()));
+    assert_eq!(rt; replies.as_slice(), b"refused C1\n".as_slice());
+}
+
+fn write_once<O: Output>(output: &mut O, bytes: &[u8]) -> Result<usize, Failed>
+    ensures device_failed { CountsFailure result (O.state output.old).failures (O.state output.new).failures }
+    ensures takes_front { TakesFront (O.state output.new).failures (O.state output.old).taken (O.state output.new).taken result bytes.now }
+    ensures rest_kept { O.rest output.new ≡ O.rest output.old }
+{
+    output.write(bytes)
+}
+
+// What a writer holds is told after an output over it was written to.
+fn write_through<W: Write>(writer: &mut W, bytes: &[u8]) -> Result<usize, Failed>
+    ensures { IfOk result (λ size. Appends (W.contents writer.old) (W.contents writer.new) (take size bytes.now)) }
+{
+    let mut output = ToWrite::new(writer);
+    let answer = write_once(&mut output, bytes);
+    let _ = output.into_inner();
+    answer
+}
+
+#[test]
+fn writes_reach_the_writer(rt: HostRuntime) -> Result<(), Fail> {
+    let mut held = [0; 3];
+    let mut rest = held.as_mut_slice();
+    for (bytes, answer) in [(b"ok", Ok(2)), (b"no", Ok(1)), (b"no", Err(Failed))] {
+        assert_eq!(rt; write_through(&mut rest, bytes), answer);
+    }
+    assert_eq!(rt; held, *b"okn");
+    Ok(())
+}
+
+// A line, and the packet in it.
+const PACKETS: [(&[u8], &[u8]); 3] = [
+    (b"packet ", b""),
+    (b"packet 4500", b"\x45\x00"),
+    (b"packet 0aF9Bc", b"\x0a\xf9\xbc"),
+];
+
+const NO_PACKETS: [&[u8]; 9] = [
+    b"",
+    b"packet",
+    b"packet 0",
+    b"packet 450",
+    b"packet 4g",
+    b"packet  45",
+    b"packet 45 ",
+    b"Packet 45",
+    b"show",
+];
+
+#[test]
+fn packets_of_lines(rt: HostRuntime) -> Result<(), Fail> {
+    for (text, packet) in PACKETS {
+        let is_read = match read_packet_line(rt.alloc(), text)? {
+            Some(PacketLine::Packet(bytes)) => bytes.as_slice() == packet,
+            _ => false,
+        };
+        assert!(rt; is_read);
+    }
+    for text in NO_PACKETS {
+        assert!(rt; read_packet_line(rt.alloc(), text)?.is_none());
+    }
+    Ok(())
+}
+
+// Reads a line with so many digits, and tells how many bytes the packet has.
+fn packet_len(
+    rt: &impl Abort,
+    alloc: Global,
+    digits: usize,
+    len: usize,
+) -> Result<Option<Option<usize>>, Fail> {
+    let mut text = Vec::from_slice(alloc, b"packet ")?;
+    for _ in 0..digits {
+        text.push(b'8')?;
+    }
+    assert_eq!(rt; text.len(), len);
+    Ok(match read_packet_line(alloc, &text)? {
+        Some(PacketLine::Packet(packet)) => Some(Some(packet.len())),
+        Some(PacketLine::TooLong) => Some(None),
+        None => None,
+    })
+}
+
+// The longest packet, one byte more, and lines at the limit of a line; with an odd number of digits the last.
+#[test]
+fn packets_at_the_limits(rt: HostRuntime) -> Result<(), Fail> {
+    for (digits, len, expected) in [
+        (131_070, 131_077, Some(Some(65_535))),
+        (131_072, 131_079, Some(None)),
+        (262_136, 262_143, Some(None)),
+        (262_138, 262_145, None),
+        (262_137, 262_144, None),
+    ] {
+        assert_eq!(rt; packet_len(&rt, rt.alloc(), digits, len)?, expected);
+    }
+    Ok(())
+}

@@ -1,0 +1,97 @@
+//! Devices for tests: in memory, and failing once.
+
+ghost use Rattle.std.specs.Prelude.{Some};
+
+use dispatch::{Datagrams, Failed, Outbox, Sends, Source};
+use ipv4_fields::Endpoint;
+use std::alloc::Global;
+use std::test::Fail;
+
+/// A source that fails once, after so many calls.
+#[derive(Drop)]
+pub struct FailsAfter {
+    pub calls: u8,
+    pub failed: bool,
+    pub datagrams: Datagrams,
+}
+
+impl Source for FailsAfter {
+    ghost use Rattle.std.specs.Prelude.{Some};
+    ghost use Rattle.dispatch.specs.Batch.{one_if};
+
+    ghost state = { λ s. record { failures = one_if s.failed; coming = Some s.datagrams } };
+
+    fn next(&mut self, buf: &mut [u8]) -> Result<Option<usize>, Failed> {
+        if self.calls == 0 && !self.failed {
+            self.failed = true;
+            return Err(Failed);
+        }
+        self.calls = self.calls.saturating_sub(1);
+        self.datagrams.next(buf)
+    }
+}
+
+/// An outbox that fails at its first send.
+#[derive(Drop)]
+pub struct FailsFirst {
+    pub failed: bool,
+    pub sends: Sends,
+}
+
+impl Outbox for FailsFirst {
+    ghost use Rattle.std.specs.Prelude.{◌+◌};
+    ghost use Rattle.dispatch.specs.Batch.{one_if};
+    ghost use Rattle.dispatch.specs.Memory.{told};
+
+    ghost state = { λ s. record { failures = one_if s.failed + s.sends.failures; taken = told s.sends } };
+
+    fn send(&mut self, to: Endpoint, bytes: &[u8]) -> Result<(), Failed> {
+        if !self.failed {
+            self.failed = true;
+            return Err(Failed);
+        }
+        self.sends.send(to, bytes)
+    }
+}
+
+const PORT_53: Endpoint = Endpoint {
+    address: 0x7f00_0001,
+    port: 53,
+};
+
+#[test]
+fn datagrams_come_in_order_and_cut(rt: HostRuntime) -> Result<(), Fail> {
+    let mut datagrams = Datagrams::new(rt.alloc());
+    datagrams.push(Vec::from_slice(rt.alloc(), &[1, 2])?)?;
+    datagrams.push(Vec::new(rt.alloc()))?;
+    datagrams.push(Vec::from_slice(rt.alloc(), &[3, 4, 5, 6])?)?;
+    let mut buf = [0; 3];
+    assert_eq!(rt; datagrams.next(&mut buf), Ok(Some(2)));
+    assert_eq!(rt; buf, [1, 2, 0]);
+    assert_eq!(rt; datagrams.next(&mut buf), Ok(Some(0)));
+    assert_eq!(rt; datagrams.next(&mut buf), Ok(Some(3)));
+    assert_eq!(rt; buf, [3, 4, 5]);
+    assert_eq!(rt; datagrams.next(&mut buf), Ok(None));
+    Ok(())
+}
+
+fn sends(alloc: Global, count: usize, bytes: usize) -> Result<Sends, Fail> {
+    Ok(Sends::with_room(alloc, count, bytes)?)
+}
+
+#[test]
+fn sends_past_the_room_fail(rt: HostRuntime) -> Result<(), Fail> {
+    let mut few = sends(rt.alloc(), 1, 9)?;
+    assert_eq!(rt; few.send(PORT_53, &[1, 2]), Ok(()));
+    assert_eq!(rt; few.send(PORT_53, &[3]), Err(Failed));
+    assert_eq!(rt;
+        (few.count(), few.to(0), few.to(1)),
+        (1, Some(PORT_53), None)
+    );
+    let mut short = sends(rt.alloc(), 9, 3)?;
+    assert_eq!(rt; short.send(PORT_53, &[1, 2]), Ok(()));
+    assert_eq!(rt; short.send(PORT_53, &[3, 4]), Err(Failed));
+    assert_eq!(rt; short.send(PORT_53, &[5]), Ok(()));
+    assert_eq!(rt; short.bytes(), [1, 2, 5].as_slice());
+    Ok(())
+}

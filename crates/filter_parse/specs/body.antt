@@ -1,0 +1,4 @@
+-- Models of the code: what the contracts of private functions cite. No public clause stands on them.
+pub mod Parser
+pub mod Postfix
+pub mod Stack

@@ -1,0 +1,87 @@
+//! Shifts behind an arithmetic expression, and inside an accessor.
+
+ghost use Rattle.std.specs.Prelude.{◌≡◌, ◌∷◌, ◌++◌, MatchResult, None, [], Some};
+ghost use Rattle.filter_parse.specs.declared.fault.ParseFault.TheVariants.{OutOfMemory};
+ghost use Rattle.filter_parse.specs.declared.state.State.TheVariants.{Number};
+ghost use Rattle.filter_parse.specs.body.Parser.{Meets, after_number, judged_by, parsing, parsing_of, size_of_number, sized_by};
+ghost use Rattle.filter_parse.specs.body.Stack.{from_top};
+
+use crate::fault::ParseFault;
+use crate::item::Item;
+use crate::parser::Parser;
+use crate::reduce::is_numeric;
+use crate::state::{Pending, State};
+use crate::token::Token;
+use filter_tree::{Protocol, Size};
+use std::alloc::Allocator;
+
+impl<A: Allocator> Parser<A> {
+    pub(crate) fn after_number(&mut self, lookahead: Token, at: usize) -> Result<(), ParseFault>
+        ensures met { Meets (judged_by None at
+            (after_number lookahead (from_top self.old.stack) self.old.output.items)) result (parsing_of self.new) }
+        ensures brackets { self.new.brackets ≡ self.old.brackets }
+    {
+        match (lookahead, self.stack.top()) {
+            (Token::Operates(operator), _) => self.push(Pending::Operated(operator)),
+            (Token::Compares(_), _) if is_numeric(&self.stack) => Err(ParseFault::Syntax { at }),
+            (Token::Compares(relator), _) => self.push(Pending::Compared(relator)),
+            (Token::Close, Some(Pending::Bracket(_))) => {
+                let _ = self.stack.pop();
+                self.state = State::Number;
+                Ok(())
+            }
+            (Token::CloseIndex, Some(Pending::Index(protocol))) => {
+                let _ = self.stack.pop();
+                self.put_operand(Item::Access(protocol, Size::One))
+            }
+            (Token::Colon, Some(Pending::Index(protocol))) => {
+                let _ = self.stack.pop();
+                self.state = State::WantsSize(protocol);
+                Ok(())
+            }
+            _ => Err(ParseFault::Syntax { at }),
+        }
+    }
+
+    pub(crate) fn shift_size(
+        &mut self,
+        protocol: Protocol,
+        n: u64,
+        at: usize,
+    ) -> Result<(), ParseFault>
+        ensures met { Meets (judged_by None at
+            (sized_by protocol (size_of_number n) (from_top self.old.stack) self.old.output.items)) result (parsing_of self.new) }
+        ensures brackets { self.new.brackets ≡ self.old.brackets }
+    {
+        match size_of_number(n) {
+            Some(size) => {
+                self.state = State::WantsEnd(protocol, size);
+                Ok(())
+            }
+            None => Err(ParseFault::Syntax { at }),
+        }
+    }
+
+    /// Appends a whole operand to the output. What it is the right side of is reduced by the next lookahead.
+    pub(crate) fn put_operand(&mut self, item: Item) -> Result<(), ParseFault>
+        ensures put { MatchResult result
+            (λ _. parsing_of self.new ≡ parsing Number (from_top self.old.stack) (self.old.output.items ++ item ∷ []))
+            (λ fault. fault ≡ OutOfMemory) }
+        ensures brackets { self.new.brackets ≡ self.old.brackets }
+    {
+        self.output.push(item)?;
+        self.state = State::Number;
+        Ok(())
+    }
+}
+
+fn size_of_number(n: u64) -> Option<Size>
+    ensures { result ≡ size_of_number n }
+{
+    match n {
+        1 => Some(Size::One),
+        2 => Some(Size::Two),
+        4 => Some(Size::Four),
+        _ => None,
+    }
+}

@@ -1,0 +1,5 @@
+pub mod Kind
+pub mod Verdict
+pub use Rattle.bpf_verify.specs.Program
+pub use Rattle.config_image.specs.Image
+pub use Rattle.config_image.specs.Lookup

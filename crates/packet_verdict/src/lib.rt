@@ -1,0 +1,45 @@
+//! What one version's configuration makes of a packet (docs/SWITCH.md, "Verdicts"): the words of its image, wherever they stand,
+//! and the packet tell the verdict. No call takes memory.
+#![tactic(auto)]
+
+ghost use Rattle.std.specs.Prelude.{◌≡◌, ◌≤◌, List, length};
+ghost use Rattle.bpf_machine.specs.declared.TheConstants.{MAX_PACKET};
+ghost use Rattle.config_image.specs.Image.{Group};
+ghost use Rattle.config_image.specs.Lookup.{BeginsWithImage};
+ghost use Rattle.packet_verdict.specs.Verdict.{value_of, verdict};
+
+mod kind;
+mod member;
+mod verdict;
+
+use crate::member::{choose, judge_by_member};
+use bpf_insn::Words;
+use config_image::find_group;
+use ipv4_fields::dispatchable;
+pub use kind::Kind;
+pub use verdict::Verdict;
+
+/// Judges a packet by the configuration whose image the words begin with.
+///
+/// `packet` begins with the first byte of its IPv4 header. Takes no memory; reads each header field once, and of the words
+/// those that find the group and the member, and the two programs as far as they run.
+pub fn judge<W: Words>(words: &mut W, packet: &[u8]) -> Verdict
+    requires image { (config : List Group) × BeginsWithImage (W.words words.old) config }
+    requires packet { length packet.now ≤ MAX_PACKET }
+    ensures verdict { (config : List Group) → BeginsWithImage (W.words words.old) config → result ≡ verdict value_of config packet.now }
+    ensures words_kept { W.words words.new ≡ W.words words.old }
+    ensures rest_kept { W.rest words.new ≡ W.rest words.old }
+{
+    let Some(flow) = dispatchable(packet) else {
+        return Verdict::Malformed;
+    };
+    let key = flow.destination;
+    let Some(group) = find_group(words, key) else {
+        return Verdict::NoGroup;
+    };
+    if group.members == 0 {
+        return Verdict::NoMembers;
+    }
+    let index = choose(words, &group, &flow, packet);
+    judge_by_member(words, group.index, index, key, packet)
+}

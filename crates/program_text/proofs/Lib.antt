@@ -1,0 +1,2 @@
+mod MeaningLemmas
+mod ResultLemmas

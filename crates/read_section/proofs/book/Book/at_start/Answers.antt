@@ -1,7 +1,0 @@
-use Rattle.std.proofs.Common.{refl}
-use Rattle.versions.specs.Table.{the_shape}
-use Rattle.read_section.proofs.book.Book.at_start.Goals as goal
-
-pub returns : goal.returns
-unfolding the_shape
-returns c = record { number = refl; last = refl; cleared = refl }

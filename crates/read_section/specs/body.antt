@@ -1,0 +1,6 @@
+pub mod SeatView
+pub mod VersionsRule
+pub mod Plays
+pub mod Steps
+pub mod Seat
+pub mod OperatorKept

@@ -1,0 +1,44 @@
+-- The rule that the table keeps, whatever the order of steps: it is what a legal trace left (docs/TABLE.md, "The rule").
+use Rattle.std.specs.Prelude.{◌≡◌, ◌<◌, ◌≤◌, ◌⊎◌, List, Some, ℕ}
+use Rattle.std.specs.List.{Contains}
+use mathlib.Core.Option.{some}
+use lib.ListN.{get_elem?}
+use Rattle.atomic_table.specs.Table as table
+use Rattle.versions.specs.declared.step.Event.{Event}
+use Rattle.versions.specs.declared.view.WorkerView.{WorkerView}
+use Rattle.versions.specs.declared.view.OperatorView.{OperatorView}
+use Rattle.versions.specs.Layout.{Shape}
+use Rattle.versions.specs.View.{BeginsWith, new_worker}
+use Rattle.versions.specs.State.{IsOpening, State, start_of, state_after}
+use Rattle.versions.specs.Legal.{IsLegal}
+use Rattle.read_section.specs.declared.versions_rule.SeatView.{SeatView}
+
+module _ {C : Type 0} (shape : Shape C) where
+  -- what the seat knows is so, and no other seat knows it: `seat_of` names each worker's seat
+  pub record IsViewOf (config : C) (now : State C) (seat_of : ℕ → ℕ) (operator_seat seat : ℕ) (view : SeatView C) : Type 0 where
+    pub worker : (worker : WorkerView C) → view.worker ≡ Some worker → (seat_of worker.number ≡ seat) × (get_elem? now.workers worker.number ≡ some worker)
+    pub operator : (operator : OperatorView C) → view.operator ≡ Some operator → (operator_seat ≡ seat) × (operator ≡ now.operator)
+    pub spare : (w : ℕ) → view.spare ≤ w → w < shape.workers → (seat_of w ≡ seat) × (get_elem? now.workers w ≡ some (new_worker config w))
+    pub told : BeginsWith now.operator.published view.told
+
+  -- the seat knows worker w, or has it spare
+  abbrev pub KnowsWorker : SeatView C → ℕ → Type 0
+  KnowsWorker view w = ((worker : WorkerView C) × (view.worker ≡ Some worker) × (worker.number ≡ w)) ⊎ (view.spare ≤ w)
+
+  abbrev pub KnowsOperator : SeatView C → Type 0
+  KnowsOperator view = (operator : OperatorView C) × (view.operator ≡ Some operator)
+
+  -- from the first configuration on there is a legal trace that leaves the table's words, of configurations of one kind. Each
+  -- seat knows its part of the state after the trace, and each worker and the operator are known to some seat
+  pub record IsLeftByTrace (IsPublishable : C → Type 0) {S : Type 0} (config : C) (state : table.State S (SeatView C)) : Type 0 where
+    pub rows : List ℕ
+    pub trace : List (Event C)
+    pub seat_of : ℕ → ℕ
+    pub operator_seat : ℕ
+    pub opening : IsOpening shape config rows
+    pub legal : IsLegal shape (start_of shape config rows) trace
+    pub words : state.words ≡ (state_after shape (start_of shape config rows) trace).words
+    pub publishable : (published : C) → Contains (state_after shape (start_of shape config rows) trace).operator.published published → IsPublishable published
+    pub each_seat : (seat : ℕ) (view : SeatView C) → get_elem? state.views seat ≡ some view → IsViewOf config (state_after shape (start_of shape config rows) trace) seat_of operator_seat seat view
+    pub each_worker : (w : ℕ) → w < shape.workers → (view : SeatView C) × (get_elem? state.views (seat_of w) ≡ some view) × KnowsWorker view w
+    pub the_operator : (view : SeatView C) × (get_elem? state.views operator_seat ≡ some view) × KnowsOperator view

@@ -1,0 +1,39 @@
+//! The table that the workers and the operator share, and the rule on it (docs/TABLE.md, "The rule").
+
+use atomic_table::{Seat, Table, TableRule};
+use member_group::Config;
+use std::alloc::Global;
+use std::collections::LinkedList;
+use versions::{OperatorView, WorkerView};
+
+/// What a seat at the table knows over configurations `C`. No value of it is made.
+pub struct SeatView<C> {
+    /// The worker that steps by the seat.
+    pub worker: Option<WorkerView<C>>,
+    /// The operator, if it steps by the seat.
+    pub operator: Option<OperatorView<C>>,
+    /// The workers from this number on made no step, and have no seat of their own yet.
+    pub spare: usize,
+    /// Versions that the seat was told of.
+    pub told: LinkedList<C>,
+}
+
+/// The rule on the table: its words are what a legal trace of `versions` left.
+pub struct VersionsRule;
+
+impl TableRule<u8, SeatView<Config>, Config> for VersionsRule {
+    ghost use Rattle.read_section.specs.Layout.{IsPublishable};
+    ghost use Rattle.read_section.specs.body.VersionsRule.{IsLeftByTrace};
+    ghost use Rattle.read_section.specs.body.SeatView.{first_seat};
+    ghost use Rattle.versions.specs.Table.{the_shape};
+    ghost use Rattle.versions.specs.World.{opening_rows};
+
+    ghost holds = { λ config. IsLeftByTrace the_shape IsPublishable config };
+
+    ghost first = { λ config. first_seat the_shape config (opening_rows config) };
+}
+
+// No slot of the table is used: it has none.
+pub(crate) type SharedTable = Table<u8, SeatView<Config>, Config, VersionsRule, Global>;
+
+pub(crate) type TableSeat = Seat<u8, SeatView<Config>>;

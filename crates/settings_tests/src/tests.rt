@@ -1,0 +1,4 @@
+//! Tests of configurations and of their images.
+
+mod commands;
+mod images;

@@ -1,0 +1,255 @@
+//! Images that were written down by hand, and what is found in them again.
+
+ghost use Rattle.std.specs.Prelude.{◌≡◌, ◌-◌, IfOk, take};
+ghost use Rattle.config_image.specs.Image.{image};
+ghost use Rattle.config_image.specs.Lookup.{BeginsWithImage};
+
+use bpf_verify::Program;
+use config_image::{
+    FoundGroup, MemberEntry, ProgramPlace, WordSink, filter_of, find_group, image_len, image_word,
+    member_at, selector_of, write_image,
+};
+use ipv4_fields::Endpoint;
+use member_group::{Command, Config};
+use std::alloc::Global;
+use std::process::Abort;
+use std::test::Fail;
+
+// 10.0.0.2:53
+const SAMPLE_GROUP: Endpoint = Endpoint {
+    address: 0x0a00_0002,
+    port: 53,
+};
+
+// 127.0.0.1:9001
+const SAMPLE_MEMBER: Endpoint = Endpoint {
+    address: 0x7f00_0001,
+    port: 9001,
+};
+
+const RET_ZERO: u64 = 0x0006_0000_0000_0000;
+
+const RET_ONE: u64 = 0x0006_0000_0000_0001;
+
+fn applied(config: &Config, command: Command) -> Result<Config, Fail> {
+    match config.apply(&command) {
+        Ok(next) => Ok(next),
+        Err(_) => Err(Fail::from("the command is applied")),
+    }
+}
+
+fn program(alloc: Global, words: &[u64]) -> Result<Program<Global>, Fail> {
+    match Program::new(words.to_vec(alloc)?) {
+        Ok(program) => Ok(program),
+        Err(_) => Err(Fail::from("the words are accepted")),
+    }
+}
+
+// The words of the image, each told by its place.
+fn words_of(alloc: Global, config: &Config) -> Result<Vec<u64>, Fail>
+    ensures { IfOk result (λ words. words.items ≡ image config.now) }
+{
+    let mut words = Vec::new(alloc);
+    for i in 0..image_len(config) {
+        words.push(image_word(config, i))?;
+    }
+    Ok(words)
+}
+
+// The group 10.0.0.2:53, its selector `ret #0`.
+fn with_selector(alloc: Global) -> Result<Config, Fail> {
+    let added = applied(&Config::new(alloc), Command::AddGroup { key: SAMPLE_GROUP })?;
+    let selector = program(alloc, &[RET_ZERO])?;
+    applied(
+        &added,
+        Command::SetSelector {
+            key: SAMPLE_GROUP,
+            program: selector,
+        },
+    )
+}
+
+#[test]
+fn two_images(rt: HostRuntime) -> Result<(), Fail> {
+    let alloc = rt.alloc();
+    assert_eq!(rt;
+        words_of(alloc, &Config::new(alloc))?.as_slice(),
+        [2, 0].as_slice()
+    );
+    assert_eq!(rt;
+        words_of(alloc, &with_selector(alloc)?)?.as_slice(),
+        [7, 1, 0x0a00_0002_0035, 6, 0, 0x6_0001, RET_ZERO].as_slice()
+    );
+    Ok(())
+}
+
+// Two groups, the first without members: both name one place of member records. Programs go group by group, the selector
+// before the filters.
+fn two_groups(alloc: Global) -> Result<Config, Fail> {
+    let next = Endpoint {
+        address: 0x0a00_0002,
+        port: 54,
+    };
+    let mut config = applied(&with_selector(alloc)?, Command::AddGroup { key: next })?;
+    for member in [7, 8] {
+        config = applied(
+            &config,
+            Command::Join {
+                key: next,
+                member,
+                to: SAMPLE_MEMBER,
+            },
+        )?;
+    }
+    let filter = program(alloc, &[RET_ONE])?;
+    config = applied(
+        &config,
+        Command::SetFilter {
+            key: next,
+            member: 8,
+            program: filter,
+        },
+    )?;
+    let selector = program(alloc, &[RET_ZERO, RET_ONE])?;
+    applied(
+        &config,
+        Command::SetSelector {
+            key: next,
+            program: selector,
+        },
+    )
+}
+
+#[test]
+fn image_of_two_groups(rt: HostRuntime) -> Result<(), Fail> {
+    let alloc = rt.alloc();
+    assert_eq!(rt;
+        words_of(alloc, &two_groups(alloc)?)?.as_slice(),
+        [
+            20,
+            2,
+            0x0a00_0002_0035,
+            10,
+            0,
+            0x10_0001,
+            0x0a00_0002_0036,
+            10,
+            2,
+            0x11_0002,
+            7,
+            0x7f00_0001_2329,
+            0,
+            8,
+            0x7f00_0001_2329,
+            0x13_0001,
+            RET_ZERO,
+            RET_ZERO,
+            RET_ONE,
+            RET_ONE,
+        ]
+        .as_slice()
+    );
+    Ok(())
+}
+
+// Room for 32 words.
+#[derive(Drop)]
+struct ArraySink {
+    words: [u64; 32],
+    count: usize,
+}
+
+impl WordSink for ArraySink {
+    ghost taken = { λ sink. take sink.count sink.words };
+
+    ghost room = { λ sink. 32 - sink.count };
+
+    #[tactic(auto, using(std::proofs::lemmas::List::take_more_set))]
+    fn put(&mut self, word: u64) {
+        self.words[self.count] = word;
+        self.count += 1;
+    }
+}
+
+#[test]
+fn images_are_written(rt: HostRuntime) -> Result<(), Fail> {
+    let alloc = rt.alloc();
+    for config in [
+        Config::new(alloc),
+        with_selector(alloc)?,
+        two_groups(alloc)?,
+    ] {
+        assert!(rt; image_len(&config) <= 32);
+        let mut sink = ArraySink {
+            words: [0; 32],
+            count: 0,
+        };
+        write_image(&config, &mut sink);
+        let words = words_of(alloc, &config)?;
+        assert_eq!(rt; sink.count, words.len());
+        for (i, word) in words.iter().enumerate() {
+            assert_eq!(rt; sink.words.get(i), Some(word));
+        }
+    }
+    Ok(())
+}
+
+// The words at a place are a program's; there is no place where there is no program.
+fn stands(words: &[u64], place: Option<ProgramPlace>, program: Option<&Program<Global>>) -> bool {
+    match (place, program) {
+        (None, None) => true,
+        (Some(place), Some(program)) => {
+            if place.from > words.len() || place.len > words.len() - place.from {
+                return false;
+            }
+            let behind = &words[place.from..];
+            &behind[..place.len] == program.words()
+        }
+        _ => false,
+    }
+}
+
+// All that a configuration has is found again in words that begin with its image.
+fn find_again(rt: &impl Abort, words: &[u64], config: &Config)
+    requires { BeginsWithImage words.now config.now }
+{
+    let mut list = words;
+    // The key of no group.
+    assert_eq!(rt; find_group(&mut list, SAMPLE_MEMBER), None);
+    let groups = config.groups();
+    for index in 0..groups.len() {
+        let group = &groups[index];
+        let members = group.members();
+        let found = FoundGroup {
+            index,
+            members: members.len(),
+        };
+        assert_eq!(rt; find_group(&mut list, group.key()), Some(found));
+        let selector = selector_of(&mut list, index);
+        assert!(rt; stands(words, selector, group.selector()));
+        for at in 0..members.len() {
+            let member = &members[at];
+            let entry = MemberEntry {
+                id: member.id,
+                to: member.to,
+            };
+            assert_eq!(rt; member_at(&mut list, index, at), entry);
+            let filter = filter_of(&mut list, index, at);
+            assert!(rt; stands(words, filter, member.filter.as_ref()));
+        }
+    }
+}
+
+#[test]
+fn found_again(rt: HostRuntime) -> Result<(), Fail> {
+    let alloc = rt.alloc();
+    for config in [
+        Config::new(alloc),
+        with_selector(alloc)?,
+        two_groups(alloc)?,
+    ] {
+        let words = words_of(alloc, &config)?;
+        find_again(&rt, words.as_slice(), &config);
+    }
+    Ok(())
+}

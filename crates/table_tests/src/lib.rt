@@ -1,0 +1,5 @@
+//! Tests of the shared table: of worlds, of sections, and of publications.
+#![tactic(auto)]
+
+#[cfg(test)]
+mod tests;

@@ -1,0 +1,7 @@
+//! The table as a machine of single steps, and as shared memory: in written orders, and in threads.
+
+mod history;
+mod numbered;
+mod publications;
+mod sections;
+mod worlds;

@@ -1,0 +1,183 @@
+//! Sections and single steps, in a written order. `publications` has sections beside publications.
+
+ghost use Rattle.std.specs.Prelude.{◌≡◌, ◌++◌, ◌<◌, ◌≤◌, ◌∷◌, IfOk, [], length, suc};
+ghost use Rattle.versions.specs.declared.layout.TheConstants.{LAST_NUMBER};
+ghost use Rattle.versions.specs.Free.{IsFreeRow, number_after};
+ghost use Rattle.versions.specs.Table.{the_shape};
+ghost use Rattle.read_section.specs.Layout.{IsPublishable};
+ghost use Rattle.read_section.specs.Section.{IsWholeSection};
+ghost use Rattle.read_section.specs.Worker.{WorkerValue};
+
+use super::numbered::{applied, config_of, differing};
+use bpf_insn::Words;
+use bpf_verify::Program;
+use ipv4_fields::Endpoint;
+use member_group::{Command, Config};
+use read_section::{
+    CHARGE_LIMIT, LAST_NUMBER, OpenFault, Operator, ROW_WORDS, ROWS, Reclaimed, Worker, open,
+};
+use std::alloc::Global;
+use std::process::Abort;
+use std::test::Fail;
+use versions::row_word;
+
+// Two groups, whose selectors have so many instructions: the charge is 10 more than theirs.
+fn with_selectors(alloc: Global, counts: [usize; 2]) -> Result<Config, Fail> {
+    let mut config = Config::new(alloc);
+    for (port, count) in [(1, counts[0]), (2, counts[1])] {
+        let key = Endpoint { address: 1, port };
+        config = applied(&config, Command::AddGroup { key })?;
+        let words = vec![in alloc; 0x0006_0000_0000_0000; count]?;
+        let Ok(program) = Program::new(words) else {
+            return Err(Fail::from("returns are a program"));
+        };
+        config = applied(&config, Command::SetSelector { key, program })?;
+    }
+    Ok(config)
+}
+
+// Enters, reads the section through its `Words` alone, and leaves. Of the worker's log it is proved that these steps were added
+// to it and no others. Answers the version, and how many words were not its row's.
+pub fn read_whole(worker: &mut Worker) -> (u64, usize)
+    ensures whole { (inside : WorkerValue) × IsWholeSection worker.old inside worker.new }
+{
+    let mut section = worker.enter();
+    let number = section.number();
+    let wrong = differing(&mut section, number);
+    section.leave();
+    (number, wrong)
+}
+
+// A table at version 0, with its first worker and its last.
+fn opened(rt: &impl Abort, alloc: Global) -> Result<(Operator, Worker, Worker), Fail>
+    ensures first { IfOk result (λ parts. parts.1.table ≡ parts.0.table) }
+    ensures last { IfOk result (λ parts. parts.2.table ≡ parts.0.table) }
+{
+    let (operator, mut workers) = open(config_of(alloc, 0)?)?;
+    assert_eq!(rt; workers.len(), 16);
+    let last = workers.swap_remove(15);
+    let first = workers.swap_remove(0);
+    Ok((operator, first, last))
+}
+
+// Fills a row word by word, and publishes the configuration from it.
+fn fill_and_put(operator: &mut Operator, row: usize, config: Config)
+    requires free { IsFreeRow the_shape operator.old.view row }
+    requires publishable { IsPublishable config }
+    requires number { number_after operator.old.view.log < LAST_NUMBER }
+    ensures published { operator.new.view.published ≡ operator.old.view.published ++ config ∷ [] }
+    ensures same_table { operator.new.table ≡ operator.old.table }
+{
+    for place in 0..ROW_WORDS {
+        operator.fill(row, place, row_word(&config, place));
+    }
+    operator.put(row, config);
+}
+
+// Publishes the configuration of this number, in the row of the same number.
+fn publish(rt: &impl Abort, alloc: Global, operator: &mut Operator, number: u32) -> Result<(), Fail>
+    ensures same_table { operator.new.table ≡ operator.old.table }
+{
+    let row = number as usize;
+    let config = config_of(alloc, number)?;
+    if config.charge() > CHARGE_LIMIT || operator.number() >= LAST_NUMBER {
+        return Err(Fail::from("a small configuration and a small number"));
+    }
+    if operator.is_free(row) {
+        fill_and_put(operator, row, config);
+        assert_eq!(rt; operator.number(), u64::from(number));
+        return Ok(());
+    }
+    Err(Fail::from("the row is free"))
+}
+
+// Enters once another worker told what it has seen: the version is the last of that, or a later one.
+fn enter_told(worker: &mut Worker, other: &mut Worker) -> (u64, usize)
+    requires { worker.old.table ≡ other.old.table }
+    ensures told { length other.old.view.seen ≤ suc result.0 }
+{
+    worker.meet_worker(other);
+    let mut section = worker.enter();
+    let number = section.number();
+    let wrong = differing(&mut section, number);
+    section.leave();
+    (number, wrong)
+}
+
+// A worker that abandoned its section counts as inside, also where it meets the operator, until it enters again and leaves.
+#[test]
+fn entering_after_abandon(rt: HostRuntime) -> Result<(), Fail> {
+    let alloc = rt.alloc();
+    let (mut operator, _, mut worker) = opened(&rt, alloc)?;
+    let section = worker.enter();
+    section.abandon();
+    assert_eq!(rt; operator.scan(15), 1);
+    worker.meet(&mut operator);
+    assert_eq!(rt; operator.scan(15), 1);
+    assert_eq!(rt; read_whole(&mut worker), (0, 0));
+    assert_eq!(rt; operator.scan(15), 0);
+    Ok(())
+}
+
+#[test]
+fn table_at_version_zero(rt: HostRuntime) -> Result<(), Fail> {
+    let alloc = rt.alloc();
+    let (mut operator, mut worker, _) = opened(&rt, alloc)?;
+    assert_eq!(rt; operator.number(), 0);
+    assert_eq!(rt; (operator.zeros_from(0), operator.zeros_from(1)), (6, 0));
+    assert_eq!(rt;
+        (
+            operator.is_free(0),
+            operator.is_free(1),
+            operator.is_free(ROWS)
+        ),
+        (false, true, false)
+    );
+    assert_eq!(rt; operator.report(), Reclaimed { first: 0, count: 0 });
+    assert_eq!(rt; read_whole(&mut worker), (0, 0));
+    Ok(())
+}
+
+// A worker in a section keeps its version while the next one is published, and enters on that one when it met the operator.
+#[test]
+fn section_keeps_its_version(rt: HostRuntime) -> Result<(), Fail> {
+    let alloc = rt.alloc();
+    let (mut operator, mut worker, _) = opened(&rt, alloc)?;
+    publish(&rt, alloc, &mut operator, 1)?;
+    let mut section = worker.enter();
+    assert_eq!(rt; section.count(), 8192);
+    let published = publish(&rt, alloc, &mut operator, 2);
+    assert_eq!(rt; section.number(), 1);
+    assert_eq!(rt; differing(&mut section, 1), 0);
+    section.leave();
+    published?;
+    worker.meet(&mut operator);
+    assert_eq!(rt; read_whole(&mut worker), (2, 0));
+    Ok(())
+}
+
+// A worker that never met the operator is told of a version by one that did.
+#[test]
+fn told_by_another_worker(rt: HostRuntime) -> Result<(), Fail> {
+    let alloc = rt.alloc();
+    let (mut operator, mut first, mut last) = opened(&rt, alloc)?;
+    publish(&rt, alloc, &mut operator, 1)?;
+    first.meet(&mut operator);
+    assert_eq!(rt; enter_told(&mut last, &mut first), (1, 0));
+    Ok(())
+}
+
+#[test]
+fn largest_charge_opens(rt: HostRuntime) -> Result<(), Fail> {
+    let alloc = rt.alloc();
+    let largest = with_selectors(alloc, [4096, 4086])?;
+    assert_eq!(rt; largest.charge(), 8192);
+    let (operator, _) = open(largest)?;
+    assert_eq!(rt; operator.config().charge(), 8192);
+    let greater = with_selectors(alloc, [4096, 4087])?;
+    assert_eq!(rt; greater.charge(), 8193);
+    match open(greater) {
+        Err(OpenFault::TooBig) => Ok(()),
+        _ => Err(Fail::from("a charge of 8193 is refused")),
+    }
+}

@@ -1,0 +1,365 @@
+//! Lists of steps: a worker that stalls before it announces, steps in no order beside a slow reference, and refused growths.
+
+ghost use Rattle.std.specs.Prelude.{◌<◌};
+
+use super::history::{History, begin_of};
+use bpf_verify::Program;
+use ipv4_fields::Endpoint;
+use linked_list_allocator::LocalHeap;
+use member_group::{Command, Config};
+use std::alloc::{Allocator, Global};
+use std::test::Fail;
+use versions::Step::{self, Announce, Fetch, Fill, Leave, Peek, Pin, Publish, Scan};
+use versions::{ROWS, StepFault, TABLE_WORDS, WORKERS, World};
+
+// Publishes the empty configuration from the least free row, and answers the word stored; 0 where no row is free.
+fn publish(alloc: Global, world: &mut World) -> Result<u64, Fail> {
+    for row in 0..ROWS {
+        let place = begin_of(row);
+        if world.step(Fill { place, word: 2 }).is_ok() {
+            world.propose(Config::new(alloc))?;
+            return Ok(world.step(Publish { row })?);
+        }
+    }
+    Ok(0)
+}
+
+fn scan_all<A: Allocator>(world: &mut World<A>) -> Result<u64, Fail> {
+    let mut greatest = 0;
+    for place in 1..WORKERS + 1 {
+        greatest = world.step(Scan { place })?.max(greatest);
+    }
+    Ok(greatest)
+}
+
+// How many rows are free; each row adds at most 1.
+fn free_rows(world: &mut World) -> usize {
+    let mut count = 0;
+    for row in 0..ROWS {
+        let place = begin_of(row);
+        if world.step(Fill { place, word: 2 }).is_ok() {
+            count = row.min(count) + 1;
+        }
+    }
+    count
+}
+
+#[test]
+fn stalled_worker_holds_back_more(rt: HostRuntime) -> Result<(), Fail> {
+    let mut world = World::new(Config::new(rt.alloc()))?;
+    for number in 1..4u64 {
+        assert_eq!(rt; publish(rt.alloc(), &mut world)? / 8, number);
+    }
+    assert_eq!(rt; world.step(Peek { worker: 0 })?, 27);
+    for number in 4..91u64 {
+        let mut word = publish(rt.alloc(), &mut world)?;
+        if word == 0 {
+            assert_eq!(rt; scan_all(&mut world)?, 0);
+            word = publish(rt.alloc(), &mut world)?;
+        }
+        assert_eq!(rt; word / 8, number);
+    }
+    // The last scans came before version 85: one row is left free, and 84 to 89 are replaced and not free.
+    assert_eq!(rt; free_rows(&mut world), 1);
+    assert_eq!(rt; world.step(Announce { worker: 0 })?, 4);
+    assert_eq!(rt; world.step(Pin { worker: 0 })? / 8, 90);
+    for _ in 0..3 {
+        assert_eq!(rt; scan_all(&mut world)?, 4);
+        assert_eq!(rt; free_rows(&mut world), 1);
+    }
+    assert_eq!(rt; publish(rt.alloc(), &mut world)? / 8, 91);
+    assert_eq!(rt; scan_all(&mut world)?, 4);
+    assert_eq!(rt; publish(rt.alloc(), &mut world)?, 0);
+    assert_eq!(rt; world.step(Leave { worker: 0 })?, 0);
+    assert_eq!(rt; scan_all(&mut world)?, 0);
+    assert_eq!(rt; free_rows(&mut world), 7);
+    Ok(())
+}
+
+// Each step with its answer, in a world whose version 0 is the empty configuration; no answer is "not legal".
+const ANSWERS: [(Step, Option<u64>); 33] = [
+    (Announce { worker: 0 }, None),
+    (Pin { worker: 0 }, None),
+    (Leave { worker: 0 }, None),
+    (
+        Fetch {
+            worker: 0,
+            place: 17,
+        },
+        None,
+    ),
+    (Peek { worker: 16 }, None),
+    (Scan { place: 0 }, None),
+    (Scan { place: 17 }, None),
+    (Scan { place: 16 }, Some(0)),
+    (Peek { worker: 0 }, Some(0)),
+    (Peek { worker: 0 }, Some(0)),
+    (Announce { worker: 0 }, Some(1)),
+    (Peek { worker: 0 }, None),
+    (Announce { worker: 0 }, None),
+    (Pin { worker: 0 }, Some(0)),
+    (
+        Fetch {
+            worker: 0,
+            place: 17,
+        },
+        Some(2),
+    ),
+    (
+        Fetch {
+            worker: 0,
+            place: 8208,
+        },
+        Some(0),
+    ),
+    (
+        Fetch {
+            worker: 0,
+            place: 8209,
+        },
+        None,
+    ),
+    (
+        Fetch {
+            worker: 0,
+            place: 16,
+        },
+        None,
+    ),
+    (Peek { worker: 0 }, Some(0)),
+    (Announce { worker: 0 }, None),
+    (Fill { place: 17, word: 2 }, None),
+    (Fill { place: 16, word: 2 }, None),
+    (
+        Fill {
+            place: 65_553,
+            word: 2,
+        },
+        None,
+    ),
+    (Publish { row: 1 }, None),
+    (
+        Fill {
+            place: 8209,
+            word: 2,
+        },
+        Some(2),
+    ),
+    (Publish { row: 1 }, None),
+    (Publish { row: 8 }, None),
+    (
+        Fill {
+            place: 65_552,
+            word: 7,
+        },
+        Some(7),
+    ),
+    (Scan { place: 1 }, Some(1)),
+    (Leave { worker: 0 }, Some(0)),
+    (Announce { worker: 0 }, None),
+    (
+        Fetch {
+            worker: 0,
+            place: 17,
+        },
+        None,
+    ),
+    (Scan { place: 1 }, Some(0)),
+];
+
+#[test]
+fn steps_and_their_answers(rt: HostRuntime) -> Result<(), Fail> {
+    let mut world = World::new(Config::new(rt.alloc()))?;
+    for (step, answer) in ANSWERS {
+        assert_eq!(rt;
+            world.step(step),
+            answer.ok_or(StepFault::NotLegal),
+            "{step:?}"
+        );
+    }
+    world.propose(Config::new(rt.alloc()))?;
+    assert_eq!(rt; world.step(Publish { row: 7 }), Err(StepFault::NotLegal));
+    assert_eq!(rt; world.step(Publish { row: 1 }), Ok(9));
+    assert_eq!(rt; world.step(Publish { row: 1 }), Err(StepFault::NotLegal));
+    Ok(())
+}
+
+// The group 10.0.0.2:53 with the member 7 at 127.0.0.1:9001, without programs, and its image.
+const GROUP: Endpoint = Endpoint {
+    address: 0x0a00_0002,
+    port: 53,
+};
+
+const GROUP_IMAGE: [u64; 9] = [9, 1, 0x0a00_0002_0035, 6, 1, 0, 7, 0x7f00_0001_2329, 0];
+
+fn with_group(alloc: Global) -> Result<Config, Fail> {
+    let added = Config::new(alloc).apply(&Command::<Program<Global>>::AddGroup { key: GROUP });
+    let joined = added.and_then(|config| {
+        config.apply(&Command::<Program<Global>>::Join {
+            key: GROUP,
+            member: 7,
+            to: Endpoint {
+                address: 0x7f00_0001,
+                port: 9001,
+            },
+        })
+    });
+    joined.map_err(|_| Fail::from("the commands are applied"))
+}
+
+#[test]
+fn group_is_published_word_by_word(rt: HostRuntime) -> Result<(), Fail> {
+    let mut world = World::new(Config::new(rt.alloc()))?;
+    world.propose(with_group(rt.alloc())?)?;
+    for (i, word) in GROUP_IMAGE.into_iter().enumerate() {
+        // The last word of the image is 0, as the row has it.
+        if i < 8 {
+            assert_eq!(rt; world.step(Publish { row: 5 }), Err(StepFault::NotLegal));
+        }
+        let place = begin_of(5).wrapping_add(i);
+        assert_eq!(rt; world.step(Fill { place, word })?, word);
+    }
+    assert_eq!(rt; world.step(Publish { row: 5 })?, 13);
+    assert_eq!(rt; world.word(0), Some(13));
+    assert_eq!(rt; world.word(TABLE_WORDS), None);
+    for (step, answer) in [
+        (Peek { worker: 15 }, 13),
+        (Announce { worker: 15 }, 2),
+        (Pin { worker: 15 }, 13),
+    ] {
+        assert_eq!(rt; world.step(step)?, answer);
+    }
+    for (i, word) in GROUP_IMAGE.into_iter().enumerate() {
+        let place = begin_of(5).wrapping_add(i);
+        assert_eq!(rt; world.step(Fetch { worker: 15, place })?, word);
+    }
+    Ok(())
+}
+
+// Numbers in no order: the linear congruential generator of Knuth's MMIX, and its high bits.
+#[derive(Drop)]
+struct Numbers(u64);
+
+impl Numbers {
+    fn below(&mut self, bound: u64) -> u64
+        requires { 0 < bound }
+    {
+        self.0 = self
+            .0
+            .wrapping_mul(6364136223846793005)
+            .wrapping_add(1442695040888963407);
+        (self.0 >> 33) % bound
+    }
+
+    fn step(&mut self) -> Step {
+        let worker = self.below(3) as usize;
+        let row = self.below(9) as usize;
+        match self.below(16) {
+            0 | 1 => Peek { worker },
+            2 | 3 => Announce { worker },
+            4 | 5 => Pin { worker },
+            6 => Fetch {
+                worker,
+                place: begin_of(row).wrapping_add(self.below(2) as usize),
+            },
+            7 => Leave { worker },
+            8 | 9 | 10 => Fill {
+                place: begin_of(row),
+                word: 2,
+            },
+            11 => Fill {
+                place: begin_of(row).wrapping_add(1),
+                word: self.below(8) / 7,
+            },
+            12 | 13 => Publish { row },
+            _ => Scan {
+                place: self.below(18) as usize,
+            },
+        }
+    }
+}
+
+#[test]
+fn steps_in_no_order(rt: HostRuntime) -> Result<(), Fail> {
+    let mut world = World::new(Config::new(rt.alloc()))?;
+    let mut words = vec![in rt.alloc(); 0; TABLE_WORDS]?;
+    if let Some(first) = words.get_mut(17) {
+        *first = 2;
+    }
+    let mut history = History {
+        words,
+        made: Vec::new(rt.alloc()),
+        proposed: false,
+    };
+    let mut numbers = Numbers(1);
+    let mut legal = 0u32;
+    for turn in 0..3000u32 {
+        if turn % 8 == 0 {
+            world.propose(Config::new(rt.alloc()))?;
+            history.proposed = true;
+        }
+        let step = numbers.step();
+        let wanted = history.answer(step);
+        assert_eq!(rt;
+            world.step(step),
+            wanted.ok_or(StepFault::NotLegal),
+            "turn {turn}: {step:?}"
+        );
+        if let Some(word) = wanted {
+            history.make(step, word)?;
+            legal = legal.wrapping_add(1);
+        }
+    }
+    assert!(rt;
+        800 < legal && 20 < history.number(),
+        "{legal} steps were legal"
+    );
+    Ok(())
+}
+
+// Steps a worker's round, until one is refused; tells how many rounds were made.
+fn rounds_within(heap: &LocalHeap) -> Result<usize, Fail> {
+    let mut world = match World::new(Config::new(heap)) {
+        Ok(world) => world,
+        Err(StepFault::OutOfMemory) => return Ok(0),
+        Err(_) => return Err(Fail::from("only memory is refused")),
+    };
+    for round in 1..40usize {
+        match world.propose(Config::new(heap)) {
+            Ok(()) => {}
+            Err(StepFault::OutOfMemory) => return Ok(round),
+            Err(_) => return Err(Fail::from("only memory is refused")),
+        }
+        for step in [
+            Peek { worker: 3 },
+            Announce { worker: 3 },
+            Pin { worker: 3 },
+            Leave { worker: 3 },
+        ] {
+            match world.step(step) {
+                Ok(_) => {}
+                // The world is as before: the same step is refused again for want of memory alone.
+                Err(StepFault::OutOfMemory) if world.step(step) == Err(StepFault::OutOfMemory) =>
+                    return Ok(round),
+                Err(_) => return Err(Fail::from("only memory is refused")),
+            }
+        }
+    }
+    Ok(40)
+}
+
+#[test]
+fn world_under_each_refused_growth(rt: HostRuntime) -> Result<(), Fail> {
+    let mut size = 524_000;
+    let mut least = 0;
+    for _ in 0..300 {
+        let heap = LocalHeap::new(rt.alloc(), size)?;
+        let rounds = rounds_within(&heap)?;
+        assert!(rt; least <= rounds, "a heap of {size} bytes");
+        assert_eq!(rt; heap.used(), 0);
+        least = rounds;
+        size = size.saturating_add(128);
+    }
+    assert_eq!(rt; least, 40);
+    Ok(())
+}

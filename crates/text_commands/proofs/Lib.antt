@@ -1,0 +1,6 @@
+mod RequestLemmas
+mod RepliesLemmas
+mod StopLemmas
+mod WriteLemmas
+pub mod FirstLemmas
+mod TableLemmas

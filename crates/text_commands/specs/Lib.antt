@@ -1,0 +1,5 @@
+pub mod CommandResult
+pub mod FirstPath
+pub mod Input
+pub mod Request
+pub mod body

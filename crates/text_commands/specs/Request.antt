@@ -1,0 +1,158 @@
+-- What a command makes of its arguments and its input: a result, or why there is none (docs/COMMANDS.md).
+use Rattle.std.specs.Prelude.{◌≡◌, ◌++◌, ◌⊎◌, List, Option, Some, [], codes, ℕ}
+use Rattle.std.specs.Io.KnownBytes.{Appends}
+use Rattle.clap.specs.Words.{Text}
+use Rattle.control.specs.Packet.{IsRefusalOfHex, SpellsPacket}
+use Rattle.control.specs.Reason.{IsRefusalOfAssembly, IsRefusalOfExpression, refusal_text}
+use Rattle.control.specs.Script.{AreAnswered, IsScriptText, Standing}
+use Rattle.control_line.specs.declared.reason.Reason.{Reason}
+use Rattle.text_commands.specs.declared.command_result.CommandResult.{CommandResult}
+use Rattle.text_commands.specs.declared.command_result.CommandResult.TheVariants.{Versions}
+use Rattle.command_line.specs.declared.ending.Failure.{Failure}
+use Rattle.command_line.specs.declared.ending.Failure.TheVariants.{OutOfMemory, ReadFailed, SpawnFailed, WriteFailed}
+use Rattle.command_line.specs.declared.ending.Status.{Status}
+use Rattle.command_line.specs.declared.ending.Status.TheVariants.{Done, Refused}
+use Rattle.text_commands.specs.declared.stop.Stop.{Stop}
+use Rattle.text_commands.specs.declared.stop.Stop.TheVariants as stop
+use Rattle.text_commands.specs.CommandResult.{IsCheckAnswer, IsCompileAnswer, IsJudgeAnswer, IsRunAnswer, answer_text}
+use Rattle.command_line.specs.CommandLine.{AskToWait, MayWait, Request, check, compile, faults_in, first, flood, judge, replay, request_in, run}
+use Rattle.command_line.specs.Ending.{AppendsBeginning, line_of}
+use Rattle.text_commands.specs.FirstPath.{first_text}
+use Rattle.text_commands.specs.Input.{BeginsInput, IsInput}
+
+-- the two lines of the first path
+abbrev pub IsFirstAnswer : CommandResult → Type 0
+IsFirstAnswer (Versions at_first at_second) = answer_text (Versions at_first at_second) ≡ first_text
+IsFirstAnswer _ = ⊥
+
+-- the result of a command, where its input has these bytes
+abbrev pub IsResult : Request → List ℕ → CommandResult → Type 0
+IsResult first input answer = IsFirstAnswer answer
+IsResult check input answer = IsCheckAnswer input answer
+IsResult (compile expression) input answer = IsCompileAnswer expression answer
+IsResult (run digits) input answer = (packet : List ℕ) × SpellsPacket digits packet × IsRunAnswer packet input answer
+IsResult (judge digits expression) input answer =
+    (packet : List ℕ) × SpellsPacket digits packet × IsJudgeAnswer packet expression answer
+IsResult replay input answer = ⊥
+IsResult (flood workers) input answer = ⊥
+
+-- why it has none; the packet is looked at before the program or the expression
+abbrev pub IsRefusalReason : Request → List ℕ → Reason → Type 0
+IsRefusalReason first input reason = ⊥
+IsRefusalReason check input reason = IsRefusalOfAssembly input reason
+IsRefusalReason (compile expression) input reason = IsRefusalOfExpression expression reason
+IsRefusalReason (run digits) input reason =
+    IsRefusalOfHex digits reason ⊎ ((packet : List ℕ) × SpellsPacket digits packet × IsRefusalOfAssembly input reason)
+IsRefusalReason (judge digits expression) input reason =
+    IsRefusalOfHex digits reason ⊎ ((packet : List ℕ) × SpellsPacket digits packet × IsRefusalOfExpression expression reason)
+IsRefusalReason replay input reason = ⊥
+IsRefusalReason (flood workers) input reason = ⊥
+
+-- the input is read by `check` and `replay`, and by `run` without an expression where the packet is good
+abbrev pub ReadsInput : Request → Type 0
+ReadsInput check = Unit {0}
+ReadsInput replay = Unit {0}
+ReadsInput (run digits) = (packet : List ℕ) × SpellsPacket digits packet
+ReadsInput _ = ⊥
+
+-- a failure before anything is written: the input could not be read, or memory was refused
+abbrev pub IsFailureOf : Request → Failure → Type 0
+IsFailureOf request ReadFailed = ReadsInput request
+IsFailureOf request WriteFailed = ⊥
+IsFailureOf request OutOfMemory = Unit {0}
+IsFailureOf request SpawnFailed = ⊥
+
+-- the same of an input of which the bytes may be known
+
+abbrev pub IsResultOf : Request → Option (List ℕ) → CommandResult → Type 0
+IsResultOf request known answer = (input : List ℕ) × IsInput known input × IsResult request input answer
+
+abbrev pub IsRefusalOf : Request → Option (List ℕ) → Reason → Type 0
+IsRefusalOf request known reason = (input : List ℕ) × IsInput known input × IsRefusalReason request input reason
+
+abbrev pub IsStopOf : Request → Option (List ℕ) → Stop → Type 0
+IsStopOf request known (stop.Refused reason) = IsRefusalOf request known reason
+IsStopOf request known (stop.Failed failure) = IsFailureOf request failure
+
+-- the text that is written with a status: that of the result, or the line of the refusal
+abbrev pub IsAnswerText : Request → Option (List ℕ) → Status → List ℕ → Type 0
+IsAnswerText request known Done text = (answer : CommandResult) × IsResultOf request known answer × (text ≡ answer_text answer)
+IsAnswerText request known Refused text =
+    (reason : Reason) × IsRefusalOf request known reason × (text ≡ refusal_text reason ++ codes "\n")
+IsAnswerText request known _ text = ⊥
+
+-- the command's text was written behind what stood before, and nothing else
+abbrev pub WritesAnswer : Request → Option (List ℕ) → Status → Option (List ℕ) → Option (List ℕ) → Type 0
+WritesAnswer request known status before after = (text : List ℕ) × IsAnswerText request known status text × Appends before after text
+
+-- the input was read to its end, and the replies to that script were written, and nothing else
+abbrev pub WritesReplies : Option (List ℕ) → Status → Option (List ℕ) → Option (List ℕ) → Type 0
+WritesReplies known Done before after =
+    (script text : List ℕ) × IsInput known script × IsScriptText script text × Appends before after text
+WritesReplies known _ before after = ⊥
+
+-- what a command writes that ends with a status
+abbrev pub Writes : Request → Option (List ℕ) → Status → Option (List ℕ) → Option (List ℕ) → Type 0
+Writes replay known status before after = WritesReplies known status before after
+Writes request known status before after = WritesAnswer request known status before after
+
+-- the same of the command that the words name
+abbrev pub WritesAnswerTo : List Text → Option (List ℕ) → Status → Option (List ℕ) → Option (List ℕ) → Type 0
+WritesAnswerTo words known status before after =
+    (request : Request) × (request_in words ≡ Some request) × Writes request known status before after
+
+-- a command may fail in this way: reading fails only where it reads, and writing where it does not wait
+abbrev pub MayFail : Request → Failure → Type 0
+MayFail request ReadFailed = ReadsInput request
+MayFail request WriteFailed = MayWait request → ⊥
+MayFail request OutOfMemory = Unit {0}
+MayFail request SpawnFailed = ⊥
+
+-- the same of words, which may also ask for a text
+abbrev pub MayFailBy : List Text → Failure → Type 0
+MayFailBy words ReadFailed = (request : Request) × (request_in words ≡ Some request) × ReadsInput request
+MayFailBy words WriteFailed = AskToWait words → ⊥
+MayFailBy words OutOfMemory = Unit {0}
+MayFailBy words SpawnFailed = ⊥
+
+-- ---- what a command that failed has written
+
+-- the replies to some first lines of the input were written, and nothing else
+pub record RepliesToFirstLines (known before after : Option (List ℕ)) : Type 0 where
+  pub lines : List ℕ
+  pub text : List ℕ
+  pub last : Standing
+  pub read : BeginsInput known lines
+  pub answered : AreAnswered lines text last
+  pub written : Appends before after text
+
+-- this is the text of some first lines of the input, or of all of it
+abbrev pub IsTextOfInput : Option (List ℕ) → List ℕ → Type 0
+IsTextOfInput known text =
+    ((lines : List ℕ) × (last : Standing) × BeginsInput known lines × AreAnswered lines text last)
+    ⊎ ((script : List ℕ) × IsInput known script × IsScriptText script text)
+
+-- of the replies to these a beginning was written, and nothing else
+abbrev pub WritesBeginningOfReplies : Option (List ℕ) → Option (List ℕ) → Option (List ℕ) → Type 0
+WritesBeginningOfReplies known before after = (text : List ℕ) × IsTextOfInput known text × AppendsBeginning before after text
+
+-- what was written before each failure: what is promised of a failed write is promised of `replay` alone
+abbrev pub WritesBefore : Request → Failure → Option (List ℕ) → Option (List ℕ) → Option (List ℕ) → Type 0
+WritesBefore replay ReadFailed known before after = RepliesToFirstLines known before after
+WritesBefore replay WriteFailed known before after = WritesBeginningOfReplies known before after
+WritesBefore replay OutOfMemory known before after = RepliesToFirstLines known before after
+WritesBefore replay SpawnFailed known before after = ⊥
+WritesBefore request WriteFailed known before after = Unit {0}
+WritesBefore request _ known before after = after ≡ before
+
+-- the same of the command that words without a fault name
+abbrev pub WritesBeforeBy : List Text → Failure → Option (List ℕ) → Option (List ℕ) → Option (List ℕ) → Type 0
+WritesBeforeBy words failure known before after =
+    faults_in words ≡ [] → (request : Request) → request_in words ≡ Some request → WritesBefore request failure known before after
+
+-- a command failed in a way in which it may; a beginning of the failure's line was told
+pub record EndsInFailure (words : List Text) (known before after told_before told_after : Option (List ℕ)) : Type 0 where
+  pub failure : Failure
+  pub may_fail : MayFailBy words failure
+  pub written : WritesBeforeBy words failure known before after
+  pub told : AppendsBeginning told_before told_after (line_of failure)

@@ -1,0 +1,40 @@
+//! The command `compile`, and `run` with an expression (docs/COMMANDS.md).
+
+ghost use Rattle.std.specs.Prelude.{IfErr, IfOk};
+ghost use Rattle.control.specs.Reason.{IsRefusalOfExpression};
+ghost use Rattle.filter_compile.specs.Answer.{IsPacket};
+ghost use Rattle.text_commands.specs.CommandResult.{IsCompileAnswer, IsJudgeAnswer};
+ghost use Rattle.text_commands.specs.body.Stop.{IsStopBy};
+
+use crate::command_result::CommandResult;
+use crate::stop::Stop;
+use bpf_asm::print;
+use bpf_machine::run;
+use program_text::compiled;
+use std::alloc::Global;
+
+/// Compiles the expression, and prints the program.
+pub fn compile(alloc: Global, text: &[u8]) -> Result<CommandResult, Stop>
+    ensures answer { IfOk result (IsCompileAnswer text.now) }
+    ensures refused { IfErr result (IsStopBy (IsRefusalOfExpression text.now)) }
+{
+    let program = compiled(alloc, text)?;
+    let listing = print(alloc, &program)?;
+    Ok(CommandResult::Compiled {
+        charge: program.charge(),
+        listing,
+    })
+}
+
+/// Tells whether the expression is true of the packet, by running its program.
+pub fn judge(alloc: Global, packet: &[u8], text: &[u8]) -> Result<CommandResult, Stop>
+    requires { IsPacket packet.now }
+    ensures answer { IfOk result (IsJudgeAnswer packet.now text.now) }
+    ensures refused { IfErr result (IsStopBy (IsRefusalOfExpression text.now)) }
+{
+    let program = compiled(alloc, text)?;
+    let mut words = program.words();
+    let count = words.len();
+    let accepts = run(&mut words, 0, count, packet).value != 0;
+    Ok(CommandResult::Judged { accepts })
+}

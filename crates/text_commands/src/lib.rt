@@ -1,0 +1,156 @@
+//! The commands of words and texts, from the words to the output and the exit status (docs/COMMANDS.md).
+//!
+//! `tool` reads the words, runs `first`, `check`, `compile`, `run` or `replay` over any input and outputs, and leaves a command that
+//! runs worker threads to its caller.
+#![tactic(auto)]
+
+ghost use Rattle.std.specs.Prelude.{◌≡◌, ◌≢◌, ◌⊎◌, [], IfErr, IfOk, IfSome, None, OnErr, Ok, Err, Some, map, string_bytes};
+ghost use Rattle.clap.specs.Words.{kind_of};
+ghost use Rattle.command_line.specs.CommandLine.{AskToWait, AsksForText, HasMisuse, MayWait, faults_in, request_of};
+ghost use Rattle.command_line.specs.Ending.{IsStatus, code_of};
+ghost use Rattle.text_commands.specs.Request.{EndsInFailure, MayFail, MayFailBy, Writes, WritesAnswerTo, WritesBefore, WritesBeforeBy};
+
+mod command_result;
+mod expression_commands;
+mod first_path;
+mod input;
+mod program_commands;
+mod queries;
+mod replaying;
+mod stop;
+
+use clap::error::ErrorKind;
+use command_line::{Failure, Status, Subcommand, read_words};
+use queries::run_query;
+use replaying::run_replay;
+use std::alloc::Global;
+use std::io::{Read, Write};
+
+/// Runs the words after the program's name, and answers the exit status. Results go to `out`; a fault in the words or a
+/// failure goes to `errs`, whose own errors change nothing. `None` where the words ask for a command that may wait, which
+/// is run elsewhere.
+pub fn tool<R: Read + Drop, W: Write, E: Write>(
+    alloc: Global,
+    words: &[String],
+    input: R,
+    out: &mut W,
+    errs: &mut E,
+) -> Option<u8>
+    ensures status { IfSome result IsStatus }
+    ensures waits { result ≡ None → AskToWait (map string_bytes words.now) }
+    ensures answers { AskToWait (map string_bytes words.now) → (result ≡ None) ⊎ (result ≡ Some (code_of Status.Failed)) }
+
+    ensures done { result ≡ Some (code_of Status.Done)
+        → (faults_in (map string_bytes words.now) ≡ []) ⊎ AsksForText (faults_in (map string_bytes words.now)) }
+    ensures done_written { result ≡ Some (code_of Status.Done) → faults_in (map string_bytes words.now) ≡ []
+        → WritesAnswerTo (map string_bytes words.now) (R.remaining input) Status.Done
+        (W.contents out.old) (W.contents out.new) }
+
+    ensures refused { result ≡ Some (code_of Status.Refused) → faults_in (map string_bytes words.now) ≡ [] }
+    ensures refused_written { result ≡ Some (code_of Status.Refused)
+        → WritesAnswerTo (map string_bytes words.now) (R.remaining input) Status.Refused
+        (W.contents out.old) (W.contents out.new) }
+
+    ensures misused { result ≡ Some (code_of Status.Misused) → HasMisuse (faults_in (map string_bytes words.now)) }
+    ensures nothing_written { (result ≡ None) ⊎ (result ≡ Some (code_of Status.Misused)) → out.new ≡ out.old }
+
+    ensures failed { result ≡ Some (code_of Status.Failed)
+        → EndsInFailure (map string_bytes words.now) (R.remaining input)
+        (W.contents out.old) (W.contents out.new) (E.contents errs.old) (E.contents errs.new) }
+    ensures no_errors { (result ≡ None) ⊎ (result ≡ Some (code_of Status.Done)) ⊎ (result ≡ Some (code_of Status.Refused))
+        → errs.new ≡ errs.old }
+{
+    match run_words(alloc, words, input, out, errs) {
+        Ok(Some(status)) => Some(status as u8),
+        Ok(None) => None,
+        Err(failure) => Some(failure.report(errs) as u8),
+    }
+}
+
+// `None` where the words ask for a command that may wait.
+fn run_words<R: Read + Drop, W: Write, E: Write>(
+    alloc: Global,
+    words: &[String],
+    input: R,
+    out: &mut W,
+    errs: &mut E,
+) -> Result<Option<Status>, Failure>
+    ensures waits { result ≡ Ok None → AskToWait (map string_bytes words.now) }
+
+    ensures done { result ≡ Ok (Some Status.Done)
+        → (faults_in (map string_bytes words.now) ≡ []) ⊎ AsksForText (faults_in (map string_bytes words.now)) }
+    ensures done_written { result ≡ Ok (Some Status.Done) → faults_in (map string_bytes words.now) ≡ []
+        → WritesAnswerTo (map string_bytes words.now) (R.remaining input) Status.Done
+        (W.contents out.old) (W.contents out.new) }
+
+    ensures refused { result ≡ Ok (Some Status.Refused) → faults_in (map string_bytes words.now) ≡ [] }
+    ensures refused_written { result ≡ Ok (Some Status.Refused)
+        → WritesAnswerTo (map string_bytes words.now) (R.remaining input) Status.Refused
+        (W.contents out.old) (W.contents out.new) }
+
+    ensures misused { result ≡ Ok (Some Status.Misused) → HasMisuse (faults_in (map string_bytes words.now)) }
+    ensures nothing_written { (result ≡ Ok None) ⊎ (result ≡ Ok (Some Status.Misused)) → out.new ≡ out.old }
+    ensures never_failed { result ≡ Ok (Some Status.Failed) → ⊥ }
+
+    ensures failed { IfErr result (λ failure. MayFailBy (map string_bytes words.now) failure × (errs.new ≡ errs.old)) }
+    ensures failed_written { IfErr result (λ failure.
+        WritesBeforeBy (map string_bytes words.now) failure (R.remaining input) (W.contents out.old) (W.contents out.new)) }
+    ensures no_errors { (result ≡ Ok None) ⊎ (result ≡ Ok (Some Status.Done)) ⊎ (result ≡ Ok (Some Status.Refused))
+        → errs.new ≡ errs.old }
+{
+    match read_words(alloc, words) {
+        Ok(command) => run_subcommand(alloc, command, input, out),
+        Err(fault) => Ok(Some(answer(&fault, out, errs)?)),
+    }
+}
+
+fn run_subcommand<R: Read + Drop, W: Write>(
+    alloc: Global,
+    command: Subcommand<'_>,
+    input: R,
+    out: &mut W,
+) -> Result<Option<Status>, Failure>
+    ensures waits { result ≡ Ok None → MayWait (request_of command.entry) }
+    ensures nothing_written { result ≡ Ok None → out.new ≡ out.old }
+    ensures failed { IfErr result (MayFail (request_of command.entry)) }
+    ensures failed_written { IfErr result (λ failure.
+        WritesBefore (request_of command.entry) failure (R.remaining input) (W.contents out.old) (W.contents out.new)) }
+    ensures answered { IfOk result (λ ended. IfSome ended (λ status.
+        Writes (request_of command.entry) (R.remaining input) status (W.contents out.old) (W.contents out.new))) }
+{
+    match command {
+        Subcommand::Query(query) => Ok(Some(run_query(alloc, query, input, out)?)),
+        Subcommand::Replay => Ok(Some(run_replay(alloc, input, out)?)),
+        Subcommand::Flood { .. } => Ok(None),
+    }
+}
+
+// Help and the version are results.
+fn answer<W: Write, E: Write>(
+    fault: &clap::Error,
+    out: &mut W,
+    errs: &mut E,
+) -> Result<Status, Failure>
+    ensures done { result ≡ Ok Status.Done
+        → (kind_of fault.now ≡ ErrorKind.DisplayHelp) ⊎ (kind_of fault.now ≡ ErrorKind.DisplayVersion) }
+    ensures misused { result ≡ Ok Status.Misused
+        → (kind_of fault.now ≢ ErrorKind.DisplayHelp) × (kind_of fault.now ≢ ErrorKind.DisplayVersion) }
+    ensures done_or_misused { IfOk result (λ status. (status ≡ Status.Done) ⊎ (status ≡ Status.Misused)) }
+    ensures failed { IfErr result (λ failure. (failure ≡ Failure.WriteFailed) ⊎ (failure ≡ Failure.OutOfMemory)) }
+    ensures untold { OnErr result (errs.new ≡ errs.old) }
+    ensures no_errors { result ≡ Ok Status.Done → errs.new ≡ errs.old }
+    ensures nothing_written { result ≡ Ok Status.Misused → out.new ≡ out.old }
+    ensures no_memory { kind_of fault.now ≡ ErrorKind.OutOfMemory → (result ≡ Err Failure.OutOfMemory) × (out.new ≡ out.old) }
+{
+    if fault.kind() == ErrorKind::OutOfMemory {
+        return Err(Failure::OutOfMemory);
+    }
+    if fault.use_stderr() {
+        let _ = write!(errs, "{fault}");
+        let _ = errs.flush();
+        return Ok(Status::Misused);
+    }
+    write!(out, "{fault}").map_err(|_| Failure::WriteFailed)?;
+    out.flush().map_err(|_| Failure::WriteFailed)?;
+    Ok(Status::Done)
+}

@@ -1,0 +1,45 @@
+//! Why a command has no result: a refusal (docs/COMMANDS.md, "Refusals"), or a failure.
+
+ghost use Rattle.std.specs.Prelude.{◌≡◌};
+ghost use Rattle.text_commands.specs.body.Stop.{stop_of_text};
+ghost use Rattle.command_line.specs.declared.ending.Failure.TheVariants.{OutOfMemory};
+ghost use Rattle.text_commands.specs.declared.stop.Stop.TheVariants.{Failed};
+
+use command_line::Failure;
+use control::Reason;
+use program_text::TextFault;
+use std::alloc::AllocError;
+
+/// Why a command has no result.
+#[derive(Clone, Copy, Debug, PartialEq, Eq)]
+pub enum Stop {
+    Refused(Reason),
+    Failed(Failure),
+}
+
+impl From<AllocError> for Stop {
+    ghost from_gives = { λ _ stop. stop ≡ Failed OutOfMemory };
+
+    fn from(_error: AllocError) -> Stop {
+        Stop::Failed(Failure::OutOfMemory)
+    }
+}
+
+impl From<Failure> for Stop {
+    ghost from_gives = { λ failure stop. stop ≡ Failed failure };
+
+    fn from(failure: Failure) -> Stop {
+        Stop::Failed(failure)
+    }
+}
+
+impl From<TextFault> for Stop {
+    ghost from_gives = { λ fault stop. stop ≡ stop_of_text fault };
+
+    fn from(fault: TextFault) -> Stop {
+        match Reason::of_text(fault) {
+            Some(reason) => Stop::Refused(reason),
+            None => Stop::Failed(Failure::OutOfMemory),
+        }
+    }
+}

@@ -1,0 +1,6 @@
+//! Tests by crate: bpf_asm, filter_tree, filter_parse, filter_compile.
+
+mod assembly;
+mod compiling;
+mod parsing;
+mod trees;

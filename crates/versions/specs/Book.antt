@@ -1,0 +1,38 @@
+-- What a contract sees of a Book: how its numbers go with the operator's log, and how a publication and a scan change them.
+use Rattle.std.specs.Prelude.{◌≡◌, ◌+◌, ◌<◌, ◌↔◌, ◌⊎◌, length, replicate, slice_index, slice_set, suc, ℕ}
+use mathlib.Core.Option.{some}
+use lib.ListN.{get_elem?}
+use Rattle.versions.specs.declared.book.Book.{Book}
+use Rattle.versions.specs.declared.view.OperatorView.{OperatorView}
+use Rattle.versions.specs.Layout.{Shape}
+use Rattle.versions.specs.Free.{IsClear, IsScannedClear, number_after}
+use Rattle.versions.specs.Table.{the_shape}
+
+module _ {C : Type 0} (shape : Shape C) where
+  -- the numbers tell what the operator's log tells: scanned clear of worker w are the versions below `cleared` at w, and in
+  -- row r the last version is one less than `last` at r
+  pub record IsBook (view : OperatorView C) (book : Book) : Type 0 where
+    pub number : book.number ≡ number_after view.log
+    pub last_length : length book.last ≡ shape.rows
+    pub cleared_length : length book.cleared ≡ shape.workers
+    pub cleared : (w m : ℕ) → w < shape.workers → IsScannedClear w m view.log ↔ (m < slice_index book.cleared w)
+    pub below_last : (r m : ℕ) → get_elem? view.version_rows m ≡ some r → m < slice_index book.last r
+    pub last_there : (r m : ℕ) → slice_index book.last r ≡ suc m → get_elem? view.version_rows m ≡ some r
+
+-- the book at the start: version 0 is in row 0, and nothing was scanned
+pub record IsBookAtStart (book : Book) : Type 0 where
+  pub number : book.number ≡ 0
+  pub last : book.last ≡ slice_set (replicate the_shape.rows 0) 0 1
+  pub cleared : book.cleared ≡ replicate the_shape.workers 0
+
+-- the book after a publication from row r
+abbrev pub with_version_in : ℕ → Book → Book
+with_version_in r before = record before { number = before.number + 1; last = slice_set before.last r (before.number + 2) }
+
+-- the book after a scan of worker w that gave x
+pub record IsCleared (w x : ℕ) (before after : Book) : Type 0 where
+  pub number : after.number ≡ before.number
+  pub last : after.last ≡ before.last
+  pub cleared_length : length after.cleared ≡ length before.cleared
+  pub others : (v : ℕ) → (v ≡ w → ⊥) → slice_index after.cleared v ≡ slice_index before.cleared v
+  pub here : (m : ℕ) → (m < slice_index after.cleared w) ↔ (((m < before.number) × IsClear m x) ⊎ (m < slice_index before.cleared w))

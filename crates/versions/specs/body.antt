@@ -1,0 +1,2 @@
+pub mod Mirror
+pub mod WorldKept

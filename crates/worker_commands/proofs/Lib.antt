@@ -1,0 +1,3 @@
+mod FloodLemmas
+mod StandardFacts
+mod TrafficLemmas

@@ -1,0 +1,16 @@
+use Rattle.std.proofs.Common.{◌≡◌, ◌+◌, length, map, vec_len}
+use Rattle.std.specs.List.{All}
+use Rattle.atomic_table.specs.Seated.{TableId}
+use Rattle.worker_commands.specs.Flood.{AreStartsOf, HasRoom, IsNew, IsNewWorker, parts_of}
+use Rattle.worker_commands.proofs.flood_jobs.jobs.Given as goal
+
+abbrev pub invariant-loop-place : goal.invariant-loop-place
+invariant-loop-place l =
+    (vec_len l.jobs ≡ l.place)
+    × (vec_len l.seats + l.place ≡ vec_len l.fn.seats)
+    × (vec_len l.counters + l.place ≡ vec_len l.fn.counters)
+    × All (λ job. HasRoom (length job.buffer.items) job.limit) l.jobs.items
+    × ((table : TableId) → All (IsNew table) l.fn.counters.items → All (IsNew table) l.counters.items
+    × AreStartsOf table l.workers l.datagrams l.place (map (λ job. parts_of job.worker job.counter job.source job.outbox) l.jobs.items))
+    × ((versions : TableId) → All (IsNewWorker versions) l.fn.seats.items → All (IsNewWorker versions) l.seats.items
+    × All (λ job. IsNewWorker versions job.worker) l.jobs.items)

@@ -1,0 +1,4 @@
+pub mod Flood
+pub mod FloodVersions
+pub mod Traffic
+pub mod Waiting
