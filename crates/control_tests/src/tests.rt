@@ -257,5 +257,12 @@ const AT_THE_LIMIT: [Asked; 4] = [
 #[test]
 fn lines_at_the_limit(rt: HostRuntime) -> Result<(), Fail> {
     assert_eq!(rt; LINE_LIMIT, 262_144);
+    let lengths: [usize; 4] = [262_144, 262_145, 262_144, 262_145];
+    for (asked, length) in AT_THE_LIMIT.iter().zip(lengths) {
+        let Asked::Pieces(pieces, _) = asked else {
+            return Err(Fail::from("each line is of pieces"));
+        };
+        assert_eq!(rt; in_pieces(rt.alloc(), pieces)?.len(), length);
+    }
     expect_session(&rt, rt.alloc(), &AT_THE_LIMIT)
 }

@@ -1,22 +1,30 @@
-//! Scripts through `replay`, over an input and an output in memory.
+//! Scripts through the command `replay`, over streams in memory.
 
 mod random_scripts;
 mod replacing;
 mod scripts_at_limits;
 
-use control::{FromRead, ToWrite, replay};
 use std::alloc::Global;
 use std::process::Abort;
 use std::test::Fail;
+use text_commands::tool;
 
-/// The replies to a script that is replayed to its end.
+/// The replies to a script that the command `replay` runs to its end.
 fn replayed(rt: &impl Abort, alloc: Global, script: &str) -> Result<String, Fail> {
-    let mut kept = Vec::new(alloc);
-    let mut output = ToWrite::new(&mut kept);
-    let result = replay(alloc, &mut FromRead::new(script.as_bytes()), &mut output);
-    output.into_inner();
-    assert_eq!(rt; result, Ok(()), "{script:?}");
-    match String::from_utf8(kept) {
+    let mut words = Vec::new(alloc);
+    words.push(String::from_str(alloc, "replay")?)?;
+    let mut out = Vec::new(alloc);
+    let mut errs = Vec::new(alloc);
+    let status = tool(
+        alloc,
+        words.as_slice(),
+        script.as_bytes(),
+        &mut out,
+        &mut errs,
+    );
+    assert_eq!(rt; errs.len(), 0, "{script:?}");
+    assert_eq!(rt; status, Some(0), "{script:?}");
+    match String::from_utf8(out) {
         Ok(text) => Ok(text),
         Err(_) => Err(Fail::from("the replies are no text")),
     }
