@@ -3,10 +3,11 @@ use Rattle.std.proofs.Common.{◌≡◌, ◌∙◌, ◌+◌, ◌++◌, ◌∷◌
 use Rattle.std.proofs.lemmas.List.{map-append}
 use Rattle.std.proofs.lemmas.List.Concat.{flat_map-append}
 use Rattle.std.proofs.lemmas.List.Sums.{sum_by-append, sum_by-cons}
-use Rattle.read_section.specs.Worker.{WorkerValue}
+use Rattle.read_section.specs.Worker.{IsOutside, WorkerValue}
 use Rattle.dispatch.specs.Batch.{AreJudged, IsJudged, IsRun, Judged, Parts, all_counted_for, all_sent, counted_for, one_if, packets_of, sent_of}
 use Rattle.dispatch.specs.Device.{Gives, Takes, Sent}
 use Rattle.dispatch.specs.Tally.{CounterValue}
+use Rattle.dispatch.specs.WorkerSteps.{AddsOwnSteps}
 use Rattle.dispatch.proofs.DeviceLemmas.{gives_more, gives_nothing, takes_more, takes_nothing}
 
 judged_more : (before mid after : WorkerValue) (judged : List Judged) (one : Judged) → AreJudged before judged mid → IsJudged mid one → after ≡ one.after
@@ -52,8 +53,10 @@ run_more room before mid after judged one run last = record {
       let so_far = run.outbox_failures in let then = last.outbox_failures in omega arith;
 }
 
--- a run of so many datagrams
+-- a run of so many datagrams, which left the worker outside where it was so before, by steps of its own
 pub record IsRunOf (room : ℕ) (before after : Parts) (count : ℕ) : Type 0 where
   pub judged : List Judged
   pub run : IsRun room before after judged
   pub count_is : length judged ≡ count
+  pub outside : IsOutside before.worker.view.stage → IsOutside after.worker.view.stage
+  pub own_steps : AddsOwnSteps before.worker after.worker

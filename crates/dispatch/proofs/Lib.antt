@@ -1,5 +1,6 @@
 pub mod JobLemmas
 pub mod DeviceLemmas
+pub mod StepLemmas
 pub mod BatchLemmas
 pub mod DatagramLemmas
 pub mod MemoryLemmas

@@ -4,6 +4,7 @@ pub mod Job
 pub mod Memory
 pub mod Tally
 pub mod Totals
+pub mod WorkerSteps
 pub mod Workers
 pub mod body
 pub use Rattle.packet_verdict.specs.Kind

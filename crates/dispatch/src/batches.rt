@@ -3,6 +3,8 @@
 ghost use Rattle.std.specs.Prelude.{◌≡◌, ◌≤◌, IfErr, length};
 ghost use Rattle.bpf_machine.specs.declared.TheConstants.{MAX_PACKET};
 ghost use Rattle.dispatch.specs.Batch.{IsBatch};
+ghost use Rattle.dispatch.specs.WorkerSteps.{AddsOwnSteps};
+ghost use Rattle.read_section.specs.Worker.{IsOutside};
 
 use crate::datagram::handle;
 use crate::device::{Failed, Outbox, Source};
@@ -54,6 +56,10 @@ pub fn batch<S: Source, O: Outbox>(
     ensures batch { IsBatch (length buf.old) limit
         (record { worker = worker.old; counter = counter.old; source = S.state source.old; outbox = O.state outbox.old })
         (record { worker = worker.new; counter = counter.new; source = S.state source.new; outbox = O.state outbox.new }) result }
+
+    // Whatever it answers.
+    ensures outside { IsOutside worker.old.view.stage → IsOutside worker.new.view.stage }
+    ensures only_own_steps { AddsOwnSteps worker.old worker.new }
 {
     for judged in 0..limit {
         let size = match source.next(buf) {

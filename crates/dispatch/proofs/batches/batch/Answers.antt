@@ -1,9 +1,15 @@
-use Rattle.std.proofs.Common.{arith, length, ◌++◌, ◌∷◌, []}
+use Rattle.std.proofs.Common.{arith, length, refl, ◌++◌, ◌∷◌, []}
 use Rattle.std.proofs.lemmas.List.{length-append}
 use Rattle.dispatch.specs.Batch.{Parts}
-use Rattle.dispatch.proofs.BatchLemmas.{run_more}
+use Rattle.dispatch.proofs.BatchLemmas.{run_more, run_of_none}
 use Rattle.dispatch.proofs.DeviceLemmas.{gives_one}
+use Rattle.dispatch.proofs.StepLemmas.{adds_more, adds_nothing, judging_adds, judging_leaves}
 use Rattle.dispatch.proofs.batches.batch.Goals as goal
+
+pub loop-judged-init : goal.loop-judged-init
+loop-judged-init g c =
+    let begun : Parts = record { worker = c.args.worker.now; counter = c.args.counter.now; source = g.S.Source.state c.args.source.now; outbox = g.O.Outbox.state c.args.outbox.now } in
+    record { judged = []; run = run_of_none (length c.args.buf.now) begun; count_is = refl; outside = λ outside. outside; own_steps = adds_nothing begun.worker }
 
 pub loop-judged-preserved : goal.loop-judged-preserved
 loop-judged-preserved g c =
@@ -25,4 +31,16 @@ loop-judged-preserved g c =
         outbox_failures = one.outbox_failures;
       });
       count_is = omega arith;
+      outside = λ begun. judging_leaves mid.worker after.worker one.judged one.own_section one.after;
+      own_steps = adds_more before.worker mid.worker after.worker so_far.own_steps (judging_adds mid.worker after.worker one.judged one.own_section one.after);
     }
+
+pub returns-in_err-handle-clause-outside : goal.returns-in_err-handle-clause-outside
+returns-in_err-handle-clause-outside g c =
+    let one = c.in_err-handle.ensures.not_counted in λ begun. judging_leaves c.loop-judged.worker c.handle.new.worker one.judged one.own_section one.after
+
+pub returns-in_err-handle-clause-only_own_steps : goal.returns-in_err-handle-clause-only_own_steps
+returns-in_err-handle-clause-only_own_steps g c =
+    let one = c.in_err-handle.ensures.not_counted in
+    adds_more c.args.worker.now c.loop-judged.worker c.handle.new.worker c.loop-judged.invariant.own_steps
+    (judging_adds c.loop-judged.worker c.handle.new.worker one.judged one.own_section one.after)
