@@ -1,0 +1,11 @@
+-- What contracts see of the queues of all workers.
+use Rattle.std.specs.Prelude.{◌%◌, ◌+◌, ℕ}
+
+-- how many workers there are, and whose turn it is, counted from 0
+pub record QueuesValue : Type 0 where
+  pub workers : ℕ
+  pub turn : ℕ
+
+-- it is the next worker's turn, after the last one's the first's
+abbrev pub next_turn : QueuesValue → QueuesValue
+next_turn queues = record queues { turn = (queues.turn + 1) % queues.workers }
