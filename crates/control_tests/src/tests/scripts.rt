@@ -42,17 +42,26 @@ impl Read for Pieces<'_> {
     }
 }
 
-// A writer that has room for so many bytes, and takes at most three at a time.
+// A writer that has room for so many bytes, and takes at most three at a time. Past that it fails, or writes 0 bytes.
 #[derive(Drop)]
 struct Room {
     bytes: Vec<u8>,
     room: usize,
+    fails: bool,
+}
+
+fn room_for(alloc: Global, room: usize, fails: bool) -> Room {
+    Room {
+        bytes: Vec::new(alloc),
+        room,
+        fails,
+    }
 }
 
 impl Write for Room {
     fn write(&mut self, buf: &[u8]) -> io::Result<usize> {
         let size = buf.len().min(3).min(self.room);
-        if size == 0 {
+        if size == 0 && self.fails {
             return Err(io::Error::from(ErrorKind::BrokenPipe));
         }
         self.room = self.room.saturating_sub(size);
@@ -67,21 +76,26 @@ impl Write for Room {
     }
 }
 
-// Replays what a reader gives into room for so many bytes; what was written, and how it ended.
-fn replayed(
+// Replays what a reader gives; what was written, and how it ended.
+fn replayed_into(
     alloc: Global,
     reader: impl Read + Drop,
-    room: usize,
+    mut out: Room,
 ) -> (Vec<u8>, Result<(), ReplayFault>) {
-    let mut out = Room {
-        bytes: Vec::new(alloc),
-        room,
-    };
     let mut output = ToWrite::new(&mut out);
     let answer = replay(alloc, &mut FromRead::new(reader), &mut output);
     output.into_inner();
-    let Room { bytes, room: _ } = out;
+    let Room {
+        bytes,
+        room: _,
+        fails: _,
+    } = out;
     (bytes, answer)
+}
+
+// The same, with room for all.
+fn replayed(alloc: Global, reader: impl Read + Drop) -> (Vec<u8>, Result<(), ReplayFault>) {
+    replayed_into(alloc, reader, room_for(alloc, usize::MAX, true))
 }
 
 // Bytes are replayed to bytes: what is added is the text of the script.
@@ -97,7 +111,7 @@ fn replay_bytes(alloc: Global, script: &[u8], out: &mut Vec<u8>) -> Result<(), R
 
 fn expect(rt: &impl Abort, alloc: Global, script: &[u8], replies: &str) {
     for most in [1, 7, usize::MAX] {
-        let (written, answer) = replayed(alloc, in_pieces(script, most), usize::MAX);
+        let (written, answer) = replayed(alloc, in_pieces(script, most));
         assert_eq!(rt; answer, Ok(()));
         assert_eq!(rt; written.as_slice(), replies.as_bytes());
     }
@@ -210,11 +224,11 @@ fn lines_at_their_limits(rt: HostRuntime) -> Result<(), Fail> {
     let alloc = rt.alloc();
     for (begin, text, count, reply) in LONG_LINES {
         let mut script = super::in_pieces(alloc, &[(begin, 1), (text, count)])?;
-        let (alone, answer) = replayed(alloc, in_pieces(&script, usize::MAX), usize::MAX);
+        let (alone, answer) = replayed(alloc, in_pieces(&script, usize::MAX));
         assert_eq!(rt; answer, Ok(()));
         assert_eq!(rt; alone.as_slice(), reply.as_bytes());
         script.extend_from_slice(b"\nsweep\n")?;
-        let (followed, answer) = replayed(alloc, in_pieces(&script, 1000), usize::MAX);
+        let (followed, answer) = replayed(alloc, in_pieces(&script, 1000));
         assert_eq!(rt; answer, Ok(()));
         assert_eq!(rt;
             &followed[..reply.len().min(followed.len())],
@@ -230,7 +244,7 @@ fn lines_at_their_limits(rt: HostRuntime) -> Result<(), Fail> {
 fn no_publication_is_busy(rt: HostRuntime) -> Result<(), Fail> {
     let alloc = rt.alloc();
     let script = super::in_pieces(alloc, &[("add 10.0.0.2:53\nremove 10.0.0.2:53\n", 20)])?;
-    let (written, answer) = replayed(alloc, in_pieces(&script, usize::MAX), usize::MAX);
+    let (written, answer) = replayed(alloc, in_pieces(&script, usize::MAX));
     assert_eq!(rt; answer, Ok(()));
     assert!(rt;
         written
@@ -254,27 +268,35 @@ fn first_replies(lines: usize) -> &'static [u8] {
     REPLIES.as_bytes()
 }
 
-#[test]
-fn failed_reads(rt: HostRuntime) {
+// Each read fails in turn, the one that would tell the end too: the replies to the lines that were read whole.
+fn expect_failed_reads(rt: &impl Abort, alloc: Global) {
     let script = SCRIPT.as_bytes();
-    for place in 0..script.len() {
+    for place in 0..=script.len() {
         let mut reader = in_pieces(script, 10);
         reader.fails_at = Some(place);
         let lines = script[..place]
             .iter()
             .filter(|byte| **byte == b'\n')
             .count();
-        let (written, answer) = replayed(rt.alloc(), reader, usize::MAX);
+        let (written, answer) = replayed(alloc, reader);
         assert_eq!(rt; answer, Err(ReplayFault::ReadFailed));
         assert_eq!(rt; written.as_slice(), first_replies(lines));
     }
 }
 
-#[test]
-fn failed_writes(rt: HostRuntime) {
+// Each write fails in turn, or writes 0 bytes: a beginning of the replies.
+fn expect_failed_writes(rt: &impl Abort, alloc: Global, fails: bool) {
     for room in 0..REPLIES.len() {
-        let (written, answer) = replayed(rt.alloc(), in_pieces(SCRIPT.as_bytes(), 10), room);
+        let out = room_for(alloc, room, fails);
+        let (written, answer) = replayed_into(alloc, in_pieces(SCRIPT.as_bytes(), 10), out);
         assert_eq!(rt; answer, Err(ReplayFault::WriteFailed));
         assert_eq!(rt; written.as_slice(), &REPLIES.as_bytes()[..room]);
     }
+}
+
+#[test]
+fn script_over_failing_devices(rt: HostRuntime) {
+    expect_failed_reads(&rt, rt.alloc());
+    expect_failed_writes(&rt, rt.alloc(), true);
+    expect_failed_writes(&rt, rt.alloc(), false);
 }
