@@ -1,16 +1,17 @@
 -- The command that a parse of the program's words has met, where `clap` finds no fault in them.
-use Rattle.std.proofs.Common.{◌≡◌, ◌∙◌, ◌∷◌, ◌&&◌, ◌||◌, [], ℕ, List, Bool, true, false, not, cond, Option, Some, None, is_some, ap, ap₂, sym, refl, codes, ◌++◌, take, slice_index_or}
+use Rattle.std.proofs.Common.{◌≡◌, ◌∙◌, ◌∷◌, ◌&&◌, ◌||◌, [], ℕ, List, Bool, Err, IsErrAnd, Ok, Result, true, false, not, cond, Option, Some, None, is_some, ap, ap₂, subst, sym, refl, codes, ◌++◌, take, slice_index_or}
 use Rattle.std.specs.Prelude.{find, fold, option_and_then, option_map, unwrap_or}
 use Rattle.std.specs.Borrow.{Bor}
 use Rattle.std.specs.Str.{bytes_eq}
 use Rattle.std.proofs.lemmas.Slice.Eq.{bytes_eq-Decides}
-use Rattle.clap.specs.Kinds.{Kinds, or_else}
+use Rattle.clap.specs.Kinds.{FailsBy, HasKind, Kinds, or_else}
 use Rattle.clap.specs.Faults.{check_fault, defaults_fault, entered_fault, settle_fault, other_fault, step_fault, turn_fault, walk_fault, word_fault}
 use Rattle.clap.specs.Simple.{App, Shape, built, entered, label_of, names_of, rows_at, subcommand_of, subcommand_rows, subcommand_rows_of}
 use Rattle.clap.specs.Walk.{answers_to, rows_of, Held, Names, Outcome, Row, Rule, Step, Text, Waiting, Walk, after_flag, after_step}
 use Rattle.clap.specs.Walk.{arg_by_index, done, idle, long_or_other, next, option, plain, plain_word, positional, refused}
 use Rattle.clap.specs.Walk.{short_or_plain, subcommand, subcommand_met, subcommand_or_other, to_positional, trailing, value, waits}
 use Rattle.clap.specs.Walk.{walk, walk_from, walked, walked_from, word_met, nothing_held, finished, settled}
+use Rattle.clap.specs.declared.error.Error.{Error}
 use Rattle.clap.specs.declared.error.kind.ErrorKind.TheVariants.{DisplayHelp, InvalidSubcommand}
 use Rattle.clap.specs.Matches.{found_of, subcommand_name_of}
 use Rattle.clap.specs.declared.parser.matches.ArgMatches.{ArgMatches}
@@ -114,10 +115,10 @@ top = (built command_line).top
 
 -- the commands, and behind them `clap`'s own, `help`
 abbrev commands : List Shape
-commands = take 6 (built command_line).subs
+commands = take 7 (built command_line).subs
 
 abbrev help_command : Shape
-help_command = slice_index_or (built command_line).subs 6 top
+help_command = slice_index_or (built command_line).subs 7 top
 
 has_met : (rows : List Row) (has : Bool) → check_fault top rows has ≡ [] → has ≡ true
 has_met rows true none = refl
@@ -173,7 +174,7 @@ not_named word name differs = go (bytes_eq word name) refl
         sym (ap (λ x. x && true) back) ∙ differs
 
 are_requests : AreRequests commands
-are_requests = ((λ rows. refl), ((λ rows. refl), ((λ rows. refl), ((λ rows. refl), ((λ rows. refl), ((λ rows. refl), tt))))))
+are_requests = ((λ rows. refl), ((λ rows. refl), ((λ rows. refl), ((λ rows. refl), ((λ rows. refl), ((λ rows. refl), ((λ rows. refl), tt)))))))
 
 entered_request : (stop : Stop) → IsNoHelp top stop → is_some (entered (built command_line) stop) ≡ true
     → is_some (request_met (entered (built command_line) stop)) ≡ true
@@ -221,3 +222,9 @@ pub read_or : (given : Option (Bor Text)) (other : Bor Text) (text : Option Text
     → (unwrap_or given other).now ≡ unwrap_or text other.now
 read_or None other text is = ap (λ (v : Option Text). unwrap_or v other.now) is
 read_or (Some lent) other text is = ap (λ (v : Option Text). unwrap_or v other.now) is
+
+-- ---- faults that `?` hands on
+
+pub fails_by : {T : Type 0} (result : Result T Error) (kinds : Kinds) (fault : Error) → IsErrAnd result (λ given. given ≡ fault) → HasKind kinds fault → FailsBy kinds result
+fails_by (Ok x) kinds fault is has = absurd is
+fails_by (Err given) kinds fault is has = subst (HasKind kinds) (sym is) has

@@ -2,7 +2,7 @@
 use Rattle.std.proofs.Common.{◌≡◌, ◌∷◌, [], Some, codes, refl}
 use Rattle.clap.proofs.OnLiterals.{clap_on_literals}
 use Rattle.clap.specs.declared.error.kind.ErrorKind.TheVariants.{DisplayHelp, DisplayVersion, InvalidSubcommand, MissingRequiredArgument, MissingSubcommand, UnknownArgument, ValueValidation}
-use Rattle.command_line.specs.CommandLine.{faults_in, flood, request_in}
+use Rattle.command_line.specs.CommandLine.{faults_in, flood, request_in, serve}
 
 in_first : faults_in (codes "first" ∷ []) ≡ []
 unfolding clap_on_literals
@@ -55,3 +55,21 @@ in_flood_of_a_letter = refl
 in_flood_alone : faults_in (codes "flood" ∷ []) ≡ MissingRequiredArgument ∷ []
 unfolding clap_on_literals
 in_flood_alone = refl
+
+in_serve : faults_in (codes "serve" ∷ codes "--front" ∷ codes "0.0.0.0:1" ∷ codes "--control" ∷ codes "0.0.0.0:2" ∷ codes "--workers" ∷ codes "16" ∷ []) ≡ []
+unfolding clap_on_literals
+in_serve = refl
+
+in_serve_request : request_in (codes "serve" ∷ codes "--front" ∷ codes "0.0.0.0:1" ∷ codes "--control" ∷ codes "0.0.0.0:2" ∷ codes "--workers" ∷ codes "16" ∷ [])
+    ≡ Some (serve (codes "0.0.0.0:1") (codes "0.0.0.0:2") (codes "16"))
+unfolding clap_on_literals
+in_serve_request = refl
+
+in_serve_without_front : faults_in (codes "serve" ∷ codes "--control" ∷ codes "0.0.0.0:2" ∷ codes "--workers" ∷ codes "16" ∷ []) ≡ MissingRequiredArgument ∷ []
+unfolding clap_on_literals
+in_serve_without_front = refl
+
+in_serve_of_too_many : faults_in (codes "serve" ∷ codes "--front" ∷ codes "0.0.0.0:1" ∷ codes "--control" ∷ codes "0.0.0.0:2" ∷ codes "--workers" ∷ codes "17" ∷ [])
+    ≡ ValueValidation ∷ []
+unfolding clap_on_literals
+in_serve_of_too_many = refl

@@ -12,12 +12,15 @@ use Rattle.command_line.specs.declared.command.Subcommand.{Subcommand}
 use Rattle.command_line.specs.declared.command.Subcommand.TheVariants as subcommand
 use Rattle.versions.specs.declared.layout.TheConstants.{WORKERS}
 
--- a required argument by place, and one by name
+-- a required argument by place, one by name, and a required one by name
 abbrev pub required_argument : Text → Rule
 required_argument id = record (new_rule id) { required = true }
 
 abbrev pub named_argument : Text → Rule
 named_argument id = record (new_rule id) { long = Some id; value_names = 1 }
+
+abbrev pub required_named_argument : Text → Rule
+required_named_argument id = record (named_argument id) { required = true }
 
 -- ---- the commands
 
@@ -34,15 +37,25 @@ compile_line = with_rule (new_app (codes "compile")) (required_argument (codes "
 -- `run --packet HEX`, and an expression or none
 abbrev pub run_line : App
 run_line =
-    with_rule (with_rule (new_app (codes "run")) (record (named_argument (codes "packet")) { required = true }))
-    (named_argument (codes "expr"))
+    with_rule (with_rule (new_app (codes "run")) (required_named_argument (codes "packet"))) (named_argument (codes "expr"))
 
 abbrev pub replay_line : App
 replay_line = new_app (codes "replay")
 
--- `flood --workers N`, N from 1 on
+-- `--workers N`, N from 1 on
+abbrev pub workers_argument : Rule
+workers_argument = record (required_named_argument (codes "workers")) { parser = Some (Unsigned 1 WORKERS) }
+
+-- `flood --workers N`
 abbrev pub flood_line : App
-flood_line = with_rule (new_app (codes "flood")) (record (named_argument (codes "workers")) { required = true; parser = Some (Unsigned 1 WORKERS) })
+flood_line = with_rule (new_app (codes "flood")) workers_argument
+
+-- `serve --front A --control A --workers N`
+abbrev pub serve_line : App
+serve_line =
+    with_rule
+    (with_rule (with_rule (new_app (codes "serve")) (required_named_argument (codes "front"))) (required_named_argument (codes "control")))
+    workers_argument
 
 abbrev pub bare : Shape
 bare = (new_app (codes "dswitch")).top
@@ -58,10 +71,12 @@ abbrev pub command_line : App
 command_line =
     with_subcommand
     (with_subcommand
+    (with_subcommand
     (with_subcommand (with_subcommand (with_subcommand (with_subcommand without_commands first_line.top) check_line.top) compile_line.top)
     run_line.top)
     replay_line.top)
-    flood_line.top
+    flood_line.top)
+    serve_line.top
 
 -- what `clap` finds in the words after the program's name: nothing, where they name a command
 abbrev pub faults_in : List Text → Kinds
@@ -86,6 +101,7 @@ pub data Request : Type 0 where
   judge : (packet expression : Text) → Request
   replay : Request
   flood : (workers : Text) → Request
+  serve : (front control workers : Text) → Request
 
 abbrev pub query_request : Query → Request
 query_request query.First = first
@@ -98,6 +114,7 @@ abbrev pub request_of : Subcommand → Request
 request_of (subcommand.Query asked) = query_request asked
 request_of subcommand.Replay = replay
 request_of (subcommand.Flood workers) = flood workers.now
+request_of (subcommand.Serve front control workers) = serve front.now control.now workers.now
 
 -- `run`, with an expression or without
 abbrev pub run_or_judge : Text → Option Text → Request
@@ -122,6 +139,8 @@ request_named name rows =
     then Some replay
     else if bytes_eq name (codes "flood")
     then Some (flood (value_in rows (codes "workers")))
+    else if bytes_eq name (codes "serve")
+    then Some (serve (value_in rows (codes "front")) (value_in rows (codes "control")) (value_in rows (codes "workers")))
     else None
 
 -- the command that the words name, with the values that they give its arguments
@@ -133,6 +152,7 @@ request_in words = option_and_then (λ named. request_named named.0 named.1) (su
 -- a command that may wait, which runs worker threads
 abbrev pub MayWait : Request → Type 0
 MayWait (flood workers) = Unit {0}
+MayWait (serve front control workers) = Unit {0}
 MayWait _ = ⊥
 
 -- the words ask for a command that may wait

@@ -3,9 +3,9 @@
 ghost use Rattle.std.specs.Prelude.{◌≡◌, IfOk, Some, codes, false, map, string_bytes};
 ghost use Rattle.std.specs.Option.{option_map};
 ghost use Rattle.clap.specs.Walk.{first_of};
-ghost use Rattle.clap.specs.Words.{FailsBy, app_of, found_of, rows_of};
+ghost use Rattle.clap.specs.Words.{FailsBy, app_of, found_of, rows_of, rule_of};
 ghost use Rattle.clap.specs.declared.builder.command.Command.TheViews.{out-Command};
-ghost use Rattle.command_line.specs.CommandLine.{command_line, compile_line, faults_in, flood_line, query_request, request_in, request_named, request_of, run_line, run_or_judge, value_in};
+ghost use Rattle.command_line.specs.CommandLine.{command_line, compile_line, faults_in, flood_line, query_request, request_in, request_named, request_of, required_named_argument, run_line, run_or_judge, serve_line, value_in, workers_argument};
 
 use crate::help;
 use clap::builder::ValueParser;
@@ -37,7 +37,15 @@ pub enum Subcommand<'a> {
     Query(Query<'a>),
     Replay,
     /// `workers` is their number as it is written.
-    Flood { workers: &'a str },
+    Flood {
+        workers: &'a str,
+    },
+    /// So are the addresses `front` and `control`.
+    Serve {
+        front: &'a str,
+        control: &'a str,
+        workers: &'a str,
+    },
 }
 
 fn compile_command<'a>(alloc: Global) -> Result<Command<'a>, AllocError>
@@ -73,19 +81,54 @@ fn run_command<'a>(alloc: Global) -> Result<Command<'a>, AllocError>
         .arg(expression)
 }
 
-fn flood_command<'a>(alloc: Global) -> Result<Command<'a>, AllocError>
-    ensures app { IfOk result (λ command. app_of command ≡ flood_line) }
-    ensures local { IfOk result (λ command. (out-Command command).has_globals ≡ false) }
+// `--workers N`
+fn workers_argument<'a>(alloc: Global, help: &'a str) -> Arg<'a>
+    ensures rule { rule_of result ≡ workers_argument }
+    ensures local { result.global ≡ false }
 {
-    let workers = Arg::new(alloc, "workers")
+    Arg::new(alloc, "workers")
         .long("workers")
         .value_name("N")
         .required(true)
         .value_parser(ValueParser::unsigned(1, WORKERS as u64))
-        .help(help::FLOOD_WORKERS);
+        .help(help)
+}
+
+// `--NAME A`
+fn address_argument<'a>(alloc: Global, name: &'a str, help: &'a str) -> Arg<'a>
+    ensures rule { rule_of result ≡ required_named_argument name.entry.now }
+    ensures local { result.global ≡ false }
+{
+    Arg::new(alloc, name)
+        .long(name)
+        .value_name("A")
+        .required(true)
+        .help(help)
+}
+
+fn flood_command<'a>(alloc: Global) -> Result<Command<'a>, AllocError>
+    ensures app { IfOk result (λ command. app_of command ≡ flood_line) }
+    ensures local { IfOk result (λ command. (out-Command command).has_globals ≡ false) }
+{
+    let workers = workers_argument(alloc, help::FLOOD_WORKERS);
     Command::new(alloc, "flood")
         .about(help::FLOOD)
         .after_help(help::FLOOD_MORE)
+        .arg(workers)
+}
+
+fn serve_command<'a>(alloc: Global) -> Result<Command<'a>, AllocError>
+    ensures app { IfOk result (λ command. app_of command ≡ serve_line) }
+    ensures local { IfOk result (λ command. (out-Command command).has_globals ≡ false) }
+{
+    let front = address_argument(alloc, "front", help::SERVE_FRONT);
+    let control = address_argument(alloc, "control", help::SERVE_CONTROL);
+    let workers = workers_argument(alloc, help::SERVE_WORKERS);
+    Command::new(alloc, "serve")
+        .about(help::SERVE)
+        .after_help(help::SERVE_MORE)
+        .arg(front)?
+        .arg(control)?
         .arg(workers)
 }
 
@@ -104,6 +147,7 @@ fn program<'a>(alloc: Global) -> Result<Command<'a>, AllocError>
         .about(help::REPLAY)
         .after_help(help::REPLAY_MORE);
     let flood = flood_command(alloc)?;
+    let serve = serve_command(alloc)?;
     Command::new(alloc, "dswitch")
         .bin_name("dswitch")?
         .about(help::PROGRAM)
@@ -116,7 +160,8 @@ fn program<'a>(alloc: Global) -> Result<Command<'a>, AllocError>
         .subcommand(compile)?
         .subcommand(run)?
         .subcommand(replay)?
-        .subcommand(flood)
+        .subcommand(flood)?
+        .subcommand(serve)
 }
 
 // The value of an argument, which a required one has.
@@ -150,6 +195,11 @@ fn subcommand_of<'a>(name: &str, found: &ArgMatches<'a>) -> Option<Subcommand<'a
         "run" => Some(Subcommand::Query(run_or_judge(found))),
         "replay" => Some(Subcommand::Replay),
         "flood" => Some(Subcommand::Flood {
+            workers: value_of(found, "workers"),
+        }),
+        "serve" => Some(Subcommand::Serve {
+            front: value_of(found, "front"),
+            control: value_of(found, "control"),
             workers: value_of(found, "workers"),
         }),
         _ => None,

@@ -29,6 +29,10 @@ pub enum Failure {
     OutOfMemory,
     /// A worker's thread could not be started.
     SpawnFailed,
+    /// A socket could not be bound.
+    BindFailed,
+    /// Waiting for the sockets failed.
+    PollFailed,
 }
 
 impl Failure {
@@ -40,6 +44,8 @@ impl Failure {
             Failure::WriteFailed => "failed E2\n",
             Failure::OutOfMemory => "failed E3\n",
             Failure::SpawnFailed => "failed J1\n",
+            Failure::BindFailed => "failed S1\n",
+            Failure::PollFailed => "failed S2\n",
         }
     }
 

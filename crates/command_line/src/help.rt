@@ -10,7 +10,8 @@ Results go to standard output. Exit status:
   2  wrong arguments: a message on standard error
   3  failed: one line on standard error, `failed E1` where standard input could not be read,
      `failed E2` where results could not be written, `failed E3` where memory ran out,
-     `failed J1` where a worker's thread could not be started
+     `failed J1` where a worker's thread could not be started, `failed S1` where a socket
+     could not be bound, `failed S2` where waiting for the sockets failed
 
 `dswitch help COMMAND` says what a command reads and prints, and gives an example.";
 
@@ -111,3 +112,26 @@ an outbox in memory; meanwhile 64 new versions are tried. Prints how often each 
 Example:
   $ dswitch flood --workers 4
   malformed 1024 nogroup 1024 nomembers 0 dropped 0 delivered 2048 sendfailed 0 receivefailed 0";
+
+pub const SERVE: &str = "Judge datagrams that come over UDP in worker threads, under control lines";
+
+pub const SERVE_FRONT: &str = "Where the datagrams come to, as ADDRESS:PORT";
+
+pub const SERVE_CONTROL: &str = "Where the control lines come to, as ADDRESS:PORT";
+
+pub const SERVE_WORKERS: &str = "How many worker threads judge, from 1 to 16";
+
+pub const SERVE_MORE: &str = "\
+Reads UDP datagrams. Each that comes to FRONT is a whole IPv4 packet: the workers take them in turn,
+and send what is to be delivered to the members. Each that comes to CONTROL is one control line, as
+`replay` takes them but for `packet`, and is replied to by one datagram. CONTROL takes two more:
+  totals   the line of totals so far
+  stop     ok stop, and the workers judge what they were given, and end
+A new switch has no groups. With port 0 the system picks a port. Prints `ready FRONT CONTROL` with
+the bound addresses before it reads, and the line of totals after `stop`, with status 0:
+  malformed A nogroup B nomembers C dropped D delivered E sendfailed F receivefailed G
+Else prints `refused C1`, with status 1, where FRONT or CONTROL is no address, or fails with status 3.
+
+Example:
+  $ dswitch serve --front 127.0.0.1:5300 --control 127.0.0.1:5301 --workers 4
+  ready 127.0.0.1:5300 127.0.0.1:5301";

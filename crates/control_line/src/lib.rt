@@ -27,6 +27,7 @@ use program::LineFault;
 use read_section::Operator;
 pub use reason::{Code, Reason};
 pub use reply::{LineAnswer, NUMBER_LIMIT, REPLY_LIMIT, Reply};
+pub use request::is_word;
 use request::{Request, read_request};
 use retire::Retire;
 use std::alloc::{AllocError, Global};

@@ -28,8 +28,8 @@ pub(crate) enum Request<'a> {
     Sweep,
 }
 
-// Tells whether a field is this word.
-fn is_word(field: &[u8], word: &str) -> bool
+/// Tells whether a text, or a field of it, is this word.
+pub fn is_word(field: &[u8], word: &str) -> bool
     ensures { IsTrue result ↔ (field.now ≡ word.now) }
 {
     field == word.as_bytes()

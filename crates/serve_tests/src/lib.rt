@@ -1,4 +1,4 @@
-//! Tests of what serves: the devices of its workers.
+//! Tests of what serves: its devices, its answers to control datagrams, and the switch over sockets of the loopback.
 #![tactic(auto)]
 
 #[cfg(test)]

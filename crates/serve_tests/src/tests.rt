@@ -1,3 +1,5 @@
-//! Devices of workers, over channels and over sockets of the loopback.
+//! Devices of workers, answers to control datagrams, and the switch over the loopback.
 
+mod control_datagrams;
 mod devices;
+mod loopback;

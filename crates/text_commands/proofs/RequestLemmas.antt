@@ -11,7 +11,7 @@ use Rattle.control_line.specs.declared.reason.Reason.{Reason}
 use Rattle.filter_compile.specs.Answer.{IsPacket}
 use Rattle.text_commands.specs.declared.command_result.CommandResult.{CommandResult}
 use Rattle.command_line.specs.declared.ending.Failure.{Failure}
-use Rattle.command_line.specs.declared.ending.Failure.TheVariants.{OutOfMemory, ReadFailed, SpawnFailed, WriteFailed}
+use Rattle.command_line.specs.declared.ending.Failure.TheVariants.{BindFailed, OutOfMemory, PollFailed, ReadFailed, SpawnFailed, WriteFailed}
 use Rattle.text_commands.specs.declared.stop.Stop.{Stop}
 use Rattle.text_commands.specs.declared.stop.Stop.TheVariants.{Failed, Refused}
 use Rattle.text_commands.specs.CommandResult.{IsCompileAnswer, IsJudgeAnswer}
@@ -35,6 +35,8 @@ pub text_may_fail : (words : List Text) (fault : Error) (failure : Failure) → 
     → (failure ≡ WriteFailed) ⊎ (failure ≡ OutOfMemory) → (kind_of fault ≡ kind.OutOfMemory → failure ≡ OutOfMemory) → MayFailBy words failure
 text_may_fail words fault ReadFailed kinds either memory = elim either [ inl e ↦ cc | inr e ↦ cc ]
 text_may_fail words fault SpawnFailed kinds either memory = elim either [ inl e ↦ cc | inr e ↦ cc ]
+text_may_fail words fault BindFailed kinds either memory = elim either [ inl e ↦ cc | inr e ↦ cc ]
+text_may_fail words fault PollFailed kinds either memory = elim either [ inl e ↦ cc | inr e ↦ cc ]
 text_may_fail words fault OutOfMemory kinds either memory = tt
 text_may_fail words fault WriteFailed kinds either memory = λ ask. elim kinds [
   | inl no_memory ↦ let bad : ◌≡◌ {A = Failure} WriteFailed OutOfMemory = memory no_memory in cc

@@ -1,5 +1,5 @@
 -- What each command answers (docs/COMMANDS.md).
-use Rattle.std.specs.Prelude.{◌≡◌, ◌≤◌, ◌++◌, IsTrue, List, codes, decimal, false, length, min, string_bytes, true, ℕ, ◌↔◌}
+use Rattle.std.specs.Prelude.{◌≡◌, ◌++◌, IsTrue, List, codes, decimal, false, length, min, string_bytes, true, ℕ, ◌↔◌}
 use Rattle.bpf_asm.specs.Text.{printed}
 use Rattle.bpf_machine.specs.Meaning.{Ret, cost_of, ending_of}
 use Rattle.bpf_verify.specs.Program.{ProgramValue}

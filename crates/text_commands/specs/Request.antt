@@ -9,13 +9,13 @@ use Rattle.control_line.specs.declared.reason.Reason.{Reason}
 use Rattle.text_commands.specs.declared.command_result.CommandResult.{CommandResult}
 use Rattle.text_commands.specs.declared.command_result.CommandResult.TheVariants.{Versions}
 use Rattle.command_line.specs.declared.ending.Failure.{Failure}
-use Rattle.command_line.specs.declared.ending.Failure.TheVariants.{OutOfMemory, ReadFailed, SpawnFailed, WriteFailed}
+use Rattle.command_line.specs.declared.ending.Failure.TheVariants.{BindFailed, OutOfMemory, PollFailed, ReadFailed, SpawnFailed, WriteFailed}
 use Rattle.command_line.specs.declared.ending.Status.{Status}
 use Rattle.command_line.specs.declared.ending.Status.TheVariants.{Done, Refused}
 use Rattle.text_commands.specs.declared.stop.Stop.{Stop}
 use Rattle.text_commands.specs.declared.stop.Stop.TheVariants as stop
 use Rattle.text_commands.specs.CommandResult.{IsCheckAnswer, IsCompileAnswer, IsJudgeAnswer, IsRunAnswer, answer_text}
-use Rattle.command_line.specs.CommandLine.{AskToWait, MayWait, Request, check, compile, faults_in, first, flood, judge, replay, request_in, run}
+use Rattle.command_line.specs.CommandLine.{AskToWait, MayWait, Request, check, compile, faults_in, first, flood, judge, replay, request_in, run, serve}
 use Rattle.command_line.specs.Ending.{AppendsBeginning, line_of}
 use Rattle.text_commands.specs.FirstPath.{first_text}
 use Rattle.text_commands.specs.Input.{BeginsInput, IsInput}
@@ -35,6 +35,7 @@ IsResult (judge digits expression) input answer =
     (packet : List ℕ) × SpellsPacket digits packet × IsJudgeAnswer packet expression answer
 IsResult replay input answer = ⊥
 IsResult (flood workers) input answer = ⊥
+IsResult (serve front control workers) input answer = ⊥
 
 -- why it has none; the packet is looked at before the program or the expression
 abbrev pub IsRefusalReason : Request → List ℕ → Reason → Type 0
@@ -47,6 +48,7 @@ IsRefusalReason (judge digits expression) input reason =
     IsRefusalOfHex digits reason ⊎ ((packet : List ℕ) × SpellsPacket digits packet × IsRefusalOfExpression expression reason)
 IsRefusalReason replay input reason = ⊥
 IsRefusalReason (flood workers) input reason = ⊥
+IsRefusalReason (serve front control workers) input reason = ⊥
 
 -- the input is read by `check` and `replay`, and by `run` without an expression where the packet is good
 abbrev pub ReadsInput : Request → Type 0
@@ -61,6 +63,8 @@ IsFailureOf request ReadFailed = ReadsInput request
 IsFailureOf request WriteFailed = ⊥
 IsFailureOf request OutOfMemory = Unit {0}
 IsFailureOf request SpawnFailed = ⊥
+IsFailureOf request BindFailed = ⊥
+IsFailureOf request PollFailed = ⊥
 
 -- the same of an input of which the bytes may be known
 
@@ -107,6 +111,8 @@ MayFail request ReadFailed = ReadsInput request
 MayFail request WriteFailed = MayWait request → ⊥
 MayFail request OutOfMemory = Unit {0}
 MayFail request SpawnFailed = ⊥
+MayFail request BindFailed = ⊥
+MayFail request PollFailed = ⊥
 
 -- the same of words, which may also ask for a text
 abbrev pub MayFailBy : List Text → Failure → Type 0
@@ -114,6 +120,8 @@ MayFailBy words ReadFailed = (request : Request) × (request_in words ≡ Some r
 MayFailBy words WriteFailed = AskToWait words → ⊥
 MayFailBy words OutOfMemory = Unit {0}
 MayFailBy words SpawnFailed = ⊥
+MayFailBy words BindFailed = ⊥
+MayFailBy words PollFailed = ⊥
 
 -- ---- what a command that failed has written
 
@@ -142,6 +150,8 @@ WritesBefore replay ReadFailed known before after = RepliesToFirstLines known be
 WritesBefore replay WriteFailed known before after = WritesBeginningOfReplies known before after
 WritesBefore replay OutOfMemory known before after = RepliesToFirstLines known before after
 WritesBefore replay SpawnFailed known before after = ⊥
+WritesBefore replay BindFailed known before after = ⊥
+WritesBefore replay PollFailed known before after = ⊥
 WritesBefore request WriteFailed known before after = Unit {0}
 WritesBefore request _ known before after = after ≡ before
 

@@ -122,6 +122,7 @@ fn run_subcommand<R: Read + Drop, W: Write>(
         Subcommand::Query(query) => Ok(Some(run_query(alloc, query, input, out)?)),
         Subcommand::Replay => Ok(Some(run_replay(alloc, input, out)?)),
         Subcommand::Flood { .. } => Ok(None),
+        Subcommand::Serve { .. } => Ok(None),
     }
 }
 

@@ -1,13 +1,17 @@
--- What the commands that may wait write (docs/COMMANDS.md, "flood").
-use Rattle.std.specs.Prelude.{◌≡◌, ◌≢◌, ◌≤◌, List, Option, Some, ℕ}
+-- What the commands that may wait write (docs/COMMANDS.md, "flood", "serve").
+use Rattle.std.specs.Prelude.{◌≡◌, ◌≢◌, ◌≤◌, ◌⊎◌, List, None, Option, Some, codes, ℕ}
+use Rattle.std.specs.Io.KnownBytes.{Appends}
 use Rattle.std.specs.Str.Parse.{IsNumeral, digits_value, without_leading_plus}
 use Rattle.clap.specs.Words.{Text}
 use Rattle.versions.specs.declared.layout.TheConstants.{WORKERS}
 use Rattle.command_line.specs.declared.ending.Failure.{Failure}
 use Rattle.command_line.specs.declared.ending.Failure.TheVariants.{ReadFailed, WriteFailed}
 use Rattle.worker_commands.specs.declared.TheConstants.{DATAGRAMS}
-use Rattle.command_line.specs.CommandLine.{flood, request_in}
+use Rattle.command_line.specs.CommandLine.{Request, flood, request_in, serve}
 use Rattle.command_line.specs.Ending.{AppendsBeginning, line_of}
+use Rattle.ipv4_fields.specs.Endpoint.{IsEndpoint, endpoint_text}
+use Rattle.ipv4_fields.specs.declared.endpoint.Endpoint.{Endpoint}
+use Rattle.udp_service.specs.Service.{WritesReadyOrNothing, WritesServed}
 use Rattle.worker_commands.specs.Flood.{WritesFlood}
 
 -- the text is this number of workers, in decimal digits, of which there may be too many, and with or without a plus sign
@@ -17,22 +21,50 @@ pub record IsWorkers (text : Text) (count : ℕ) : Type 0 where
   pub at_least_one : 1 ≤ count
   pub at_most : count ≤ WORKERS
 
--- the words give `flood` a number of workers, and what it writes for that was written
-pub record WritesFor (words : List Text) (before after : Option (List ℕ)) : Type 0 where
+-- the text is an endpoint's, or none's
+abbrev pub IsAddress : Text → Type 0
+IsAddress text = (endpoint : Endpoint) × IsEndpoint endpoint × (text ≡ endpoint_text endpoint)
+
+abbrev pub IsNoAddress : Text → Type 0
+IsNoAddress text = (endpoint : Endpoint) → IsEndpoint endpoint → text ≢ endpoint_text endpoint
+
+-- the number of workers that a request gives, as it is written
+abbrev pub workers_of : Request → Option Text
+workers_of (flood workers) = Some workers
+workers_of (serve front control workers) = Some workers
+workers_of _ = None
+
+-- the words ask for a command that may wait, and what it writes for the workers that they give it was written
+pub data WritesFor (words : List Text) (before after : Option (List ℕ)) : Type 0 where
+  flooded : (workers : Text) (count : ℕ) → request_in words ≡ Some (flood workers) → IsWorkers workers count →
+      WritesFlood count DATAGRAMS before after → WritesFor words before after
+  served : (front control workers : Text) (count : ℕ) → request_in words ≡ Some (serve front control workers) → IsWorkers workers count →
+      IsAddress front → IsAddress control → WritesServed count before after → WritesFor words before after
+
+-- they give it a number of workers, and for a socket a text that is no endpoint's, and the refusal of that was written
+pub record RefusesAddress (words : List Text) (before after : Option (List ℕ)) : Type 0 where
+  pub front : Text
+  pub control : Text
   pub workers : Text
   pub count : ℕ
-  pub asked : request_in words ≡ Some (flood workers)
+  pub asked : request_in words ≡ Some (serve front control workers)
   pub is_workers : IsWorkers workers count
-  pub written : WritesFlood count DATAGRAMS before after
+  pub no_address : IsNoAddress front ⊎ IsNoAddress control
+  pub written : Appends before after (codes "refused C1\n")
 
--- they give it a text that is none
+-- they give it a text that is no number of workers
 abbrev pub LackWorkers : List Text → Type 0
-LackWorkers words = (workers : Text) × (request_in words ≡ Some (flood workers)) × ((count : ℕ) → IsWorkers workers count → ⊥)
+LackWorkers words =
+    (request : Request)
+    × (workers : Text)
+    × (request_in words ≡ Some request)
+    × (workers_of request ≡ Some workers)
+    × ((count : ℕ) → IsWorkers workers count → ⊥)
 
--- it failed in one of these ways, not in reading; nothing was written but where a write failed, and a beginning of the failure's line
--- was told
+-- it failed in one of these ways, not in reading; where no write failed nothing was written, but for the line `ready` of `serve`, and a
+-- beginning of the failure's line was told
 pub record EndsInWaitingFailure (before after told_before told_after : Option (List ℕ)) : Type 0 where
   pub failure : Failure
   pub no_read : failure ≢ ReadFailed
-  pub written : failure ≢ WriteFailed → after ≡ before
+  pub written : failure ≢ WriteFailed → WritesReadyOrNothing before after
   pub told : AppendsBeginning told_before told_after (line_of failure)

@@ -1,14 +1,16 @@
 //! The jobs of `flood`: a worker, a counter and its share of the datagrams each (docs/COMMANDS.md, "flood").
 
-ghost use Rattle.std.specs.Prelude.{◌≡◌, ◌+◌, ◌<◌, ◌≤◌, ◌++◌, IfOk, OnOk, length, map, vec_capacity, vec_len};
+ghost use Rattle.std.specs.Prelude.{◌≡◌, ◌+◌, ◌<◌, ◌≤◌, IfOk, OnOk, length, map, vec_len};
 ghost use Rattle.std.specs.List.{All};
 ghost use Rattle.atomic_table.specs.Seated.{TableId};
 ghost use Rattle.dispatch.specs.Memory.{outbox_of};
-ghost use Rattle.worker_commands.specs.Flood.{AreStarts, HasRoom, IsNew, IsNewWorker, empty_outbox, parts_of};
+ghost use Rattle.worker_commands.specs.Flood.{AreStarts, HasRoom, empty_outbox, parts_of};
+ghost use Rattle.worker_commands.specs.FloodVersions.{opening_version};
 ghost use Rattle.worker_commands.specs.Traffic.{share_of};
+ghost use Rattle.worker_threads.specs.Counted.{IsNew, IsNewWorker};
 
 use crate::traffic::share;
-use dispatch::{Counter, Datagrams, Done, Job, Sends};
+use dispatch::{Counter, Datagrams, Job, Sends};
 use read_section::Worker;
 use sample_group::SAMPLE_PACKET;
 use std::alloc::{AllocError, Global};
@@ -58,10 +60,11 @@ pub fn jobs(
     requires seats { workers ≤ vec_len seats.old }
     requires counters { workers ≤ vec_len counters.old }
     ensures one_a_worker { IfOk result (λ jobs. vec_len jobs ≡ workers) }
-    ensures starts { (table : TableId) → All (IsNew table) counters.old.items
-        → IfOk result (λ jobs. AreStarts table workers datagrams (map (λ job. parts_of job.worker job.counter job.source job.outbox) jobs.items)) }
-    ensures workers { (versions : TableId) → All (IsNewWorker versions) seats.old.items
-        → IfOk result (λ jobs. All (λ job. IsNewWorker versions job.worker) jobs.items) }
+    ensures starts { IfOk result (λ jobs. AreStarts workers datagrams (map (λ job. parts_of job.worker job.counter job.source job.outbox) jobs.items)) }
+    ensures counters { (table : TableId) → All (IsNew table) counters.old.items
+        → IfOk result (λ jobs. All (λ job. IsNew table job.counter) jobs.items) }
+    ensures workers { (versions : TableId) → All (IsNewWorker opening_version versions) seats.old.items
+        → IfOk result (λ jobs. All (λ job. IsNewWorker opening_version versions job.worker) jobs.items) }
     ensures buffers { IfOk result (λ jobs. All (λ job. HasRoom (length job.buffer.items) job.limit) jobs.items) }
     ensures left { OnOk result (vec_len counters.new + workers ≡ vec_len counters.old) }
     ensures new { (table : TableId) → All (IsNew table) counters.old.items → OnOk result (All (IsNew table) counters.new.items) }
@@ -74,23 +77,4 @@ pub fn jobs(
         jobs.push(job(alloc, worker, counter, place, workers, datagrams)?)?;
     }
     Ok(jobs)
-}
-
-/// Puts the counters of the jobs back, for which there is room.
-pub fn take_back(dones: Vec<Done<Datagrams, Sends>>, counters: &mut Vec<Counter>)
-    requires room { vec_len counters.old + vec_len dones ≤ vec_capacity counters.old }
-    ensures counters { counters.new.items ≡ counters.old.items ++ map (λ done. done.counter) dones.items }
-{
-    for done in dones {
-        let Done {
-            worker: _,
-            counter,
-            source: _,
-            outbox: _,
-            buffer: _,
-        } = done;
-        let Ok(()) = counters.push(counter) else {
-            unreachable!()
-        };
-    }
 }

@@ -3,15 +3,15 @@
 ghost use Rattle.std.specs.Prelude.{◌≡◌, ◌≢◌, ◌≤◌, IfErr, IfOk, OnOk, map, vec_len};
 ghost use Rattle.std.specs.List.{All};
 ghost use Rattle.versions.specs.declared.layout.TheConstants.{WORKERS};
-ghost use Rattle.worker_commands.specs.Flood.{IsFlooded, IsNewWorker, WritesFlood, WritesTotals};
-ghost use Rattle.worker_commands.specs.FloodVersions.{successor_at};
+ghost use Rattle.worker_commands.specs.Flood.{IsFlooded, WritesFlood};
+ghost use Rattle.worker_commands.specs.FloodVersions.{opening_version, successor_at};
 ghost use Rattle.worker_commands.specs.Traffic.{numbers_below};
 ghost use Rattle.worker_commands.specs.declared.flood_versions.TheConstants.{PUBLICATIONS};
+ghost use Rattle.worker_threads.specs.Counted.{IsNewWorker};
 
-use crate::flood_jobs::{jobs, take_back};
+use crate::flood_jobs::jobs;
 use crate::flood_versions::{opening, successors};
-use crate::serve_fault::ServeFault;
-use dispatch::{Gate, Tally, Totals, gather, run_workers};
+use dispatch::{Gate, Tally, Totals, gather};
 use member_group::Config;
 use read_section::{OpenFault, Operator, WORKERS, Worker, open};
 use retire::Retire;
@@ -19,11 +19,12 @@ use std::alloc::{AllocError, Global};
 use std::io::Write;
 use std::sync::Wait;
 use std::thread::Threads;
+use worker_threads::{ServeFault, run_counted, spread, write_totals};
 
 // The table at its opening version, and the versions that are to follow.
 fn open_versions(alloc: Global) -> Result<(Operator, Vec<Worker>, Vec<Config>), AllocError>
     ensures workers { IfOk result (λ opened. vec_len opened.1 ≡ WORKERS) }
-    ensures opening { IfOk result (λ opened. All (IsNewWorker opened.0.table) opened.1.items) }
+    ensures opening { IfOk result (λ opened. All (IsNewWorker opening_version opened.0.table) opened.1.items) }
     ensures successors { IfOk result (λ opened. opened.2.items ≡ map successor_at (numbers_below PUBLICATIONS)) }
 {
     let opening = opening(alloc)?;
@@ -55,22 +56,13 @@ fn count_all<R: Threads + Wait + Sync, G: Gate + Sync>(
     ensures never_written { IfErr result (λ fault. fault ≢ ServeFault.WriteFailed) }
 {
     let (operator, mut seats, successors) = open_versions(alloc)?;
-    let (tally, mut counters) = Tally::open(alloc)?;
-    let jobs = jobs(alloc, &mut seats, &mut counters, workers, datagrams)?;
-    counters.reserve(workers)?;
-    let dones = run_workers(rt, alloc, jobs, gate, move || {
+    let (tally, mut spare) = Tally::open(alloc)?;
+    spread(&mut seats);
+    let jobs = jobs(alloc, &mut seats, &mut spare, workers, datagrams)?;
+    let counters = run_counted(rt, alloc, jobs, spare, gate, move || {
         publish_each(operator, successors)
     })?;
-    take_back(dones, &mut counters);
     Ok(gather(tally, counters))
-}
-
-fn write_totals<W: Write>(totals: &Totals, out: &mut W) -> Result<(), ServeFault>
-    ensures failed { IfErr result (λ fault. fault ≡ ServeFault.WriteFailed) }
-    ensures written { OnOk result (WritesTotals totals.now (W.contents out.old) (W.contents out.new)) }
-{
-    writeln!(out, "{totals}").map_err(|_| ServeFault::WriteFailed)?;
-    out.flush().map_err(|_| ServeFault::WriteFailed)
 }
 
 /// Judges so many datagrams in the threads of so many workers, while the caller's thread tries to publish 64 versions, and

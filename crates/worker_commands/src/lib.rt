@@ -1,28 +1,34 @@
-//! The commands that run worker threads, so that they may wait (docs/COMMANDS.md, "flood").
+//! The commands that run worker threads, so that they may wait (docs/COMMANDS.md, "flood", "serve").
 //!
-//! `run_waiting` runs the one that the words ask for; `flood` judges datagrams in memory while versions are replaced.
+//! `run_waiting` runs the one that the words ask for; `flood` judges datagrams in memory while versions are replaced, and `serve` those
+//! of a UDP socket.
 #![tactic(auto)]
 
-ghost use Rattle.std.specs.Prelude.{◌≡◌, MatchOption, map, string_bytes, ℕ};
-ghost use Rattle.worker_commands.specs.Flood.{WritesFlood};
+ghost use Rattle.std.specs.Prelude.{◌≡◌, ◌⊎◌, MatchOption, OnOk, codes, map, string_bytes, ℕ};
+ghost use Rattle.std.specs.Io.KnownBytes.{Appends};
 ghost use Rattle.command_line.specs.CommandLine.{AskToWait};
-ghost use Rattle.worker_commands.specs.Waiting.{EndsInWaitingFailure, IsWorkers, LackWorkers, WritesFor};
+ghost use Rattle.udp_service.specs.Service.{WritesServed};
+ghost use Rattle.worker_commands.specs.Flood.{WritesFlood};
+ghost use Rattle.worker_commands.specs.Waiting.{EndsInWaitingFailure, IsAddress, IsNoAddress, IsWorkers, LackWorkers, RefusesAddress, WritesFor};
 
 mod flood_jobs;
 mod flood_versions;
 mod flooding;
-mod serve_fault;
 mod traffic;
 
 use command_line::{Failure, Status, Subcommand, read_words};
 use dispatch::Gate;
 pub use flooding::flood;
+use ipv4_fields::Endpoint;
 use read_section::WORKERS;
-pub use serve_fault::ServeFault;
 use std::alloc::Global;
+use std::io;
 use std::io::Write;
+use std::net::Net;
 use std::sync::Wait;
 use std::thread::Threads;
+pub use udp_service::serve;
+pub use worker_threads::ServeFault;
 
 /// How many datagrams the command `flood` judges.
 pub const DATAGRAMS: usize = 4096;
@@ -79,8 +85,65 @@ fn run_flood<R: Threads + Wait + Sync, W: Write, E: Write>(
     }
 }
 
+fn write_refusal<W: Write>(out: &mut W) -> io::Result<()>
+    ensures { OnOk result (Appends (W.contents out.old) (W.contents out.new) (codes "refused C1\n")) }
+{
+    out.write_all(b"refused C1\n".as_slice())?;
+    out.flush()
+}
+
+// An address is no endpoint.
+fn refuse_address<W: Write, E: Write>(out: &mut W, errs: &mut E) -> Status
+    ensures refused { result ≡ Status.Refused → Appends (W.contents out.old) (W.contents out.new) (codes "refused C1\n") }
+    ensures no_errors { result ≡ Status.Refused → errs.new ≡ errs.old }
+    ensures never_done { result ≡ Status.Done → ⊥ }
+    ensures never_misused { result ≡ Status.Misused → ⊥ }
+    ensures failed { result ≡ Status.Failed
+        → EndsInWaitingFailure (W.contents out.old) (W.contents out.new) (E.contents errs.old) (E.contents errs.new) }
+{
+    match write_refusal(out) {
+        Ok(()) => Status::Refused,
+        Err(_) => Failure::WriteFailed.report(errs),
+    }
+}
+
+fn run_serve<R: Threads + Wait + Net + Sync, W: Write, E: Write>(
+    rt: &R,
+    alloc: Global,
+    addresses: (&str, &str),
+    workers: &str,
+    out: &mut W,
+    errs: &mut E,
+) -> Status
+    ensures done { result ≡ Status.Done
+        → (count : ℕ) × IsWorkers workers.now count × IsAddress addresses.entry.0.now × IsAddress addresses.entry.1.now
+        × WritesServed count (W.contents out.old) (W.contents out.new) }
+    ensures refused { result ≡ Status.Refused
+        → (count : ℕ) × IsWorkers workers.now count × (IsNoAddress addresses.entry.0.now ⊎ IsNoAddress addresses.entry.1.now)
+        × Appends (W.contents out.old) (W.contents out.new) (codes "refused C1\n") }
+    ensures no_errors { (result ≡ Status.Done) ⊎ (result ≡ Status.Refused) → errs.new ≡ errs.old }
+    ensures misused { result ≡ Status.Misused → (count : ℕ) → IsWorkers workers.now count → ⊥ }
+    ensures nothing_written { result ≡ Status.Misused → out.new ≡ out.old }
+    ensures failed { result ≡ Status.Failed
+        → EndsInWaitingFailure (W.contents out.old) (W.contents out.new) (E.contents errs.old) (E.contents errs.new) }
+{
+    let Some(workers) = worker_count(workers) else {
+        return refuse_count(errs);
+    };
+    let Some(front) = Endpoint::from_text(addresses.0.as_bytes()) else {
+        return refuse_address(out, errs);
+    };
+    let Some(control) = Endpoint::from_text(addresses.1.as_bytes()) else {
+        return refuse_address(out, errs);
+    };
+    match serve(rt, alloc, front, control, workers, &Open, out) {
+        Ok(()) => Status::Done,
+        Err(failed) => Failure::from(failed).report(errs),
+    }
+}
+
 /// Runs the command that may wait, for which the words ask, and answers the exit status.
-pub fn run_waiting<R: Threads + Wait + Sync, W: Write, E: Write>(
+pub fn run_waiting<R: Threads + Wait + Net + Sync, W: Write, E: Write>(
     rt: &R,
     alloc: Global,
     words: &[String],
@@ -89,8 +152,8 @@ pub fn run_waiting<R: Threads + Wait + Sync, W: Write, E: Write>(
 ) -> Status
     requires { AskToWait (map string_bytes words.now) }
     ensures done { result ≡ Status.Done → WritesFor (map string_bytes words.now) (W.contents out.old) (W.contents out.new) }
-    ensures no_errors { result ≡ Status.Done → errs.new ≡ errs.old }
-    ensures never_refused { result ≡ Status.Refused → ⊥ }
+    ensures refused { result ≡ Status.Refused → RefusesAddress (map string_bytes words.now) (W.contents out.old) (W.contents out.new) }
+    ensures no_errors { (result ≡ Status.Done) ⊎ (result ≡ Status.Refused) → errs.new ≡ errs.old }
     ensures misused { result ≡ Status.Misused → LackWorkers (map string_bytes words.now) }
     ensures nothing_written { result ≡ Status.Misused → out.new ≡ out.old }
     ensures failed { result ≡ Status.Failed
@@ -98,6 +161,13 @@ pub fn run_waiting<R: Threads + Wait + Sync, W: Write, E: Write>(
 {
     match read_words(alloc, words) {
         Ok(Subcommand::Flood { workers }) => run_flood(rt, alloc, workers, out, errs),
+        Ok(
+            Subcommand::Serve {
+                front,
+                control,
+                workers,
+            },
+        ) => run_serve(rt, alloc, (front, control), workers, out, errs),
         Ok(Subcommand::Query(_) | Subcommand::Replay) => unreachable!(),
         Err(_) => Failure::OutOfMemory.report(errs),
     }

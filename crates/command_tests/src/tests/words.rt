@@ -1,16 +1,31 @@
-//! Words that name no command, help and the version, and the command `first`.
+//! Words that name no command, help and the version, the command `first`, and the words of `serve`.
 
 use super::streams::Sink;
 use super::{FIRST, assert_told, told};
 use command_line::{Failure, Status, refuse_arguments};
+use std::alloc::Global;
 use std::io;
 use std::io::ErrorKind;
+use std::process::Abort;
 use std::test::Fail;
 
 // The group 10.0.0.2:53 has the program as its selector, and it runs where the image says.
 #[test]
 fn first_runs_the_selector(rt: HostRuntime) -> Result<(), Fail> {
     assert_told(&rt, rt.alloc(), &["first"], "", 0, FIRST)
+}
+
+// The words have a fault, which is told.
+fn assert_misused(rt: &impl Abort, alloc: Global, words: &[&str]) -> Result<(), Fail> {
+    let (status, out, errs) = told(alloc, words, b"ret #0")?;
+    assert_eq!(rt; status, Some(2), "{words:?}");
+    assert_eq!(rt; out.text(), Some(""), "{words:?}");
+    let fault = errs.text().unwrap_or("");
+    assert!(rt;
+        fault.starts_with("error: ") && fault.ends_with('\n'),
+        "{words:?}: {fault}"
+    );
+    Ok(())
 }
 
 #[test]
@@ -37,21 +52,64 @@ fn wrong_words_are_refused(rt: HostRuntime) -> Result<(), Fail> {
         &["run", "--packet", "00", "--expr"],
     ];
     for words in cases {
-        let (status, out, errs) = told(rt.alloc(), words, b"ret #0")?;
-        assert_eq!(rt; status, Some(2), "{words:?}");
-        assert_eq!(rt; out.text(), Some(""), "{words:?}");
-        let fault = errs.text().unwrap_or("");
-        assert!(rt;
-            fault.starts_with("error: ") && fault.ends_with('\n'),
-            "{words:?}: {fault}"
-        );
+        assert_misused(&rt, rt.alloc(), words)?;
+    }
+    Ok(())
+}
+
+// An address whose port the system picks.
+const ANY_PORT: &str = "127.0.0.1:0";
+
+fn serve_words<'a>(front: &'a str, control: &'a str, workers: &'a str) -> [&'a str; 7] {
+    [
+        "serve",
+        "--front",
+        front,
+        "--control",
+        control,
+        "--workers",
+        workers,
+    ]
+}
+
+// Its addresses are looked at where it runs.
+#[test]
+fn serve_is_left_to_main(rt: HostRuntime) -> Result<(), Fail> {
+    for words in [
+        serve_words("127.0.0.1:5300", "127.0.0.1:5301", "1"),
+        serve_words(ANY_PORT, ANY_PORT, "16"),
+        serve_words("x", "", "+4"),
+    ] {
+        let (status, out, errs) = told(rt.alloc(), &words, b"")?;
+        assert_eq!(rt; status, None, "{words:?}");
+        assert_eq!(rt; (out.writes, errs.writes), (0, 0), "{words:?}");
+    }
+    Ok(())
+}
+
+#[test]
+fn serve_of_wrong_words_is_misused(rt: HostRuntime) -> Result<(), Fail> {
+    let cases: [&[&str]; 7] = [
+        &["serve"],
+        &["serve", "--control", ANY_PORT, "--workers", "4"],
+        &["serve", "--front", ANY_PORT, "--workers", "4"],
+        &["serve", "--front", ANY_PORT, "--control", ANY_PORT],
+        &["serve", "--front", "--control", ANY_PORT, "--workers", "4"],
+        &["serve", ANY_PORT, ANY_PORT, "4"],
+        &["serve", "--workers", "4"],
+    ];
+    for words in cases {
+        assert_misused(&rt, rt.alloc(), words)?;
+    }
+    for workers in ["0", "17", "-1", "x", ""] {
+        assert_misused(&rt, rt.alloc(), &serve_words(ANY_PORT, ANY_PORT, workers))?;
     }
     Ok(())
 }
 
 #[test]
 fn help_and_version_are_results(rt: HostRuntime) -> Result<(), Fail> {
-    let cases: [(&[&str], &str); 13] = [
+    let cases: [(&[&str], &str); 15] = [
         (&["--help"], "Usage: dswitch <COMMAND>\n"),
         (&["-h"], "Usage: dswitch <COMMAND>\n"),
         (&["help"], "Usage: dswitch <COMMAND>\n"),
@@ -63,9 +121,17 @@ fn help_and_version_are_results(rt: HostRuntime) -> Result<(), Fail> {
             &["help", "run"],
             "Usage: dswitch run [OPTIONS] --packet <HEX>\n",
         ),
+        (
+            &["serve", "--help"],
+            "Usage: dswitch serve --front <A> --control <A> --workers <N>\n",
+        ),
         (&["check", "-h"], "\n  accepted 4\n"),
         (&["compile", "-h"], "\n  charge 6\n"),
         (&["run", "-h"], "\n  value 4 steps 2 kept 4\n"),
+        (
+            &["serve", "-h"],
+            "\n  ready 127.0.0.1:5300 127.0.0.1:5301\n",
+        ),
         (&["--version"], "dswitch 0.1.0\n"),
         (&["-V"], "dswitch 0.1.0\n"),
     ];

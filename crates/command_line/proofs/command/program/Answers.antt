@@ -45,6 +45,8 @@ returns c =
     let with_run = c.in_ok-subcommand-4.ensures.shape c.in_ok-run.ensures.local
     ∙ ap₂ with_subcommand with_compile (ap top_of c.in_ok-run.ensures.app) in
     let with_replay = c.in_ok-subcommand-5.ensures.shape replay_local ∙ ap₂ with_subcommand with_run (ap top_of replay_is) in
-    IfOk-weaker c.subcommand-6.result _ _
-    (λ r adds. adds.shape c.in_ok-flood.ensures.local ∙ ap₂ with_subcommand with_replay (ap top_of c.in_ok-flood.ensures.app))
-    c.subcommand-6.ensures
+    let with_flood = c.in_ok-subcommand-6.ensures.shape c.in_ok-flood.ensures.local
+    ∙ ap₂ with_subcommand with_replay (ap top_of c.in_ok-flood.ensures.app) in
+    IfOk-weaker c.subcommand-7.result _ _
+    (λ r adds. adds.shape c.in_ok-serve.ensures.local ∙ ap₂ with_subcommand with_flood (ap top_of c.in_ok-serve.ensures.app))
+    c.subcommand-7.ensures

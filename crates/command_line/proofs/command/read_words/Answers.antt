@@ -1,7 +1,7 @@
-use Rattle.std.proofs.Common.{map, None, Option, false, string_bytes, is_some, true, ◌≡◌, ◌∙◌, ap, sym, []}
-use Rattle.clap.specs.Words.{App, app_of, fault_of, found_of, is_simple, is_simple_and_free, rows_of}
+use Rattle.std.proofs.Common.{map, None, Option, false, string_bytes, is_some, true, ◌≡◌, ◌∙◌, ap, subst, sym, []}
+use Rattle.clap.specs.Words.{App, HasKind, app_of, fault_of, found_of, is_simple, is_simple_and_free, rows_of}
 use Rattle.command_line.specs.CommandLine.{Request, command_line, faults_in, request_in}
-use Rattle.command_line.proofs.CommandLineLemmas.{names_command, request_is}
+use Rattle.command_line.proofs.CommandLineLemmas.{fails_by, names_command, request_is}
 use Rattle.command_line.proofs.command.read_words.Goals as goal
 
 pub unreachable-requires-in-None : goal.unreachable-requires-in-None
@@ -23,3 +23,20 @@ returns-clause-faults c =
     let words = map string_bytes c.args.words.now in
     let program_is : app_of c.in_ok-program.program ≡ command_line = c.in_ok-program.ensures in
     ap (λ (a : App). fault_of a words) (sym program_is) ∙ c.in_ok-matches.ensures.kinds (ap is_simple_and_free program_is)
+
+pub returns-in_err-matches-clause-faults : goal.returns-in_err-matches-clause-faults
+returns-in_err-matches-clause-faults c =
+    let words = map string_bytes c.args.words.now in
+    let program_is : app_of c.in_ok-program.program ≡ command_line = c.in_ok-program.ensures in
+    let fault = c.in_err-matches.field-0.0 in
+    fails_by c.from_residual-in_err-matches.result (faults_in words) fault c.from_residual-in_err-matches.ensures.1
+    (subst (λ (a : App). HasKind (fault_of a words) fault) program_is (c.in_err-matches.ensures.kinds (ap is_simple_and_free program_is)))
+
+pub returns-clause-named : goal.returns-clause-named
+returns-clause-named c =
+    let words = map string_bytes c.args.words.now in
+    let program_is : app_of c.in_ok-program.program ≡ command_line = c.in_ok-program.ensures in
+    let rows = (c.in_ok-matches.ensures.matches (ap is_simple program_is)).1 in
+    request_is (app_of c.in_ok-program.program) words c.in_ok-matches.matches c.in-Some.name.now (rows_of (found_of c.in-Some.found.now))
+    program_is rows c.in-Some.ensures.name c.in-Some.ensures.rows
+    ∙ sym c.in-Some-subcommand_of.ensures

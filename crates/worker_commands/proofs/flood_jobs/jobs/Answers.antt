@@ -2,9 +2,11 @@ use Rattle.std.proofs.Common.{◌∙◌, ◌+◌, ◌++◌, ◌∷◌, List, Som
 use Rattle.std.proofs.lemmas.List.{map-append}
 use Rattle.std.proofs.lemmas.List.Elements.{All-pop, All-push, All-same}
 use Rattle.dispatch.specs.Device.{SourceValue}
-use Rattle.worker_commands.specs.Flood.{AreStartsOf, HasRoom, IsNew, IsNewWorker}
+use Rattle.worker_commands.specs.Flood.{AreStartsOf, HasRoom}
+use Rattle.worker_commands.specs.FloodVersions.{opening_version}
 use Rattle.worker_commands.proofs.FloodLemmas.{FloodJob, start_of, starts_more}
 use Rattle.worker_commands.proofs.flood_jobs.jobs.Goals as goal
+use Rattle.worker_threads.specs.Counted.{IsNew, IsNewWorker}
 
 pub loop-place-preserved : goal.loop-place-preserved
 loop-place-preserved c =
@@ -18,17 +20,19 @@ loop-place-preserved c =
       omega arith,
       All-same (λ (j : FloodJob). HasRoom (length j.buffer.items) j.limit) c.push.new.self.items (jobs ++ job ∷ []) pushed.items
           (All-push (λ (j : FloodJob). HasRoom (length j.buffer.items) j.limit) jobs job before.3 made.room),
+      subst (AreStartsOf c.args.workers c.args.datagrams (place + 1)) (sym (ap (map start_of) pushed.items ∙ map-append start_of jobs (job ∷ [])))
+          (starts_more c.args.workers c.args.datagrams place (map start_of jobs) (start_of job) before.4
+          (ap (λ (d : List (List ℕ)). let value : SourceValue = record { failures = 0; coming = Some d } in value) made.share) made.empty),
       λ table new.
-          let popped = All-pop (IsNew table) c.loop-place.counters.items c.pop-in-loop-place.new.self.items (Some c.in-Some-Some.counter) c.in-Some-Some.ensures'.items (before.4 table new).0 in (
+          let popped = All-pop (IsNew table) c.loop-place.counters.items c.pop-in-loop-place.new.self.items (Some c.in-Some-Some.counter) c.in-Some-Some.ensures'.items (before.5 table new).0 in (
             popped.0,
-            subst (AreStartsOf table c.args.workers c.args.datagrams (place + 1)) (sym (ap (map start_of) pushed.items ∙ map-append start_of jobs (job ∷ [])))
-                (starts_more table c.args.workers c.args.datagrams place (map start_of jobs) (start_of job) (before.4 table new).1
-                (made.counter ∙ popped.1) (ap (λ (d : List (List ℕ)). let value : SourceValue = record { failures = 0; coming = Some d } in value) made.share) made.empty),
+            All-same (λ (j : FloodJob). IsNew table j.counter) c.push.new.self.items (jobs ++ job ∷ []) pushed.items
+                (All-push (λ (j : FloodJob). IsNew table j.counter) jobs job (before.5 table new).1 (made.counter ∙ popped.1)),
           ),
       λ versions new.
-          let popped = All-pop (IsNewWorker versions) c.loop-place.seats.items c.pop.new.self.items (Some c.in-Some-Some.worker) c.in-Some-Some.ensures.items (before.5 versions new).0 in (
+          let popped = All-pop (IsNewWorker opening_version versions) c.loop-place.seats.items c.pop.new.self.items (Some c.in-Some-Some.worker) c.in-Some-Some.ensures.items (before.6 versions new).0 in (
             popped.0,
-            All-same (λ (j : FloodJob). IsNewWorker versions j.worker) c.push.new.self.items (jobs ++ job ∷ []) pushed.items
-                (All-push (λ (j : FloodJob). IsNewWorker versions j.worker) jobs job (before.5 versions new).1 (subst (IsNewWorker versions) (sym made.worker) popped.1)),
+            All-same (λ (j : FloodJob). IsNewWorker opening_version versions j.worker) c.push.new.self.items (jobs ++ job ∷ []) pushed.items
+                (All-push (λ (j : FloodJob). IsNewWorker opening_version versions j.worker) jobs job (before.6 versions new).1 (subst (IsNewWorker opening_version versions) (sym made.worker) popped.1)),
           ),
     )

@@ -1,8 +1,8 @@
 //! Why no totals of worker threads were written (docs/COMMANDS.md, "Statuses").
 
 ghost use Rattle.std.specs.Prelude.{◌≡◌};
-ghost use Rattle.worker_commands.specs.Flood.{failure_of, fault_of_run};
-ghost use Rattle.worker_commands.specs.declared.serve_fault.ServeFault.TheVariants.{OutOfMemory};
+ghost use Rattle.worker_threads.specs.ServeFault.{failure_of, fault_of_run};
+ghost use Rattle.worker_threads.specs.declared.serve_fault.ServeFault.TheVariants.{OutOfMemory};
 
 use command_line::Failure;
 use dispatch::RunFault;
@@ -14,6 +14,10 @@ use thiserror::Error;
 pub enum ServeFault {
     #[error("J1: a thread could not be started")]
     SpawnFailed,
+    #[error("S1: a socket could not be bound")]
+    BindFailed,
+    #[error("S2: the sockets could not be waited for")]
+    PollFailed,
     #[error("E2: the totals could not be written")]
     WriteFailed,
     #[error("E3: memory was refused")]
@@ -45,6 +49,8 @@ impl From<ServeFault> for Failure {
     fn from(fault: ServeFault) -> Failure {
         match fault {
             ServeFault::SpawnFailed => Failure::SpawnFailed,
+            ServeFault::BindFailed => Failure::BindFailed,
+            ServeFault::PollFailed => Failure::PollFailed,
             ServeFault::WriteFailed => Failure::WriteFailed,
             ServeFault::OutOfMemory => Failure::OutOfMemory,
         }

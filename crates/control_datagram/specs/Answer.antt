@@ -1,0 +1,47 @@
+-- What a control datagram is answered, and what that does (docs/COMMANDS.md, "serve").
+use Rattle.std.specs.Prelude.{◌≡◌, ◌≢◌, List, codes, ℕ}
+use Rattle.control_line.specs.Answer.{IsAnswered}
+use Rattle.control_line.specs.Reply.{reply_text}
+use Rattle.control_line.specs.declared.reply.LineAnswer.{LineAnswer}
+use Rattle.dispatch.specs.Tally.{TallyValue, loaded, place_of}
+use Rattle.dispatch.specs.Totals.{totals_text}
+use Rattle.dispatch.specs.declared.kind.Totals.{Totals}
+use Rattle.packet_verdict.specs.declared.kind.Kind.TheVariants as kind
+use Rattle.read_section.specs.Operator.{OperatorValue}
+use Rattle.control_datagram.specs.declared.ControlAnswer.{ControlAnswer}
+use Rattle.control_datagram.specs.declared.ControlAnswer.TheVariants.{Line, Stop, Totals as TotalsAnswer}
+
+-- one load of each total, which gave these totals, in the order of their line
+abbrev pub all_loaded : Totals → TallyValue → TallyValue
+all_loaded totals tally =
+    loaded (place_of kind.ReceiveFailed) totals.receive_failed
+    (loaded (place_of kind.SendFailed) totals.send_failed
+    (loaded (place_of kind.Delivered) totals.delivered
+    (loaded (place_of kind.Dropped) totals.dropped
+    (loaded (place_of kind.NoMembers) totals.no_members
+    (loaded (place_of kind.NoGroup) totals.no_group
+    (loaded (place_of kind.Malformed) totals.malformed tally))))))
+
+-- it is neither of the two words that are no control line's
+pub record IsOther (text : List ℕ) : Type 0 where
+  pub not_stop : text ≢ codes "stop"
+  pub not_totals : text ≢ codes "totals"
+
+-- the reply to a control line, or what is told where memory was refused and so nothing was done
+pub data RepliesToLine (text : List ℕ) (before after : OperatorValue) : List ℕ → Type 0 where
+  replied : (answer : LineAnswer) → IsAnswered text before after answer → RepliesToLine text before after (reply_text answer)
+  no_memory : after ≡ before → RepliesToLine text before after (codes "failed E3")
+
+-- one case a kind of text; an operator and a tally of which a case says nothing else stay as they were
+pub data AnswersDatagram (text : List ℕ) (operator operator' : OperatorValue) (tally tally' : TallyValue) : ControlAnswer → Type 0 where
+  stops : text ≡ codes "stop" → operator' ≡ operator → tally' ≡ tally → AnswersDatagram text operator operator' tally tally' Stop
+  tells_totals : (totals : Totals) → text ≡ codes "totals" → operator' ≡ operator → tally' ≡ all_loaded totals tally →
+      AnswersDatagram text operator operator' tally tally' (TotalsAnswer totals)
+  answers_line : (reply : List ℕ) → IsOther text → RepliesToLine text operator operator' reply → tally' ≡ tally →
+      AnswersDatagram text operator operator' tally tally' (Line reply)
+
+-- what is sent back
+abbrev pub bytes_of : ControlAnswer → List ℕ
+bytes_of Stop = codes "ok stop"
+bytes_of (TotalsAnswer totals) = totals_text totals
+bytes_of (Line reply) = reply

@@ -1,0 +1,97 @@
+//! Control datagrams, one answer each (docs/COMMANDS.md, "serve"): `stop`, `totals`, and every other text as a control line.
+//!
+//! Nothing here knows of a socket: a datagram is the bytes that it carried, and its answer the bytes to send back.
+#![tactic(auto)]
+
+ghost use Rattle.std.specs.Prelude.{◌≡◌, ◌≤◌, ◌++◌, OnOk, length};
+ghost use Rattle.control_line.specs.declared.reply.TheConstants.{REPLY_LIMIT};
+ghost use Rattle.control_datagram.specs.Answer.{AnswersDatagram, RepliesToLine, all_loaded, bytes_of};
+
+use control_line::{Reply, is_word, line};
+use dispatch::{Kind, Tally, Totals};
+use read_section::Operator;
+use std::alloc::{AllocError, Global};
+use std::io::Write;
+
+/// What a control datagram is answered.
+#[derive(Drop)]
+pub enum ControlAnswer {
+    /// `ok stop`: the switch is asked to stop.
+    Stop,
+    /// The line of the totals so far.
+    Totals(Totals),
+    /// The reply to a control line, or `failed E3`.
+    Line(Reply),
+}
+
+impl ControlAnswer {
+    /// Appends the bytes to send back, without LF.
+    pub fn append_to(&self, bytes: &mut Vec<u8>) -> Result<(), AllocError>
+        ensures { OnOk result (bytes.new.items ≡ bytes.old.items ++ bytes_of self.now) }
+    {
+        match self {
+            ControlAnswer::Stop => bytes.extend_from_slice(b"ok stop".as_slice()),
+            ControlAnswer::Totals(totals) => write!(bytes, "{totals}").map_err(|_| AllocError),
+            ControlAnswer::Line(reply) => bytes.extend_from_slice(reply.bytes()),
+        }
+    }
+}
+
+// The reply where memory was refused.
+const NO_MEMORY: &str = "failed E3";
+
+// How often each kind was counted so far, by one load each.
+fn read_totals(tally: &mut Tally) -> Totals
+    ensures { tally.new ≡ all_loaded result tally.old }
+{
+    Totals {
+        malformed: tally.read(Kind::Malformed),
+        no_group: tally.read(Kind::NoGroup),
+        no_members: tally.read(Kind::NoMembers),
+        dropped: tally.read(Kind::Dropped),
+        delivered: tally.read(Kind::Delivered),
+        send_failed: tally.read(Kind::SendFailed),
+        receive_failed: tally.read(Kind::ReceiveFailed),
+    }
+}
+
+fn text_reply(text: &str) -> Reply
+    requires { length text.now ≤ REPLY_LIMIT }
+    ensures { result ≡ text.now }
+{
+    let mut reply = Reply::empty();
+    reply.push(text);
+    reply
+}
+
+// The reply of the control line, or `NO_MEMORY`.
+fn line_reply(alloc: Global, text: &[u8], operator: &mut Operator) -> Reply
+    ensures { RepliesToLine text.now operator.old operator.new result }
+{
+    match line(alloc, text, operator) {
+        Ok(reply) => reply,
+        Err(_) => text_reply(NO_MEMORY),
+    }
+}
+
+/// Answers the text of a control datagram, and does what it asks for.
+///
+/// `stop` changes nothing here: its caller stops. `totals` reads each total by one load, in the order of their line. Every other
+/// text is answered and done by `line`; where memory is refused then, the reply is `failed E3` and nothing was changed.
+pub fn answer(
+    alloc: Global,
+    text: &[u8],
+    operator: &mut Operator,
+    tally: &mut Tally,
+) -> ControlAnswer
+    ensures answered { AnswersDatagram text.now operator.old operator.new tally.old tally.new result }
+    ensures table { tally.new.table ≡ tally.old.table }
+{
+    if is_word(text, "stop") {
+        return ControlAnswer::Stop;
+    }
+    if is_word(text, "totals") {
+        return ControlAnswer::Totals(read_totals(tally));
+    }
+    ControlAnswer::Line(line_reply(alloc, text, operator))
+}

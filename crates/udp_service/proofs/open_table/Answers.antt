@@ -1,0 +1,12 @@
+use Rattle.std.proofs.Common.{[], subst}
+use Rattle.std.proofs.lemmas.List.Sorted.{All-permutation}
+use Rattle.read_section.specs.Operator.{AreOpenedWorkers}
+use Rattle.udp_service.proofs.open_table.Goals as goal
+use Rattle.worker_threads.proofs.CountedLemmas.{opened_workers}
+use Rattle.worker_threads.specs.Counted.{IsNewWorker}
+
+pub returns-in-Ok-clause-opening : goal.returns-in-Ok-clause-opening
+returns-in-Ok-clause-opening c =
+    let table = c.in-Ok.operator.table in let workers = c.in-Ok.workers.items in
+    All-permutation (IsNewWorker [] table) workers c.spread.new.workers.items c.spread.ensures.same_workers
+    (opened_workers [] table workers (subst (λ config. AreOpenedWorkers table config workers) c.new.ensures.empty c.in-Ok.ensures.workers))

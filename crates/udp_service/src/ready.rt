@@ -1,0 +1,36 @@
+//! The line that tells that the service is ready (docs/COMMANDS.md, "serve").
+
+ghost use Rattle.std.specs.Prelude.{◌≡◌, IfErr, OnOk};
+ghost use Rattle.udp_service.specs.Service.{WritesReady, ready_text};
+
+use control_line::Reply;
+use ipv4_fields::Endpoint;
+use std::io::Write;
+use worker_threads::ServeFault;
+
+fn ready_line(front: Endpoint, control: Endpoint) -> Reply
+    ensures { result ≡ ready_text front control }
+{
+    let mut line = Reply::empty();
+    line.push("ready ");
+    front.append_to(&mut line);
+    line.push(" ");
+    control.append_to(&mut line);
+    line.push("\n");
+    line
+}
+
+/// Writes the line with the addresses of both sockets, and flushes it.
+pub fn write_ready<W: Write>(
+    front: Endpoint,
+    control: Endpoint,
+    out: &mut W,
+) -> Result<(), ServeFault>
+    ensures failed { IfErr result (λ fault. fault ≡ ServeFault.WriteFailed) }
+    ensures written { OnOk result (WritesReady front control (W.contents out.old) (W.contents out.new)) }
+{
+    let line = ready_line(front, control);
+    out.write_all(line.bytes())
+        .map_err(|_| ServeFault::WriteFailed)?;
+    out.flush().map_err(|_| ServeFault::WriteFailed)
+}

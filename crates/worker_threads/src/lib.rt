@@ -1,0 +1,17 @@
+//! What the commands that run worker threads share: jobs whose counters come back, the line of their totals, and why none was
+//! written (docs/SWITCH.md, "Workers", "Tallies"; docs/COMMANDS.md, "Statuses").
+//!
+//! `run_counted` runs jobs, and gives back the counters of which `gather` makes the totals.
+#![tactic(auto)]
+
+mod counted_jobs;
+mod named_tally;
+mod serve_fault;
+mod totals_line;
+mod worker_order;
+
+pub use counted_jobs::run_counted;
+pub use named_tally::{NamedTally, TallyName};
+pub use serve_fault::ServeFault;
+pub use totals_line::write_totals;
+pub use worker_order::spread;
