@@ -1,6 +1,7 @@
 //! Where the thread that receives hands over what came: to each worker in turn.
 
 ghost use Rattle.std.specs.Prelude.{◌≡◌, ◌<◌, IfOk, vec_len};
+ghost use Rattle.std.specs.Option.{option_map};
 ghost use Rattle.worker_devices.specs.Devices.{new_source};
 ghost use Rattle.worker_devices.specs.Queues.{next_turn};
 
@@ -49,21 +50,31 @@ impl WorkerQueue {
         }
     }
 
+    // A datagram as a receive, or one that failed.
+    fn received<R: Wait>(
+        &mut self,
+        rt: &R,
+        alloc: Global,
+        datagram: Option<&[u8]>,
+    ) -> Result<Received, AllocError>
+        ensures { IfOk result (λ received. received ≡ option_map (λ bytes. bytes.now) datagram.entry) }
+    {
+        let mut received = self.spare(rt, alloc);
+        match datagram {
+            Some(datagram) => received.fill(datagram)?,
+            None => received.fail(),
+        }
+        Ok(received)
+    }
+
     // Waits for a place, but not for a worker that ended.
     fn arrive<R: Wait>(&mut self, rt: &R, alloc: Global, datagram: Option<&[u8]>) {
         if !self.takes_more {
             return;
         }
-        let mut received = self.spare(rt, alloc);
-        match datagram {
-            Some(datagram) => {
-                if received.fill(datagram).is_err() {
-                    return;
-                }
-            }
-            None => received.fail(),
+        if let Ok(received) = self.received(rt, alloc, datagram) {
+            self.takes_more = self.arriving.put(rt, received);
         }
-        self.takes_more = self.arriving.put(rt, received);
     }
 }
 

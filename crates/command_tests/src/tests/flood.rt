@@ -144,13 +144,15 @@ fn flood_is_left_to_main(rt: HostRuntime) -> Result<(), Fail> {
             &mut out,
             &mut errs,
         );
-        assert_eq!(rt; status, None, "{words:?}");
         assert_eq!(rt; (out.writes, errs.writes), (0, 0), "{words:?}");
-        if status.is_none() {
-            let ended = run_waiting(&rt, rt.alloc(), words.as_slice(), &mut out, &mut errs);
-            assert_eq!(rt; ended, Status::Done, "{words:?}");
-            assert_eq!(rt; out.text(), Some(TOTALS), "{words:?}");
-            assert_eq!(rt; errs.text(), Some(""), "{words:?}");
+        match status {
+            Some(status) => assert!(rt; false, "{words:?}: {status}"),
+            None => {
+                let ended = run_waiting(&rt, rt.alloc(), words.as_slice(), &mut out, &mut errs);
+                assert_eq!(rt; ended, Status::Done, "{words:?}");
+                assert_eq!(rt; out.text(), Some(TOTALS), "{words:?}");
+                assert_eq!(rt; errs.text(), Some(""), "{words:?}");
+            }
         }
     }
     Ok(())

@@ -12,16 +12,16 @@ use Rattle.worker_threads.proofs.CountedLemmas.{all_counters, counted}
 
 pub gather-requires : goal.gather-requires
 gather-requires g c =
-    let many = c.requires.counters in let of_spare = c.args.spare.ok.0 in let of_jobs = c.args.jobs.ok.0 in record {
+    let many = c.requires.counters in let of_spare = c.args.service.spare.ok.0 in let of_jobs = c.args.jobs.ok.0 in record {
       counters = subst (λ table. AreCountersOf table c.in_ok-counters.counters.items) (c.requires.named ∙ sym c.named-2-1.given.is_named)
-          (all_counters _ _ c.args.tally.table c.args.jobs.items c.args.spare.items c.in_ok-counters.counters.items c.in_ok-counters.ensures.counters_back
+          (all_counters _ _ c.args.service.tally.table c.args.jobs.items c.args.service.spare.items c.in_ok-counters.counters.items c.in_ok-counters.ensures.counters_back
           c.requires.new_spare c.requires.new_counters (omega arith));
     }
 
 pub returns-in-Stopped-clause-totals : goal.returns-in-Stopped-clause-totals
 returns-in-Stopped-clause-totals g c =
     let of_jobs = c.args.jobs.ok.0 in
-    counted _ _ c.args.tally.table c.args.jobs.items c.args.spare.items c.in_ok-counters.counters.items c.in_ok-counters.ensures.counters_back
+    counted _ _ c.args.service.tally.table c.args.jobs.items c.args.service.spare.items c.in_ok-counters.counters.items c.in_ok-counters.ensures.counters_back
     c.requires.new_spare c.requires.new_counters [] c.requires.new_workers.0 LONGEST_DATAGRAM LIMIT (AreServiceStarts (vec_len c.args.jobs))
     c.requires.new_workers.1 c.requires.rooms (
       length-map c.args.jobs.items (parts_of_job _ _) ∙ sym of_jobs,
