@@ -1,5 +1,7 @@
 //! Devices of workers, answers to control datagrams, and the switch over the loopback.
 
+mod busy;
+mod client;
 mod control_datagrams;
 mod devices;
 mod loopback;

@@ -7,7 +7,6 @@
 
 ghost use Rattle.std.specs.Prelude.{◌≡◌, ◌≢◌, ◌+◌, ◌≤◌, Err, IfErr, IfOk, OnOk, [], length, vec_len};
 ghost use Rattle.std.specs.List.{All};
-ghost use Rattle.atomic_table.specs.Seated.{TableId};
 ghost use Rattle.dispatch.specs.declared.tally.TheConstants.{COUNTERS};
 ghost use Rattle.versions.specs.declared.layout.TheConstants.{WORKERS};
 ghost use Rattle.worker_threads.specs.Counted.{IsNew, IsNewWorker};
@@ -48,7 +47,7 @@ fn count_served<N: TallyName, R: Threads + Wait + Sync, G: Gate + Sync>(
     requires counters { vec_len service.spare + vec_len jobs ≡ COUNTERS }
     requires new_spare { All (IsNew service.tally.table) service.spare.items }
     requires new_counters { All (λ job. IsNew service.tally.table job.counter) jobs.items }
-    requires new_workers { (versions : TableId) × All (λ job. IsNewWorker [] versions job.worker) jobs.items }
+    requires new_workers { All (λ job. IsNewWorker [] service.receiver.operator.table job.worker) jobs.items }
     requires new_devices { All (λ job. HasNewDevices job.source job.outbox) jobs.items }
     requires rooms { All (λ job. HasRoom (length job.buffer.items) job.limit) jobs.items }
     ensures totals { IfOk result (IsServed (vec_len jobs.entry)) }

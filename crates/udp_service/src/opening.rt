@@ -2,7 +2,6 @@
 
 ghost use Rattle.std.specs.Prelude.{◌≡◌, ◌≢◌, ◌+◌, ◌≤◌, IfErr, IfOk, [], length, vec_len};
 ghost use Rattle.std.specs.List.{All};
-ghost use Rattle.atomic_table.specs.Seated.{TableId};
 ghost use Rattle.dispatch.specs.declared.tally.TheConstants.{COUNTERS};
 ghost use Rattle.versions.specs.declared.layout.TheConstants.{WORKERS};
 ghost use Rattle.worker_threads.specs.Counted.{IsNew, IsNewWorker};
@@ -64,7 +63,7 @@ pub fn open_service<'a, R: Wait + Net>(
     ensures counters { IfOk result (λ opened. vec_len opened.1.spare + vec_len opened.0 ≡ COUNTERS) }
     ensures new_spare { IfOk result (λ opened. All (IsNew opened.1.tally.table) opened.1.spare.items) }
     ensures new_counters { IfOk result (λ opened. All (λ job. IsNew opened.1.tally.table job.counter) opened.0.items) }
-    ensures new_workers { IfOk result (λ opened. (versions : TableId) × All (λ job. IsNewWorker [] versions job.worker) opened.0.items) }
+    ensures new_workers { IfOk result (λ opened. All (λ job. IsNewWorker [] opened.1.receiver.operator.table job.worker) opened.0.items) }
     ensures new_devices { IfOk result (λ opened. All (λ job. HasNewDevices job.source job.outbox) opened.0.items) }
     ensures rooms { IfOk result (λ opened. All (λ job. HasRoom (length job.buffer.items) job.limit) opened.0.items) }
     ensures not_written { IfErr result (λ fault. fault ≢ ServeFault.WriteFailed) }

@@ -5,7 +5,7 @@ use Rattle.std.specs.Str.Parse.{IsNumeral, digits_value, without_leading_plus}
 use Rattle.clap.specs.Words.{Text}
 use Rattle.versions.specs.declared.layout.TheConstants.{WORKERS}
 use Rattle.command_line.specs.declared.ending.Failure.{Failure}
-use Rattle.command_line.specs.declared.ending.Failure.TheVariants.{ReadFailed, WriteFailed}
+use Rattle.command_line.specs.declared.ending.Failure.TheVariants.{BindFailed, OutOfMemory, ReadFailed, WriteFailed}
 use Rattle.worker_commands.specs.declared.TheConstants.{DATAGRAMS}
 use Rattle.command_line.specs.CommandLine.{Request, flood, request_in, serve}
 use Rattle.command_line.specs.Ending.{AppendsBeginning, line_of}
@@ -61,10 +61,29 @@ LackWorkers words =
     × (workers_of request ≡ Some workers)
     × ((count : ℕ) → IsWorkers workers count → ⊥)
 
--- it failed in one of these ways, not in reading; where no write failed nothing was written, but for the line `ready` of `serve`, and a
--- beginning of the failure's line was told
-pub record EndsInWaitingFailure (before after told_before told_after : Option (List ℕ)) : Type 0 where
+-- `flood` failed in one of these ways, not in reading; where no write failed nothing was written, and a beginning of the failure's
+-- line was told
+pub record EndsInFloodFailure (before after told_before told_after : Option (List ℕ)) : Type 0 where
+  pub failure : Failure
+  pub no_read : failure ≢ ReadFailed
+  pub written : failure ≢ WriteFailed → after ≡ before
+  pub told : AppendsBeginning told_before told_after (line_of failure)
+
+-- `serve` for these addresses failed so; where no write failed the line `ready` was written or nothing, and nothing where a socket was
+-- not bound; but for writes and memory it fails only where both addresses are endpoints
+pub record EndsInServeFailure (front control : Text) (before after told_before told_after : Option (List ℕ)) : Type 0 where
   pub failure : Failure
   pub no_read : failure ≢ ReadFailed
   pub written : failure ≢ WriteFailed → WritesReadyOrNothing before after
+  pub not_bound : failure ≡ BindFailed → after ≡ before
+  pub are_addresses : failure ≢ WriteFailed → failure ≢ OutOfMemory → IsAddress front × IsAddress control
   pub told : AppendsBeginning told_before told_after (line_of failure)
+
+-- the command that the words ask for failed, or memory to read the words was refused and nothing was written
+pub data EndsInWaitingFailure (words : List Text) (before after told_before told_after : Option (List ℕ)) : Type 0 where
+  unread : after ≡ before → AppendsBeginning told_before told_after (line_of OutOfMemory) →
+      EndsInWaitingFailure words before after told_before told_after
+  flood_failed : (workers : Text) → request_in words ≡ Some (flood workers) → EndsInFloodFailure before after told_before told_after →
+      EndsInWaitingFailure words before after told_before told_after
+  serve_failed : (front control workers : Text) → request_in words ≡ Some (serve front control workers) →
+      EndsInServeFailure front control before after told_before told_after → EndsInWaitingFailure words before after told_before told_after

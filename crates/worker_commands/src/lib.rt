@@ -7,9 +7,11 @@
 ghost use Rattle.std.specs.Prelude.{◌≡◌, ◌⊎◌, MatchOption, OnOk, codes, map, string_bytes, ℕ};
 ghost use Rattle.std.specs.Io.KnownBytes.{Appends};
 ghost use Rattle.command_line.specs.CommandLine.{AskToWait};
+ghost use Rattle.command_line.specs.Ending.{AppendsBeginning, line_of};
+ghost use Rattle.command_line.specs.declared.ending.Failure.TheVariants as failure;
 ghost use Rattle.udp_service.specs.Service.{WritesServed};
 ghost use Rattle.worker_commands.specs.Flood.{WritesFlood};
-ghost use Rattle.worker_commands.specs.Waiting.{EndsInWaitingFailure, IsAddress, IsNoAddress, IsWorkers, LackWorkers, RefusesAddress, WritesFor};
+ghost use Rattle.worker_commands.specs.Waiting.{EndsInFloodFailure, EndsInServeFailure, EndsInWaitingFailure, IsAddress, IsNoAddress, IsWorkers, LackWorkers, RefusesAddress, WritesFor};
 
 mod flood_jobs;
 mod flood_versions;
@@ -74,7 +76,7 @@ fn run_flood<R: Threads + Wait + Sync, W: Write, E: Write>(
     ensures misused { result ≡ Status.Misused → (count : ℕ) → IsWorkers workers.now count → ⊥ }
     ensures nothing_written { result ≡ Status.Misused → out.new ≡ out.old }
     ensures failed { result ≡ Status.Failed
-        → EndsInWaitingFailure (W.contents out.old) (W.contents out.new) (E.contents errs.old) (E.contents errs.new) }
+        → EndsInFloodFailure (W.contents out.old) (W.contents out.new) (E.contents errs.old) (E.contents errs.new) }
 {
     let Some(workers) = worker_count(workers) else {
         return refuse_count(errs);
@@ -98,8 +100,7 @@ fn refuse_address<W: Write, E: Write>(out: &mut W, errs: &mut E) -> Status
     ensures no_errors { result ≡ Status.Refused → errs.new ≡ errs.old }
     ensures never_done { result ≡ Status.Done → ⊥ }
     ensures never_misused { result ≡ Status.Misused → ⊥ }
-    ensures failed { result ≡ Status.Failed
-        → EndsInWaitingFailure (W.contents out.old) (W.contents out.new) (E.contents errs.old) (E.contents errs.new) }
+    ensures failed { result ≡ Status.Failed → AppendsBeginning (E.contents errs.old) (E.contents errs.new) (line_of failure.WriteFailed) }
 {
     match write_refusal(out) {
         Ok(()) => Status::Refused,
@@ -125,7 +126,8 @@ fn run_serve<R: Threads + Wait + Net + Sync, W: Write, E: Write>(
     ensures misused { result ≡ Status.Misused → (count : ℕ) → IsWorkers workers.now count → ⊥ }
     ensures nothing_written { result ≡ Status.Misused → out.new ≡ out.old }
     ensures failed { result ≡ Status.Failed
-        → EndsInWaitingFailure (W.contents out.old) (W.contents out.new) (E.contents errs.old) (E.contents errs.new) }
+        → EndsInServeFailure addresses.entry.0.now addresses.entry.1.now (W.contents out.old) (W.contents out.new)
+        (E.contents errs.old) (E.contents errs.new) }
 {
     let Some(workers) = worker_count(workers) else {
         return refuse_count(errs);
@@ -157,7 +159,8 @@ pub fn run_waiting<R: Threads + Wait + Net + Sync, W: Write, E: Write>(
     ensures misused { result ≡ Status.Misused → LackWorkers (map string_bytes words.now) }
     ensures nothing_written { result ≡ Status.Misused → out.new ≡ out.old }
     ensures failed { result ≡ Status.Failed
-        → EndsInWaitingFailure (W.contents out.old) (W.contents out.new) (E.contents errs.old) (E.contents errs.new) }
+        → EndsInWaitingFailure (map string_bytes words.now) (W.contents out.old) (W.contents out.new)
+        (E.contents errs.old) (E.contents errs.new) }
 {
     match read_words(alloc, words) {
         Ok(Subcommand::Flood { workers }) => run_flood(rt, alloc, workers, out, errs),

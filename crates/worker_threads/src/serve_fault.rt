@@ -18,7 +18,7 @@ pub enum ServeFault {
     BindFailed,
     #[error("S2: the sockets could not be waited for")]
     PollFailed,
-    #[error("E2: the totals could not be written")]
+    #[error("E2: a line could not be written")]
     WriteFailed,
     #[error("E3: memory was refused")]
     OutOfMemory,

@@ -22,8 +22,8 @@ pub returns-in-Stopped-clause-totals : goal.returns-in-Stopped-clause-totals
 returns-in-Stopped-clause-totals g c =
     let of_jobs = c.args.jobs.ok.0 in
     counted _ _ c.args.service.tally.table c.args.jobs.items c.args.service.spare.items c.in_ok-counters.counters.items c.in_ok-counters.ensures.counters_back
-    c.requires.new_spare c.requires.new_counters [] c.requires.new_workers.0 LONGEST_DATAGRAM LIMIT (AreServiceStarts (vec_len c.args.jobs))
-    c.requires.new_workers.1 c.requires.rooms (
+    c.requires.new_spare c.requires.new_counters [] c.args.service.receiver.operator.table LONGEST_DATAGRAM LIMIT (AreServiceStarts (vec_len c.args.jobs))
+    c.requires.new_workers c.requires.rooms (
       length-map c.args.jobs.items (parts_of_job _ _) ∙ sym of_jobs,
       All-map HasSilentDevices (parts_of_job _ _) c.args.jobs.items
           (All-weaker (λ job. HasNewDevices job.source job.outbox) (λ job. HasSilentDevices (parts_of_job _ _ job)) (λ job new. (ap source_of new.0, new.1)) c.args.jobs.items c.requires.new_devices),

@@ -1,4 +1,4 @@
-use Rattle.std.proofs.Common.{◌≡◌, ◌∙◌, Some, ap, codes, inl, refl, subst, sym}
+use Rattle.std.proofs.Common.{◌≡◌, ◌∙◌, Some, ap, codes, refl, subst, sym}
 use Rattle.std.specs.Io.KnownBytes.{Appends}
 use Rattle.command_line.specs.declared.command.Subcommand.{Subcommand}
 use Rattle.command_line.specs.declared.ending.Failure.TheVariants.{OutOfMemory}
@@ -9,7 +9,7 @@ use Rattle.command_line.specs.CommandLine.{flood, request_of, serve}
 use Rattle.command_line.specs.Ending.{AppendsBeginning, line_of}
 use Rattle.udp_service.specs.Service.{WritesServed}
 use Rattle.worker_commands.specs.Flood.{WritesFlood}
-use Rattle.worker_commands.specs.Waiting.{EndsInWaitingFailure, flooded, served}
+use Rattle.worker_commands.specs.Waiting.{EndsInFloodFailure, EndsInServeFailure, flood_failed, flooded, serve_failed, served, unread}
 use Rattle.worker_commands.proofs.run_waiting.Goals as goal
 use Rattle.worker_commands.proofs.run_waiting.Goals.{in-Err, in-Ok-Flood, in-Ok-Serve}
 
@@ -68,17 +68,19 @@ returns-clause-misused g c = λ ended. elim c.match-read_words.branch [
 pub returns-clause-failed : goal.returns-clause-failed
 returns-clause-failed g c = λ ended. elim c.match-read_words.branch [
   | in-Ok-Flood w ↦
-      subst (λ out. EndsInWaitingFailure (g.W.Write.contents c.args.out.now) (g.W.Write.contents out) (g.E.Write.contents c.args.errs.now) (g.E.Write.contents _)) (sym w.out-is)
-      (subst (λ errs. EndsInWaitingFailure (g.W.Write.contents c.args.out.now) (g.W.Write.contents w.run_flood.new.out) (g.E.Write.contents c.args.errs.now) (g.E.Write.contents errs)) (sym w.errs-is)
-      (w.run_flood.ensures.failed (sym w.result-is ∙ ended)))
+      flood_failed w.in-Ok-Flood.workers.now
+      (w.in-Ok-Flood.ensures.named ∙ ap (λ (s : Subcommand). Some (request_of s)) w.in-Ok-Flood.field-0-is)
+      (subst (λ out. EndsInFloodFailure (g.W.Write.contents c.args.out.now) (g.W.Write.contents out) (g.E.Write.contents c.args.errs.now) (g.E.Write.contents _)) (sym w.out-is)
+      (subst (λ errs. EndsInFloodFailure (g.W.Write.contents c.args.out.now) (g.W.Write.contents w.run_flood.new.out) (g.E.Write.contents c.args.errs.now) (g.E.Write.contents errs)) (sym w.errs-is)
+      (w.run_flood.ensures.failed (sym w.result-is ∙ ended))))
   | in-Ok-Serve w ↦
-      subst (λ out. EndsInWaitingFailure (g.W.Write.contents c.args.out.now) (g.W.Write.contents out) (g.E.Write.contents c.args.errs.now) (g.E.Write.contents _)) (sym w.out-is)
-      (subst (λ errs. EndsInWaitingFailure (g.W.Write.contents c.args.out.now) (g.W.Write.contents w.run_serve.new.out) (g.E.Write.contents c.args.errs.now) (g.E.Write.contents errs)) (sym w.errs-is)
-      (w.run_serve.ensures.failed (sym w.result-is ∙ ended)))
-  | in-Err w ↦ record {
-    failure = OutOfMemory;
-    no_read = λ e. cc;
-    written = λ e. inl (ap (λ out. g.W.Write.contents out) w.out-is);
-    told = subst (λ errs. AppendsBeginning (g.E.Write.contents c.args.errs.now) (g.E.Write.contents errs) (line_of OutOfMemory)) (sym w.errs-is) w.report.ensures.told;
-  }
+      let front = w.in-Ok-Serve.front.now in let control = w.in-Ok-Serve.control.now in
+      serve_failed front control w.in-Ok-Serve.workers.now
+      (w.in-Ok-Serve.ensures.named ∙ ap (λ (s : Subcommand). Some (request_of s)) w.in-Ok-Serve.field-0-is)
+      (subst (λ out. EndsInServeFailure front control (g.W.Write.contents c.args.out.now) (g.W.Write.contents out) (g.E.Write.contents c.args.errs.now) (g.E.Write.contents _)) (sym w.out-is)
+      (subst (λ errs. EndsInServeFailure front control (g.W.Write.contents c.args.out.now) (g.W.Write.contents w.run_serve.new.out) (g.E.Write.contents c.args.errs.now) (g.E.Write.contents errs)) (sym w.errs-is)
+      (w.run_serve.ensures.failed (sym w.result-is ∙ ended))))
+  | in-Err w ↦
+      unread (ap (λ out. g.W.Write.contents out) w.out-is)
+      (subst (λ errs. AppendsBeginning (g.E.Write.contents c.args.errs.now) (g.E.Write.contents errs) (line_of OutOfMemory)) (sym w.errs-is) w.report.ensures.told)
 ]

@@ -7,5 +7,4 @@ pub returns-clause-new_counters : goal.returns-clause-new_counters
 returns-clause-new_counters g c = c.in_ok-jobs.ensures.counters c.in_ok-tally.tally.table c.in_ok-tally.ensures.counters.each
 
 pub returns-clause-new_workers : goal.returns-clause-new_workers
-returns-clause-new_workers g c =
-    let table = c.in_ok-operator.operator.table in (table, c.in_ok-jobs.ensures.workers table c.in_ok-operator.ensures.opening)
+returns-clause-new_workers g c = c.in_ok-jobs.ensures.workers c.in_ok-operator.operator.table c.in_ok-operator.ensures.opening

@@ -1,0 +1,149 @@
+//! A client of the switch over the loopback, and what the switch writes.
+
+use dispatch::Gate;
+use ipv4_fields::Endpoint;
+use std::alloc::Global;
+use std::io::{ErrorKind, Write};
+use std::net::{Ipv4Addr, Net, SocketAddr, SocketAddrV4, UdpSocket};
+use std::sync::Arc;
+use std::sync::atomic::{AtomicU64, Ordering};
+use std::test::Fail;
+use std::time::Duration;
+use std::{io, thread};
+
+/// 29 bytes of UDP over IPv4 from 10.0.0.1:5000 to 10.0.0.2:53, with the payload `a`.
+pub const PACKET: [u8; 29] = [
+    0x45, 0x00, 0x00, 0x1d, 0x00, 0x00, 0x00, 0x00, 0x40, 0x11, 0x00, 0x00, 0x0a, 0x00, 0x00, 0x01,
+    0x0a, 0x00, 0x00, 0x02, 0x13, 0x88, 0x00, 0x35, 0x00, 0x09, 0x00, 0x00, 0x61,
+];
+
+// 127.0.0.1
+const LOOPBACK: u32 = 0x7f00_0001;
+
+pub fn at(port: u16) -> Endpoint {
+    Endpoint {
+        address: LOOPBACK,
+        port,
+    }
+}
+
+/// Lets each batch begin at once.
+pub struct Open;
+
+impl Gate for Open {
+    fn start(&self, _batch: u64) {}
+
+    fn done(&self, _batch: u64) {}
+}
+
+/// How often a test looks at most whether something has come.
+pub const TURNS: u32 = 10_000_000;
+
+/// What `serve` writes, and the ports in its ready line: the front's times 65,536, and control's. Before that line it is 0.
+#[derive(Drop)]
+pub struct Output {
+    pub bytes: Vec<u8>,
+    ports: Ports,
+}
+
+pub type Ports = Arc<AtomicU64, Global>;
+
+pub fn new_output(alloc: Global) -> Result<(Output, Ports), Fail> {
+    let Ok(ports) = Arc::new(alloc, AtomicU64::new(0)) else {
+        return Err(Fail::from("no memory"));
+    };
+    let output = Output {
+        bytes: Vec::new(alloc),
+        ports: Arc::try_clone(&ports)?,
+    };
+    Ok((output, ports))
+}
+
+pub fn ports_in(line: &[u8]) -> Option<u64> {
+    let mut words = str::from_utf8(line).ok()?.split_whitespace();
+    if words.next()? != "ready" {
+        return None;
+    }
+    let front = words.next()?.parse::<SocketAddr>().ok()?;
+    let control = words.next()?.parse::<SocketAddr>().ok()?;
+    Some((u64::from(front.port()) << 16) | u64::from(control.port()))
+}
+
+impl Write for Output {
+    fn write(&mut self, buf: &[u8]) -> io::Result<usize> {
+        if self.bytes.extend_from_slice(buf).is_err() {
+            return Err(io::Error::from(ErrorKind::OutOfMemory));
+        }
+        if let Some(ports) = ports_in(buf) {
+            self.ports.store(ports, Ordering::SeqCst);
+        }
+        Ok(buf.len())
+    }
+
+    fn flush(&mut self) -> io::Result<()> {
+        Ok(())
+    }
+}
+
+/// A client of a switch that is ready.
+#[derive(Drop)]
+pub struct Client {
+    pub socket: UdpSocket,
+    pub front: SocketAddr,
+    control: SocketAddr,
+}
+
+pub fn local(port: u64) -> SocketAddr {
+    let [_, _, _, _, _, _, high, low] = port.to_be_bytes();
+    SocketAddr::V4(SocketAddrV4::new(Ipv4Addr::from(LOOPBACK), u16::from_be_bytes([high, low])))
+}
+
+pub fn new_client<N: Net>(net: &N, ports: &Ports) -> io::Result<Client> {
+    for _ in 0..TURNS {
+        let both = ports.load(Ordering::SeqCst);
+        if both != 0 {
+            let socket = UdpSocket::bind(net, local(0))?;
+            socket.set_read_timeout(Some(Duration::from_secs(5)))?;
+            return Ok(Client {
+                socket,
+                front: local(both >> 16),
+                control: local(both & 0xffff),
+            });
+        }
+        thread::yield_now();
+    }
+    Err(io::Error::from(ErrorKind::TimedOut))
+}
+
+/// A line, and its reply.
+pub type Case = (&'static [u8], &'static [u8]);
+
+impl Client {
+    pub fn is_answered(&self, line: &[u8], reply: &[u8]) -> io::Result<bool> {
+        let mut buf = [0u8; 512];
+        self.socket.send_to(line, self.control)?;
+        let size = self.socket.recv(&mut buf)?;
+        Ok(&buf[..size] == reply)
+    }
+
+    /// The first case whose reply is another, if there is one.
+    pub fn first_wrong(&self, cases: &[Case]) -> io::Result<Option<usize>> {
+        for (place, (line, reply)) in cases.iter().enumerate() {
+            if !self.is_answered(line, reply)? {
+                return Ok(Some(place));
+            }
+        }
+        Ok(None)
+    }
+
+    /// Asks for the totals until they are these.
+    pub fn comes_to(&self, totals: &[u8]) -> io::Result<bool> {
+        for _ in 0..10_000u32 {
+            if self.is_answered(b"totals".as_slice(), totals)? {
+                return Ok(true);
+            }
+            thread::yield_now();
+        }
+        Ok(false)
+    }
+}
