@@ -13,6 +13,7 @@ mod streams;
 mod words;
 
 use std::alloc::Global;
+use std::io::Read;
 use std::process::Abort;
 use std::test::Fail;
 use streams::Sink;
@@ -31,13 +32,22 @@ fn owned(alloc: Global, words: &[&str]) -> Result<Vec<String>, Fail> {
     Ok(owned)
 }
 
-/// Runs the words on an input, with what the command wrote.
-fn told(alloc: Global, words: &[&str], input: &[u8]) -> Result<(Option<u8>, Sink, Sink), Fail> {
+/// Runs the words on an input and these outputs, and gives the outputs back.
+fn run_on<R: Read + Drop>(
+    alloc: Global,
+    words: &[&str],
+    input: R,
+    mut out: Sink,
+    mut errs: Sink,
+) -> Result<(Option<u8>, Sink, Sink), Fail> {
     let words = owned(alloc, words)?;
-    let mut out = Sink::open(alloc);
-    let mut errs = Sink::open(alloc);
     let status = tool(alloc, words.as_slice(), input, &mut out, &mut errs);
     Ok((status, out, errs))
+}
+
+/// Runs the words on an input, with what the command wrote.
+fn told(alloc: Global, words: &[&str], input: &[u8]) -> Result<(Option<u8>, Sink, Sink), Fail> {
+    run_on(alloc, words, input, Sink::open(alloc), Sink::open(alloc))
 }
 
 /// Runs the words on an input, which give this status and this text, and nothing on standard error.

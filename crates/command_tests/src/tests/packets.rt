@@ -1,13 +1,12 @@
 //! The packet of `run`, as hexadecimal digits.
 
 use super::streams::{Sink, Source};
-use super::{assert_told, owned};
+use super::{assert_told, run_on};
 use bpf_machine::MAX_PACKET;
 use std::alloc::Global;
 use std::io::ErrorKind;
 use std::process::Abort;
 use std::test::Fail;
-use text_commands::tool;
 
 // So many times the digit 4.
 fn fours(alloc: Global, digits: usize) -> Result<String, Fail> {
@@ -54,11 +53,8 @@ fn digits_of_either_case(rt: HostRuntime) -> Result<(), Fail> {
 
 // The words are refused by this line, and the input is not looked at: its reader would fail.
 fn assert_unread(rt: &impl Abort, alloc: Global, words: &[&str], line: &str) -> Result<(), Fail> {
-    let words = owned(alloc, words)?;
-    let mut input = Source::new(b"foo", 1, 0, ErrorKind::BrokenPipe);
-    let mut out = Sink::open(alloc);
-    let mut errs = Sink::open(alloc);
-    let status = tool(alloc, words.as_slice(), &mut input, &mut out, &mut errs);
+    let input = Source::new(b"foo", 1, 0, ErrorKind::BrokenPipe);
+    let (status, out, errs) = run_on(alloc, words, input, Sink::open(alloc), Sink::open(alloc))?;
     assert_eq!(rt; out.text(), Some(line));
     assert_eq!(rt; errs.text(), Some(""));
     assert_eq!(rt; status, Some(1));

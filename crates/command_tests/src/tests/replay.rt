@@ -2,10 +2,9 @@
 
 use super::example_scripts::SCRIPTS;
 use super::streams::{Sink, Source};
-use super::{assert_told, owned, told};
+use super::{assert_told, run_on, told};
 use std::io::ErrorKind;
 use std::test::Fail;
-use text_commands::tool;
 
 const SCRIPT: &str = "add 10.0.0.2:53\n\
     join 10.0.0.2:53 1 127.0.0.1:9001\n\
@@ -61,7 +60,7 @@ fn script_through_the_command(rt: HostRuntime) -> Result<(), Fail> {
 // Each line that was read whole is answered before the read that fails.
 #[test]
 fn script_that_cannot_be_read_on(rt: HostRuntime) -> Result<(), Fail> {
-    let words = owned(rt.alloc(), &["replay"])?;
+    let alloc = rt.alloc();
     let script = b"add 10.0.0.2:53\nshow\nsweep";
     for (reads, replies) in [
         (0, ""),
@@ -71,9 +70,13 @@ fn script_that_cannot_be_read_on(rt: HostRuntime) -> Result<(), Fail> {
         (5, "ok version 1\nversion 1 groups 1 members 0 charge 6\n"),
     ] {
         let input = Source::new(script, 6, reads, ErrorKind::BrokenPipe);
-        let mut out = Sink::open(rt.alloc());
-        let mut errs = Sink::open(rt.alloc());
-        let status = tool(rt.alloc(), words.as_slice(), input, &mut out, &mut errs);
+        let (status, out, errs) = run_on(
+            alloc,
+            &["replay"],
+            input,
+            Sink::open(alloc),
+            Sink::open(alloc),
+        )?;
         assert_eq!(rt; status, Some(3), "after {reads} reads");
         assert_eq!(rt; out.text(), Some(replies), "after {reads} reads");
         assert_eq!(rt; errs.text(), Some("failed E1\n"), "after {reads} reads");
