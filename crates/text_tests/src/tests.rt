@@ -1,6 +1,7 @@
 //! Tests by crate: bpf_asm, filter_tree, filter_parse, filter_compile.
 
 mod assembly;
+mod built;
 mod compiling;
 mod parsing;
 mod trees;

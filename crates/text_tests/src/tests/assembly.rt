@@ -6,9 +6,10 @@ mod memory;
 mod plain;
 mod printing;
 
-use bpf_asm::{AsmFault, assemble};
+use bpf_asm::{AsmFault, assemble, print};
 use bpf_verify::Program;
 use std::alloc::Global;
+use std::process::Abort;
 use std::test::Fail;
 
 // The codes of networking/filter.rst, one line for each line of docs/MACHINE.md's instruction table.
@@ -190,38 +191,46 @@ fn program(alloc: Global, text: &[u8]) -> Result<Program<Global>, Fail> {
     }
 }
 
+// Whether the text is assembled to these words.
+fn is_assembled(alloc: Global, text: &[u8], expected: &[u64]) -> Result<bool, Fail> {
+    Ok(words(alloc, text)?.as_slice() == expected)
+}
+
+// Whether the program is printed so.
+fn is_printed(alloc: Global, program: &Program<Global>, text: &str) -> Result<bool, Fail> {
+    Ok(print(alloc, program)?.as_str() == text)
+}
+
 #[test]
 fn texts_and_their_words(rt: HostRuntime) -> Result<(), Fail> {
-    for (text, expected) in ASSEMBLED {
-        let found = words(rt.alloc(), text)?;
-        assert!(rt; found.as_slice() == expected, "{text:?}");
+    for (text, expected) in &ASSEMBLED {
+        assert!(rt; is_assembled(rt.alloc(), text, expected)?, "{text:?}");
     }
     Ok(())
 }
 
 #[test]
 fn every_instruction_by_its_code(rt: HostRuntime) -> Result<(), Fail> {
-    for (text, word) in INSTRUCTIONS {
-        let found = words(rt.alloc(), text.as_bytes())?;
-        assert!(rt; found.as_slice() == [word].as_slice(), "{text}");
+    for (text, word) in &INSTRUCTIONS {
+        assert!(rt;
+            is_assembled(rt.alloc(), text.as_bytes(), &[*word])?,
+            "{text}"
+        );
     }
     Ok(())
 }
 
+fn have_no_form(rt: &impl Abort, alloc: Global, texts: &[&[u8]]) {
+    for text in texts {
+        assert!(rt;
+            fault(alloc, text) == Some(AsmFault::Syntax { line: 1 }),
+            "{text:?}"
+        );
+    }
+}
+
 #[test]
 fn lines_in_no_form(rt: HostRuntime) {
-    for text in SYNTAX {
-        assert_eq!(rt;
-            fault(rt.alloc(), text),
-            Some(AsmFault::Syntax { line: 1 }),
-            "{text:?}"
-        );
-    }
-    for text in MISSPELT {
-        assert_eq!(rt;
-            fault(rt.alloc(), text),
-            Some(AsmFault::Syntax { line: 1 }),
-            "{text:?}"
-        );
-    }
+    have_no_form(&rt, rt.alloc(), &SYNTAX);
+    have_no_form(&rt, rt.alloc(), &MISSPELT);
 }

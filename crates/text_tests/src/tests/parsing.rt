@@ -5,8 +5,10 @@ mod plain;
 mod scanner;
 
 use filter_parse::{ParseFault, parse};
+use filter_tree::{Expr, OutOfMemory};
 use linked_list_allocator::LocalHeap;
 use std::alloc::{AllocError, Global};
+use std::process::Abort;
 use std::test::Fail;
 
 // Each text, how it is printed, and its depth, cells and size: docs/EXPRESSIONS.md, and worked by hand.
@@ -134,11 +136,11 @@ fn fault_of(alloc: Global, text: &[u8]) -> Option<ParseFault> {
     }
 }
 
-// How the tree of a text is printed.
-fn printed_again(alloc: Global, text: &str) -> Result<String, Fail> {
+// Whether the tree of a text is printed so.
+fn is_printed(alloc: Global, text: &str, printed: &str) -> Result<bool, OutOfMemory> {
     match parse(alloc, text.as_bytes()) {
-        Ok(tree) => Ok(tree.print(alloc)?),
-        Err(_) => Err(Fail::from("a printed text is read")),
+        Ok(tree) => Ok(tree.print(alloc)?.as_str() == printed),
+        Err(_) => Ok(false),
     }
 }
 
@@ -152,43 +154,63 @@ fn repeated(alloc: Global, part: &str, times: usize, end: &str) -> Result<Vec<u8
     Ok(text)
 }
 
+fn has_measures(tree: &Expr<Global>, depth: u32, cells: u32, size: u32) -> bool {
+    tree.depth() == depth && tree.cells() == cells && tree.size() == size
+}
+
+// Whether the tree and a copy of it are printed so.
+fn is_printed_twice(
+    alloc: Global,
+    tree: &Expr<Global>,
+    printed: &str,
+) -> Result<bool, OutOfMemory> {
+    if tree.print(alloc)?.as_str() != printed {
+        return Ok(false);
+    }
+    let copy = tree.clone_in(alloc)?;
+    Ok(copy.print(alloc)?.as_str() == printed)
+}
+
+fn is_row(
+    alloc: Global,
+    text: &str,
+    printed: &str,
+    measures: (u32, u32, u32),
+) -> Result<bool, OutOfMemory> {
+    let Ok(tree) = parse(alloc, text.as_bytes()) else {
+        return Ok(false);
+    };
+    Ok(
+        has_measures(&tree, measures.0, measures.1, measures.2)
+            && is_printed_twice(alloc, &tree, printed)?,
+    )
+}
+
 #[test]
 fn printed_trees_and_their_measures(rt: HostRuntime) -> Result<(), Fail> {
-    for (text, printed, measures) in ACCEPTED {
-        match parse(rt.alloc(), text.as_bytes()) {
-            Ok(tree) => {
-                assert_eq!(rt; tree.print(rt.alloc())?.as_str(), printed);
-                assert_eq!(rt;
-                    (tree.depth(), tree.cells(), tree.size()),
-                    measures,
-                    "{text}"
-                );
-                let copy = tree.clone_in(rt.alloc())?;
-                assert_eq!(rt; copy.print(rt.alloc())?.as_str(), printed);
-                assert_eq!(rt; printed_again(rt.alloc(), printed)?.as_str(), printed);
-            }
-            Err(fault) => assert!(rt; false, "{text}: {fault:?}"),
-        }
+    for (text, printed, measures) in &ACCEPTED {
+        assert!(rt; is_row(rt.alloc(), text, printed, *measures)?, "{text}");
+        assert!(rt; is_printed(rt.alloc(), printed, printed)?, "{printed}");
     }
     Ok(())
 }
 
 #[test]
 fn parse_faults_by_place(rt: HostRuntime) {
-    for (text, fault) in REFUSED {
-        match parse(rt.alloc(), text.as_bytes()) {
-            Ok(_) => assert!(rt; false, "{text} is read"),
-            Err(found) => assert_eq!(rt; found, fault, "{text}"),
-        }
+    for (text, fault) in &REFUSED {
+        assert!(rt;
+            fault_of(rt.alloc(), text.as_bytes()) == Some(*fault),
+            "{text}"
+        );
     }
-    assert_eq!(rt;
-        fault_of(rt.alloc(), b"ip \xff ip"),
-        Some(ParseFault::Syntax { at: 3 })
-    );
+    let found = fault_of(rt.alloc(), b"ip \xff ip");
+    assert!(rt; found == Some(ParseFault::Syntax { at: 3 }));
 }
 
-// Parts that are repeated, how often, what ends the text, and its fault.
-const DEEP: [(&str, usize, &str, Option<ParseFault>); 16] = [
+// A part that is repeated, how often, what ends the text, and its fault.
+type Repeated = (&'static str, usize, &'static str, Option<ParseFault>);
+
+const DEEP: [Repeated; 16] = [
     ("(", 64, "ip", Some(ParseFault::Syntax { at: 66 })),
     ("(", 65, "ip", Some(ParseFault::TooDeep { at: 64 })),
     ("ip[", 64, "0", Some(ParseFault::Syntax { at: 193 })),
@@ -212,21 +234,32 @@ const DEEP: [(&str, usize, &str, Option<ParseFault>); 16] = [
     ("1+", 63, "1", Some(ParseFault::Syntax { at: 127 })),
 ];
 
-#[test]
-fn depth_within_the_limit(rt: HostRuntime) -> Result<(), Fail> {
-    for (part, times, end, fault) in DEEP {
-        let text = repeated(rt.alloc(), part, times, end)?;
-        assert_eq!(rt;
-            fault_of(rt.alloc(), &text),
-            fault,
-            "{times} times {part:?} and {end:?}"
-        );
+fn fault_of_repeated(
+    alloc: Global,
+    part: &str,
+    times: usize,
+    end: &str,
+) -> Result<Option<ParseFault>, AllocError> {
+    let text = repeated(alloc, part, times, end)?;
+    Ok(fault_of(alloc, &text))
+}
+
+fn have_faults(rt: &impl Abort, alloc: Global, rows: &[Repeated]) -> Result<(), AllocError> {
+    for (part, times, end, fault) in rows {
+        let found = fault_of_repeated(alloc, part, *times, end)?;
+        assert!(rt; found == *fault, "{times} times {part} and {end}");
     }
     Ok(())
 }
 
+#[test]
+fn depth_within_the_limit(rt: HostRuntime) -> Result<(), Fail> {
+    have_faults(&rt, rt.alloc(), &DEEP)?;
+    Ok(())
+}
+
 // The same for texts of 262,144 bytes and more.
-const LONG: [(&str, usize, &str, Option<ParseFault>); 11] = [
+const LONG: [Repeated; 11] = [
     ("(", 262144, "", Some(ParseFault::TooDeep { at: 64 })),
     ("not ", 65536, "", Some(ParseFault::Syntax { at: 262144 })),
     (
@@ -260,44 +293,52 @@ const LONG: [(&str, usize, &str, Option<ParseFault>); 11] = [
     ("\u{fffd}", 87382, "", Some(ParseFault::Syntax { at: 0 })),
 ];
 
+fn fault_of_no_text(alloc: Global) -> Result<Option<ParseFault>, AllocError> {
+    let no_text = vec![in alloc; 0xff; 262144]?;
+    Ok(fault_of(alloc, &no_text))
+}
+
 #[test]
 fn longest_texts(rt: HostRuntime) -> Result<(), Fail> {
-    for (part, times, end, fault) in LONG {
-        let text = repeated(rt.alloc(), part, times, end)?;
-        assert_eq!(rt;
-            fault_of(rt.alloc(), &text),
-            fault,
-            "{times} times {part:?} and {end:?}"
-        );
-    }
-    let no_text = vec![in rt.alloc(); 0xff; 262144]?;
-    assert_eq!(rt;
-        fault_of(rt.alloc(), &no_text),
-        Some(ParseFault::Syntax { at: 0 })
-    );
+    have_faults(&rt, rt.alloc(), &LONG)?;
+    assert!(rt; fault_of_no_text(rt.alloc())? == Some(ParseFault::Syntax { at: 0 }));
     Ok(())
+}
+
+// Whether a heap has memory for the text's tree, which is then right.
+fn is_read(rt: &impl Abort, alloc: Global, heap: &LocalHeap) -> Result<bool, OutOfMemory> {
+    let text = b"not (udp[1 + 2] = 3 or net 10.0.0.0/8) and port 53";
+    match parse(heap, text) {
+        Ok(tree) => {
+            let printed = "( not ( udp[(1+2):1] = 3 or net 10.0.0.0/8 ) and port 53 )";
+            let is_same = tree.print(alloc)?.as_str() == printed;
+            assert!(rt; is_same);
+            Ok(true)
+        }
+        Err(fault) => {
+            assert!(rt; fault == ParseFault::OutOfMemory);
+            Ok(false)
+        }
+    }
+}
+
+// The same for a heap of so many bytes, which has all of them again behind it.
+fn is_read_within(rt: &impl Abort, alloc: Global, size: usize) -> Result<bool, Fail> {
+    let heap = LocalHeap::new(alloc, size)?;
+    let is_read = is_read(rt, alloc, &heap)?;
+    assert!(rt; heap.used() == 0);
+    Ok(is_read)
 }
 
 #[test]
 fn each_allocation_refused_in_turn(rt: HostRuntime) -> Result<(), Fail> {
-    let text = "not (udp[1 + 2] = 3 or net 10.0.0.0/8) and port 53";
     let mut size = 64;
     let mut read = false;
     // A block more from heap to heap, so that each growth is once the first that is refused.
     for _ in 0..200 {
-        let heap = LocalHeap::new(rt.alloc(), size)?;
-        match parse(&heap, text.as_bytes()) {
-            Ok(tree) => {
-                let printed = "( not ( udp[(1+2):1] = 3 or net 10.0.0.0/8 ) and port 53 )";
-                assert_eq!(rt; tree.print(rt.alloc())?.as_str(), printed);
-                read = true;
-            }
-            Err(fault) => {
-                assert_eq!(rt; fault, ParseFault::OutOfMemory);
-                assert!(rt; !read, "a heap of {size} bytes");
-            }
-        }
-        assert_eq!(rt; heap.used(), 0);
+        let is_read = is_read_within(&rt, rt.alloc(), size)?;
+        assert!(rt; is_read || !read, "a heap of {size} bytes");
+        read = is_read;
         size = size.saturating_add(16);
     }
     assert!(rt; read);

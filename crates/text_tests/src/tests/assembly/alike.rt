@@ -4,39 +4,50 @@ use super::labels::LABELS;
 use super::{ASSEMBLED, INSTRUCTIONS, MISSPELT, SYNTAX, plain};
 use bpf_asm::assemble;
 use std::alloc::Global;
+use std::process::Abort;
 use std::test::Fail;
 
 fn answer_alike(alloc: Global, text: &[u8]) -> Result<bool, Fail> {
-    let found = assemble(alloc, text);
-    match plain::assemble(alloc, text)? {
-        Ok(expected) => Ok(
-            found
-                .ok()
-                .is_some_and(|words| words.as_slice() == expected.as_slice()),
-        ),
-        Err(expected) => Ok(found.err() == Some(expected)),
+    let expected = plain::assemble(alloc, text)?;
+    Ok(assemble(alloc, text) == expected)
+}
+
+fn all_alike(rt: &impl Abort, alloc: Global, texts: &[&[u8]]) -> Result<(), Fail> {
+    for text in texts {
+        assert!(rt; answer_alike(alloc, text)?, "{text:?}");
     }
+    Ok(())
+}
+
+fn instructions_alike(rt: &impl Abort, alloc: Global) -> Result<(), Fail> {
+    for (text, _) in &INSTRUCTIONS {
+        assert!(rt; answer_alike(alloc, text.as_bytes())?, "{text}");
+    }
+    Ok(())
+}
+
+fn assembled_alike(rt: &impl Abort, alloc: Global) -> Result<(), Fail> {
+    for (text, _) in &ASSEMBLED {
+        assert!(rt; answer_alike(alloc, text)?, "{text:?}");
+    }
+    Ok(())
+}
+
+fn labels_alike(rt: &impl Abort, alloc: Global) -> Result<(), Fail> {
+    for (text, _) in &LABELS {
+        assert!(rt; answer_alike(alloc, text)?, "{text:?}");
+    }
+    Ok(())
 }
 
 #[test]
 fn plain_assembler_answers_alike(rt: HostRuntime) -> Result<(), Fail> {
     let alloc = rt.alloc();
-    for (text, _) in ASSEMBLED {
-        assert!(rt; answer_alike(alloc, text)?, "{text:?}");
-    }
-    for (text, _) in INSTRUCTIONS {
-        assert!(rt; answer_alike(alloc, text.as_bytes())?, "{text}");
-    }
-    for text in SYNTAX {
-        assert!(rt; answer_alike(alloc, text)?, "{text:?}");
-    }
-    for text in MISSPELT {
-        assert!(rt; answer_alike(alloc, text)?, "{text:?}");
-    }
-    for (text, _) in LABELS {
-        assert!(rt; answer_alike(alloc, text)?, "{text:?}");
-    }
-    Ok(())
+    assembled_alike(&rt, alloc)?;
+    instructions_alike(&rt, alloc)?;
+    all_alike(&rt, alloc, &SYNTAX)?;
+    all_alike(&rt, alloc, &MISSPELT)?;
+    labels_alike(&rt, alloc)
 }
 
 const LINES: [&str; 24] = [
@@ -91,14 +102,21 @@ fn mixed(
     Ok(text)
 }
 
+fn lines_alike(alloc: Global, seed: u64) -> Result<bool, Fail> {
+    let lines = mixed(alloc, &LINES, "\n", seed, seed % 11)?;
+    answer_alike(alloc, lines.as_bytes())
+}
+
+fn pieces_alike(alloc: Global, seed: u64) -> Result<bool, Fail> {
+    let pieces = mixed(alloc, &PIECES, "", seed, seed % 7)?;
+    answer_alike(alloc, pieces.as_bytes())
+}
+
 #[test]
 fn plain_assembler_answers_alike_on_mixed_texts(rt: HostRuntime) -> Result<(), Fail> {
-    let alloc = rt.alloc();
     for seed in 0..4000u64 {
-        let lines = mixed(alloc, &LINES, "\n", seed, seed % 11)?;
-        assert!(rt; answer_alike(alloc, lines.as_bytes())?, "{lines}");
-        let pieces = mixed(alloc, &PIECES, "", seed, seed % 7)?;
-        assert!(rt; answer_alike(alloc, pieces.as_bytes())?, "{pieces}");
+        assert!(rt; lines_alike(rt.alloc(), seed)?, "lines of {seed}");
+        assert!(rt; pieces_alike(rt.alloc(), seed)?, "pieces of {seed}");
     }
     Ok(())
 }

@@ -1,6 +1,6 @@
 //! Labels and the places that they stand for, the order of faults, and texts of many labels.
 
-use super::{RET_0, fault, words};
+use super::{RET_0, fault, is_assembled, words};
 use bpf_asm::AsmFault;
 use std::alloc::Global;
 use std::test::Fail;
@@ -8,12 +8,8 @@ use std::test::Fail;
 #[test]
 fn two_labels_on_one_line(rt: HostRuntime) -> Result<(), Fail> {
     let alloc = rt.alloc();
-    assert_eq!(rt;
-        fault(alloc, b"a: b: ret #0"),
-        Some(AsmFault::Syntax { line: 1 })
-    );
-    let found = words(alloc, b"a:; b: ret #0")?;
-    assert!(rt; found.as_slice() == [RET_0].as_slice());
+    assert!(rt; fault(alloc, b"a: b: ret #0") == Some(AsmFault::Syntax { line: 1 }));
+    assert!(rt; is_assembled(alloc, b"a:; b: ret #0", &[RET_0])?);
     Ok(())
 }
 
@@ -51,14 +47,14 @@ pub const LABELS: [(&[u8], AsmFault); 24] = [
     (b"ret #0\n;foo;", AsmFault::Syntax { line: 3 }),
 ];
 
+const NEXT_BUT_ONE: [u64; 3] = [0x0005_0000_0000_0001, RET_0, 0x0006_0000_0000_0001];
+
 #[test]
 fn labels_and_their_faults(rt: HostRuntime) -> Result<(), Fail> {
     let alloc = rt.alloc();
-    let found = words(alloc, b"ja end; ret #0; end: ret #1")?;
-    let expected = [0x0005_0000_0000_0001, RET_0, 0x0006_0000_0000_0001];
-    assert!(rt; found.as_slice() == expected.as_slice());
-    for (text, expected) in LABELS {
-        assert_eq!(rt; fault(alloc, text), Some(expected), "{text:?}");
+    assert!(rt; is_assembled(alloc, b"ja end; ret #0; end: ret #1", &NEXT_BUT_ONE)?);
+    for (text, expected) in &LABELS {
+        assert!(rt; fault(alloc, text) == Some(*expected), "{text:?}");
     }
     Ok(())
 }
@@ -74,15 +70,26 @@ fn far_label(alloc: Global, head: &str, between: usize) -> Result<Vec<u8>, Fail>
     Ok(text)
 }
 
+// The first word of such a text.
+fn first_word(alloc: Global, head: &str, between: usize) -> Result<Option<u64>, Fail> {
+    let text = far_label(alloc, head, between)?;
+    Ok(words(alloc, &text)?.first().copied())
+}
+
+fn far_fault(alloc: Global, head: &str, between: usize) -> Result<Option<AsmFault>, Fail> {
+    let text = far_label(alloc, head, between)?;
+    Ok(fault(alloc, &text))
+}
+
 #[test]
 fn conditional_jumps_reach_255(rt: HostRuntime) -> Result<(), Fail> {
     let alloc = rt.alloc();
-    let near = words(alloc, &far_label(alloc, "jeq #1,end,0", 255)?)?;
-    assert_eq!(rt; near.first(), Some(&0x0015_ff00_0000_0001));
-    let far = far_label(alloc, "neg\njeq #1,0,end", 256)?;
-    assert_eq!(rt; fault(alloc, &far), Some(AsmFault::TooFar { line: 2 }));
-    let ja = words(alloc, &far_label(alloc, "ja end", 1000)?)?;
-    assert_eq!(rt; ja.first(), Some(&0x0005_0000_0000_03e8));
+    let near = first_word(alloc, "jeq #1,end,0", 255)?;
+    assert!(rt; near == Some(0x0015_ff00_0000_0001));
+    let far = far_fault(alloc, "neg\njeq #1,0,end", 256)?;
+    assert!(rt; far == Some(AsmFault::TooFar { line: 2 }));
+    let ja = first_word(alloc, "ja end", 1000)?;
+    assert!(rt; ja == Some(0x0005_0000_0000_03e8));
     Ok(())
 }
 
@@ -100,14 +107,21 @@ fn chain(alloc: Global, count: u32) -> Result<String, Fail> {
     Ok(text)
 }
 
+// Whether each of so many words jumps to the next.
+fn is_chain(words: &[u64], count: usize) -> bool {
+    for word in words {
+        if *word != 0x0005_0000_0000_0000 {
+            return false;
+        }
+    }
+    words.len() == count
+}
+
 // A scan of the labels for each jump would take minutes here.
 #[test]
 fn megabytes_of_labels(rt: HostRuntime) -> Result<(), Fail> {
-    let alloc = rt.alloc();
-    let text = chain(alloc, 60000)?;
+    let text = chain(rt.alloc(), 60000)?;
     assert!(rt; text.len() > 3_000_000);
-    let found = words(alloc, text.as_bytes())?;
-    assert_eq!(rt; found.len(), 60000);
-    assert!(rt; found.iter().all(|word| *word == 0x0005_0000_0000_0000));
+    assert!(rt; is_chain(&words(rt.alloc(), text.as_bytes())?, 60000));
     Ok(())
 }

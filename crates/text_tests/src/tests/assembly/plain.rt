@@ -175,8 +175,8 @@ fn rest_of(tokens: &[Vec<u8>]) -> &[Vec<u8>] {
 }
 
 fn row_of(rest: &[Vec<u8>]) -> Option<Laid<'_>> {
-    for (row, code) in ROWS {
-        let found = lay(row, code, rest);
+    for (row, code) in &ROWS {
+        let found = lay(row, *code, rest);
         if found.is_some() {
             return found;
         }

@@ -7,11 +7,17 @@ use std::test::Fail;
 
 #[test]
 fn plain_recogniser_on_the_worked_texts(rt: HostRuntime) -> Result<(), Fail> {
-    for (text, _, _) in ACCEPTED {
-        assert_eq!(rt; fault_of_text(rt.alloc(), text.as_bytes())?, None);
+    for (text, _, _) in &ACCEPTED {
+        assert!(rt;
+            fault_of_text(rt.alloc(), text.as_bytes())? == None,
+            "{text}"
+        );
     }
-    for (text, fault) in REFUSED {
-        assert_eq!(rt; fault_of_text(rt.alloc(), text.as_bytes())?, Some(fault));
+    for (text, fault) in &REFUSED {
+        assert!(rt;
+            fault_of_text(rt.alloc(), text.as_bytes())? == Some(*fault),
+            "{text}"
+        );
     }
     Ok(())
 }
@@ -137,15 +143,19 @@ fn changed(alloc: Global, parts: &[&str], number: u64) -> Result<Vec<u8>, AllocE
     Ok(text)
 }
 
+// Whether both answer the same to a changed text.
+fn is_alike(alloc: Global, parts: &[&str], number: u64) -> Result<bool, AllocError> {
+    let text = changed(alloc, parts, number)?;
+    Ok(fault_of_text(alloc, &text)? == fault_of(alloc, &text))
+}
+
 #[test]
 fn parser_and_plain_recogniser_agree(rt: HostRuntime) -> Result<(), Fail> {
     let mut number = 1;
     for _ in 0..500 {
         for parts in TEXTS {
             number = next_random(number);
-            let text = changed(rt.alloc(), parts, number)?;
-            let fault = fault_of_text(rt.alloc(), &text)?;
-            assert_eq!(rt; fault_of(rt.alloc(), &text), fault);
+            assert!(rt; is_alike(rt.alloc(), parts, number)?, "number {number}");
         }
     }
     Ok(())

@@ -1,0 +1,108 @@
+//! What the tests of trees and of the compiler build: trees by hand, the sample packet, and arenas of few bytes.
+
+use bumpalo::Bump;
+use filter_tree::{
+    Arith, Direction, Expr, Operator, OutOfMemory, Prefix, Primitive, Protocol, Relation, Size,
+    Transport,
+};
+use std::alloc::Global;
+use std::test::Fail;
+
+/// 29 bytes of UDP over IPv4 from 10.0.0.1:5000 to 10.0.0.2:53, with one byte of payload.
+pub const SAMPLE_PACKET: [u8; 29] = [
+    0x45, 0x00, 0x00, 0x1d, 0x00, 0x00, 0x00, 0x00, 0x40, 0x11, 0x00, 0x00, 0x0a, 0x00, 0x00, 0x01,
+    0x0a, 0x00, 0x00, 0x02, 0x13, 0x88, 0x00, 0x35, 0x00, 0x09, 0x00, 0x00, 0x61,
+];
+
+/// The sample packet with one byte changed.
+pub fn packet_with(place: usize, byte: u8) -> [u8; 29] {
+    let mut packet = SAMPLE_PACKET;
+    if let Some(changed) = packet.get_mut(place) {
+        *changed = byte;
+    }
+    packet
+}
+
+pub const UDP: Primitive = Primitive::Proto(17);
+
+pub const PORT_53: Primitive = Primitive::Port(Transport::Unnamed, Direction::Either, 53);
+
+pub type Tree = Result<Expr<Global>, OutOfMemory>;
+
+pub type Number = Result<Arith<Global>, OutOfMemory>;
+
+pub fn not(alloc: Global, inner: Expr<Global>) -> Tree {
+    Ok(Expr::Not(Box::new(alloc, inner)?))
+}
+
+pub fn and(alloc: Global, left: Expr<Global>, right: Primitive) -> Tree {
+    let left = Box::new(alloc, left)?;
+    Ok(Expr::And(left, Box::new(alloc, Expr::Primitive(right))?))
+}
+
+pub fn or(alloc: Global, left: Expr<Global>, right: Primitive) -> Tree {
+    let left = Box::new(alloc, left)?;
+    Ok(Expr::Or(left, Box::new(alloc, Expr::Primitive(right))?))
+}
+
+/// `udp or ip and port 53`.
+pub fn udp_or_ip_and_port_53(alloc: Global) -> Tree {
+    and(
+        alloc,
+        or(alloc, Expr::Primitive(UDP), Primitive::Ip)?,
+        PORT_53,
+    )
+}
+
+pub fn compared(left: Arith<Global>, relation: Relation, right: u32) -> Expr<Global> {
+    Expr::Relation(left, relation, Arith::Number(right))
+}
+
+pub fn operation(
+    alloc: Global,
+    left: Arith<Global>,
+    operator: Operator,
+    right: Arith<Global>,
+) -> Number {
+    let left = Box::new(alloc, left)?;
+    Ok(Arith::Operation(left, operator, Box::new(alloc, right)?))
+}
+
+pub fn accessor(alloc: Global, protocol: Protocol, index: Arith<Global>, size: Size) -> Number {
+    Ok(Arith::Accessor(protocol, Box::new(alloc, index)?, size))
+}
+
+/// `protocol[index] = value`.
+pub fn byte_is(alloc: Global, protocol: Protocol, index: u32, value: u32) -> Tree {
+    let byte = accessor(alloc, protocol, Arith::Number(index), Size::One)?;
+    Ok(compared(byte, Relation::Equal, value))
+}
+
+/// `not udp[100] = 1`.
+pub fn not_a_load(alloc: Global) -> Tree {
+    not(alloc, byte_is(alloc, Protocol::Udp, 100, 1)?)
+}
+
+/// `udp[9] = 0 or ip`, in which the load fails before `or`.
+pub fn load_or_ip(alloc: Global) -> Tree {
+    or(alloc, byte_is(alloc, Protocol::Udp, 9, 0)?, Primitive::Ip)
+}
+
+pub fn net(direction: Direction, address: u32, length: u32) -> Result<Primitive, Fail> {
+    match Prefix::new(address, length) {
+        Some(prefix) => Ok(Primitive::Net(direction, prefix)),
+        None => Err(Fail::from("no bit is set past the prefix")),
+    }
+}
+
+pub const ARENA: usize = 1024;
+
+/// An arena that has so many bytes left, and gets no more.
+pub fn arena_with(alloc: Global, room: usize) -> Result<Bump<Global>, Fail> {
+    let arena = Bump::try_with_capacity(alloc, ARENA)?;
+    arena.set_allocation_limit(Some(arena.allocated_bytes()));
+    for _ in 0..arena.chunk_capacity().saturating_sub(room) {
+        arena.try_alloc(0u8)?;
+    }
+    Ok(arena)
+}
