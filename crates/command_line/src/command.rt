@@ -3,7 +3,7 @@
 ghost use Rattle.std.specs.Prelude.{◌≡◌, IfOk, Some, codes, false, map, string_bytes};
 ghost use Rattle.std.specs.Option.{option_map};
 ghost use Rattle.clap.specs.Walk.{first_of};
-ghost use Rattle.clap.specs.Words.{FailsBy, app_of, found_of, rows_of, rule_of};
+ghost use Rattle.clap.specs.Words.{FailsBy, app_of, found_of, new_app, rows_of, rule_of};
 ghost use Rattle.clap.specs.declared.builder.command.Command.TheViews.{out-Command};
 ghost use Rattle.command_line.specs.CommandLine.{command_line, compile_line, faults_in, flood_line, query_request, request_in, request_named, request_of, required_named_argument, run_line, run_or_judge, serve_line, value_in, workers_argument};
 
@@ -132,22 +132,18 @@ fn serve_command<'a>(alloc: Global) -> Result<Command<'a>, AllocError>
         .arg(workers)
 }
 
+// A command without arguments.
+fn plain_command<'a>(alloc: Global, name: &'a str, about: &'a str, more: &'a str) -> Command<'a>
+    ensures app { app_of result ≡ new_app name.entry.now }
+    ensures local { (out-Command result).has_globals ≡ false }
+{
+    Command::new(alloc, name).about(about).after_help(more)
+}
+
+// Each command is made where it is added, so that no more than one is at hand where memory is refused.
 fn program<'a>(alloc: Global) -> Result<Command<'a>, AllocError>
     ensures { IfOk result (λ program. app_of program ≡ command_line) }
 {
-    let first = Command::new(alloc, "first")
-        .about(help::FIRST)
-        .after_help(help::FIRST_MORE);
-    let check = Command::new(alloc, "check")
-        .about(help::CHECK)
-        .after_help(help::CHECK_MORE);
-    let compile = compile_command(alloc)?;
-    let run = run_command(alloc)?;
-    let replay = Command::new(alloc, "replay")
-        .about(help::REPLAY)
-        .after_help(help::REPLAY_MORE);
-    let flood = flood_command(alloc)?;
-    let serve = serve_command(alloc)?;
     Command::new(alloc, "dswitch")
         .bin_name("dswitch")?
         .about(help::PROGRAM)
@@ -155,13 +151,13 @@ fn program<'a>(alloc: Global) -> Result<Command<'a>, AllocError>
         .version("0.1.0")
         .no_binary_name(true)
         .subcommand_required(true)
-        .subcommand(first)?
-        .subcommand(check)?
-        .subcommand(compile)?
-        .subcommand(run)?
-        .subcommand(replay)?
-        .subcommand(flood)?
-        .subcommand(serve)
+        .subcommand(plain_command(alloc, "first", help::FIRST, help::FIRST_MORE))?
+        .subcommand(plain_command(alloc, "check", help::CHECK, help::CHECK_MORE))?
+        .subcommand(compile_command(alloc)?)?
+        .subcommand(run_command(alloc)?)?
+        .subcommand(plain_command(alloc, "replay", help::REPLAY, help::REPLAY_MORE))?
+        .subcommand(flood_command(alloc)?)?
+        .subcommand(serve_command(alloc)?)
 }
 
 // The value of an argument, which a required one has.
