@@ -12,6 +12,7 @@ mod fault;
 
 use bpf_asm::assemble;
 use bpf_verify::Program;
+use bumpalo::Bump;
 pub use fault::TextFault;
 use filter_compile::compile;
 use filter_parse::parse;
@@ -27,11 +28,13 @@ fn program_of_assembly(alloc: Global, text: &[u8]) -> Result<Program<Global>, Te
     }
 }
 
+// The tree lives in an arena of its own, and both are given up before the answer: only the program's words leave.
 fn program_of_expression(alloc: Global, text: &[u8]) -> Result<Program<Global>, TextFault>
     ensures program { IfOk result (IsProgramOfExpression text.now) }
     ensures fault { IfErr result (λ fault. (fault ≡ OutOfMemory) ⊎ IsExpressionFault text.now fault) }
 {
-    let tree = parse(alloc, text)?;
+    let arena = Bump::new(alloc);
+    let tree = parse(&arena, text)?;
     Ok(compile(alloc, &tree)?)
 }
 
