@@ -14,9 +14,10 @@ use packet_verdict::Kind;
 use std::alloc::{AllocError, Global};
 use std::marker::Model;
 use std::sync::Arc;
+use versions::WORKERS;
 
-/// How many counters a tally has.
-pub const COUNTERS: usize = 16;
+/// How many counters a tally has: one for each worker.
+pub const COUNTERS: usize = WORKERS;
 
 /// How often a counter may count.
 pub const COUNT_LIMIT: u64 = 1 << 48;

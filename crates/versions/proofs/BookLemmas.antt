@@ -11,17 +11,14 @@ use Rattle.versions.specs.declared.step.Entry.{Entry}
 use Rattle.versions.specs.declared.view.OperatorView.{OperatorView}
 use Rattle.versions.specs.Layout.{Shape}
 use Rattle.versions.specs.View.{after_fill, after_proposal, after_publish, after_scan}
-use Rattle.versions.specs.Free.{IsFree, IsFreeRow, IsScannedClear, number_after}
+use Rattle.versions.specs.Free.{IsClear, IsFree, IsFreeRow, IsScannedClear, number_after}
 use Rattle.versions.specs.State.{new_operator}
-use Rattle.versions.specs.Book.{IsBook, IsBookAtStart, IsCleared}
+use Rattle.versions.specs.Book.{IsBook, IsBookAtStart, IsCleared, IsLeast}
 use Rattle.versions.specs.Table.{the_shape}
 use Rattle.versions.proofs.ListLemmas.{elem_below, elem_end, elem_prefix, elem_snoc}
 use Rattle.versions.proofs.LogLemmas.{IsFree-of_row, IsReplaced-scanned_clear}
-use Rattle.versions.proofs.ShapeLemmas.{rows_is}
+use Rattle.versions.proofs.ShapeLemmas.{rows_is, workers_is}
 use Rattle.versions.proofs.TraceLemmas.{only}
-
-abbrev pub IsLeast : List ℕ → ℕ → Type 0
-IsLeast xs l = ((w : ℕ) → w < length xs → l ≤ slice_index xs w) × ((w : ℕ) × (w < length xs) × (slice_index xs w ≡ l))
 
 module _ {C : Type 0} (shape : Shape C) (view : OperatorView C) (book : Book) (h : IsBook shape view book) where
   pub free_below : (l : ℕ) → 0 < shape.workers → IsLeast book.cleared l → (m : ℕ) → IsFree shape m view.log ↔ (m < l)
@@ -42,10 +39,10 @@ module _ {C : Type 0} (shape : Shape C) (view : OperatorView C) (book : Book) (h
       go (suc m) e = let t = (free_below l some_worker least m).0 (IsFree-of_row shape view r m f (h.last_there r m e)) in omega arith
 
   pub IsBook-filled : (begin p x : ℕ) → IsBook shape (after_fill begin p x view) book
-  IsBook-filled begin p x = record { number = h.number; last_length = h.last_length; cleared_length = h.cleared_length; cleared = h.cleared; below_last = h.below_last; last_there = h.last_there }
+  IsBook-filled begin p x = record { number = h.number; last_length = h.last_length; cleared_length = h.cleared_length; cleared = h.cleared; below_last = h.below_last; last_there = h.last_there; free = h.free }
 
   pub IsBook-proposed : (config : C) → IsBook shape (after_proposal config view) book
-  IsBook-proposed config = record { number = h.number; last_length = h.last_length; cleared_length = h.cleared_length; cleared = h.cleared; below_last = h.below_last; last_there = h.last_there }
+  IsBook-proposed config = record { number = h.number; last_length = h.last_length; cleared_length = h.cleared_length; cleared = h.cleared; below_last = h.below_last; last_there = h.last_there; free = h.free }
 
   pub IsBook-published : (r x : ℕ) → r < shape.rows → length view.version_rows ≡ suc (number_after view.log)
       → IsBook shape (after_publish r x view) (record book { number = book.number + 1; last = set book.last r (book.number + 2) })
@@ -59,6 +56,7 @@ module _ {C : Type 0} (shape : Shape C) (view : OperatorView C) (book : Book) (h
         let near = elem_below (view.version_rows ++ r ∷ []) m q at in let more = length-append view.version_rows (r ∷ []) in omega arith)
         (λ ne. let here : get_or (set book.last r (book.number + 2)) q 0 ≡ get_or book.last q 0 = get_or-set_other book.last r q (book.number + 2) 0 ne in
         ⊎_elim (λ was. let t = h.below_last q m was in omega arith) (λ t. absurd (ne (sym t.1))) (elem_snoc view.version_rows r q m at));
+    free = h.free;
     last_there = λ q m e. dite (ℕ_discrete q r)
         (λ same. let here : get_or (set book.last r (book.number + 2)) q 0 ≡ book.number + 2 = ap (λ (k : ℕ). get_or (set book.last r (book.number + 2)) k 0) same ∙ get_or-set_same book.last r (book.number + 2) 0 (omega arith) in
         elem_end view.version_rows r m (omega arith) ∙ ap some (sym same))
@@ -83,6 +81,7 @@ module _ {C : Type 0} (shape : Shape C) (view : OperatorView C) (book : Book) (h
         ));
     below_last = λ r m at. let t = h.below_last r m at in let e = ap (λ l. slice_index l r) c.last in omega arith;
     last_there = λ r m e. h.last_there r m (ap (λ l. slice_index l r) (sym c.last) ∙ e);
+    free = c.free h.free;
   }
 
 zeros_at : (n r : ℕ) → ◌≡◌ {A = ℕ} (get_or (replicate n 0) r 0) 0
@@ -97,12 +96,41 @@ first_last n r some_row = (
   λ ne. get_or-set_other {A = ℕ} (replicate n 0) 0 r 1 0 ne ∙ zeros_at n r,
 )
 
+-- one of the numbers grows that is not the least
+pub least_kept : (numbers : List ℕ) (w below least : ℕ) → w < length numbers → slice_index numbers w < below → slice_index numbers w ≢ least → IsLeast numbers least → IsLeast (set numbers w below) least
+least_kept numbers w below least low more other h = let at = h.1 in let same_length = length-set numbers w below in (
+  λ v inside. dite (ℕ_discrete v w)
+      (λ e. let here = ap (λ (k : ℕ). get_or (set numbers w below) k 0) e ∙ get_or-set_same numbers w below 0 low in let was = h.0 w low in omega arith)
+      (λ ne. let there = get_or-set_other numbers w v below 0 ne in let was = h.0 v (omega arith) in omega arith),
+  (
+    at.0,
+    omega arith,
+    get_or-set_other numbers w at.0 below 0 (λ e. other (ap (λ (k : ℕ). get_or numbers k 0) (sym e) ∙ at.2)) ∙ at.2,
+  ),
+)
+
+-- a scan shows more versions clear of worker w than before
+pub IsCleared-grown : (w x below free : ℕ) (book : Book) → w < length book.cleared → slice_index book.cleared w < below → ((m : ℕ) → (m < below) ↔ ((m < book.number) × IsClear m x))
+    → (IsLeast book.cleared book.free → IsLeast (set book.cleared w below) free) → IsCleared w x book (record book { cleared = set book.cleared w below; free = free })
+IsCleared-grown w x below free book low more shown least = let here = get_or-set_same book.cleared w below 0 low in record {
+  number = refl;
+  last = refl;
+  cleared_length = length-set book.cleared w below;
+  others = λ v ne. get_or-set_other book.cleared w v below 0 ne;
+  here = λ m. ((λ l. inl ((shown m).0 (omega arith))), ⊎_elim (λ t. let l = (shown m).1 t in omega arith) (λ l. omega arith));
+  free = least;
+}
+
 -- the book of an operator that made no step
 pub IsBook-opened : (config : List Group) (rows : List ℕ) (book : Book) → IsBookAtStart book → IsBook the_shape (new_operator the_shape config rows) book
 IsBook-opened config rows book h = let some_row : 0 < the_shape.rows = omega (arith, rows_is) in record {
   number = h.number;
   last_length = ap length h.last ∙ (length-set (replicate the_shape.rows 0) 0 1 ∙ length-replicate {A = ℕ} the_shape.rows 0);
   cleared_length = ap length h.cleared ∙ length-replicate {A = ℕ} the_shape.workers 0;
+  free = (
+    λ w low. omega (arith, h.free),
+    (0, omega (arith, ap length h.cleared, length-replicate {A = ℕ} the_shape.workers 0, workers_is), ap (λ l. slice_index l 0) h.cleared ∙ zeros_at the_shape.workers 0 ∙ sym h.free),
+  );
   cleared = λ w m low. ((λ none. absurd none), λ lt. let e : slice_index book.cleared w ≡ 0 = ap (λ l. slice_index l w) h.cleared ∙ zeros_at the_shape.workers w in absurd (omega arith));
   below_last = λ r m at. let t = only 0 r m at in let m_is = t.0 in
       let e : slice_index book.last r ≡ 1 = ap (slice_index book.last) t.1 ∙ (ap (λ l. slice_index l 0) h.last ∙ (first_last the_shape.rows 0 some_row).0) in omega arith;

@@ -51,25 +51,25 @@ place_of_pin = refl
 place_of_leave : place_of (Leave 7) ≡ 8
 place_of_leave = refl
 
--- eight rows: a peek of version 3 in row 3, its announce, and a pin of version 90 in row 2
+-- sixteen rows: a peek of version 3 in row 3, its announce, and a pin of version 90 in row 14
 abbrev stalled : List Entry
-stalled = entry (Pin 0) 722 ∷ entry (Announce 0) 4 ∷ entry (Peek 0) 27 ∷ []
+stalled = entry (Pin 0) 1454 ∷ entry (Announce 0) 4 ∷ entry (Peek 0) 51 ∷ []
 
-stage_of_stalled : stage_after 8 stalled ≡ Inside 4 90 2
+stage_of_stalled : stage_after 16 stalled ≡ Inside 4 90 14
 stage_of_stalled = refl
 
-seen_by_stalled : last_seen 8 stalled ≡ 90
+seen_by_stalled : last_seen 16 stalled ≡ 90
 seen_by_stalled = refl
 
 read_word_of_stalled : read_word_after stalled ≡ 4
 read_word_of_stalled = refl
 
 -- a peek inside tells a newer version, and the section stays as it is
-peek_inside : stage_after 8 (entry (Peek 0) 731 ∷ stalled) ≡ Inside 4 90 2
+peek_inside : stage_after 16 (entry (Peek 0) 1467 ∷ stalled) ≡ Inside 4 90 14
 peek_inside = refl
 
 -- after a leave an announce needs a peek of its own
-leave_forgets : stage_after 8 (entry (Leave 0) 0 ∷ entry (Peek 0) 731 ∷ stalled) ≡ Outside
+leave_forgets : stage_after 16 (entry (Leave 0) 0 ∷ entry (Peek 0) 1467 ∷ stalled) ≡ Outside
 leave_forgets = refl
 
 -- versions 0 to 2 of four
@@ -77,11 +77,11 @@ front_of_versions : up_to {C = ℕ} 2 (10 ∷ 11 ∷ 12 ∷ 13 ∷ []) ≡ 10 �
 front_of_versions = refl
 
 -- a scan after the publication clears version 0, one before it does not
-number_of_two : number_after (entry (Publish 1) 17 ∷ entry (Scan 1) 0 ∷ entry (Publish 1) 9 ∷ []) ≡ 2
+number_of_two : number_after (entry (Publish 2) 34 ∷ entry (Scan 1) 0 ∷ entry (Publish 1) 17 ∷ []) ≡ 2
 number_of_two = refl
 
-scan_before_publication : IsScannedClear 0 0 (entry (Publish 1) 9 ∷ entry (Scan 1) 0 ∷ []) → ⊥
+scan_before_publication : IsScannedClear 0 0 (entry (Publish 1) 17 ∷ entry (Scan 1) 0 ∷ []) → ⊥
 scan_before_publication h = ⊎_elim (λ t. let replaced = t.1 in omega arith) (λ none. none) h
 
-scan_after_publication : IsScannedClear 0 0 (entry (Scan 1) 0 ∷ entry (Publish 1) 9 ∷ [])
+scan_after_publication : IsScannedClear 0 0 (entry (Scan 1) 0 ∷ entry (Publish 1) 17 ∷ [])
 scan_after_publication = inl (refl, omega arith, inl refl)

@@ -1,5 +1,5 @@
 -- What a contract sees of a Book: how its numbers go with the operator's log, and how a publication and a scan change them.
-use Rattle.std.specs.Prelude.{◌≡◌, ◌+◌, ◌<◌, ◌↔◌, ◌⊎◌, length, replicate, slice_index, slice_set, suc, ℕ}
+use Rattle.std.specs.Prelude.{◌≡◌, ◌+◌, ◌<◌, ◌≤◌, ◌↔◌, ◌⊎◌, List, length, replicate, slice_index, slice_set, suc, ℕ}
 use mathlib.Core.Option.{some}
 use lib.ListN.{get_elem?}
 use Rattle.versions.specs.declared.book.Book.{Book}
@@ -8,9 +8,14 @@ use Rattle.versions.specs.Layout.{Shape}
 use Rattle.versions.specs.Free.{IsClear, IsScannedClear, number_after}
 use Rattle.versions.specs.Table.{the_shape}
 
+-- the number is the least of these
+abbrev pub IsLeast : List ℕ → ℕ → Type 0
+IsLeast numbers least =
+    ((w : ℕ) → w < length numbers → least ≤ slice_index numbers w) × ((w : ℕ) × (w < length numbers) × (slice_index numbers w ≡ least))
+
 module _ {C : Type 0} (shape : Shape C) where
   -- the numbers tell what the operator's log tells: scanned clear of worker w are the versions below `cleared` at w, and in
-  -- row r the last version is one less than `last` at r
+  -- row r the last version is one less than `last` at r; `free` is the least of `cleared`
   pub record IsBook (view : OperatorView C) (book : Book) : Type 0 where
     pub number : book.number ≡ number_after view.log
     pub last_length : length book.last ≡ shape.rows
@@ -18,12 +23,14 @@ module _ {C : Type 0} (shape : Shape C) where
     pub cleared : (w m : ℕ) → w < shape.workers → IsScannedClear w m view.log ↔ (m < slice_index book.cleared w)
     pub below_last : (r m : ℕ) → get_elem? view.version_rows m ≡ some r → m < slice_index book.last r
     pub last_there : (r m : ℕ) → slice_index book.last r ≡ suc m → get_elem? view.version_rows m ≡ some r
+    pub free : IsLeast book.cleared book.free
 
 -- the book at the start: version 0 is in row 0, and nothing was scanned
 pub record IsBookAtStart (book : Book) : Type 0 where
   pub number : book.number ≡ 0
   pub last : book.last ≡ slice_set (replicate the_shape.rows 0) 0 1
   pub cleared : book.cleared ≡ replicate the_shape.workers 0
+  pub free : book.free ≡ 0
 
 -- the book after a publication from row r
 abbrev pub with_version_in : ℕ → Book → Book
@@ -36,3 +43,4 @@ pub record IsCleared (w x : ℕ) (before after : Book) : Type 0 where
   pub cleared_length : length after.cleared ≡ length before.cleared
   pub others : (v : ℕ) → (v ≡ w → ⊥) → slice_index after.cleared v ≡ slice_index before.cleared v
   pub here : (m : ℕ) → (m < slice_index after.cleared w) ↔ (((m < before.number) × IsClear m x) ⊎ (m < slice_index before.cleared w))
+  pub free : IsLeast before.cleared before.free → IsLeast after.cleared after.free

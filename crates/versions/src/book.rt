@@ -19,6 +19,8 @@ pub struct Book {
     pub last: [u64; ROWS],
     /// For each worker: the versions below this number were scanned clear of it since they were replaced.
     pub cleared: [u64; WORKERS],
+    /// The least of these: the versions below it are free.
+    pub free: u64,
 }
 
 impl Book {
@@ -32,6 +34,7 @@ impl Book {
             number: 0,
             last,
             cleared: [0; WORKERS],
+            free: 0,
         }
     }
 
@@ -39,7 +42,7 @@ impl Book {
     pub fn free_versions(&self) -> u64
         ensures free_below { (view : OperatorView (List Group)) → IsBook the_shape view self.now → (m : ℕ) → IsFree the_shape m view.log ↔ (m < result) }
     {
-        least(&self.cleared)
+        self.free
     }
 
     /// Tests whether a row is free; false where there is no such row.
@@ -47,7 +50,7 @@ impl Book {
         ensures free_row_exact { (view : OperatorView (List Group)) → IsBook the_shape view self.now → IsTrue result ↔ IsFreeRow the_shape view row }
         ensures a_row { IsTrue result → row < ROWS }
     {
-        row < ROWS && self.last[row] <= least(&self.cleared)
+        row < ROWS && self.last[row] <= self.free
     }
 
     /// Counts a publication from a row.
@@ -66,8 +69,13 @@ impl Book {
         ensures cleared { length self.old.cleared ≡ WORKERS → IsCleared worker word self.old self.new }
     {
         let below = clear_below(self.number, word);
-        if below > self.cleared[worker] {
-            self.cleared[worker] = below;
+        let before = self.cleared[worker];
+        if below <= before {
+            return;
+        }
+        self.cleared[worker] = below;
+        if before == self.free {
+            self.free = least(&self.cleared);
         }
     }
 }

@@ -10,11 +10,11 @@ use config_image::{image_len, image_word};
 use member_group::Config;
 use std::alloc::Allocator;
 
-/// The number of workers: words 1 to 16 are their read words.
-pub const WORKERS: usize = 16;
+/// The number of workers: words 1 to 64 are their read words.
+pub const WORKERS: usize = 64;
 
-/// The number of rows: row r begins at word 17 + 8192 * r.
-pub const ROWS: usize = 8;
+/// The number of rows: row r begins at word 65 + 8192 * r.
+pub const ROWS: usize = 16;
 
 /// The greatest charge of a configuration, so that its image fits a row.
 pub const CHARGE_LIMIT: u64 = 8192;

@@ -2,8 +2,8 @@
 
 /// One load or one store of one word of the table, by one actor and without a lock.
 ///
-/// A `worker` is 0 to 15, a `row` 0 to 7. A `place` is that of a word in the whole table: 0 is `current`, 1 + w the read word
-/// of worker w, and row r begins at 17 + 8192 * r; a scan's is 1 to 16, a fetch's and a fill's 17 to 65,552. A step with any
+/// A `worker` is 0 to 63, a `row` 0 to 15. A `place` is that of a word in the whole table: 0 is `current`, 1 + w the read word
+/// of worker w, and row r begins at 65 + 8192 * r; a scan's is 1 to 64, a fetch's and a fill's 65 to 131,136. A step with any
 /// other number is not legal.
 #[derive(Clone, Copy, Debug)]
 pub enum Step {

@@ -139,25 +139,25 @@ fn largest_charge_is_published(rt: HostRuntime) -> Result<(), Fail> {
     expect_session(&rt, rt.alloc(), &LARGEST_CHARGE)
 }
 
-// A worker inside its section at version 0 holds back seven versions. A command's refusal comes before the operator's.
+// A worker inside its section at version 0 holds back fifteen versions. A command's refusal comes before the operator's.
 const WHILE_IT_STAYS: [Asked; 2] = [
     Asked::Numbered {
         begin: "add 10.0.0.2:",
         end: "",
-        last: 7,
+        last: 15,
         version: 1,
     },
     Asked::Lines(&[
-        (b"add 10.0.0.2:8", "refused B2"),
-        (b"add 10.0.0.2:7", "refused G2"),
+        (b"add 10.0.0.2:16", "refused B2"),
+        (b"add 10.0.0.2:15", "refused G2"),
         (b"sweep", "reclaimed 0 0"),
-        (b"show", "version 7 groups 7 members 0 charge 30"),
+        (b"show", "version 15 groups 15 members 0 charge 62"),
     ]),
 ];
 
 const AFTER_IT_LEFT: [Asked; 1] = [Asked::Lines(&[
-    (b"add 10.0.0.2:8", "ok version 8"),
-    (b"sweep", "reclaimed 0 8"),
+    (b"add 10.0.0.2:16", "ok version 16"),
+    (b"sweep", "reclaimed 0 16"),
 ])];
 
 #[test]

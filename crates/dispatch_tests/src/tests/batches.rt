@@ -2,7 +2,9 @@
 
 use super::devices::{FailsAfter, FailsFirst};
 use super::verdicts::{PACKET, socket, with_members};
-use dispatch::{BatchDone, BatchFault, Counter, Datagrams, KINDS, Kind, Sends, Tally, batch};
+use dispatch::{
+    BatchDone, BatchFault, Counter, Datagrams, KINDS, Kind, Sends, Source, Tally, batch,
+};
 use read_section::{Worker, open};
 use std::alloc::Global;
 use std::test::Fail;
@@ -40,71 +42,91 @@ pub fn totals(tally: &mut Tally) -> [u64; KINDS] {
     ]
 }
 
+// A worker, a tally with a counter, and room for two sends.
+#[derive(Drop)]
+struct Bench {
+    worker: Worker,
+    tally: Tally,
+    counter: Counter,
+    sends: Sends,
+}
+
+fn new_bench(alloc: Global) -> Result<Bench, Fail> {
+    let sends = Sends::with_room(alloc, 2, 58)?;
+    let worker = new_worker(alloc)?;
+    let (tally, counter) = new_tally(alloc)?;
+    Ok(Bench {
+        worker,
+        tally,
+        counter,
+        sends,
+    })
+}
+
+fn failing_after(alloc: Global, calls: u8) -> Result<FailsAfter, Fail> {
+    Ok(FailsAfter {
+        calls,
+        failed: false,
+        datagrams: four_datagrams(alloc)?,
+    })
+}
+
+// A batch of at most so many over a source, into the bench's own outbox.
+fn batch_of<S: Source>(
+    bench: &mut Bench,
+    source: &mut S,
+    limit: u64,
+) -> Result<BatchDone, BatchFault> {
+    let mut buf = [0; 64];
+    batch(
+        &mut bench.worker,
+        &mut bench.counter,
+        source,
+        &mut bench.sends,
+        &mut buf,
+        limit,
+    )
+}
+
+const fn judged(judged: u64, more: bool) -> Result<BatchDone, BatchFault> {
+    Ok(BatchDone { judged, more })
+}
+
 #[test]
 fn batch_at_limit_and_at_end(rt: HostRuntime) -> Result<(), Fail> {
     for (limit, more) in [(4, true), (10, false)] {
-        let mut worker = new_worker(rt.alloc())?;
-        let (mut tally, mut counter) = new_tally(rt.alloc())?;
         let mut source = four_datagrams(rt.alloc())?;
-        let mut outbox = Sends::with_room(rt.alloc(), 2, 58)?;
-        let mut buf = [0; 64];
-        let done = batch(
-            &mut worker,
-            &mut counter,
-            &mut source,
-            &mut outbox,
-            &mut buf,
-            limit,
-        )?;
-        assert_eq!(rt; done, BatchDone { judged: 4, more });
-        assert_eq!(rt; totals(&mut tally), [1, 1, 0, 0, 2, 0, 0]);
-        assert_eq!(rt;
-            (outbox.to(0), outbox.to(1)),
-            (Some(socket(3)), Some(socket(3)))
-        );
-        assert_eq!(rt; (outbox.count(), outbox.bytes().len()), (2, 58));
+        let mut bench = new_bench(rt.alloc())?;
+        assert!(rt; batch_of(&mut bench, &mut source, limit) == judged(4, more));
+        assert_eq!(rt; totals(&mut bench.tally), [1, 1, 0, 0, 2, 0, 0]);
+        let sends = &bench.sends;
+        assert_eq!(rt; (sends.to(0), sends.to(1)), (Some(socket(3)), Some(socket(3))));
+        assert_eq!(rt; (sends.count(), sends.bytes().len()), (2, 58));
     }
     Ok(())
 }
 
 #[test]
 fn batch_of_none_asks_nothing(rt: HostRuntime) -> Result<(), Fail> {
-    let mut worker = new_worker(rt.alloc())?;
-    let (_tally, mut counter) = new_tally(rt.alloc())?;
-    let mut source = FailsAfter {
-        calls: 0,
-        failed: false,
-        datagrams: four_datagrams(rt.alloc())?,
-    };
-    let mut outbox = Sends::with_room(rt.alloc(), 2, 58)?;
-    let mut buf = [0; 64];
-    let done = batch(
-        &mut worker,
-        &mut counter,
-        &mut source,
-        &mut outbox,
-        &mut buf,
-        0,
-    )?;
-    assert_eq!(rt;
-        done,
-        BatchDone {
-            judged: 0,
-            more: true
-        }
-    );
+    let mut source = failing_after(rt.alloc(), 0)?;
+    let mut bench = new_bench(rt.alloc())?;
+    assert!(rt; batch_of(&mut bench, &mut source, 0) == judged(0, true));
     assert!(rt; !source.failed);
     Ok(())
 }
 
 #[test]
 fn outbox_fails_first(rt: HostRuntime) -> Result<(), Fail> {
-    let mut worker = new_worker(rt.alloc())?;
-    let (mut tally, mut counter) = new_tally(rt.alloc())?;
     let mut source = four_datagrams(rt.alloc())?;
+    let Bench {
+        mut worker,
+        mut tally,
+        mut counter,
+        sends,
+    } = new_bench(rt.alloc())?;
     let mut outbox = FailsFirst {
         failed: false,
-        sends: Sends::with_room(rt.alloc(), 2, 58)?,
+        sends,
     };
     let mut buf = [0; 64];
     let done = batch(
@@ -114,14 +136,8 @@ fn outbox_fails_first(rt: HostRuntime) -> Result<(), Fail> {
         &mut outbox,
         &mut buf,
         4,
-    )?;
-    assert_eq!(rt;
-        done,
-        BatchDone {
-            judged: 4,
-            more: true
-        }
     );
+    assert!(rt; done == judged(4, true));
     assert_eq!(rt; totals(&mut tally), [1, 1, 0, 0, 2, 1, 0]);
     assert_eq!(rt; outbox.sends.count(), 1);
     Ok(())
@@ -129,40 +145,11 @@ fn outbox_fails_first(rt: HostRuntime) -> Result<(), Fail> {
 
 #[test]
 fn source_fails_third(rt: HostRuntime) -> Result<(), Fail> {
-    let mut worker = new_worker(rt.alloc())?;
-    let (mut tally, mut counter) = new_tally(rt.alloc())?;
-    let mut source = FailsAfter {
-        calls: 2,
-        failed: false,
-        datagrams: four_datagrams(rt.alloc())?,
-    };
-    let mut outbox = Sends::with_room(rt.alloc(), 2, 58)?;
-    let mut buf = [0; 64];
-    let first = batch(
-        &mut worker,
-        &mut counter,
-        &mut source,
-        &mut outbox,
-        &mut buf,
-        10,
-    );
-    assert_eq!(rt; first, Err(BatchFault::ReceiveFailed));
-    assert_eq!(rt; totals(&mut tally), [0, 0, 0, 0, 2, 0, 1]);
-    let second = batch(
-        &mut worker,
-        &mut counter,
-        &mut source,
-        &mut outbox,
-        &mut buf,
-        10,
-    );
-    assert_eq!(rt;
-        second,
-        Ok(BatchDone {
-            judged: 2,
-            more: false
-        })
-    );
-    assert_eq!(rt; totals(&mut tally), [1, 1, 0, 0, 2, 0, 1]);
+    let mut source = failing_after(rt.alloc(), 2)?;
+    let mut bench = new_bench(rt.alloc())?;
+    assert!(rt; batch_of(&mut bench, &mut source, 10) == Err(BatchFault::ReceiveFailed));
+    assert_eq!(rt; totals(&mut bench.tally), [0, 0, 0, 0, 2, 0, 1]);
+    assert!(rt; batch_of(&mut bench, &mut source, 10) == judged(2, false));
+    assert_eq!(rt; totals(&mut bench.tally), [1, 1, 0, 0, 2, 0, 1]);
     Ok(())
 }

@@ -40,7 +40,7 @@ fn counts_are_summed(rt: HostRuntime) -> Result<(), Fail> {
     assert_eq!(rt; tally.read(Kind::Malformed), 0);
     let counters = count_each(rt.alloc(), counters)?;
     assert_eq!(rt; tally.read(Kind::Malformed), 2);
-    assert_eq!(rt; tally.read(Kind::Delivered), 30);
+    assert_eq!(rt; tally.read(Kind::Delivered), 126);
     assert_eq!(rt; tally.read(Kind::SendFailed), 0);
     let totals = gather(tally, counters);
     let expected = Totals {
@@ -48,14 +48,14 @@ fn counts_are_summed(rt: HostRuntime) -> Result<(), Fail> {
         no_group: 0,
         no_members: 0,
         dropped: 0,
-        delivered: 30,
+        delivered: 126,
         send_failed: 0,
         receive_failed: 0,
     };
     assert_eq!(rt; totals, expected);
     assert_eq!(rt;
         (totals.of(Kind::Malformed), totals.of(Kind::Delivered)),
-        (2, 30)
+        (2, 126)
     );
     Ok(())
 }

@@ -1,17 +1,37 @@
 //! Two jobs in threads of their own, and what runs beside them.
 
-ghost use Rattle.std.specs.Prelude.{◌≤◌};
+ghost use Rattle.std.specs.Prelude.{◌≡◌, ◌≤◌, IfOk};
 
 use super::batches::{four_datagrams, totals};
 use super::verdicts::with_members;
-use dispatch::{Datagrams, Gate, Job, Sends, Tally, run_workers};
-use read_section::open;
+use dispatch::{Counter, Datagrams, Gate, Job, Sends, Tally, run_workers};
+use read_section::{Worker, open};
 use std::alloc::Global;
 use std::sync::atomic::{AtomicU64, Ordering};
 use std::test::Fail;
 use std::thread;
 
-// Two jobs over four datagrams each, and their tally.
+// A job over four datagrams.
+fn job(
+    alloc: Global,
+    worker: Worker,
+    counter: Counter,
+    limit: u64,
+) -> Result<Job<Datagrams, Sends>, Fail>
+    requires limit { 1 ≤ limit }
+    ensures limit { IfOk result (λ job. job.limit ≡ limit) }
+{
+    Ok(Job {
+        worker,
+        counter,
+        source: four_datagrams(alloc)?,
+        outbox: Sends::with_room(alloc, 2, 58)?,
+        buffer: vec![in alloc; 0; 64]?,
+        limit,
+    })
+}
+
+// Two of them, and their tally.
 fn two_jobs(alloc: Global, limit: u64) -> Result<(Tally, Vec<Job<Datagrams, Sends>>), Fail>
     requires { 1 ≤ limit }
 {
@@ -19,14 +39,9 @@ fn two_jobs(alloc: Global, limit: u64) -> Result<(Tally, Vec<Job<Datagrams, Send
     let (tally, mut counters) = Tally::open(alloc)?;
     let mut jobs = Vec::new(alloc);
     for _ in 0..2usize {
-        jobs.push(Job {
-            worker: workers.pop().ok_or("no worker")?,
-            counter: counters.pop().ok_or("no counter")?,
-            source: four_datagrams(alloc)?,
-            outbox: Sends::with_room(alloc, 2, 58)?,
-            buffer: vec![in alloc; 0; 64]?,
-            limit,
-        })?;
+        if let (Some(worker), Some(counter)) = (workers.pop(), counters.pop()) {
+            jobs.push(job(alloc, worker, counter, limit)?)?;
+        }
     }
     Ok((tally, jobs))
 }

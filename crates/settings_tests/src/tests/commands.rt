@@ -4,7 +4,7 @@ use bpf_verify::Program;
 use ipv4_fields::Endpoint;
 use linked_list_allocator::LocalHeap;
 use member_group::{Command, Config, GROUP_LIMIT, MEMBER_LIMIT, Refusal};
-use std::alloc::{Allocator, Global};
+use std::alloc::Global;
 use std::test::Fail;
 
 // 10.0.0.2:53
@@ -34,213 +34,328 @@ fn returns(alloc: Global, count: usize) -> Result<Program<Global>, Fail> {
     }
 }
 
-fn applied<A: Allocator + Clone>(config: &Config<A>, command: Command) -> Result<Config<A>, Fail> {
+fn applied(config: &Config, command: Command) -> Result<Config, Fail> {
     match config.apply(&command) {
         Ok(next) => Ok(next),
         Err(_) => Err(Fail::from("the command is applied")),
     }
 }
 
-fn refused(config: &Config, command: Command) -> Option<Refusal> {
-    config.apply(&command).err()
+// A command on the sample group, or one that adds or removes a group at a port of its address.
+#[derive(Clone, Copy)]
+enum Act {
+    Add(u16),
+    Remove(u16),
+    Join(u32),
+    Leave(u32),
+    // A program of so many instructions.
+    Select(usize),
+    Unselect,
+    Filter(u32, usize),
+    Unfilter(u32),
 }
 
-fn add(port: u16) -> Command {
-    Command::AddGroup { key: key_at(port) }
+fn command(alloc: Global, act: Act) -> Result<Command, Fail> {
+    let key = SAMPLE_GROUP;
+    Ok(match act {
+        Act::Add(port) => Command::AddGroup { key: key_at(port) },
+        Act::Remove(port) => Command::RemoveGroup { key: key_at(port) },
+        Act::Join(member) => Command::Join {
+            key,
+            member,
+            to: SAMPLE_MEMBER,
+        },
+        Act::Leave(member) => Command::Leave { key, member },
+        Act::Select(count) => Command::SetSelector {
+            key,
+            program: returns(alloc, count)?,
+        },
+        Act::Unselect => Command::ClearSelector { key },
+        Act::Filter(member, count) => Command::SetFilter {
+            key,
+            member,
+            program: returns(alloc, count)?,
+        },
+        Act::Unfilter(member) => Command::ClearFilter { key, member },
+    })
 }
 
-fn join(member: u32) -> Command {
-    Command::Join {
-        key: SAMPLE_GROUP,
-        member,
-        to: SAMPLE_MEMBER,
-    }
-}
-
-fn leave(member: u32) -> Command {
-    Command::Leave {
-        key: SAMPLE_GROUP,
-        member,
-    }
-}
-
-fn select(program: Program<Global>) -> Command {
-    Command::SetSelector {
-        key: SAMPLE_GROUP,
-        program,
-    }
-}
-
-fn filter(member: u32, program: Program<Global>) -> Command {
-    Command::SetFilter {
-        key: SAMPLE_GROUP,
-        member,
-        program,
-    }
-}
-
-fn clear_filter(member: u32) -> Command {
-    Command::ClearFilter {
-        key: SAMPLE_GROUP,
-        member,
-    }
-}
-
-fn group_of_members<A: Allocator + Clone>(alloc: A, members: u32) -> Result<Config<A>, Fail> {
-    let mut config = applied(&Config::new(alloc), add(53))?;
-    for member in 0..members {
-        config = applied(&config, join(member))?;
+fn after_each(alloc: Global, acts: &[Act]) -> Result<Config, Fail> {
+    let mut config = Config::new(alloc);
+    for act in acts {
+        config = applied(&config, command(alloc, *act)?)?;
     }
     Ok(config)
 }
 
-// The ports of the keys, in order.
-fn ports(alloc: Global, config: &Config) -> Result<Vec<u16>, Fail> {
-    let mut ports = Vec::new(alloc);
-    for group in config.groups() {
-        ports.push(group.key().port)?;
-    }
-    Ok(ports)
+fn refusal(alloc: Global, config: &Config, act: Act) -> Result<Option<Refusal>, Fail> {
+    Ok(config.apply(&command(alloc, act)?).err())
 }
 
-// The numbers of the members of all groups, in order.
-fn ids<A: Allocator>(alloc: Global, config: &Config<A>) -> Result<Vec<u32>, Fail> {
-    let mut ids = Vec::new(alloc);
-    for group in config.groups() {
-        for member in group.members() {
-            ids.push(member.id)?;
+// What a configuration has: the ports of its keys in order, the numbers of its members in order, and its charge.
+struct Content {
+    ports: &'static [u16],
+    ids: &'static [u32],
+    charge: u64,
+}
+
+// The ports of the keys are these, in order.
+fn has_ports(config: &Config, ports: &[u16]) -> bool {
+    let groups = config.groups();
+    if groups.len() != ports.len() {
+        return false;
+    }
+    for i in 0..groups.len() {
+        if groups[i].key().port != ports[i] {
+            return false;
         }
     }
-    Ok(ids)
+    true
 }
+
+// The numbers of the members of all groups are these, in order.
+fn has_ids(config: &Config, ids: &[u32]) -> bool {
+    let mut rest = ids;
+    for group in config.groups() {
+        for member in group.members() {
+            match rest {
+                [id, behind @ ..] if *id == member.id => rest = behind,
+                _ => return false,
+            }
+        }
+    }
+    rest.is_empty() && config.members() == ids.len()
+}
+
+fn has(config: &Config, content: &Content) -> bool {
+    has_ports(config, content.ports)
+        && has_ids(config, content.ids)
+        && config.charge() == content.charge
+}
+
+// After the first commands a configuration has the first content, also when one more command has made the next, which has the other.
+struct Row {
+    acts: &'static [Act],
+    before: Content,
+    act: Act,
+    after: Content,
+}
+
+fn holds(alloc: Global, row: &Row) -> Result<bool, Fail> {
+    let config = after_each(alloc, row.acts)?;
+    let next = applied(&config, command(alloc, row.act)?)?;
+    Ok(has(&config, &row.before) && has(&next, &row.after))
+}
+
+const FOUR_GROUPS: &[Act] = &[Act::Add(53), Act::Add(99), Act::Add(7), Act::Add(60)];
+
+const IN_RISING_ORDER: [Row; 2] = [
+    Row {
+        acts: &[],
+        before: Content {
+            ports: &[],
+            ids: &[],
+            charge: 2,
+        },
+        act: Act::Add(53),
+        after: Content {
+            ports: &[53],
+            ids: &[],
+            charge: 6,
+        },
+    },
+    Row {
+        acts: FOUR_GROUPS,
+        before: Content {
+            ports: &[7, 53, 60, 99],
+            ids: &[],
+            charge: 18,
+        },
+        act: Act::Remove(60),
+        after: Content {
+            ports: &[7, 53, 99],
+            ids: &[],
+            charge: 14,
+        },
+    },
+];
 
 #[test]
 fn groups_in_rising_order(rt: HostRuntime) -> Result<(), Fail> {
-    let alloc = rt.alloc();
-    let mut config = Config::new(alloc);
-    assert_eq!(rt; config.groups().len(), 0);
-    assert_eq!(rt; config.charge(), 2);
-    for port in [53, 99, 7, 60] {
-        config = applied(&config, add(port))?;
+    for row in &IN_RISING_ORDER {
+        assert!(rt; holds(rt.alloc(), row)?);
     }
-    assert_eq!(rt;
-        ports(alloc, &config)?.as_slice(),
-        [7, 53, 60, 99].as_slice()
-    );
-    let gone = Command::RemoveGroup { key: key_at(60) };
-    config = applied(&config, gone)?;
-    assert_eq!(rt; ports(alloc, &config)?.as_slice(), [7, 53, 99].as_slice());
-    assert_eq!(rt; config.charge(), 14);
     Ok(())
 }
+
+// The filter goes with its member.
+const THREE_MEMBERS: &[Act] = &[
+    Act::Add(53),
+    Act::Join(1),
+    Act::Join(2),
+    Act::Join(3),
+    Act::Filter(3, 5),
+];
+
+const ALL_THREE: Content = Content {
+    ports: &[53],
+    ids: &[1, 2, 3],
+    charge: 2 + 4 + 3 * 3 + 5,
+};
+
+// The old configuration stays, and so does the order where the last one leaves.
+const GAPS: [Row; 2] = [
+    Row {
+        acts: THREE_MEMBERS,
+        before: ALL_THREE,
+        act: Act::Leave(1),
+        after: Content {
+            ports: &[53],
+            ids: &[3, 2],
+            charge: 2 + 4 + 3 * 2 + 5,
+        },
+    },
+    Row {
+        acts: THREE_MEMBERS,
+        before: ALL_THREE,
+        act: Act::Leave(3),
+        after: Content {
+            ports: &[53],
+            ids: &[1, 2],
+            charge: 2 + 4 + 3 * 2,
+        },
+    },
+];
 
 #[test]
 fn last_member_fills_the_gap(rt: HostRuntime) -> Result<(), Fail> {
-    let alloc = rt.alloc();
-    let mut config = applied(&Config::new(alloc), add(53))?;
-    for member in [1, 2, 3] {
-        config = applied(&config, join(member))?;
+    for row in &GAPS {
+        assert!(rt; holds(rt.alloc(), row)?);
     }
-    assert_eq!(rt; ids(alloc, &config)?.as_slice(), [1, 2, 3].as_slice());
-    // The filter goes with its member.
-    config = applied(&config, filter(3, returns(alloc, 5)?))?;
-    let shorter = applied(&config, leave(1))?;
-    assert_eq!(rt; ids(alloc, &shorter)?.as_slice(), [3, 2].as_slice());
-    assert_eq!(rt; shorter.members(), 2);
-    assert_eq!(rt; shorter.charge(), 2 + 4 + 3 * 2 + 5);
-    // The old configuration stays, and so does the order where the last one leaves.
-    assert_eq!(rt; ids(alloc, &config)?.as_slice(), [1, 2, 3].as_slice());
-    let shorter = applied(&config, leave(3))?;
-    assert_eq!(rt; ids(alloc, &shorter)?.as_slice(), [1, 2].as_slice());
-    assert_eq!(rt; shorter.charge(), 2 + 4 + 3 * 2);
     Ok(())
 }
 
+fn group_of_members(alloc: Global, members: u32) -> Result<Config, Fail> {
+    let mut config = after_each(alloc, &[Act::Add(53)])?;
+    for member in 0..members {
+        config = applied(&config, command(alloc, Act::Join(member))?)?;
+    }
+    Ok(config)
+}
+
+fn groups_at_ports(alloc: Global, groups: u16) -> Result<Config, Fail> {
+    let mut config = Config::new(alloc);
+    for port in 0..groups {
+        config = applied(&config, command(alloc, Act::Add(port))?)?;
+    }
+    Ok(config)
+}
+
 #[test]
-fn sixty_fifth_group_and_member(rt: HostRuntime) -> Result<(), Fail> {
+fn sixty_fifth_member(rt: HostRuntime) -> Result<(), Fail> {
     let alloc = rt.alloc();
     let full = group_of_members(alloc, 64)?;
     assert_eq!(rt; full.members(), MEMBER_LIMIT);
-    assert_eq!(rt; refused(&full, join(64)), Some(Refusal::GroupFull));
+    assert_eq!(rt;
+        refusal(alloc, &full, Act::Join(64))?,
+        Some(Refusal::GroupFull)
+    );
     // That a member is there already is told first.
-    assert_eq!(rt; refused(&full, join(63)), Some(Refusal::MemberExists));
-    let mut config = Config::new(alloc);
-    for port in 0..64 {
-        config = applied(&config, add(port))?;
-    }
-    assert_eq!(rt; config.groups().len(), GROUP_LIMIT);
-    assert_eq!(rt; refused(&config, add(64)), Some(Refusal::TooManyGroups));
-    assert_eq!(rt; refused(&config, add(63)), Some(Refusal::GroupExists));
+    assert_eq!(rt;
+        refusal(alloc, &full, Act::Join(63))?,
+        Some(Refusal::MemberExists)
+    );
     Ok(())
 }
 
 #[test]
-fn largest_charge_is_published(rt: HostRuntime) -> Result<(), Fail> {
+fn sixty_fifth_group(rt: HostRuntime) -> Result<(), Fail> {
     let alloc = rt.alloc();
-    let config = group_of_members(alloc, 2)?;
-    assert_eq!(rt; config.charge(), 12);
-    let config = applied(&config, filter(0, returns(alloc, 4096)?))?;
-    let largest = applied(&config, filter(1, returns(alloc, 4084)?))?;
-    assert_eq!(rt; largest.charge(), 8192);
-    let greater = applied(&largest, filter(1, returns(alloc, 4085)?))?;
-    assert_eq!(rt; greater.charge(), 8193);
-    let cleared = applied(&greater, clear_filter(0))?;
-    assert_eq!(rt; cleared.charge(), 12 + 4085);
+    let full = groups_at_ports(alloc, 64)?;
+    assert_eq!(rt; full.groups().len(), GROUP_LIMIT);
+    assert_eq!(rt;
+        refusal(alloc, &full, Act::Add(64))?,
+        Some(Refusal::TooManyGroups)
+    );
+    assert_eq!(rt;
+        refusal(alloc, &full, Act::Add(63))?,
+        Some(Refusal::GroupExists)
+    );
     Ok(())
+}
+
+// Commands, and what the configuration is charged after each.
+const LARGEST: [(Act, u64); 7] = [
+    (Act::Add(53), 6),
+    (Act::Join(0), 9),
+    (Act::Join(1), 12),
+    (Act::Filter(0, 4096), 12 + 4096),
+    (Act::Filter(1, 4084), 8192),
+    (Act::Filter(1, 4085), 8193),
+    (Act::Unfilter(0), 12 + 4085),
+];
+
+#[test]
+fn largest_charge_is_published(rt: HostRuntime) -> Result<(), Fail> {
+    let mut config = Config::new(rt.alloc());
+    for (act, charge) in &LARGEST {
+        config = applied(&config, command(rt.alloc(), *act)?)?;
+        assert_eq!(rt; config.charge(), *charge);
+    }
+    Ok(())
+}
+
+const ONE_MEMBER: &[Act] = &[Act::Add(53), Act::Join(1)];
+
+// After the commands this one is refused so.
+const REFUSED: [(&[Act], Act, Refusal); 14] = [
+    (&[], Act::Remove(53), Refusal::NoGroup),
+    (&[], Act::Join(1), Refusal::NoGroup),
+    (&[], Act::Leave(1), Refusal::NoGroup),
+    (&[], Act::Select(1), Refusal::NoGroup),
+    (&[], Act::Unselect, Refusal::NoGroup),
+    (&[], Act::Filter(1, 1), Refusal::NoGroup),
+    (&[], Act::Unfilter(1), Refusal::NoGroup),
+    (ONE_MEMBER, Act::Add(53), Refusal::GroupExists),
+    (ONE_MEMBER, Act::Join(1), Refusal::MemberExists),
+    (ONE_MEMBER, Act::Leave(2), Refusal::NoMember),
+    (ONE_MEMBER, Act::Filter(2, 1), Refusal::NoMember),
+    (ONE_MEMBER, Act::Unfilter(2), Refusal::NoMember),
+    (ONE_MEMBER, Act::Unfilter(1), Refusal::NoProgram),
+    (ONE_MEMBER, Act::Unselect, Refusal::NoProgram),
+];
+
+fn refusal_after(alloc: Global, acts: &[Act], act: Act) -> Result<Option<Refusal>, Fail> {
+    refusal(alloc, &after_each(alloc, acts)?, act)
 }
 
 #[test]
 fn each_refusal_in_its_order(rt: HostRuntime) -> Result<(), Fail> {
-    let alloc = rt.alloc();
-    let empty = Config::new(alloc);
-    let no_group = Some(Refusal::NoGroup);
-    let gone = Command::RemoveGroup { key: SAMPLE_GROUP };
-    assert_eq!(rt; refused(&empty, gone), no_group);
-    assert_eq!(rt; refused(&empty, join(1)), no_group);
-    assert_eq!(rt; refused(&empty, leave(1)), no_group);
-    assert_eq!(rt; refused(&empty, select(returns(alloc, 1)?)), no_group);
-    let clear = Command::ClearSelector { key: SAMPLE_GROUP };
-    assert_eq!(rt; refused(&empty, clear), no_group);
-    assert_eq!(rt; refused(&empty, filter(1, returns(alloc, 1)?)), no_group);
-    assert_eq!(rt; refused(&empty, clear_filter(1)), no_group);
-
-    let config = applied(&applied(&empty, add(53))?, join(1))?;
-    let no_member = Some(Refusal::NoMember);
-    assert_eq!(rt; refused(&config, add(53)), Some(Refusal::GroupExists));
-    assert_eq!(rt; refused(&config, join(1)), Some(Refusal::MemberExists));
-    assert_eq!(rt; refused(&config, leave(2)), no_member);
-    assert_eq!(rt; refused(&config, filter(2, returns(alloc, 1)?)), no_member);
-    assert_eq!(rt; refused(&config, clear_filter(2)), no_member);
-    let no_program = Some(Refusal::NoProgram);
-    assert_eq!(rt; refused(&config, clear_filter(1)), no_program);
-    let clear = Command::ClearSelector { key: SAMPLE_GROUP };
-    assert_eq!(rt; refused(&config, clear), no_program);
+    for (acts, act, reason) in &REFUSED {
+        assert_eq!(rt; refusal_after(rt.alloc(), acts, *act)?, Some(*reason));
+    }
     Ok(())
 }
 
-// The charges that the commands below leave, one after another.
-const CHARGES: [u64; 9] = [6, 9, 12, 32, 62, 59, 29, 9, 2];
-
-fn command_at(alloc: Global, step: usize) -> Result<Command, Fail> {
-    Ok(match step {
-        0 => add(53),
-        1 => join(1),
-        2 => join(2),
-        3 => select(returns(alloc, 20)?),
-        4 => filter(2, returns(alloc, 30)?),
-        5 => leave(1),
-        6 => clear_filter(2),
-        7 => Command::ClearSelector { key: SAMPLE_GROUP },
-        _ => Command::RemoveGroup { key: SAMPLE_GROUP },
-    })
-}
+// Commands, and what the configuration is charged after each.
+const STEPS: [(Act, u64); 9] = [
+    (Act::Add(53), 6),
+    (Act::Join(1), 9),
+    (Act::Join(2), 12),
+    (Act::Select(20), 32),
+    (Act::Filter(2, 30), 62),
+    (Act::Leave(1), 59),
+    (Act::Unfilter(2), 29),
+    (Act::Unselect, 9),
+    (Act::Remove(53), 2),
+];
 
 // Applies the commands until one is refused; tells how many were applied.
 fn applied_within(alloc: Global, heap: &LocalHeap) -> Result<usize, Fail> {
     let mut config = Config::new(heap);
-    for (step, charge) in CHARGES.iter().enumerate() {
+    for (step, (act, charge)) in STEPS.iter().enumerate() {
         let before = config.charge();
-        match config.apply(&command_at(alloc, step)?) {
+        match config.apply(&command(alloc, *act)?) {
             Ok(next) => config = next,
             Err(Refusal::OutOfMemory) if config.charge() == before => return Ok(step),
             Err(_) => return Err(Fail::from("only memory is refused")),
@@ -249,7 +364,7 @@ fn applied_within(alloc: Global, heap: &LocalHeap) -> Result<usize, Fail> {
             return Err(Fail::from("the charge is the command's"));
         }
     }
-    Ok(CHARGES.len())
+    Ok(STEPS.len())
 }
 
 #[test]
@@ -265,6 +380,6 @@ fn commands_under_each_refused_growth(rt: HostRuntime) -> Result<(), Fail> {
         least = steps;
         size = size.saturating_add(16);
     }
-    assert_eq!(rt; least, CHARGES.len());
+    assert_eq!(rt; least, STEPS.len());
     Ok(())
 }

@@ -1,6 +1,6 @@
 //! Images that were written down by hand, and what is found in them again.
 
-ghost use Rattle.std.specs.Prelude.{◌≡◌, ◌-◌, IfOk, take};
+ghost use Rattle.std.specs.Prelude.{◌≡◌, ◌<◌, ◌-◌, IfOk, length, take};
 ghost use Rattle.config_image.specs.Image.{image};
 ghost use Rattle.config_image.specs.Lookup.{BeginsWithImage};
 
@@ -12,7 +12,6 @@ use config_image::{
 use ipv4_fields::Endpoint;
 use member_group::{Command, Config};
 use std::alloc::Global;
-use std::process::Abort;
 use std::test::Fail;
 
 // 10.0.0.2:53
@@ -171,25 +170,34 @@ impl WordSink for ArraySink {
     }
 }
 
+// The configurations of these tests: without groups, with one group, with two.
+fn sample(alloc: Global, groups: usize) -> Result<Config, Fail> {
+    match groups {
+        0 => Ok(Config::new(alloc)),
+        1 => with_selector(alloc),
+        _ => two_groups(alloc),
+    }
+}
+
+// The image is written as its words are told by their places.
+fn is_written(alloc: Global, config: &Config) -> Result<bool, Fail> {
+    if image_len(config) > 32 {
+        return Ok(false);
+    }
+    let mut sink = ArraySink {
+        words: [0; 32],
+        count: 0,
+    };
+    write_image(config, &mut sink);
+    let words = words_of(alloc, config)?;
+    Ok(sink.words.get(..sink.count) == Some(words.as_slice()))
+}
+
 #[test]
 fn images_are_written(rt: HostRuntime) -> Result<(), Fail> {
-    let alloc = rt.alloc();
-    for config in [
-        Config::new(alloc),
-        with_selector(alloc)?,
-        two_groups(alloc)?,
-    ] {
-        assert!(rt; image_len(&config) <= 32);
-        let mut sink = ArraySink {
-            words: [0; 32],
-            count: 0,
-        };
-        write_image(&config, &mut sink);
-        let words = words_of(alloc, &config)?;
-        assert_eq!(rt; sink.count, words.len());
-        for (i, word) in words.iter().enumerate() {
-            assert_eq!(rt; sink.words.get(i), Some(word));
-        }
+    for groups in 0..3 {
+        let config = sample(rt.alloc(), groups)?;
+        assert!(rt; is_written(rt.alloc(), &config)?);
     }
     Ok(())
 }
@@ -209,47 +217,63 @@ fn stands(words: &[u64], place: Option<ProgramPlace>, program: Option<&Program<G
     }
 }
 
-// All that a configuration has is found again in words that begin with its image.
-fn find_again(rt: &impl Abort, words: &[u64], config: &Config)
+// All that the groups of a configuration have is found again in words that begin with its image.
+fn finds_members(words: &[u64], config: &Config, index: usize) -> bool
+    requires words { BeginsWithImage words.now config.now }
+    requires inside { index < length config.now }
+{
+    let mut list = words;
+    let group = &config.groups()[index];
+    let members = group.members();
+    for at in 0..members.len() {
+        let member = &members[at];
+        let entry = MemberEntry {
+            id: member.id,
+            to: member.to,
+        };
+        if member_at(&mut list, index, at) != entry {
+            return false;
+        }
+        let filter = filter_of(&mut list, index, at);
+        if !stands(words, filter, member.filter.as_ref()) {
+            return false;
+        }
+    }
+    true
+}
+
+fn finds_groups(words: &[u64], config: &Config) -> bool
     requires { BeginsWithImage words.now config.now }
 {
     let mut list = words;
     // The key of no group.
-    assert_eq!(rt; find_group(&mut list, SAMPLE_MEMBER), None);
+    if find_group(&mut list, SAMPLE_MEMBER).is_some() {
+        return false;
+    }
     let groups = config.groups();
     for index in 0..groups.len() {
         let group = &groups[index];
-        let members = group.members();
         let found = FoundGroup {
             index,
-            members: members.len(),
+            members: group.members().len(),
         };
-        assert_eq!(rt; find_group(&mut list, group.key()), Some(found));
+        if find_group(&mut list, group.key()) != Some(found) {
+            return false;
+        }
         let selector = selector_of(&mut list, index);
-        assert!(rt; stands(words, selector, group.selector()));
-        for at in 0..members.len() {
-            let member = &members[at];
-            let entry = MemberEntry {
-                id: member.id,
-                to: member.to,
-            };
-            assert_eq!(rt; member_at(&mut list, index, at), entry);
-            let filter = filter_of(&mut list, index, at);
-            assert!(rt; stands(words, filter, member.filter.as_ref()));
+        if !stands(words, selector, group.selector()) || !finds_members(words, config, index) {
+            return false;
         }
     }
+    true
 }
 
 #[test]
 fn found_again(rt: HostRuntime) -> Result<(), Fail> {
-    let alloc = rt.alloc();
-    for config in [
-        Config::new(alloc),
-        with_selector(alloc)?,
-        two_groups(alloc)?,
-    ] {
-        let words = words_of(alloc, &config)?;
-        find_again(&rt, words.as_slice(), &config);
+    for groups in 0..3 {
+        let config = sample(rt.alloc(), groups)?;
+        let words = words_of(rt.alloc(), &config)?;
+        assert!(rt; finds_groups(words.as_slice(), &config));
     }
     Ok(())
 }

@@ -4,14 +4,16 @@ use std::test::Fail;
 use versions::Step::{self, Announce, Fetch, Fill, Leave, Peek, Pin, Publish, Scan};
 use versions::{ROWS, TABLE_WORDS, WORKERS};
 
-// Where the rows begin: 17 + 8192 * row.
-pub const ROW_BEGINS: [usize; 8] = [17, 8209, 16401, 24593, 32785, 40977, 49169, 57361];
-
 // The image of the configuration without groups: its length, and the number of groups.
 pub const EMPTY_IMAGE: [u64; 2] = [2, 0];
 
+// Where a row begins, behind `current` and the read words; behind the table where there is no such row.
 pub fn begin_of(row: usize) -> usize {
-    ROW_BEGINS.get(row).copied().unwrap_or(TABLE_WORDS)
+    if row < ROWS {
+        1 + WORKERS + row * 8192
+    } else {
+        TABLE_WORDS
+    }
 }
 
 // What was done, and nothing else: each question goes through all of it.
@@ -127,7 +129,7 @@ impl History {
                 _ => None,
             },
             Announce { worker } => match self.last_of(worker) {
-                Some((Peek { .. }, word)) => Some((word / 8).wrapping_add(1)),
+                Some((Peek { .. }, word)) => Some((word / ROWS as u64).wrapping_add(1)),
                 _ => None,
             },
             Pin { worker } => match self.last_of(worker) {
@@ -135,7 +137,7 @@ impl History {
                 _ => None,
             },
             Fetch { worker, place } => match self.last_of(worker) {
-                Some((Pin { .. }, word)) if self.row_of(place) == Some((word % 8) as usize) =>
+                Some((Pin { .. }, word)) if self.row_of(place) == Some((word % ROWS as u64) as usize) =>
                     self.word(place),
                 _ => None,
             },
@@ -158,7 +160,7 @@ impl History {
                     Some(
                         self.number()
                             .wrapping_add(1)
-                            .wrapping_mul(8)
+                            .wrapping_mul(ROWS as u64)
                             .wrapping_add(row as u64),
                     )
                 } else {

@@ -16,52 +16,63 @@ use std::sync::{Mutex, Wait};
 use std::test::Fail;
 use std::thread;
 
-fn publish(
-    rt: &impl Abort,
-    alloc: Global,
-    operator: &mut Operator,
-    number: u32,
-) -> Result<(), Fail> {
-    match operator.publish(config_of(alloc, number)?) {
-        Ok(published) => {
-            assert_eq!(rt; published, u64::from(number));
-            Ok(())
+// A table at version 0, with one of its workers.
+fn table(alloc: Global) -> Result<(Operator, Worker), Fail> {
+    let (operator, mut workers) = open(config_of(alloc, 0)?)?;
+    match workers.pop() {
+        Some(worker) => Ok((operator, worker)),
+        None => Err(Fail::from("no worker")),
+    }
+}
+
+// Publishes the next version, and tells whether it has this number.
+fn is_published(alloc: Global, operator: &mut Operator, number: u64) -> Result<bool, Fail> {
+    let config = config_of(alloc, u32::try_from(number).unwrap_or(0))?;
+    Ok(matches!(operator.publish(config), Ok(published) if published == number))
+}
+
+// Tries to publish, and tells whether no row was free and the configuration came back.
+fn is_busy(alloc: Global, operator: &mut Operator) -> Result<bool, Fail> {
+    let refused = operator.publish(config_of(alloc, 1)?);
+    Ok(matches!(&refused, Err((PublishFault::Busy, config)) if config.charge() == 6))
+}
+
+// The last version that finds a row while a worker stays in version 0.
+const LAST_WITH_ROW: u64 = ROWS as u64 - 1;
+
+// Publishes until no row is free, and tells whether that is behind that version.
+fn fills_all_rows(alloc: Global, operator: &mut Operator) -> Result<bool, Fail> {
+    for number in 0..LAST_WITH_ROW {
+        if !is_published(alloc, operator, number + 1)? {
+            return Ok(false);
         }
-        Err(_) => Err(Fail::from("a row is free")),
     }
+    is_busy(alloc, operator)
 }
 
-fn publish_up_to(
+// The publication of version 2 beside a section on version 1 leaves that section its version.
+fn keeps_its_version(
     rt: &impl Abort,
     alloc: Global,
     operator: &mut Operator,
-    last: u32,
+    worker: &mut Worker,
 ) -> Result<(), Fail> {
-    for number in 0..last {
-        publish(rt, alloc, operator, number.wrapping_add(1))?;
-    }
-    Ok(())
-}
-
-// A publication beside a worker in a section leaves that worker its version.
-#[test]
-fn publication_beside_a_section(rt: HostRuntime) -> Result<(), Fail> {
-    let alloc = rt.alloc();
-    let (mut operator, mut workers) = open(config_of(alloc, 0)?)?;
-    assert_eq!(rt; workers.len(), 16);
-    publish(&rt, alloc, &mut operator, 1)?;
-    let mut worker = workers.pop().ok_or("no worker")?;
-
+    assert!(rt; is_published(alloc, operator, 1)?);
     let mut section = worker.enter();
     assert_eq!(rt; section.count(), 8192);
-    let published = publish(&rt, alloc, &mut operator, 2);
+    let published = is_published(alloc, operator, 2);
     assert_eq!(rt; section.number(), 1);
     assert_eq!(rt; differing(&mut section, 1), 0);
     section.leave();
-    published?;
-
-    assert_eq!(rt; read_whole(&mut worker), (2, 0));
+    assert!(rt; published?);
+    assert_eq!(rt; read_whole(worker), (2, 0));
     Ok(())
+}
+
+#[test]
+fn publication_beside_a_section(rt: HostRuntime) -> Result<(), Fail> {
+    let (mut operator, mut worker) = table(rt.alloc())?;
+    keeps_its_version(&rt, rt.alloc(), &mut operator, &mut worker)
 }
 
 // Stores a stray word in the row, if it is free.
@@ -73,35 +84,48 @@ fn stray(operator: &mut Operator, row: usize, place: usize)
     }
 }
 
+// The row that a version is published in, where a worker reads each and stays in none: rows 1 to 15 in turn, then the fifteen that a
+// round of scans frees, from row 0 on.
+fn row_of(number: u64) -> usize {
+    let rows = ROWS as u64;
+    let row = if number < rows {
+        number
+    } else {
+        (number - rows) % (rows - 1)
+    };
+    row as usize
+}
+
 // Each word of a row is fetched, and a shorter image leaves no word of a longer one behind.
+fn is_used_again(
+    rt: &impl Abort,
+    alloc: Global,
+    operator: &mut Operator,
+    worker: &mut Worker,
+    number: u64,
+) -> Result<(), Fail> {
+    // Stray words behind the image, which the publication has to clear.
+    for row in 0..ROWS {
+        stray(operator, row, 7000);
+        stray(operator, row, 8191);
+    }
+    assert!(rt; is_published(alloc, operator, number)?);
+    assert_eq!(rt; read_whole(worker), (number, 0));
+    let row = row_of(number);
+    assert!(rt; row < ROWS && operator.zeros_from(row) <= 6, "version {number}");
+    Ok(())
+}
+
 #[test]
 fn rows_are_used_again(rt: HostRuntime) -> Result<(), Fail> {
-    let alloc = rt.alloc();
-    let (mut operator, mut workers) = open(config_of(alloc, 0)?)?;
-    let mut worker = workers.pop().ok_or("no worker")?;
-    assert_eq!(rt; operator.zeros_from(0), 6);
-    assert_eq!(rt; operator.zeros_from(1), 0);
-    assert_eq!(rt;
-        (
-            operator.is_free(0),
-            operator.is_free(1),
-            operator.is_free(ROWS)
-        ),
-        (false, true, false)
-    );
-    for number in 1..20u32 {
-        // Stray words behind the image, which the publication has to clear.
-        for row in 0..ROWS {
-            stray(&mut operator, row, 7000);
-            stray(&mut operator, row, 8191);
-        }
-        publish(&rt, alloc, &mut operator, number)?;
-        assert_eq!(rt; read_whole(&mut worker), (u64::from(number), 0));
-        // Rows 1 to 7 in turn; then the seven that a round of scans frees, twice. No word behind the image is left.
-        let row = if number < 8 { number } else { (number - 8) % 7 };
-        assert!(rt; operator.zeros_from(row as usize) <= 6, "version {number}");
+    let (mut operator, mut worker) = table(rt.alloc())?;
+    assert_eq!(rt; (operator.zeros_from(0), operator.zeros_from(1)), (6, 0));
+    assert!(rt; !operator.is_free(0) && operator.is_free(1) && !operator.is_free(ROWS));
+    // Two rounds of scans.
+    for number in 1..44u64 {
+        is_used_again(&rt, rt.alloc(), &mut operator, &mut worker, number)?;
     }
-    assert_eq!(rt; operator.number(), 19);
+    assert_eq!(rt; operator.number(), 43);
     Ok(())
 }
 
@@ -139,18 +163,21 @@ fn add(rt: &impl Wait, sum: &Mutex<u32>, number: u32) {
     *sum = sum.wrapping_add(number);
 }
 
+// A table at version 0, with so many of its workers.
+fn table_of(alloc: Global, count: usize) -> Result<(Operator, Vec<Worker>), Fail> {
+    let (operator, mut workers) = open(config_of(alloc, 0)?)?;
+    workers.truncate(count);
+    Ok((operator, workers))
+}
+
 // Four workers read in threads of their own while the operator publishes: each section is one whole version, in every schedule.
 #[test]
 fn sections_beside_publications(rt: HostRuntime) -> Result<(), Fail> {
     let alloc = rt.alloc();
-    let (mut operator, mut workers) = open(config_of(alloc, 0)?)?;
     let bad = Mutex::new(0u32);
     let sum = &bad;
     let runtime = &rt;
-    let mut readers = Vec::new(alloc);
-    for _ in 0..4usize {
-        readers.push(workers.pop().ok_or("no worker")?)?;
-    }
+    let (mut operator, readers) = table_of(alloc, 4)?;
     let published = thread::scope(thread::scope_env(), runtime, |scope| {
         for worker in readers {
             let reading = scope.spawn(move || {
@@ -164,79 +191,94 @@ fn sections_beside_publications(rt: HostRuntime) -> Result<(), Fail> {
         bad_publications(alloc, &mut operator, 4000)
     })?;
     assert_eq!(rt; published, 0);
-    // Seven versions find a row that was never used, whoever reads.
-    assert!(rt; operator.number() >= 7);
+    // As many versions as there are other rows find one that was never used, whoever reads.
+    assert!(rt; operator.number() >= LAST_WITH_ROW);
     assert_eq!(rt; bad.into_inner(), 0);
     Ok(())
 }
 
-// A worker stays in version 0: seven more versions have a row, and then none is free before it leaves.
-#[test]
-fn busy_when_no_row_is_free(rt: HostRuntime) -> Result<(), Fail> {
-    let alloc = rt.alloc();
-    let (mut operator, mut workers) = open(config_of(alloc, 0)?)?;
-    let mut worker = workers.pop().ok_or("no worker")?;
-    let eighth = config_of(alloc, 8)?;
+// Publishes beside a section on version 0 until no row is free.
+fn fills_beside(alloc: Global, operator: &mut Operator, worker: &mut Worker) -> Result<bool, Fail> {
     let section = worker.enter();
-    let published = publish_up_to(&rt, alloc, &mut operator, 7);
-    let refused = operator.publish(eighth);
+    let filled = fills_all_rows(alloc, operator);
     section.leave();
-    published?;
-    match refused {
-        Err((PublishFault::Busy, config)) => assert_eq!(rt; config.charge(), 6),
-        _ => return Err(Fail::from("no row is free")),
-    }
-    assert_eq!(rt; operator.sweep(), Reclaimed { first: 0, count: 7 });
-    assert_eq!(rt; operator.sweep(), Reclaimed { first: 7, count: 0 });
-    publish(&rt, alloc, &mut operator, 8)
+    filled
 }
 
-// One group with two members, whose filters have so many instructions: its charge is 12 more than theirs.
-fn with_filters(alloc: Global, counts: [usize; 2]) -> Result<Config, Fail> {
-    let key = Endpoint {
-        address: 1,
-        port: 53,
-    };
-    let mut config = applied(&Config::new(alloc), Command::AddGroup { key })?;
-    for (member, count) in [(1, counts[0]), (2, counts[1])] {
-        config = applied(
-            &config,
-            Command::Join {
-                key,
-                member,
-                to: key,
-            },
-        )?;
-        let words = vec![in alloc; 0x0006_0000_0000_0000; count]?;
-        let Ok(program) = Program::new(words) else {
-            return Err(Fail::from("returns are a program"));
-        };
-        config = applied(
-            &config,
-            Command::SetFilter {
-                key,
-                member,
-                program,
-            },
-        )?;
+// A worker stays in version 0: fifteen more versions have a row, and then none is free before it leaves.
+#[test]
+fn busy_when_no_row_is_free(rt: HostRuntime) -> Result<(), Fail> {
+    let (mut operator, mut worker) = table(rt.alloc())?;
+    assert!(rt; fills_beside(rt.alloc(), &mut operator, &mut worker)?);
+    assert_eq!(rt; operator.sweep(), Reclaimed { first: 0, count: 15 });
+    assert_eq!(rt; operator.sweep(), Reclaimed { first: 15, count: 0 });
+    assert!(rt; is_published(rt.alloc(), &mut operator, 16)?);
+    Ok(())
+}
+
+// A worker abandons its section on version 0 and is gone: fifteen more versions have a row, and then none is free for good.
+#[test]
+fn lost_worker_keeps_its_version(rt: HostRuntime) -> Result<(), Fail> {
+    let (mut operator, mut worker) = table(rt.alloc())?;
+    worker.enter().abandon();
+    drop(worker);
+    assert!(rt; fills_all_rows(rt.alloc(), &mut operator)?);
+    for _ in 0..3usize {
+        assert_eq!(rt; operator.sweep(), Reclaimed { first: 0, count: 0 });
+        assert!(rt; is_busy(rt.alloc(), &mut operator)?);
     }
-    Ok(config)
+    assert_eq!(rt; operator.number(), 15);
+    Ok(())
+}
+
+// Adds a member with a filter of so many instructions.
+fn with_filter(alloc: Global, config: &Config, member: u32, count: usize) -> Result<Config, Fail> {
+    let join = Command::Join {
+        key: KEY,
+        member,
+        to: KEY,
+    };
+    let joined = applied(config, join)?;
+    let Ok(program) = Program::new(vec![in alloc; 0x0006_0000_0000_0000; count]?) else {
+        return Err(Fail::from("returns are a program"));
+    };
+    let set = Command::SetFilter {
+        key: KEY,
+        member,
+        program,
+    };
+    applied(&joined, set)
+}
+
+const KEY: Endpoint = Endpoint {
+    address: 1,
+    port: 53,
+};
+
+// One group with two members, whose filters have so many instructions: its charge is 12 more than theirs.
+fn with_filters(alloc: Global, first: usize, second: usize) -> Result<Config, Fail> {
+    let group = applied(&Config::new(alloc), Command::AddGroup { key: KEY })?;
+    let one = with_filter(alloc, &group, 1, first)?;
+    with_filter(alloc, &one, 2, second)
+}
+
+// Tries to publish the greatest charge, and tells whether that is version 1.
+fn greatest_is_published(alloc: Global, operator: &mut Operator) -> Result<bool, Fail> {
+    let greatest = with_filters(alloc, 4096, 4084)?;
+    Ok(greatest.charge() == 8192 && matches!(operator.publish(greatest), Ok(1)))
+}
+
+// Tries to publish a charge of one more, and tells whether that is refused.
+fn one_more_is_refused(alloc: Global, operator: &mut Operator) -> Result<bool, Fail> {
+    let refused = operator.publish(with_filters(alloc, 4096, 4085)?);
+    Ok(matches!(&refused, Err((PublishFault::TooBig, config)) if config.charge() == 8193))
 }
 
 #[test]
 fn largest_charge_is_published(rt: HostRuntime) -> Result<(), Fail> {
-    let alloc = rt.alloc();
-    let (mut operator, _workers) = open(config_of(alloc, 0)?)?;
-    let largest = with_filters(alloc, [4096, 4084])?;
-    assert_eq!(rt; largest.charge(), 8192);
-    match operator.publish(largest) {
-        Ok(number) => assert_eq!(rt; number, 1),
-        Err(_) => return Err(Fail::from("a charge of 8192 is published")),
-    }
-    match operator.publish(with_filters(alloc, [4096, 4085])?) {
-        Err((PublishFault::TooBig, config)) => assert_eq!(rt; config.charge(), 8193),
-        _ => return Err(Fail::from("a charge of 8193 is refused")),
-    }
+    let (mut operator, _worker) = table(rt.alloc())?;
+    assert!(rt; greatest_is_published(rt.alloc(), &mut operator)?);
+    assert!(rt; one_more_is_refused(rt.alloc(), &mut operator)?);
     assert_eq!(rt; operator.number(), 1);
     Ok(())
 }

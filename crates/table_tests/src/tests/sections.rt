@@ -14,7 +14,7 @@ use bpf_verify::Program;
 use ipv4_fields::Endpoint;
 use member_group::{Command, Config};
 use read_section::{
-    CHARGE_LIMIT, LAST_NUMBER, OpenFault, Operator, ROW_WORDS, ROWS, Reclaimed, Worker, open,
+    CHARGE_LIMIT, LAST_NUMBER, OpenFault, Operator, ROW_WORDS, ROWS, Reclaimed, WORKERS, Worker, open,
 };
 use std::alloc::Global;
 use std::process::Abort;
@@ -54,8 +54,8 @@ fn opened(rt: &impl Abort, alloc: Global) -> Result<(Operator, Worker, Worker), 
     ensures last { IfOk result (λ parts. parts.2.table ≡ parts.0.table) }
 {
     let (operator, mut workers) = open(config_of(alloc, 0)?)?;
-    assert_eq!(rt; workers.len(), 16);
-    let last = workers.swap_remove(15);
+    assert_eq!(rt; workers.len(), WORKERS);
+    let last = workers.swap_remove(WORKERS - 1);
     let first = workers.swap_remove(0);
     Ok((operator, first, last))
 }
@@ -111,11 +111,11 @@ fn entering_after_abandon(rt: HostRuntime) -> Result<(), Fail> {
     let (mut operator, _, mut worker) = opened(&rt, alloc)?;
     let section = worker.enter();
     section.abandon();
-    assert_eq!(rt; operator.scan(15), 1);
+    assert_eq!(rt; operator.scan(WORKERS - 1), 1);
     worker.meet(&mut operator);
-    assert_eq!(rt; operator.scan(15), 1);
+    assert_eq!(rt; operator.scan(WORKERS - 1), 1);
     assert_eq!(rt; read_whole(&mut worker), (0, 0));
-    assert_eq!(rt; operator.scan(15), 0);
+    assert_eq!(rt; operator.scan(WORKERS - 1), 0);
     Ok(())
 }
 
@@ -139,21 +139,31 @@ fn table_at_version_zero(rt: HostRuntime) -> Result<(), Fail> {
 }
 
 // A worker in a section keeps its version while the next one is published, and enters on that one when it met the operator.
-#[test]
-fn section_keeps_its_version(rt: HostRuntime) -> Result<(), Fail> {
-    let alloc = rt.alloc();
-    let (mut operator, mut worker, _) = opened(&rt, alloc)?;
-    publish(&rt, alloc, &mut operator, 1)?;
+fn keeps_its_version(
+    rt: &impl Abort,
+    alloc: Global,
+    operator: &mut Operator,
+    worker: &mut Worker,
+) -> Result<(), Fail>
+    requires { worker.old.table ≡ operator.old.table }
+{
+    publish(rt, alloc, operator, 1)?;
     let mut section = worker.enter();
     assert_eq!(rt; section.count(), 8192);
-    let published = publish(&rt, alloc, &mut operator, 2);
+    let published = publish(rt, alloc, operator, 2);
     assert_eq!(rt; section.number(), 1);
     assert_eq!(rt; differing(&mut section, 1), 0);
     section.leave();
     published?;
-    worker.meet(&mut operator);
-    assert_eq!(rt; read_whole(&mut worker), (2, 0));
+    worker.meet(operator);
+    assert_eq!(rt; read_whole(worker), (2, 0));
     Ok(())
+}
+
+#[test]
+fn section_keeps_its_version(rt: HostRuntime) -> Result<(), Fail> {
+    let (mut operator, mut worker, _) = opened(&rt, rt.alloc())?;
+    keeps_its_version(&rt, rt.alloc(), &mut operator, &mut worker)
 }
 
 // A worker that never met the operator is told of a version by one that did.

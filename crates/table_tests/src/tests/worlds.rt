@@ -8,6 +8,7 @@ use ipv4_fields::Endpoint;
 use linked_list_allocator::LocalHeap;
 use member_group::{Command, Config};
 use std::alloc::{Allocator, Global};
+use std::process::Abort;
 use std::test::Fail;
 use versions::Step::{self, Announce, Fetch, Fill, Leave, Peek, Pin, Publish, Scan};
 use versions::{ROWS, StepFault, TABLE_WORDS, WORKERS, World};
@@ -44,36 +45,47 @@ fn free_rows(world: &mut World) -> usize {
     count
 }
 
+// What `publish` answers must be this version, in some row.
+fn publishes(rt: &impl Abort, alloc: Global, world: &mut World, number: u64) -> Result<(), Fail> {
+    let mut word = publish(alloc, world)?;
+    if word == 0 {
+        assert_eq!(rt; scan_all(world)?, 0);
+        word = publish(alloc, world)?;
+    }
+    assert_eq!(rt; word / ROWS as u64, number);
+    Ok(())
+}
+
+// While the worker's read word tells version 3, no more becomes free than was before.
+fn holds_back(rt: &impl Abort, alloc: Global, world: &mut World) -> Result<(), Fail> {
+    assert_eq!(rt; world.step(Announce { worker: 0 })?, 4);
+    assert_eq!(rt; world.step(Pin { worker: 0 })? / ROWS as u64, 90);
+    for _ in 0..3usize {
+        assert_eq!(rt; scan_all(world)?, 4);
+        assert_eq!(rt; free_rows(world), 0);
+    }
+    assert_eq!(rt; publish(alloc, world)?, 0);
+    assert_eq!(rt; world.step(Leave { worker: 0 })?, 0);
+    assert_eq!(rt; scan_all(world)?, 0);
+    assert_eq!(rt; free_rows(world), ROWS - 1);
+    Ok(())
+}
+
 #[test]
 fn stalled_worker_holds_back_more(rt: HostRuntime) -> Result<(), Fail> {
-    let mut world = World::new(Config::new(rt.alloc()))?;
+    let alloc = rt.alloc();
+    let mut world = World::new(Config::new(alloc))?;
     for number in 1..4u64 {
-        assert_eq!(rt; publish(rt.alloc(), &mut world)? / 8, number);
+        publishes(&rt, alloc, &mut world, number)?;
     }
-    assert_eq!(rt; world.step(Peek { worker: 0 })?, 27);
+    // Version 3 in row 3.
+    assert_eq!(rt; world.step(Peek { worker: 0 })?, 51);
     for number in 4..91u64 {
-        let mut word = publish(rt.alloc(), &mut world)?;
-        if word == 0 {
-            assert_eq!(rt; scan_all(&mut world)?, 0);
-            word = publish(rt.alloc(), &mut world)?;
-        }
-        assert_eq!(rt; word / 8, number);
+        publishes(&rt, alloc, &mut world, number)?;
     }
-    // The last scans came before version 85: one row is left free, and 84 to 89 are replaced and not free.
-    assert_eq!(rt; free_rows(&mut world), 1);
-    assert_eq!(rt; world.step(Announce { worker: 0 })?, 4);
-    assert_eq!(rt; world.step(Pin { worker: 0 })? / 8, 90);
-    for _ in 0..3 {
-        assert_eq!(rt; scan_all(&mut world)?, 4);
-        assert_eq!(rt; free_rows(&mut world), 1);
-    }
-    assert_eq!(rt; publish(rt.alloc(), &mut world)? / 8, 91);
-    assert_eq!(rt; scan_all(&mut world)?, 4);
-    assert_eq!(rt; publish(rt.alloc(), &mut world)?, 0);
-    assert_eq!(rt; world.step(Leave { worker: 0 })?, 0);
-    assert_eq!(rt; scan_all(&mut world)?, 0);
-    assert_eq!(rt; free_rows(&mut world), 7);
-    Ok(())
+    // The last round of scans came before version 76: 75 to 89 are replaced and not free, each in a row of its own.
+    assert_eq!(rt; free_rows(&mut world), 0);
+    holds_back(&rt, alloc, &mut world)
 }
 
 // Each step with its answer, in a world whose version 0 is the empty configuration; no answer is "not legal".
@@ -84,14 +96,14 @@ const ANSWERS: [(Step, Option<u64>); 33] = [
     (
         Fetch {
             worker: 0,
-            place: 17,
+            place: 65,
         },
         None,
     ),
-    (Peek { worker: 16 }, None),
+    (Peek { worker: 64 }, None),
     (Scan { place: 0 }, None),
-    (Scan { place: 17 }, None),
-    (Scan { place: 16 }, Some(0)),
+    (Scan { place: 65 }, None),
+    (Scan { place: 64 }, Some(0)),
     (Peek { worker: 0 }, Some(0)),
     (Peek { worker: 0 }, Some(0)),
     (Announce { worker: 0 }, Some(1)),
@@ -101,38 +113,38 @@ const ANSWERS: [(Step, Option<u64>); 33] = [
     (
         Fetch {
             worker: 0,
-            place: 17,
+            place: 65,
         },
         Some(2),
     ),
     (
         Fetch {
             worker: 0,
-            place: 8208,
+            place: 8256,
         },
         Some(0),
     ),
     (
         Fetch {
             worker: 0,
-            place: 8209,
+            place: 8257,
         },
         None,
     ),
     (
         Fetch {
             worker: 0,
-            place: 16,
+            place: 64,
         },
         None,
     ),
     (Peek { worker: 0 }, Some(0)),
     (Announce { worker: 0 }, None),
-    (Fill { place: 17, word: 2 }, None),
-    (Fill { place: 16, word: 2 }, None),
+    (Fill { place: 65, word: 2 }, None),
+    (Fill { place: 64, word: 2 }, None),
     (
         Fill {
-            place: 65_553,
+            place: 131_137,
             word: 2,
         },
         None,
@@ -140,16 +152,16 @@ const ANSWERS: [(Step, Option<u64>); 33] = [
     (Publish { row: 1 }, None),
     (
         Fill {
-            place: 8209,
+            place: 8257,
             word: 2,
         },
         Some(2),
     ),
     (Publish { row: 1 }, None),
-    (Publish { row: 8 }, None),
+    (Publish { row: 16 }, None),
     (
         Fill {
-            place: 65_552,
+            place: 131_136,
             word: 7,
         },
         Some(7),
@@ -160,7 +172,7 @@ const ANSWERS: [(Step, Option<u64>); 33] = [
     (
         Fetch {
             worker: 0,
-            place: 17,
+            place: 65,
         },
         None,
     ),
@@ -170,16 +182,12 @@ const ANSWERS: [(Step, Option<u64>); 33] = [
 #[test]
 fn steps_and_their_answers(rt: HostRuntime) -> Result<(), Fail> {
     let mut world = World::new(Config::new(rt.alloc()))?;
-    for (step, answer) in ANSWERS {
-        assert_eq!(rt;
-            world.step(step),
-            answer.ok_or(StepFault::NotLegal),
-            "{step:?}"
-        );
+    for (step, answer) in &ANSWERS {
+        assert!(rt; world.step(*step) == answer.ok_or(StepFault::NotLegal), "{step:?}");
     }
     world.propose(Config::new(rt.alloc()))?;
     assert_eq!(rt; world.step(Publish { row: 7 }), Err(StepFault::NotLegal));
-    assert_eq!(rt; world.step(Publish { row: 1 }), Ok(9));
+    assert_eq!(rt; world.step(Publish { row: 1 }), Ok(17));
     assert_eq!(rt; world.step(Publish { row: 1 }), Err(StepFault::NotLegal));
     Ok(())
 }
@@ -207,33 +215,40 @@ fn with_group(alloc: Global) -> Result<Config, Fail> {
     joined.map_err(|_| Fail::from("the commands are applied"))
 }
 
-#[test]
-fn group_is_published_word_by_word(rt: HostRuntime) -> Result<(), Fail> {
-    let mut world = World::new(Config::new(rt.alloc()))?;
-    world.propose(with_group(rt.alloc())?)?;
-    for (i, word) in GROUP_IMAGE.into_iter().enumerate() {
+// Each word of the image is filled in row 5, and there is no publication before the last word that is not 0.
+fn fills_group(rt: &impl Abort, world: &mut World) -> Result<(), Fail> {
+    for (i, word) in GROUP_IMAGE.iter().enumerate() {
         // The last word of the image is 0, as the row has it.
         if i < 8 {
             assert_eq!(rt; world.step(Publish { row: 5 }), Err(StepFault::NotLegal));
         }
         let place = begin_of(5).wrapping_add(i);
-        assert_eq!(rt; world.step(Fill { place, word })?, word);
-    }
-    assert_eq!(rt; world.step(Publish { row: 5 })?, 13);
-    assert_eq!(rt; world.word(0), Some(13));
-    assert_eq!(rt; world.word(TABLE_WORDS), None);
-    for (step, answer) in [
-        (Peek { worker: 15 }, 13),
-        (Announce { worker: 15 }, 2),
-        (Pin { worker: 15 }, 13),
-    ] {
-        assert_eq!(rt; world.step(step)?, answer);
-    }
-    for (i, word) in GROUP_IMAGE.into_iter().enumerate() {
-        let place = begin_of(5).wrapping_add(i);
-        assert_eq!(rt; world.step(Fetch { worker: 15, place })?, word);
+        assert_eq!(rt; world.step(Fill { place, word: *word })?, *word);
     }
     Ok(())
+}
+
+// The last worker enters on version 1 in row 5, and fetches each word.
+fn fetches_group(rt: &impl Abort, world: &mut World) -> Result<(), Fail> {
+    assert_eq!(rt; world.step(Peek { worker: 63 })?, 21);
+    assert_eq!(rt; world.step(Announce { worker: 63 })?, 2);
+    assert_eq!(rt; world.step(Pin { worker: 63 })?, 21);
+    for (i, word) in GROUP_IMAGE.iter().enumerate() {
+        let place = begin_of(5).wrapping_add(i);
+        assert_eq!(rt; world.step(Fetch { worker: 63, place })?, *word);
+    }
+    Ok(())
+}
+
+#[test]
+fn group_is_published_word_by_word(rt: HostRuntime) -> Result<(), Fail> {
+    let mut world = World::new(Config::new(rt.alloc()))?;
+    world.propose(with_group(rt.alloc())?)?;
+    fills_group(&rt, &mut world)?;
+    assert_eq!(rt; world.step(Publish { row: 5 })?, 21);
+    assert_eq!(rt; world.word(0), Some(21));
+    assert_eq!(rt; world.word(TABLE_WORDS), None);
+    fetches_group(&rt, &mut world)
 }
 
 // Numbers in no order: the linear congruential generator of Knuth's MMIX, and its high bits.
@@ -253,7 +268,7 @@ impl Numbers {
 
     fn step(&mut self) -> Step {
         let worker = self.below(3) as usize;
-        let row = self.below(9) as usize;
+        let row = self.below(ROWS as u64 + 1) as usize;
         match self.below(16) {
             0 | 1 => Peek { worker },
             2 | 3 => Announce { worker },
@@ -273,7 +288,7 @@ impl Numbers {
             },
             12 | 13 => Publish { row },
             _ => Scan {
-                place: self.below(18) as usize,
+                place: self.below(WORKERS as u64 + 2) as usize,
             },
         }
     }
@@ -283,7 +298,7 @@ impl Numbers {
 fn steps_in_no_order(rt: HostRuntime) -> Result<(), Fail> {
     let mut world = World::new(Config::new(rt.alloc()))?;
     let mut words = vec![in rt.alloc(); 0; TABLE_WORDS]?;
-    if let Some(first) = words.get_mut(17) {
+    if let Some(first) = words.get_mut(begin_of(0)) {
         *first = 2;
     }
     let mut history = History {
@@ -350,7 +365,7 @@ fn rounds_within(heap: &LocalHeap) -> Result<usize, Fail> {
 
 #[test]
 fn world_under_each_refused_growth(rt: HostRuntime) -> Result<(), Fail> {
-    let mut size = 524_000;
+    let mut size = 1_048_000;
     let mut least = 0;
     for _ in 0..300 {
         let heap = LocalHeap::new(rt.alloc(), size)?;

@@ -6,6 +6,6 @@ use Rattle.versions.proofs.book.Book.free_versions.Goals as goal
 
 pub returns : goal.returns
 returns c = record {
-  free_below = λ view book m. let t = c.least.ensures in let some_worker : 0 < the_shape.workers = omega (arith, workers_is) in
-      free_below the_shape view c.args.self.now book c.least.result some_worker (t.below, t.there) m;
+  free_below = λ view book m. let some_worker : 0 < the_shape.workers = omega (arith, workers_is) in
+      free_below the_shape view c.args.self.now book c.args.self.now.free some_worker book.free m;
 }
