@@ -32,11 +32,11 @@ in_version : faults_in (codes "--version" ∷ []) ≡ DisplayVersion ∷ []
 unfolding clap_on_literals
 in_version = refl
 
-in_flood : faults_in (codes "flood" ∷ codes "--workers" ∷ codes "16" ∷ []) ≡ []
+in_flood : faults_in (codes "flood" ∷ codes "--workers" ∷ codes "64" ∷ []) ≡ []
 unfolding clap_on_literals
 in_flood = refl
 
-in_flood_request : request_in (codes "flood" ∷ codes "--workers" ∷ codes "16" ∷ []) ≡ Some (flood (codes "16"))
+in_flood_request : request_in (codes "flood" ∷ codes "--workers" ∷ codes "64" ∷ []) ≡ Some (flood (codes "64"))
 unfolding clap_on_literals
 in_flood_request = refl
 
@@ -44,7 +44,7 @@ in_flood_of_none : faults_in (codes "flood" ∷ codes "--workers" ∷ codes "0" 
 unfolding clap_on_literals
 in_flood_of_none = refl
 
-in_flood_of_too_many : faults_in (codes "flood" ∷ codes "--workers" ∷ codes "17" ∷ []) ≡ ValueValidation ∷ []
+in_flood_of_too_many : faults_in (codes "flood" ∷ codes "--workers" ∷ codes "65" ∷ []) ≡ ValueValidation ∷ []
 unfolding clap_on_literals
 in_flood_of_too_many = refl
 
@@ -56,20 +56,20 @@ in_flood_alone : faults_in (codes "flood" ∷ []) ≡ MissingRequiredArgument �
 unfolding clap_on_literals
 in_flood_alone = refl
 
-in_serve : faults_in (codes "serve" ∷ codes "--front" ∷ codes "0.0.0.0:1" ∷ codes "--control" ∷ codes "0.0.0.0:2" ∷ codes "--workers" ∷ codes "16" ∷ []) ≡ []
+in_serve : faults_in (codes "serve" ∷ codes "--front" ∷ codes "0.0.0.0:1" ∷ codes "--control" ∷ codes "0.0.0.0:2" ∷ codes "--workers" ∷ codes "64" ∷ []) ≡ []
 unfolding clap_on_literals
 in_serve = refl
 
-in_serve_request : request_in (codes "serve" ∷ codes "--front" ∷ codes "0.0.0.0:1" ∷ codes "--control" ∷ codes "0.0.0.0:2" ∷ codes "--workers" ∷ codes "16" ∷ [])
-    ≡ Some (serve (codes "0.0.0.0:1") (codes "0.0.0.0:2") (codes "16"))
+in_serve_request : request_in (codes "serve" ∷ codes "--front" ∷ codes "0.0.0.0:1" ∷ codes "--control" ∷ codes "0.0.0.0:2" ∷ codes "--workers" ∷ codes "64" ∷ [])
+    ≡ Some (serve (codes "0.0.0.0:1") (codes "0.0.0.0:2") (codes "64"))
 unfolding clap_on_literals
 in_serve_request = refl
 
-in_serve_without_front : faults_in (codes "serve" ∷ codes "--control" ∷ codes "0.0.0.0:2" ∷ codes "--workers" ∷ codes "16" ∷ []) ≡ MissingRequiredArgument ∷ []
+in_serve_without_front : faults_in (codes "serve" ∷ codes "--control" ∷ codes "0.0.0.0:2" ∷ codes "--workers" ∷ codes "64" ∷ []) ≡ MissingRequiredArgument ∷ []
 unfolding clap_on_literals
 in_serve_without_front = refl
 
-in_serve_of_too_many : faults_in (codes "serve" ∷ codes "--front" ∷ codes "0.0.0.0:1" ∷ codes "--control" ∷ codes "0.0.0.0:2" ∷ codes "--workers" ∷ codes "17" ∷ [])
+in_serve_of_too_many : faults_in (codes "serve" ∷ codes "--front" ∷ codes "0.0.0.0:1" ∷ codes "--control" ∷ codes "0.0.0.0:2" ∷ codes "--workers" ∷ codes "65" ∷ [])
     ≡ ValueValidation ∷ []
 unfolding clap_on_literals
 in_serve_of_too_many = refl

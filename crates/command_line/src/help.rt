@@ -102,7 +102,7 @@ Example:
 
 pub const FLOOD: &str = "Judge 4096 datagrams in worker threads while versions are replaced";
 
-pub const FLOOD_WORKERS: &str = "How many worker threads, from 1 to 16";
+pub const FLOOD_WORKERS: &str = "How many worker threads, from 1 to 64";
 
 pub const FLOOD_MORE: &str = "\
 Reads nothing. Each worker judges its share of 4096 datagrams, and what is to be delivered goes to
@@ -119,7 +119,7 @@ pub const SERVE_FRONT: &str = "Where the datagrams come to, as ADDRESS:PORT";
 
 pub const SERVE_CONTROL: &str = "Where the control lines come to, as ADDRESS:PORT";
 
-pub const SERVE_WORKERS: &str = "How many worker threads judge, from 1 to 16";
+pub const SERVE_WORKERS: &str = "How many worker threads judge, from 1 to 64";
 
 pub const SERVE_MORE: &str = "\
 Reads UDP datagrams. Each that comes to FRONT is a whole IPv4 packet: the workers take them in turn,

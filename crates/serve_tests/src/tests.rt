@@ -5,3 +5,4 @@ mod client;
 mod control_datagrams;
 mod devices;
 mod loopback;
+mod worker_order;

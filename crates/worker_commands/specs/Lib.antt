@@ -1,7 +1,9 @@
-pub mod Flood
-pub mod FloodVersions
-pub mod Traffic
 pub mod Waiting
+pub use Rattle.memory_flood.specs.Failing
+pub use Rattle.memory_flood.specs.Flood
+pub use Rattle.memory_flood.specs.FloodVersions
+pub use Rattle.memory_flood.specs.Traffic
 pub use Rattle.worker_threads.specs.Counted
 pub use Rattle.worker_threads.specs.ServeFault
 pub use Rattle.worker_threads.specs.TotalsLine
+pub use Rattle.worker_threads.specs.Workers

@@ -1,25 +1,18 @@
 -- What the commands that may wait write (docs/COMMANDS.md, "flood", "serve").
-use Rattle.std.specs.Prelude.{◌≡◌, ◌≢◌, ◌≤◌, ◌⊎◌, List, None, Option, Some, codes, ℕ}
+use Rattle.std.specs.Prelude.{◌≡◌, ◌≢◌, ◌⊎◌, List, None, Option, Some, codes, ℕ}
 use Rattle.std.specs.Io.KnownBytes.{Appends}
-use Rattle.std.specs.Str.Parse.{IsNumeral, digits_value, without_leading_plus}
 use Rattle.clap.specs.Words.{Text}
-use Rattle.versions.specs.declared.layout.TheConstants.{WORKERS}
 use Rattle.command_line.specs.declared.ending.Failure.{Failure}
 use Rattle.command_line.specs.declared.ending.Failure.TheVariants.{BindFailed, OutOfMemory, ReadFailed, WriteFailed}
-use Rattle.worker_commands.specs.declared.TheConstants.{DATAGRAMS}
+use Rattle.memory_flood.specs.declared.TheConstants.{DATAGRAMS}
 use Rattle.command_line.specs.CommandLine.{Request, flood, request_in, serve}
 use Rattle.command_line.specs.Ending.{AppendsBeginning, line_of}
 use Rattle.ipv4_fields.specs.Endpoint.{IsEndpoint, endpoint_text}
 use Rattle.ipv4_fields.specs.declared.endpoint.Endpoint.{Endpoint}
 use Rattle.udp_service.specs.Service.{WritesReadyOrNothing, WritesServed}
-use Rattle.worker_commands.specs.Flood.{WritesFlood}
-
--- the text is this number of workers, in decimal digits, of which there may be too many, and with or without a plus sign
-pub record IsWorkers (text : Text) (count : ℕ) : Type 0 where
-  pub digits : IsNumeral 10 (without_leading_plus text)
-  pub count_is : count ≡ digits_value 10 (without_leading_plus text)
-  pub at_least_one : 1 ≤ count
-  pub at_most : count ≤ WORKERS
+use Rattle.memory_flood.specs.Failing.{EndsInFloodFailure}
+use Rattle.memory_flood.specs.Flood.{WritesFlood}
+use Rattle.worker_threads.specs.Workers.{IsWorkers}
 
 -- the text is an endpoint's, or none's
 abbrev pub IsAddress : Text → Type 0
@@ -60,14 +53,6 @@ LackWorkers words =
     × (request_in words ≡ Some request)
     × (workers_of request ≡ Some workers)
     × ((count : ℕ) → IsWorkers workers count → ⊥)
-
--- `flood` failed in one of these ways, not in reading; where no write failed nothing was written, and a beginning of the failure's
--- line was told
-pub record EndsInFloodFailure (before after told_before told_after : Option (List ℕ)) : Type 0 where
-  pub failure : Failure
-  pub no_read : failure ≢ ReadFailed
-  pub written : failure ≢ WriteFailed → after ≡ before
-  pub told : AppendsBeginning told_before told_after (line_of failure)
 
 -- `serve` for these addresses failed so; where no write failed the line `ready` was written or nothing, and nothing where a socket was
 -- not bound; but for writes and memory it fails only where both addresses are endpoints

@@ -1,28 +1,21 @@
 //! The commands that run worker threads, so that they may wait (docs/COMMANDS.md, "flood", "serve").
 //!
-//! `run_waiting` runs the one that the words ask for; `flood` judges datagrams in memory while versions are replaced, and `serve` those
-//! of a UDP socket.
+//! `run_waiting` runs the one that the words ask for: `flood` of memory_flood, or `serve` of udp_service.
 #![tactic(auto)]
 
-ghost use Rattle.std.specs.Prelude.{◌≡◌, ◌⊎◌, MatchOption, OnOk, codes, map, string_bytes, ℕ};
+ghost use Rattle.std.specs.Prelude.{◌≡◌, ◌⊎◌, OnOk, codes, map, string_bytes, ℕ};
 ghost use Rattle.std.specs.Io.KnownBytes.{Appends};
 ghost use Rattle.command_line.specs.CommandLine.{AskToWait};
 ghost use Rattle.command_line.specs.Ending.{AppendsBeginning, line_of};
 ghost use Rattle.command_line.specs.declared.ending.Failure.TheVariants as failure;
 ghost use Rattle.udp_service.specs.Service.{WritesServed};
-ghost use Rattle.worker_commands.specs.Flood.{WritesFlood};
-ghost use Rattle.worker_commands.specs.Waiting.{EndsInFloodFailure, EndsInServeFailure, EndsInWaitingFailure, IsAddress, IsNoAddress, IsWorkers, LackWorkers, RefusesAddress, WritesFor};
-
-mod flood_jobs;
-mod flood_versions;
-mod flooding;
-mod traffic;
+ghost use Rattle.worker_commands.specs.Waiting.{EndsInServeFailure, EndsInWaitingFailure, IsAddress, IsNoAddress, LackWorkers, RefusesAddress, WritesFor};
+ghost use Rattle.worker_threads.specs.Workers.{IsWorkers};
 
 use command_line::{Failure, Status, Subcommand, read_words};
-use dispatch::Gate;
-pub use flooding::flood;
 use ipv4_fields::Endpoint;
-use read_section::WORKERS;
+use memory_flood::run_flood;
+pub use memory_flood::{DATAGRAMS, flood};
 use std::alloc::Global;
 use std::io;
 use std::io::Write;
@@ -31,61 +24,7 @@ use std::sync::Wait;
 use std::thread::Threads;
 pub use udp_service::serve;
 pub use worker_threads::ServeFault;
-
-/// How many datagrams the command `flood` judges.
-pub const DATAGRAMS: usize = 4096;
-
-// Lets each batch begin at once.
-struct Open;
-
-impl Gate for Open {
-    fn start(&self, _batch: u64) {}
-
-    fn done(&self, _batch: u64) {}
-}
-
-// A number of workers, as it is written.
-fn worker_count(text: &str) -> Option<usize>
-    ensures { MatchOption result ((count : ℕ) → IsWorkers text.now count → ⊥) (IsWorkers text.now) }
-{
-    match text.parse::<usize>() {
-        Ok(count) if (1..=WORKERS).contains(&count) => Some(count),
-        _ => None,
-    }
-}
-
-// `clap` lets no other number through.
-fn refuse_count<E: Write>(errs: &mut E) -> Status
-    ensures { result ≡ Status.Misused }
-{
-    let _ = writeln!(errs, "error: --workers takes a number from 1 to {WORKERS}");
-    Status::Misused
-}
-
-fn run_flood<R: Threads + Wait + Sync, W: Write, E: Write>(
-    rt: &R,
-    alloc: Global,
-    workers: &str,
-    out: &mut W,
-    errs: &mut E,
-) -> Status
-    ensures done { result ≡ Status.Done
-        → (count : ℕ) × IsWorkers workers.now count × WritesFlood count DATAGRAMS (W.contents out.old) (W.contents out.new) }
-    ensures no_errors { result ≡ Status.Done → errs.new ≡ errs.old }
-    ensures never_refused { result ≡ Status.Refused → ⊥ }
-    ensures misused { result ≡ Status.Misused → (count : ℕ) → IsWorkers workers.now count → ⊥ }
-    ensures nothing_written { result ≡ Status.Misused → out.new ≡ out.old }
-    ensures failed { result ≡ Status.Failed
-        → EndsInFloodFailure (W.contents out.old) (W.contents out.new) (E.contents errs.old) (E.contents errs.new) }
-{
-    let Some(workers) = worker_count(workers) else {
-        return refuse_count(errs);
-    };
-    match flood(rt, alloc, workers, DATAGRAMS, &Open, out) {
-        Ok(()) => Status::Done,
-        Err(fault) => Failure::from(fault).report(errs),
-    }
-}
+use worker_threads::{OpenGate, refuse_count, worker_count};
 
 fn write_refusal<W: Write>(out: &mut W) -> io::Result<()>
     ensures { OnOk result (Appends (W.contents out.old) (W.contents out.new) (codes "refused C1\n")) }
@@ -138,7 +77,7 @@ fn run_serve<R: Threads + Wait + Net + Sync, W: Write, E: Write>(
     let Some(control) = Endpoint::from_text(addresses.1.as_bytes()) else {
         return refuse_address(out, errs);
     };
-    match serve(rt, alloc, front, control, workers, &Open, out) {
+    match serve(rt, alloc, front, control, workers, &OpenGate, out) {
         Ok(()) => Status::Done,
         Err(failed) => Failure::from(failed).report(errs),
     }

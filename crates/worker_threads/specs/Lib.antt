@@ -1,3 +1,4 @@
 pub mod Counted
 pub mod ServeFault
 pub mod TotalsLine
+pub mod Workers

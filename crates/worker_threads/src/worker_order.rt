@@ -1,22 +1,55 @@
 //! In which order a command takes workers (docs/DECISIONS.md, "Which worker is taken first").
 
-ghost use Rattle.std.specs.Prelude.{◌≡◌, vec_len, IsPermutation};
+ghost use Rattle.std.specs.Prelude.{◌≡◌, ◌≤◌, vec_len, IsPermutation};
+ghost use Rattle.worker_threads.specs.declared.worker_order.TheConstants.{APART};
 
-use read_section::Worker;
+use read_section::{WORKERS, Worker};
 
-// Of sixteen workers, this one's read word lies eight words from the last worker's, and eight from the word of the current version.
-const FIRST: usize = 7;
+// Read words that are so many words apart never share a cache line of 64 bytes.
+const APART: usize = 8;
+
+// How many times as many workers there are, but for the first so many.
+const LINES: usize = WORKERS / APART - 1;
+
+// Moves the worker at a place behind the others.
+fn move_to_end(workers: &mut Vec<Worker>, place: usize)
+    ensures same_workers { IsPermutation workers.old.items workers.new.items }
+    ensures count { vec_len workers.new ≡ vec_len workers.old }
+{
+    if place >= workers.len() {
+        return;
+    }
+    let worker = workers.remove(place);
+    let Ok(()) = workers.push(worker) else {
+        unreachable!()
+    };
+}
+
+// Of each line's workers so many are left: moves the first of them, from the last line to the first, behind the others. In front of
+// all lines stands worker 7.
+fn move_first_of_lines(workers: &mut Vec<Worker>, left: usize)
+    requires { left ≤ APART }
+    ensures same_workers { IsPermutation workers.old.items workers.new.items }
+    ensures count { vec_len workers.new ≡ vec_len workers.old }
+{
+    for line in 0..LINES {
+        move_to_end(workers, 1 + (LINES - 1 - line) * left);
+    }
+}
 
 /// Puts the workers that `open` made into the order in which `pop` is to take them. Takes no memory.
+///
+/// First come workers 7, 15, 23 .. 63, whose read words are eight apart from each other and from `current`; then 14, 22 .. 62, and so
+/// on; and last 6, 5 .. 0, whose read words lie beside `current`.
 pub fn spread(workers: &mut Vec<Worker>)
     ensures same_workers { IsPermutation workers.old.items workers.new.items }
     ensures count { vec_len workers.new ≡ vec_len workers.old }
 {
-    if workers.len() <= FIRST {
-        return;
+    for _ in 1..APART {
+        move_to_end(workers, 0);
     }
-    let first = workers.remove(FIRST);
-    let Ok(()) = workers.push(first) else {
-        unreachable!()
-    };
+    for moved in 0..APART {
+        move_first_of_lines(workers, APART - moved);
+    }
+    move_to_end(workers, 0);
 }

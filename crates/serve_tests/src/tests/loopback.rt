@@ -209,7 +209,7 @@ fn unusual<N: Net>(
     Ok([ruled, empty, whole, selected, failed_send, refused, stopped])
 }
 
-// Sixteen workers, on ports that the system picks.
+// Sixty-four workers, on ports that the system picks.
 #[test]
 fn unusual_datagrams(rt: HostRuntime) -> Result<(), Fail> {
     let member = UdpSocket::bind(&rt, "127.0.0.1:0")?;
@@ -217,7 +217,7 @@ fn unusual_datagrams(rt: HostRuntime) -> Result<(), Fail> {
     let (mut out, ports) = new_output(rt.alloc())?;
     let (served, found) = thread::join(
         &rt,
-        || serve(&rt, rt.alloc(), at(0), at(0), 16, &Open, &mut out),
+        || serve(&rt, rt.alloc(), at(0), at(0), 64, &Open, &mut out),
         || unusual(&rt, rt.alloc(), &ports, &member),
     );
     assert_eq!(rt; served, Ok(()));

@@ -4,12 +4,13 @@ use Rattle.command_line.specs.declared.command.Subcommand.{Subcommand}
 use Rattle.command_line.specs.declared.ending.Failure.TheVariants.{OutOfMemory}
 use Rattle.command_line.specs.declared.ending.Status.{Status}
 use Rattle.command_line.specs.declared.ending.Status.TheVariants.{Done, Failed, Misused, Refused}
-use Rattle.worker_commands.specs.declared.TheConstants.{DATAGRAMS}
+use Rattle.memory_flood.specs.declared.TheConstants.{DATAGRAMS}
 use Rattle.command_line.specs.CommandLine.{flood, request_of, serve}
 use Rattle.command_line.specs.Ending.{AppendsBeginning, line_of}
 use Rattle.udp_service.specs.Service.{WritesServed}
-use Rattle.worker_commands.specs.Flood.{WritesFlood}
-use Rattle.worker_commands.specs.Waiting.{EndsInFloodFailure, EndsInServeFailure, flood_failed, flooded, serve_failed, served, unread}
+use Rattle.memory_flood.specs.Failing.{EndsInFloodFailure}
+use Rattle.memory_flood.specs.Flood.{WritesFlood}
+use Rattle.worker_commands.specs.Waiting.{EndsInServeFailure, flood_failed, flooded, serve_failed, served, unread}
 use Rattle.worker_commands.proofs.run_waiting.Goals as goal
 use Rattle.worker_commands.proofs.run_waiting.Goals.{in-Err, in-Ok-Flood, in-Ok-Serve}
 

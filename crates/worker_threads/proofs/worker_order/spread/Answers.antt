@@ -1,16 +1,13 @@
-use Rattle.std.proofs.Common.{◌∙◌, ◌<◌, ◌++◌, ◌∷◌, IsPermutation, List, [], ap, arith, length, subst, sym}
-use Rattle.std.proofs.lemmas.List.Sorted.{IsPermutation-remove, IsPermutation-sym, IsPermutation-to_front, IsPermutation-trans}
-use Rattle.std.specs.List.{remove}
-use Rattle.read_section.specs.Worker.{WorkerValue}
-use Rattle.worker_threads.specs.declared.worker_order.TheConstants.{FIRST}
+use Rattle.std.proofs.Common.{◌∙◌, IsPermutation}
+use Rattle.std.proofs.lemmas.List.Sorted.{IsPermutation-trans}
 use Rattle.worker_threads.proofs.worker_order.spread.Goals as goal
 
+pub loop-preserved : goal.loop-preserved
+loop-preserved c = (IsPermutation-trans _ _ _ c.loop.invariant.0 c.move_to_end.ensures.same_workers, c.move_to_end.ensures.count ∙ c.loop.invariant.1)
+
+pub loop-moved-preserved : goal.loop-moved-preserved
+loop-moved-preserved c =
+    (IsPermutation-trans _ _ _ c.loop-moved.invariant.0 c.move_first_of_lines.ensures.same_workers, c.move_first_of_lines.ensures.count ∙ c.loop-moved.invariant.1)
+
 pub returns-clause-same_workers : goal.returns-clause-same_workers
-returns-clause-same_workers c =
-    let workers : List WorkerValue = c.args.workers.now.items in let first : WorkerValue = c.remove-first.result in
-    let rest : List WorkerValue = remove workers FIRST in
-    let many = c.args.workers.now.ok.0 in let counted = c.len.ensures in let inside : FIRST < length workers = omega arith in
-    let after = c.in-Ok.ensures.items ∙ ap (λ (all : List WorkerValue). all ++ first ∷ []) c.remove-first.ensures.items in
-    subst (λ (all : List WorkerValue). IsPermutation workers all) (sym after)
-    (IsPermutation-trans workers (first ∷ rest) (rest ++ first ∷ []) (IsPermutation-remove workers FIRST first inside c.remove-first.ensures.value)
-    (IsPermutation-sym (rest ++ first ∷ []) (first ∷ rest) (IsPermutation-to_front rest first)))
+returns-clause-same_workers c = IsPermutation-trans _ _ _ c.loop-moved.invariant.0 c.move_to_end-2.ensures.same_workers

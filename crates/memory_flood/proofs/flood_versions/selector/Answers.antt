@@ -1,0 +1,8 @@
+use Rattle.sample_group.proofs.AcceptedLemmas.{second_accepted, third_accepted}
+use Rattle.memory_flood.proofs.flood_versions.selector.Goals as goal
+
+pub returns-then-i-eq0-clause-accepted : goal.returns-then-i-eq0-clause-accepted
+returns-then-i-eq0-clause-accepted c = second_accepted
+
+pub returns-else-i-eq0-clause-accepted : goal.returns-else-i-eq0-clause-accepted
+returns-else-i-eq0-clause-accepted c = third_accepted

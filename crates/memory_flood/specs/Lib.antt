@@ -1,0 +1,4 @@
+pub mod Failing
+pub mod Flood
+pub mod FloodVersions
+pub mod Traffic

@@ -1,0 +1,51 @@
+//! The command `flood`: datagrams from memory are judged by worker threads while versions are replaced (docs/COMMANDS.md, "flood").
+//!
+//! `run_flood` runs it for a number of workers as it is written; `flood` for any number of datagrams and any gate.
+#![tactic(auto)]
+
+ghost use Rattle.std.specs.Prelude.{◌≡◌, ℕ};
+ghost use Rattle.memory_flood.specs.Failing.{EndsInFloodFailure};
+ghost use Rattle.memory_flood.specs.Flood.{WritesFlood};
+ghost use Rattle.worker_threads.specs.Workers.{IsWorkers};
+
+mod flood_jobs;
+mod flood_versions;
+mod flooding;
+mod traffic;
+
+use command_line::{Failure, Status};
+pub use flooding::flood;
+use std::alloc::Global;
+use std::io::Write;
+use std::sync::Wait;
+use std::thread::Threads;
+use worker_threads::{OpenGate, refuse_count, worker_count};
+
+/// How many datagrams the command `flood` judges.
+pub const DATAGRAMS: usize = 4096;
+
+/// Runs `flood` with so many workers, 1 to 64 in decimal digits, and answers the exit status.
+pub fn run_flood<R: Threads + Wait + Sync, W: Write, E: Write>(
+    rt: &R,
+    alloc: Global,
+    workers: &str,
+    out: &mut W,
+    errs: &mut E,
+) -> Status
+    ensures done { result ≡ Status.Done
+        → (count : ℕ) × IsWorkers workers.now count × WritesFlood count DATAGRAMS (W.contents out.old) (W.contents out.new) }
+    ensures no_errors { result ≡ Status.Done → errs.new ≡ errs.old }
+    ensures never_refused { result ≡ Status.Refused → ⊥ }
+    ensures misused { result ≡ Status.Misused → (count : ℕ) → IsWorkers workers.now count → ⊥ }
+    ensures nothing_written { result ≡ Status.Misused → out.new ≡ out.old }
+    ensures failed { result ≡ Status.Failed
+        → EndsInFloodFailure (W.contents out.old) (W.contents out.new) (E.contents errs.old) (E.contents errs.new) }
+{
+    let Some(workers) = worker_count(workers) else {
+        return refuse_count(errs);
+    };
+    match flood(rt, alloc, workers, DATAGRAMS, &OpenGate, out) {
+        Ok(()) => Status::Done,
+        Err(fault) => Failure::from(fault).report(errs),
+    }
+}
