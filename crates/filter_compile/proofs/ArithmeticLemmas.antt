@@ -1,164 +1,122 @@
--- The code of arithmetic: values in A, and a pair of values in A and X.
-use Rattle.std.proofs.Common.{◌≡◌, ◌∙◌, ◌+◌, ◌*◌, ◌%◌, ◌<◌, ◌^◌, ◌≤◌, List, None, Option, Some, ap, arith, cond, false, inl, inr, length, refl, ℕ, ⊎_elim}
-use Rattle.std.specs.Prelude.{nat_lt, option_and_then, option_map}
-use Rattle.std.proofs.lemmas.Bool.{cases_lt, eq-eqb, lt-ltb, ne_eqb}
+-- The code of arithmetic: the values of its forms in A, and a pair of values in A and X.
+use Rattle.std.proofs.Common.{◌≡◌, ◌∙◌, ◌+◌, ◌-◌, ◌*◌, ◌%◌, ◌<◌, ◌^◌, ◌≤◌, Bool, List, None, Option, Some, ap, arith, cond, false, inl, inr, length, refl, sym, true, ℕ, ⊎_elim}
+use Rattle.std.specs.Prelude.{option_and_then, option_map}
+use Rattle.std.proofs.lemmas.Bool.{cases_lt, eq-eqb, ne_eqb}
 use Rattle.bpf_insn.specs.declared.instruction.Insn.{Insn}
-use Rattle.bpf_insn.specs.declared.instruction.Insn.TheVariants.{Alu, CopyToX, LoadCell, LoadConstant, LoadIndexed, LoadLength, LoadXHeader, Store}
-use Rattle.bpf_insn.specs.declared.instruction.Operand.TheVariants.{X}
+use Rattle.bpf_insn.specs.declared.instruction.Insn.TheVariants.{Alu, CopyToX, LoadAbsolute, LoadCell, LoadConstant, LoadIndexed, LoadLength, LoadXConstant, LoadXHeader, LoadXLength, Store}
+use Rattle.bpf_insn.specs.declared.instruction.Operand.{Operand}
+use Rattle.bpf_insn.specs.declared.instruction.Operand.TheVariants.{K, X}
 use Rattle.bpf_insn.specs.declared.instruction.Operation.{Operation}
 use Rattle.bpf_insn.specs.declared.instruction.Operation.TheVariants.{Add}
 use Rattle.bpf_insn.specs.declared.instruction.Size.{Size as InsnSize}
-use Rattle.bpf_verify.specs.declared.TheConstants.{CELLS}
-use Rattle.bpf_verify.specs.declared.fault.Fault.TheVariants.{BadCell}
-use Rattle.bpf_machine.specs.Meaning.{Cells, Ret, a_or_end, a_or_stuck, mean, with_cell, x_or_end}
+use Rattle.bpf_insn.specs.declared.instruction.Size.TheVariants.{Byte}
+use Rattle.bpf_machine.specs.Meaning.{Cells, a_or_end, a_or_stuck, header_length, mean, with_cell, x_or_end}
 use Rattle.bpf_machine.specs.Packet.{packet_number}
-use Rattle.ipv4_fields.specs.Field.{field_of, ihl_of, number_at}
+use Rattle.ipv4_fields.specs.Field.{bits_from, field_of, ihl_of, number_at}
 use Rattle.filter_tree.specs.declared.arithmetic.Operator.{Operator}
 use Rattle.filter_tree.specs.declared.arithmetic.Protocol.{Protocol}
 use Rattle.filter_tree.specs.declared.arithmetic.Protocol.TheVariants.{Icmp, Ip, Tcp, Udp}
 use Rattle.filter_tree.specs.declared.arithmetic.Size.{Size}
-use Rattle.filter_tree.specs.declared.expression.Relation.{Relation}
-use Rattle.filter_tree.specs.Arithmetic.{behind_header, byte_count, combined, loaded}
-use Rattle.filter_tree.specs.Measure.{weight_of_arith}
-use Rattle.filter_tree.specs.Outcome.{answer}
-use Rattle.filter_tree.specs.Tree.{ArithTree, accessor}
-use Rattle.filter_tree.specs.Truth.{compared, holds}
+use Rattle.filter_tree.specs.Arithmetic.{byte_count, combined, loaded}
 use Rattle.filter_compile.specs.Answer.{IsPacket}
-use Rattle.filter_compile.specs.body.Header.{DoesAs, ReadsAs, weight_of_access}
-use Rattle.filter_compile.specs.body.Piece.{Accesses, Checks, ComesWith, Computes, GoesBy, IsInFront, IsPlain, IsPushed, IsWellFormed, KeepsBelow, LoadsStored, Tests}
-use Rattle.filter_compile.proofs.PushLemmas.{IsInFront-pushed, after_effect, mean_pushed, well_formed_pushed}
-use Rattle.filter_compile.proofs.TargetLemmas.{in_front-both, in_front-more}
-use Rattle.filter_compile.proofs.CheckLemmas.{loads_next}
-use Rattle.filter_compile.proofs.TestLemmas.{goes_by_answer, on_from, plain_loads}
-use Rattle.filter_compile.proofs.HeaderLemmas.{header_is, header_plain, indexed_plain, length_plain}
+use Rattle.filter_compile.specs.body.Arithmetic.{DoesAs, IsDirect, ReadsAs, weight_of_access}
+use Rattle.backpatch.specs.Runs.{IsPushed, KeepsBelow, LoadsStored}
+use Rattle.backpatch.proofs.PushedLemmas.{after_effect, loads_next, mean_pushed}
+use Rattle.packet_facts.specs.Known.{Knows}
+use Rattle.filter_compile.specs.body.Piece.{ComesWith, Computes, IsPlain, Pairs, PairsWith, behind}
+use Rattle.filter_compile.proofs.PacketLemmas.{packet_number-number_at}
+use Rattle.filter_compile.proofs.ValueLemmas.{Computes-load, Computes-same, Computes-then, plain_loads, set_comes}
 
 pub copy_plain : IsPlain CopyToX
-copy_plain = record { faultless = λ len. refl; next = refl; loads_none = λ cell none. none }
+copy_plain = record { next = refl; loads_none = λ cell none. none }
 
-pub operation_plain : (operation : Operation) → IsPlain (Alu operation X)
-operation_plain operation = record { faultless = λ len. refl; next = refl; loads_none = λ cell none. none }
+pub operation_plain : (operation : Operation) (operand : Operand) → IsPlain (Alu operation operand)
+operation_plain operation operand = record { next = refl; loads_none = λ cell none. none }
 
 pub constant_plain : (n : ℕ) → IsPlain (LoadConstant n)
-constant_plain n = record { faultless = λ len. refl; next = refl; loads_none = λ cell none. none }
+constant_plain n = record { next = refl; loads_none = λ cell none. none }
 
--- a plain instruction in front
-pub plain_well_formed : (insn : Insn) → IsPlain insn → (before after : List ℕ) → IsPushed insn before after → IsWellFormed before → IsWellFormed after
-plain_well_formed insn plain before after pushed ok = well_formed_pushed insn before after pushed (plain.faultless _) ok
+pub x_constant_plain : (n : ℕ) → IsPlain (LoadXConstant n)
+x_constant_plain n = record { next = refl; loads_none = λ cell none. none }
 
--- ---- values without parts
+pub length_plain : IsPlain LoadLength
+length_plain = record { next = refl; loads_none = λ cell none. none }
 
-module _ (d : ℕ) (before after : List ℕ) where
-  pub Computes-number : (n : ℕ) → IsPushed (LoadConstant n) before after → Computes (λ packet. Some n) d 1 before after
-  Computes-number n pushed = record {
-    in_front = IsInFront-pushed (LoadConstant n) before after pushed;
-    well_formed = plain_well_formed (LoadConstant n) (constant_plain n) before after pushed;
-    loads_stored = plain_loads (LoadConstant n) (constant_plain n) before after d pushed;
-    comes = λ packet ok a x cells. (x, cells, λ cell low. refl, mean_pushed (LoadConstant n) before after pushed a x cells packet);
+pub x_length_plain : IsPlain LoadXLength
+x_length_plain = record { next = refl; loads_none = λ cell none. none }
+
+pub absolute_plain : (size : InsnSize) (k : ℕ) → IsPlain (LoadAbsolute size k)
+absolute_plain size k = record { next = refl; loads_none = λ cell none. none }
+
+pub indexed_plain : (size : InsnSize) (k : ℕ) → IsPlain (LoadIndexed size k)
+indexed_plain size k = record { next = refl; loads_none = λ cell none. none }
+
+pub header_plain : IsPlain (LoadXHeader 0)
+header_plain = record { next = refl; loads_none = λ cell none. none }
+
+-- ---- numbers, the packet's length
+
+module _ (known : Bool) (d : ℕ) (later words : List ℕ) where
+  pub Computes-number : (n : ℕ) → IsPushed (LoadConstant n) later words → Computes (λ packet a. Some n) known known d later words
+  Computes-number n pushed = Computes-load (LoadConstant n) (constant_plain n) known (λ packet. Some n) d later words pushed (λ packet a x cells knows. refl)
+
+  length_fits : (packet : List ℕ) → IsPacket packet → length packet ≡ length packet % 2 ^ 32
+  length_fits packet ok = let few = ok.not_too_long in omega arith
+
+  pub Computes-length : IsPushed LoadLength later words → Computes (λ packet a. Some (length packet % 2 ^ 32)) known known d later words
+  Computes-length pushed =
+      Computes-same (λ packet a. Some (length packet)) (λ packet a. Some (length packet % 2 ^ 32)) known known d later words (λ packet ok a. ap Some (length_fits packet ok))
+      (Computes-load LoadLength length_plain known (λ packet. Some (length packet)) d later words pushed (λ packet a x cells knows. refl))
+
+-- ---- an operation on A and an operand
+
+-- X becomes a value, which is not known
+set_x : (insn : Insn) → IsPlain insn → (value : List ℕ → ℕ) (known : Bool) (d : ℕ) (later words : List ℕ) → IsPushed insn later words
+    → ((packet : List ℕ) (a x : ℕ) (cells : Cells) → mean words a x cells packet ≡ mean later a (value packet) cells packet) → Pairs (λ packet. Some (value packet)) known d later words
+set_x insn plain value known d later words pushed on = record {
+  loads_stored = plain_loads insn plain later words d pushed;
+  comes = λ packet ok a x cells knows. (cells, λ cell low. refl, on packet a x cells);
+}
+
+pub Pairs-number : (n : ℕ) (known : Bool) (d : ℕ) (later words : List ℕ) → IsPushed (LoadXConstant n) later words → Pairs (λ packet. Some n) known d later words
+Pairs-number n known d later words pushed =
+    set_x (LoadXConstant n) (x_constant_plain n) (λ packet. n) known d later words pushed (λ packet a x cells. mean_pushed (LoadXConstant n) later words pushed a x cells packet)
+
+pub Pairs-length : (known : Bool) (d : ℕ) (later words : List ℕ) → IsPushed LoadXLength later words → Pairs (λ packet. Some (length packet % 2 ^ 32)) known d later words
+Pairs-length known d later words pushed = record {
+  loads_stored = plain_loads LoadXLength x_length_plain later words d pushed;
+  comes = λ packet ok a x cells knows.
+      (cells, λ cell low. refl, mean_pushed LoadXLength later words pushed a x cells packet ∙ ap (λ n. mean later a n cells packet) (length_fits known d later words packet ok));
+}
+
+module _ (operator : Operator) (operation : Operation) (does : DoesAs operator operation) where
+  pub Computes-constant : (n : ℕ) (known : Bool) (d : ℕ) (later words : List ℕ) → IsPushed (Alu operation (K n)) later words → Computes (λ packet a. combined operator a n) known known d later words
+  Computes-constant n known d later words pushed = record {
+    loads_stored = plain_loads (Alu operation (K n)) (operation_plain operation (K n)) later words d pushed;
+    comes = λ packet ok a x cells knows.
+        set_comes (combined operator a n) known d later words packet a x cells knows
+        (mean_pushed (Alu operation (K n)) later words pushed a x cells packet ∙ ap (λ o. after_effect (a_or_end o x cells) later packet) (does a n));
   }
 
-  pub Computes-length : IsPushed LoadLength before after → Computes (λ packet. Some (length packet % 2 ^ 32)) d 1 before after
-  Computes-length pushed = record {
-    in_front = IsInFront-pushed LoadLength before after pushed;
-    well_formed = plain_well_formed LoadLength length_plain before after pushed;
-    loads_stored = plain_loads LoadLength length_plain before after d pushed;
-    comes = λ packet ok a x cells. let few = ok.not_too_long in
-        (x, cells, λ cell low. refl, mean_pushed LoadLength before after pushed a x cells packet ∙ ap (λ n. mean before n x cells packet) (let g : length packet ≡ length packet % 2 ^ 32 = omega arith in g));
-  }
+  module _ (right : List ℕ → Option ℕ) (given : Bool) (d : ℕ) (later mid words : List ℕ) (apply : IsPushed (Alu operation X) later mid) (pairs : Pairs right given d mid words) where
+    -- the operation on the value in X
+    applied : (found : Option ℕ) (packet : List ℕ) (a x r : ℕ) (cells cells' : Cells) → KeepsBelow d cells cells' → mean words a x cells packet ≡ after_effect (a_or_end found r cells') later packet → ComesWith found false d later words packet a x cells
+    applied None packet a x r cells cells' keeps on = on
+    applied (Some v) packet a x r cells cells' keeps on = (r, cells', keeps, tt, on)
 
--- ---- accessors
+    pair_applied : (found : Option ℕ) (packet : List ℕ) (a x : ℕ) (cells : Cells) → PairsWith found d mid words packet a x cells → ComesWith (option_and_then (combined operator a) found) false d later words packet a x cells
+    pair_applied None packet a x cells h = h
+    pair_applied (Some r) packet a x cells h =
+        applied (combined operator a r) packet a x r cells h.0 h.1
+        (h.2 ∙ (mean_pushed (Alu operation X) later mid apply a r h.0 packet ∙ ap (λ o. after_effect (a_or_end o r h.0) later packet) (does a r)))
 
-came : (found : Option ℕ) (d : ℕ) (before after packet : List ℕ) (a x x' : ℕ) (cells : Cells) → mean after a x cells packet ≡ after_effect (a_or_end found x' cells) before packet → ComesWith found d before after packet a x cells
-came None d before after packet a x x' cells on = on
-came (Some v) d before after packet a x x' cells on = (x', cells, λ cell low. refl, on)
+    pub Computes-applied : Computes (λ packet a. option_and_then (combined operator a) (right packet)) given false d later words
+    Computes-applied = record {
+      loads_stored = λ ok. pairs.loads_stored (plain_loads (Alu operation X) (operation_plain operation X) later mid d apply ok);
+      comes = λ packet ok a x cells knows. pair_applied (right packet) packet a x cells (pairs.comes packet ok a x cells knows);
+    }
 
-on_to : (found : Option ℕ) (d : ℕ) (before mid after packet : List ℕ) (a a' x x' : ℕ) (cells : Cells) → mean after a x cells packet ≡ mean mid a' x' cells packet → ComesWith found d before mid packet a' x' cells → ComesWith found d before after packet a x cells
-on_to None d before mid after packet a a' x x' cells on h = on ∙ h
-on_to (Some v) d before mid after packet a a' x x' cells on h = (h.0, h.1, h.2, on ∙ h.3)
-
-kept_on : (found : Option ℕ) (d : ℕ) (before mid after packet : List ℕ) (a a' x x' : ℕ) (cells cells' : Cells) → KeepsBelow d cells cells' → mean after a x cells packet ≡ mean mid a' x' cells' packet
-    → ComesWith found d before mid packet a' x' cells' → ComesWith found d before after packet a x cells
-kept_on None d before mid after packet a a' x x' cells cells' keeps on h = on ∙ h
-kept_on (Some v) d before mid after packet a a' x x' cells cells' keeps on h = (h.0, h.1, λ cell low. h.2 cell low ∙ keeps cell low, on ∙ h.3)
-
-module _ (size : Size) (insn_size : InsnSize) (reads : ReadsAs size insn_size) (before one two : List ℕ) (first : IsPushed (LoadIndexed insn_size 0) before one) (second : IsPushed CopyToX one two) where
-  indexed_comes : (packet : List ℕ) (d a x : ℕ) (cells : Cells) → ComesWith (number_at (byte_count size) packet a) d before two packet a x cells
-  indexed_comes packet d a x cells =
-      let same : packet_number packet insn_size (a + 0) ≡ number_at (byte_count size) packet a = reads packet (a + 0) ∙ ap (number_at (byte_count size) packet) (let g : a + 0 ≡ a = omega arith in g) in
-      came (number_at (byte_count size) packet a) d before two packet a x a cells
-      (mean_pushed CopyToX one two second a x cells packet ∙ (mean_pushed (LoadIndexed insn_size 0) before one first a a cells packet ∙ ap (λ o. after_effect (a_or_end o a cells) before packet) same))
-
-  indexed_well_formed : IsWellFormed before → IsWellFormed two
-  indexed_well_formed ok = plain_well_formed CopyToX copy_plain one two second (plain_well_formed (LoadIndexed insn_size 0) (indexed_plain insn_size 0) before one first ok)
-
-  indexed_loads : (d : ℕ) → LoadsStored d before → LoadsStored d two
-  indexed_loads d ok = plain_loads CopyToX copy_plain one two d second (plain_loads (LoadIndexed insn_size 0) (indexed_plain insn_size 0) before one d first ok)
-
-  indexed_in_front : IsInFront 2 before two
-  indexed_in_front = in_front-both 1 1 before one two (IsInFront-pushed (LoadIndexed insn_size 0) before one first) (IsInFront-pushed CopyToX one two second)
-
-  pub Accesses-ip : Accesses Ip size 2 before two
-  Accesses-ip = record { in_front = indexed_in_front; well_formed = indexed_well_formed; loads_stored = indexed_loads; comes = λ packet d a x cells. indexed_comes packet d a x cells }
-
-  module _ (three four : List ℕ) (third : IsPushed (Alu Add X) two three) (fourth : IsPushed (LoadXHeader 0) three four) where
-    behind_comes : (packet : List ℕ) (d a x : ℕ) (cells : Cells) (ihl : Option ℕ) → mean four a x cells packet ≡ after_effect (x_or_end (option_map (λ i. 4 * i) ihl) a cells) three packet
-        → ComesWith (option_and_then (number_at (byte_count size) packet) (option_map (λ i. (4 * i + a) % 2 ^ 32) ihl)) d before four packet a x cells
-    behind_comes packet d a x cells None on = on
-    behind_comes packet d a x cells (Some i) on =
-        let swapped : (a + 4 * i) % 2 ^ 32 ≡ (4 * i + a) % 2 ^ 32 = ap (λ n. n % 2 ^ 32) (let g : a + 4 * i ≡ 4 * i + a = omega arith in g) in
-        on_to (number_at (byte_count size) packet ((4 * i + a) % 2 ^ 32)) d before two four packet a ((4 * i + a) % 2 ^ 32) x (4 * i) cells
-        (on ∙ (mean_pushed (Alu Add X) two three third a (4 * i) cells packet ∙ ap (λ n. mean two n (4 * i) cells packet) swapped))
-        (indexed_comes packet d ((4 * i + a) % 2 ^ 32) (4 * i) cells)
-
-    behind_header_comes : (packet : List ℕ) (d a x : ℕ) (cells : Cells) → ComesWith (option_and_then (number_at (byte_count size) packet) (behind_header a packet)) d before four packet a x cells
-    unfolding field_of
-    behind_header_comes packet d a x cells =
-        behind_comes packet d a x cells (ihl_of packet) (mean_pushed (LoadXHeader 0) three four fourth a x cells packet ∙ ap (λ o. after_effect (x_or_end o a cells) three packet) (header_is packet))
-
-    behind_well_formed : IsWellFormed before → IsWellFormed four
-    behind_well_formed ok = plain_well_formed (LoadXHeader 0) header_plain three four fourth (plain_well_formed (Alu Add X) (operation_plain Add) two three third (indexed_well_formed ok))
-
-    behind_loads : (d : ℕ) → LoadsStored d before → LoadsStored d four
-    behind_loads d ok = plain_loads (LoadXHeader 0) header_plain three four d fourth (plain_loads (Alu Add X) (operation_plain Add) two three d third (indexed_loads d ok))
-
-    behind_in_front : IsInFront 4 before four
-    behind_in_front =
-        in_front-both 3 1 before three four (in_front-both 2 1 before two three indexed_in_front (IsInFront-pushed (Alu Add X) two three third)) (IsInFront-pushed (LoadXHeader 0) three four fourth)
-
-    pub Accesses-tcp : Accesses Tcp size 4 before four
-    Accesses-tcp = record { in_front = behind_in_front; well_formed = behind_well_formed; loads_stored = behind_loads; comes = behind_header_comes }
-
-    pub Accesses-udp : Accesses Udp size 4 before four
-    Accesses-udp = record { in_front = behind_in_front; well_formed = behind_well_formed; loads_stored = behind_loads; comes = behind_header_comes }
-
-    pub Accesses-icmp : Accesses Icmp size 4 before four
-    Accesses-icmp = record { in_front = behind_in_front; well_formed = behind_well_formed; loads_stored = behind_loads; comes = behind_header_comes }
-
-    pub Accesses-behind : (protocol : Protocol) → (protocol ≡ Ip → ⊥) → Accesses protocol size (weight_of_access protocol) before four
-    Accesses-behind Ip other = absurd (other refl)
-    Accesses-behind Tcp other = Accesses-tcp
-    Accesses-behind Udp other = Accesses-udp
-    Accesses-behind Icmp other = Accesses-icmp
-
-module _ (protocol : Protocol) (size : Size) (index : List ℕ → Option ℕ) (d w v : ℕ) (before mid after : List ℕ) (access : Accesses protocol size w before mid) (h : Computes index d v mid after) where
-  accessed_comes : (found : Option ℕ) (packet : List ℕ) (a x : ℕ) (cells : Cells) → ComesWith found d mid after packet a x cells → ComesWith (option_and_then (λ i. loaded protocol i size packet) found) d before after packet a x cells
-  accessed_comes None packet a x cells on = on
-  accessed_comes (Some i) packet a x cells on = kept_on (loaded protocol i size packet) d before mid after packet a i x on.0 cells on.1 on.2 on.3 (access.comes packet d i on.0 on.1)
-
-  pub Computes-access : Computes (λ packet. option_and_then (λ i. loaded protocol i size packet) (index packet)) d (v + w) before after
-  Computes-access = record {
-    in_front = in_front-both w v before mid after access.in_front h.in_front;
-    well_formed = λ ok. h.well_formed (access.well_formed ok);
-    loads_stored = λ ok. h.loads_stored (access.loads_stored d ok);
-    comes = λ packet ok a x cells. accessed_comes (index packet) packet a x cells (h.comes packet ok a x cells);
-  }
-
--- ---- a pair of values
-
--- a run over the words comes to the others with the left value in A and the right one in X, and the cells below d kept
-abbrev pub PairComes : Option ℕ → Option ℕ → ℕ → List ℕ → List ℕ → List ℕ → ℕ → ℕ → Cells → Type 0
-PairComes None right d before after packet a x cells = mean after a x cells packet ≡ Ret 0
-PairComes (Some l) None d before after packet a x cells = mean after a x cells packet ≡ Ret 0
-PairComes (Some l) (Some r) d before after packet a x cells = (cells' : Cells) × KeepsBelow d cells cells' × (mean after a x cells packet ≡ mean before l r cells' packet)
+-- ---- a pair of values: the left one waits in a cell
 
 pub loads_more : (d e : ℕ) (words : List ℕ) → d ≤ e → LoadsStored d words → LoadsStored e words
 loads_more d e words low ok pc cell load earlier path = ⊎_elim (λ (below : cell < d). inl (omega arith)) inr (ok pc cell load earlier path)
@@ -169,89 +127,163 @@ stored_there cells d v = ap (λ b. cond b (Some v) (cells d)) (eq-eqb d d refl)
 stored_elsewhere : (cells : Cells) (d v cell : ℕ) → cell < d → with_cell cells d v cell ≡ cells cell
 stored_elsewhere cells d v cell low = ap (λ b. cond b (Some v) (cells cell)) (ne_eqb cell d (λ e. omega arith))
 
-module _ (left right : List ℕ → Option ℕ) (d wl wr : ℕ) (before two three four five six : List ℕ) (room : d < CELLS) (load : IsPushed (LoadCell d) before two) (copy : IsPushed CopyToX two three) (later : Computes right (d + 1) wr three four)
-    (store : IsPushed (Store d) four five) (first : Computes left d wl five six) where
-  cell_faultless : (len : ℕ) → cond (nat_lt d CELLS) None (Some (BadCell 0)) ≡ None
-  cell_faultless len = ap (λ b. cond b None (Some (BadCell 0))) (lt-ltb d CELLS room)
-
-  -- the right value, where the left one is in its cell
-  right_comes : (l : ℕ) (found : Option ℕ) (packet : List ℕ) (a x x' : ℕ) (cells cells' : Cells) → KeepsBelow d cells cells' → mean six a x cells packet ≡ mean five l x' cells' packet
-      → ComesWith found (d + 1) three four packet l x' (with_cell cells' d l) → PairComes (Some l) found d before six packet a x cells
-  right_comes l None packet a x x' cells cells' keeps on h = on ∙ (mean_pushed (Store d) four five store l x' cells' packet ∙ h)
-  right_comes l (Some r) packet a x x' cells cells' keeps on h =
-      let kept : h.1 d ≡ Some l = h.2 d (omega arith) ∙ stored_there cells' d l in (
+module _ (right : List ℕ → Option ℕ) (given after : Bool) (d : ℕ) (later two three four five : List ℕ) (load : IsPushed (LoadCell d) later two) (copy : IsPushed CopyToX two three)
+    (computes : Computes (λ packet a. right packet) given after (d + 1) three four) (store : IsPushed (Store d) four five) where
+  right_comes : (l : ℕ) (found : Option ℕ) (packet : List ℕ) (x : ℕ) (cells : Cells) → ComesWith found after (d + 1) three four packet l x (with_cell cells d l) → PairsWith found d later five packet l x cells
+  right_comes l None packet x cells h = mean_pushed (Store d) four five store l x cells packet ∙ h
+  right_comes l (Some r) packet x cells h =
+      let kept : h.1 d ≡ Some l = h.2 d (omega arith) ∙ stored_there cells d l in (
         h.1,
-        λ cell low. h.2 cell (omega arith) ∙ (stored_elsewhere cells' d l cell low ∙ keeps cell low),
-        on ∙ (mean_pushed (Store d) four five store l x' cells' packet ∙ (h.3 ∙ (mean_pushed CopyToX two three copy r h.0 h.1 packet
-            ∙ (mean_pushed (LoadCell d) before two load r r h.1 packet ∙ ap (λ o. after_effect (a_or_stuck o r h.1) before packet) kept)))),
+        λ cell low. h.2 cell (omega arith) ∙ stored_elsewhere cells d l cell low,
+        mean_pushed (Store d) four five store l x cells packet ∙ (h.4 ∙ (mean_pushed CopyToX two three copy r h.0 h.1 packet
+            ∙ (mean_pushed (LoadCell d) later two load r r h.1 packet ∙ ap (λ o. after_effect (a_or_stuck o r h.1) later packet) kept))),
       )
 
-  left_comes : (found : Option ℕ) (packet : List ℕ) → IsPacket packet → (a x : ℕ) (cells : Cells) → ComesWith found d five six packet a x cells → PairComes found (right packet) d before six packet a x cells
-  left_comes None packet ok a x cells h = h
-  left_comes (Some l) packet ok a x cells h = right_comes l (right packet) packet a x h.0 cells h.1 h.2 h.3 (later.comes packet ok l h.0 (with_cell h.1 d l))
-
-  pub pair_comes : (packet : List ℕ) → IsPacket packet → (a x : ℕ) (cells : Cells) → PairComes (left packet) (right packet) d before six packet a x cells
-  pair_comes packet ok a x cells = left_comes (left packet) packet ok a x cells (first.comes packet ok a x cells)
-
-  pub pair_well_formed : IsWellFormed before → IsWellFormed six
-  pair_well_formed ok =
-      first.well_formed (well_formed_pushed (Store d) four five store (cell_faultless 0)
-      (later.well_formed (plain_well_formed CopyToX copy_plain two three copy (well_formed_pushed (LoadCell d) before two load (cell_faultless 0) ok))))
-
-  pub pair_loads : LoadsStored d before → LoadsStored d six
-  pair_loads ok =
-      let at_two : LoadsStored (d + 1) two = loads_next (LoadCell d) before two (d + 1) (d + 1) load refl (λ cell is. omega arith) (λ cell low. inl low) (loads_more d (d + 1) before (omega arith) ok) in
-      let at_four = later.loads_stored (plain_loads CopyToX copy_plain two three (d + 1) copy at_two) in
-      first.loads_stored (loads_next (Store d) four five d (d + 1) store refl (λ cell none. absurd none) (λ cell low. ⊎_elim (λ (below : cell < d). inl below) (λ up. inr (let g : d ≡ cell = omega arith in g)) (cases_lt cell d)) at_four)
-
-  pub pair_in_front : IsInFront (wl + wr + 3) before six
-  pair_in_front =
-      in_front-more (wl + (1 + (wr + (1 + 1)))) (wl + wr + 3) before six (omega arith)
-      (in_front-both (1 + (wr + (1 + 1))) wl before five six
-      (in_front-both (wr + (1 + 1)) 1 before four five (in_front-both (1 + 1) wr before three four (in_front-both 1 1 before two three (IsInFront-pushed (LoadCell d) before two load) (IsInFront-pushed CopyToX two three copy)) later.in_front)
-      (IsInFront-pushed (Store d) four five store)) first.in_front)
-
--- an operation on a pair
-module _ (operator : Operator) (operation : Operation) (does : DoesAs operator operation) (left right : List ℕ → Option ℕ) (d wl wr : ℕ) (before one two three four five six : List ℕ) (room : d < CELLS) (apply : IsPushed (Alu operation X) before one)
-    (load : IsPushed (LoadCell d) one two) (copy : IsPushed CopyToX two three) (later : Computes right (d + 1) wr three four) (store : IsPushed (Store d) four five) (first : Computes left d wl five six) where
-  combined_comes : (found : Option ℕ) (packet : List ℕ) (a x r : ℕ) (cells cells' : Cells) → KeepsBelow d cells cells' → mean six a x cells packet ≡ after_effect (a_or_end found r cells') before packet → ComesWith found d before six packet a x cells
-  combined_comes None packet a x r cells cells' keeps on = on
-  combined_comes (Some v) packet a x r cells cells' keeps on = (r, cells', keeps, on)
-
-  operation_comes : (l r : Option ℕ) (packet : List ℕ) (a x : ℕ) (cells : Cells) → PairComes l r d one six packet a x cells → ComesWith (option_and_then (λ v. option_and_then (combined operator v) r) l) d before six packet a x cells
-  operation_comes None r packet a x cells h = h
-  operation_comes (Some l) None packet a x cells h = h
-  operation_comes (Some l) (Some r) packet a x cells h =
-      combined_comes (combined operator l r) packet a x r cells h.0 h.1
-      (h.2 ∙ (mean_pushed (Alu operation X) before one apply l r h.0 packet ∙ ap (λ o. after_effect (a_or_end o r h.0) before packet) (does l r)))
-
-  pub Computes-operation : Computes (λ packet. option_and_then (λ v. option_and_then (combined operator v) (right packet)) (left packet)) d (wl + wr + 4) before six
-  Computes-operation = record {
-    in_front = in_front-more ((wl + wr + 3) + 1) (wl + wr + 4) before six (omega arith) (in_front-both 1 (wl + wr + 3) before one six (IsInFront-pushed (Alu operation X) before one apply) (pair_in_front left right d wl wr one two three four five six room load copy later store first));
-    well_formed = λ ok. pair_well_formed left right d wl wr one two three four five six room load copy later store first (plain_well_formed (Alu operation X) (operation_plain operation) before one apply ok);
-    loads_stored = λ ok. pair_loads left right d wl wr one two three four five six room load copy later store first (plain_loads (Alu operation X) (operation_plain operation) before one d apply ok);
-    comes = λ packet ok a x cells. operation_comes (left packet) (right packet) packet a x cells (pair_comes left right d wl wr one two three four five six room load copy later store first packet ok a x cells);
+  pub Pairs-computed : Pairs right given d later five
+  Pairs-computed = record {
+    loads_stored = λ ok.
+        let at_two : LoadsStored (d + 1) two = loads_next (LoadCell d) later two (d + 1) (d + 1) load refl (λ cell is. omega arith) (λ cell low. inl low) (loads_more d (d + 1) later (omega arith) ok) in
+        let at_four = computes.loads_stored (plain_loads CopyToX copy_plain two three (d + 1) copy at_two) in
+        loads_next (Store d) four five d (d + 1) store refl (λ cell none. absurd none) (λ cell low. ⊎_elim (λ (below : cell < d). inl below) (λ up. inr (let g : d ≡ cell = omega arith in g)) (cases_lt cell d)) at_four;
+    comes = λ packet ok a x cells knows. right_comes a (right packet) packet x cells (computes.comes packet ok a x (with_cell cells d a) knows);
   }
 
--- a comparison of a pair
-module _ (relator : Relation) (y n : ℕ) (left right : List ℕ → Option ℕ) (wl wr : ℕ) (before one two three four five six : List ℕ) (compares : Checks (λ a. a) (holds relator) y n 3 before one)
-    (load : IsPushed (LoadCell 0) one two) (copy : IsPushed CopyToX two three) (later : Computes right 1 wr three four) (store : IsPushed (Store 0) four five) (first : Computes left 0 wl five six) where
-  compared_goes : (l r : Option ℕ) (packet : List ℕ) (a x : ℕ) (cells : Cells) → PairComes l r 0 one six packet a x cells → GoesBy (compared relator l r) false y n before six packet a x cells
-  compared_goes None r packet a x cells h = h
-  compared_goes (Some l) None packet a x cells h = h
-  compared_goes (Some l) (Some r) packet a x cells h =
-      on_from (answer (holds relator l r)) false y n before one six packet a l x r cells h.0 h.2 (goes_by_answer (holds relator l r) false y n before one packet l l r h.0 tt (compares.goes packet l r h.0))
+-- ---- the length of the header
 
-  pub Tests-compared : Tests false (λ packet. compared relator (left packet) (right packet)) y n (wl + wr + 6) before six
-  Tests-compared = record {
-    in_front = in_front-more ((wl + wr + 3) + 3) (wl + wr + 6) before six (omega arith) (in_front-both 3 (wl + wr + 3) before one six compares.in_front (pair_in_front left right 0 wl wr one two three four five six (omega arith) load copy later store first));
-    well_formed = λ some_yes some_no ok. pair_well_formed left right 0 wl wr one two three four five six (omega arith) load copy later store first (compares.well_formed some_yes some_no ok);
-    loads_stored = λ at_yes at_no. pair_loads left right 0 wl wr one two three four five six (omega arith) load copy later store first (compares.loads_stored 0 at_yes at_no);
-    goes = λ packet ok a x cells knows. compared_goes (left packet) (right packet) packet a x cells (pair_comes left right 0 wl wr one two three four five six (omega arith) load copy later store first packet ok a x cells);
+header_of_byte : (byte : Option ℕ) → header_length byte ≡ option_map (λ ihl. 4 * ihl) (option_map (bits_from 0 4) byte)
+header_of_byte None = refl
+header_of_byte (Some n) = ap Some (let g : 4 * (n % 16) ≡ 4 * bits_from 0 4 n = omega arith in g)
+
+pub header_is : (packet : List ℕ) → header_length (packet_number packet Byte 0) ≡ option_map (λ ihl. 4 * ihl) (ihl_of packet)
+header_is packet = ap header_length (packet_number-number_at packet Byte 0) ∙ header_of_byte (number_at 1 packet 0)
+
+few_words : (byte : Option ℕ) (ihl : ℕ) → option_map (bits_from 0 4) byte ≡ Some ihl → ihl < 16
+few_words None ihl is = cc
+few_words (Some n) ihl is = let e : bits_from 0 4 n ≡ ihl = cc in let f : bits_from 0 4 n < 16 = omega arith in omega arith
+
+pub ihl-few : (packet : List ℕ) (ihl : ℕ) → ihl_of packet ≡ Some ihl → ihl < 16
+ihl-few packet ihl is = few_words (number_at 1 packet 0) ihl is
+
+module _ (d : ℕ) where
+  header_comes : (given : Bool) (later words packet : List ℕ) (a x : ℕ) (cells : Cells) (ihl : Option ℕ) → ihl_of packet ≡ ihl → mean words a x cells packet ≡ after_effect (x_or_end (option_map (λ i. 4 * i) ihl) a cells) later packet
+      → ComesWith (option_map (λ i. a) ihl) true d later words packet a x cells
+  header_comes given later words packet a x cells None is on = on
+  header_comes given later words packet a x cells (Some i) is on = (4 * i, cells, λ cell low. refl, (i, is, refl), on)
+
+  -- X becomes the header's length
+  pub Computes-header : (given : Bool) (later words : List ℕ) → IsPushed (LoadXHeader 0) later words → Computes behind given true d later words
+  Computes-header given later words pushed = record {
+    loads_stored = plain_loads (LoadXHeader 0) header_plain later words d pushed;
+    comes = λ packet ok a x cells knows.
+        header_comes given later words packet a x cells (ihl_of packet) refl (mean_pushed (LoadXHeader 0) later words pushed a x cells packet ∙ ap (λ o. after_effect (x_or_end o a cells) later packet) (header_is packet));
   }
 
-pub access_weight : (protocol : Protocol) (index : ArithTree) (size : Size) → weight_of_arith index + weight_of_access protocol ≡ weight_of_arith (accessor protocol index size)
-access_weight Ip index size = refl
-access_weight Tcp index size = refl
-access_weight Udp index size = refl
-access_weight Icmp index size = refl
+  held_comes : (words packet : List ℕ) (a x : ℕ) (cells : Cells) (ihl : Option ℕ) → ihl_of packet ≡ ihl → Knows true packet x → ComesWith (option_map (λ i. a) ihl) true d words words packet a x cells
+  held_comes words packet a x cells None is knows = absurd (let e : Some knows.0 ≡ None = sym knows.1 ∙ is in cc)
+  held_comes words packet a x cells (Some i) is knows = (x, cells, λ cell low. refl, knows, refl)
+
+  -- X holds it
+  pub Computes-held : (words : List ℕ) → Computes behind true true d words words
+  Computes-held words = record {
+    loads_stored = λ ok. ok;
+    comes = λ packet ok a x cells knows. held_comes words packet a x cells (ihl_of packet) refl knows;
+  }
+
+-- what a transport protocol's accessor loads
+loaded_behind : (size : Size) (protocol : Protocol) → (protocol ≡ Ip → ⊥) → (packet : List ℕ) (i : ℕ) → option_and_then (number_at (byte_count size) packet) (option_map (λ ihl. (4 * ihl + i) % 2 ^ 32) (ihl_of packet)) ≡ loaded protocol i size packet
+unfolding field_of
+loaded_behind size Ip other packet i = absurd (other refl)
+loaded_behind size Tcp other packet i = refl
+loaded_behind size Udp other packet i = refl
+loaded_behind size Icmp other packet i = refl
+
+pub direct_low : (protocol : Protocol) (k : ℕ) → (protocol ≡ Ip → ⊥) → IsDirect protocol k → k ≤ 2 ^ 32 - 61
+direct_low Ip k other direct = absurd (other refl)
+direct_low Tcp k other direct = direct
+direct_low Udp k other direct = direct
+direct_low Icmp k other direct = direct
+
+pub behind_weight : (protocol : Protocol) → (protocol ≡ Ip → ⊥) → weight_of_access protocol ≡ 4
+behind_weight Ip other = absurd (other refl)
+behind_weight Tcp other = refl
+behind_weight Udp other = refl
+behind_weight Icmp other = refl
+
+-- ---- accessors at a number
+
+module _ (size : Size) (insn_size : InsnSize) (reads : ReadsAs size insn_size) (k d : ℕ) (later words : List ℕ) where
+  pub Computes-absolute : (known : Bool) → IsPushed (LoadAbsolute insn_size k) later words → Computes (λ packet a. loaded Ip k size packet) known known d later words
+  Computes-absolute known pushed =
+      Computes-load (LoadAbsolute insn_size k) (absolute_plain insn_size k) known (λ packet. loaded Ip k size packet) d later words pushed (λ packet a x cells knows. ap (λ o. a_or_end o x cells) (reads packet k))
+
+  -- what stands behind the header, where X holds its length
+  abbrev at_header : List ℕ → Option ℕ
+  at_header packet = option_and_then (λ ihl. number_at (byte_count size) packet (4 * ihl + k)) (ihl_of packet)
+
+  pub Computes-indexed : IsPushed (LoadIndexed insn_size k) later words → Computes (λ packet a. at_header packet) true true d later words
+  Computes-indexed pushed =
+      Computes-load (LoadIndexed insn_size k) (indexed_plain insn_size k) true at_header d later words pushed
+      (λ packet a x cells knows. ap (λ o. a_or_end o x cells)
+      (reads packet (x + k) ∙ (ap (λ n. number_at (byte_count size) packet (n + k)) knows.2 ∙ sym (ap (option_and_then (λ ihl. number_at (byte_count size) packet (4 * ihl + k))) knows.1))))
+
+  -- the sum does not pass 2^32
+  direct_same : (packet : List ℕ) → k ≤ 2 ^ 32 - 61 → (a : ℕ) (ihl : Option ℕ) → ((i : ℕ) → ihl ≡ Some i → i < 16)
+      → option_and_then (λ b. option_and_then (λ i. number_at (byte_count size) packet (4 * i + k)) ihl) (option_map (λ i. a) ihl)
+      ≡ option_and_then (number_at (byte_count size) packet) (option_map (λ i. (4 * i + k) % 2 ^ 32) ihl)
+  direct_same packet low a None few = refl
+  direct_same packet low a (Some i) few = let small = few i refl in let e : 4 * i + k ≡ (4 * i + k) % 2 ^ 32 = omega arith in ap (number_at (byte_count size) packet) e
+
+  pub Computes-direct : (protocol : Protocol) → (protocol ≡ Ip → ⊥) → k ≤ 2 ^ 32 - 61 → (given : Bool) (before : List ℕ) → Computes behind given true d words before → IsPushed (LoadIndexed insn_size k) later words
+      → Computes (λ packet a. loaded protocol k size packet) given true d later before
+  Computes-direct protocol other low given before held pushed =
+      Computes-same (λ packet a. option_and_then (λ b. at_header packet) (behind packet a)) (λ packet a. loaded protocol k size packet) given true d later before
+      (λ packet ok a. direct_same packet low a (ihl_of packet) (ihl-few packet) ∙ loaded_behind size protocol other packet k)
+      (Computes-then behind (λ packet a. at_header packet) given true true d later words before held (Computes-indexed pushed))
+
+-- ---- accessors at an index in A
+
+module _ (size : Size) (insn_size : InsnSize) (reads : ReadsAs size insn_size) (d : ℕ) (later one two : List ℕ) (load : IsPushed (LoadIndexed insn_size 0) later one) (copy : IsPushed CopyToX one two) where
+  indexed_comes : (found : Option ℕ) (packet : List ℕ) (a x : ℕ) (cells : Cells) → mean two a x cells packet ≡ after_effect (a_or_end found a cells) later packet → ComesWith found false d later two packet a x cells
+  indexed_comes None packet a x cells on = on
+  indexed_comes (Some v) packet a x cells on = (a, cells, λ cell low. refl, tt, on)
+
+  pub Computes-at : (known : Bool) → Computes (λ packet a. number_at (byte_count size) packet a) known false d later two
+  Computes-at known = record {
+    loads_stored = λ ok. plain_loads CopyToX copy_plain one two d copy (plain_loads (LoadIndexed insn_size 0) (indexed_plain insn_size 0) later one d load ok);
+    comes = λ packet ok a x cells knows.
+        let same : packet_number packet insn_size (a + 0) ≡ number_at (byte_count size) packet a = reads packet (a + 0) ∙ ap (number_at (byte_count size) packet) (let g : a + 0 ≡ a = omega arith in g) in
+        indexed_comes (number_at (byte_count size) packet a) packet a x cells
+        (mean_pushed CopyToX one two copy a x cells packet ∙ (mean_pushed (LoadIndexed insn_size 0) later one load a a cells packet ∙ ap (λ o. after_effect (a_or_end o a cells) later packet) same));
+  }
+
+-- the index is one behind the header
+module _ (size : Size) (d : ℕ) (later two three : List ℕ) (at : Computes (λ packet a. number_at (byte_count size) packet a) false false d later two) (sum : IsPushed (Alu Add X) two three) where
+  -- the index behind the header
+  abbrev behind_index : List ℕ → ℕ → Option ℕ
+  behind_index packet a = option_map (λ ihl. (4 * ihl + a) % 2 ^ 32) (ihl_of packet)
+
+  sum_comes : (packet : List ℕ) (a x : ℕ) (cells : Cells) (ihl : Option ℕ) → ihl_of packet ≡ ihl → Knows true packet x → ComesWith (option_map (λ i. (4 * i + a) % 2 ^ 32) ihl) false d two three packet a x cells
+  sum_comes packet a x cells None is knows = absurd (let e : Some knows.0 ≡ None = sym knows.1 ∙ is in cc)
+  sum_comes packet a x cells (Some i) is knows =
+      let e : Some knows.0 ≡ Some i = sym knows.1 ∙ is in let f : knows.0 ≡ i = cc in
+      let sums : (a + x) % 2 ^ 32 ≡ (4 * i + a) % 2 ^ 32 = ap (λ n. n % 2 ^ 32) (let g : a + x ≡ 4 * i + a = (let h = knows.2 in omega arith) in g) in
+      (x, cells, λ cell low. refl, tt, mean_pushed (Alu Add X) two three sum a x cells packet ∙ ap (λ n. mean two n x cells packet) sums)
+
+  Computes-sum : Computes behind_index true false d two three
+  Computes-sum = record {
+    loads_stored = plain_loads (Alu Add X) (operation_plain Add X) two three d sum;
+    comes = λ packet ok a x cells knows. sum_comes packet a x cells (ihl_of packet) refl knows;
+  }
+
+  held_same : (protocol : Protocol) → (protocol ≡ Ip → ⊥) → (packet : List ℕ) (a : ℕ) (ihl : Option ℕ)
+      → option_and_then (λ b. option_and_then (number_at (byte_count size) packet) (option_map (λ i. (4 * i + b) % 2 ^ 32) ihl)) (option_map (λ i. a) ihl)
+      ≡ option_and_then (number_at (byte_count size) packet) (option_map (λ i. (4 * i + a) % 2 ^ 32) ihl)
+  held_same protocol other packet a None = refl
+  held_same protocol other packet a (Some i) = refl
+
+  pub Computes-behind : (protocol : Protocol) → (protocol ≡ Ip → ⊥) → (given : Bool) (before : List ℕ) → Computes behind given true d three before → Computes (λ packet a. loaded protocol a size packet) given false d later before
+  Computes-behind protocol other given before held =
+      Computes-same (λ packet a. option_and_then (λ b. option_and_then (number_at (byte_count size) packet) (behind_index packet b)) (behind packet a)) (λ packet a. loaded protocol a size packet) given false d later before
+      (λ packet ok a. held_same protocol other packet a (ihl_of packet) ∙ loaded_behind size protocol other packet a)
+      (Computes-then behind (λ packet a. option_and_then (number_at (byte_count size) packet) (behind_index packet a)) given true false d later three before held
+      (Computes-then behind_index (λ packet a. number_at (byte_count size) packet a) true false false d later two three Computes-sum at))

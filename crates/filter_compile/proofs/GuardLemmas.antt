@@ -1,48 +1,85 @@
--- The guards of a relation, one behind the other.
-use Rattle.std.proofs.Common.{◌≡◌, ◌∙◌, ◌+◌, ◌≤◌, Bool, List, arith, false, length, refl, ℕ}
-use Rattle.filter_tree.specs.declared.arithmetic.Protocol.{Protocol}
-use Rattle.filter_tree.specs.declared.arithmetic.Protocol.TheVariants.{Icmp, Tcp, Udp}
+-- Guards: a test that is left out, and one that falls through where it is true.
+use Rattle.std.proofs.Common.{◌≡◌, ◌+◌, ◌≤◌, Bool, List, Option, Some, [], arith, false, refl, subst, sym, true, ℕ}
+use Rattle.backpatch.specs.Holes.{IsLanded, Open}
+use Rattle.backpatch.specs.Pieces.{Guards, Writes}
+use Rattle.backpatch.specs.Runs.{GoesToYes}
+use Rattle.backpatch.proofs.GuardLemmas.{Guards-guards, Guards-landed, Guards-none, Guards-weight, Guards-writes}
+use Rattle.backpatch.proofs.WritesLemmas.{Writes-means, Writes-not, Writes-weight}
 use Rattle.filter_tree.specs.declared.truth.Truth.{Truth}
-use Rattle.filter_tree.specs.Measure.{weight_of_guards, weight_where}
+use Rattle.filter_tree.specs.declared.truth.Truth.TheVariants.{No, Yes}
+use Rattle.filter_tree.specs.Measure.{weight_where}
 use Rattle.filter_tree.specs.Outcome.{◌and_then◌, where_so}
-use Rattle.filter_tree.specs.Primitive.{is_first_fragment, is_ip, is_protocol}
-use Rattle.filter_tree.specs.Truth.{any_accessor, any_transport, guards}
-use Rattle.filter_compile.specs.body.Piece.{Tests}
-use Rattle.filter_compile.proofs.HeaderLemmas.{and_then_assoc}
-use Rattle.filter_compile.proofs.TestLemmas.{Tests-and, Tests-same, Tests-weight}
+use Rattle.packet_facts.specs.declared.known.Known.{Known}
+use Rattle.packet_facts.specs.Known.{Holds}
+use Rattle.filter_compile.specs.body.Piece.{Decides, Tests}
+use Rattle.filter_compile.specs.body.Sides.{HoldsWhere}
+use Rattle.filter_compile.proofs.TestLemmas.{Tests-and, Tests-decided, Tests-no, Tests-none, Tests-yes}
 
-in_turn : (a b c d e : Truth) → (a and_then (b and_then (c and_then (d and_then e)))) ≡ ((((a and_then b) and_then c) and_then d) and_then e)
-in_turn a b c d e = and_then_assoc a b (c and_then (d and_then e)) ∙ (and_then_assoc (a and_then b) c (d and_then e) ∙ and_then_assoc ((a and_then b) and_then c) d e)
+pub yes_where : (used : Bool) (truth : Truth) → truth ≡ Yes → where_so used truth ≡ Yes
+yes_where true truth is = is
+yes_where false truth is = refl
 
-module _ (used : Protocol → Bool) (n : ℕ) (before one two three four after : List ℕ) (low : n ≤ length before) where
-  ip : List ℕ → Truth
-  ip packet = where_so (any_accessor used) (is_ip packet)
+pub where_used : (used : Bool) (truth : Truth) → used ≡ true → truth ≡ where_so used truth
+where_used true truth is = refl
+where_used false truth is = absurd cc
 
-  tcp : List ℕ → Truth
-  tcp packet = where_so (used Tcp) (is_protocol 6 packet)
+pub unused : (used : Bool) (truth : Truth) → used ≡ false → where_so used truth ≡ Yes
+unused true truth is = absurd cc
+unused false truth is = refl
 
-  udp : List ℕ → Truth
-  udp packet = where_so (used Udp) (is_protocol 17 packet)
+pub weight_used : (used : Bool) (w : ℕ) → used ≡ true → weight_where used w ≡ w
+weight_used true w is = refl
+weight_used false w is = absurd cc
 
-  icmp : List ℕ → Truth
-  icmp packet = where_so (used Icmp) (is_protocol 1 packet)
+-- nothing is written
+pub Guards-left_out : (known on : Known) (if_no : Option Known) (truth : List ℕ → Truth) (weight : ℕ) (code : List ℕ) (n : Open) → on ≡ known → ((packet : List ℕ) (x : ℕ) → Holds known packet x → truth packet ≡ Yes)
+    → Guards (Tests (Holds known) (Holds on) (HoldsWhere if_no) truth) weight code code n n
+Guards-left_out known on if_no truth weight code n same if_yes = Guards-weight weight (omega arith)
+    (Guards-none code n (λ at_no words. Tests-none (Holds known) (Holds on) (HoldsWhere if_no) truth at_no words (λ packet x h. subst (λ k. Holds k packet x) (sym same) h) if_yes))
 
-  fragment : List ℕ → Truth
-  fragment packet = where_so (any_transport used) (is_first_fragment packet)
+-- a test that is landed behind itself
+module _ (known on if_no : Known) (truth : List ℕ → Truth) (weight : ℕ) {c0 c1 c2 : List ℕ} {e e' n n' : Open} (empty : e.holes ≡ []) (near : e.by ≤ n.by) (writes : Writes (Decides false truth) weight c0 c1 e e' n n') (landed : IsLanded e'.holes c1 c2)
+    (on_yes : (packet : List ℕ) (x : ℕ) → Holds known packet x → truth packet ≡ Yes → Holds on packet x) (on_no : (packet : List ℕ) (x : ℕ) → Holds known packet x → truth packet ≡ No → Holds if_no packet x) where
+  pub Guards-asked : Guards (Tests (Holds known) (Holds on) (HoldsWhere (Some if_no)) truth) weight c0 c2 n n'
+  Guards-asked = Guards-landed empty near
+      (Writes-means (λ at_yes at_no words h. Tests-decided false (Holds known) (Holds on) (HoldsWhere (Some if_no)) truth at_yes at_no words (λ packet x g. tt) on_yes on_no h) writes) landed
 
-  pub Tests-guards : Tests false (λ packet. where_so (any_transport used) (is_first_fragment packet)) (length before) n (weight_where (any_transport used) 4) before one
-      → Tests false (λ packet. where_so (used Icmp) (is_protocol 1 packet)) (length one) n (weight_where (used Icmp) 4) one two
-      → Tests false (λ packet. where_so (used Udp) (is_protocol 17 packet)) (length two) n (weight_where (used Udp) 4) two three
-      → Tests false (λ packet. where_so (used Tcp) (is_protocol 6 packet)) (length three) n (weight_where (used Tcp) 4) three four
-      → Tests false (λ packet. where_so (any_accessor used) (is_ip packet)) (length four) n (weight_where (any_accessor used) 5) four after
-      → Tests false (guards used) (length before) n (weight_of_guards used) before after
-  unfolding fragment icmp udp tcp ip
-  Tests-guards e d c b a =
-      let y = length before in let we = weight_where (any_transport used) 4 in let wd = weight_where (used Icmp) 4 in let wc = weight_where (used Udp) 4 in let wb = weight_where (used Tcp) 4 in let wa = weight_where (any_accessor used) 5 in
-      let de = Tests-and false icmp fragment y n we wd before one two (omega arith) low e (length one) refl d in
-      let ce = Tests-and false udp (λ packet. icmp packet and_then fragment packet) y n (wd + we) wc before two three (omega arith) low de (length two) refl c in
-      let be = Tests-and false tcp (λ packet. udp packet and_then (icmp packet and_then fragment packet)) y n (wc + (wd + we)) wb before three four (omega arith) low ce (length three) refl b in
-      let ae = Tests-and false ip (λ packet. tcp packet and_then (udp packet and_then (icmp packet and_then fragment packet))) y n (wb + (wc + (wd + we))) wa before four after (omega arith) low be (length four) refl a in
-      Tests-weight false (guards used) y n (wa + (wb + (wc + (wd + we)))) (weight_of_guards used) before after (omega arith)
-      (Tests-same false (λ packet. ip packet and_then (tcp packet and_then (udp packet and_then (icmp packet and_then fragment packet)))) (guards used) y n (wa + (wb + (wc + (wd + we)))) before after
-      (λ packet ok. in_turn (ip packet) (tcp packet) (udp packet) (icmp packet) (fragment packet)) ae)
+  -- the same where there is cause
+  pub Guards-used : (used : Bool) → used ≡ true → Guards (Tests (Holds known) (Holds on) (HoldsWhere (Some if_no)) (λ packet. where_so used (truth packet))) (weight_where used weight) c0 c2 n n'
+  Guards-used used is = subst (λ b. Guards (Tests (Holds known) (Holds on) (HoldsWhere (Some if_no)) (λ packet. where_so b (truth packet))) (weight_where b weight) c0 c2 n n') (sym is) Guards-asked
+
+-- ---- pieces
+
+-- what is known to be true goes there at once
+pub Writes-yes : (known on if_no : Known) (truth : List ℕ → Truth) (weight : ℕ) {c0 c1 : List ℕ} {y y' : Open} (n : Open) → 1 ≤ weight → on ≡ known → ((packet : List ℕ) (x : ℕ) → Holds known packet x → truth packet ≡ Yes)
+    → ((other : Open) → Writes GoesToYes 1 c0 c1 y y' other other) → Writes (Tests (Holds known) (Holds on) (Holds if_no) truth) weight c0 c1 y y' n n
+Writes-yes known on if_no truth weight n few same if_yes leaves = Writes-weight weight few
+    (Writes-means (λ at_yes at_no words h. Tests-yes (Holds known) (Holds on) (Holds if_no) truth at_yes at_no words (λ packet x g. subst (λ k. Holds k packet x) (sym same) g) if_yes h) (leaves n))
+
+pub Writes-no : (known if_yes if_no : Known) (truth : List ℕ → Truth) (weight : ℕ) {c0 c1 : List ℕ} {n n' : Open} (y : Open) → 1 ≤ weight → if_no ≡ known → ((packet : List ℕ) (x : ℕ) → Holds known packet x → truth packet ≡ No)
+    → ((other : Open) → Writes GoesToYes 1 c0 c1 n n' other other) → Writes (Tests (Holds known) (Holds if_yes) (Holds if_no) truth) weight c0 c1 y y n n'
+Writes-no known if_yes if_no truth weight y few same is_no leaves = Writes-weight weight few
+    (Writes-not {other = Tests (Holds known) (Holds if_yes) (Holds if_no) truth}
+    (λ at_yes at_no words h. Tests-no (Holds known) (Holds if_yes) (Holds if_no) truth at_yes at_no words (λ packet x g. subst (λ k. Holds k packet x) (sym same) g) is_no h) (leaves y))
+
+-- a decision, and what it tells
+pub Writes-decided : (known if_yes if_no : Known) (truth : List ℕ → Truth) {weight : ℕ} {c0 c1 : List ℕ} {y y' n n' : Open} → ((packet : List ℕ) (x : ℕ) → Holds known packet x → truth packet ≡ Yes → Holds if_yes packet x)
+    → ((packet : List ℕ) (x : ℕ) → Holds known packet x → truth packet ≡ No → Holds if_no packet x) → Writes (Decides false truth) weight c0 c1 y y' n n' → Writes (Tests (Holds known) (Holds if_yes) (Holds if_no) truth) weight c0 c1 y y' n n'
+Writes-decided known if_yes if_no truth on_yes on_no writes =
+    Writes-means (λ at_yes at_no words h. Tests-decided false (Holds known) (Holds if_yes) (Holds if_no) truth at_yes at_no words (λ packet x g. tt) on_yes on_no h) writes
+
+-- a guard in front of a piece
+pub Writes-guarded : (known on if_yes second_no if_no : Known) (missed : Option Known) (first second : List ℕ → Truth) (weight : ℕ) {v w : ℕ} {c0 c1 c2 : List ℕ} {y y' n n' n'' : Open} → v + w ≤ weight
+    → ((packet : List ℕ) (x : ℕ) → HoldsWhere missed packet x → Holds if_no packet x) → ((packet : List ℕ) (x : ℕ) → Holds second_no packet x → Holds if_no packet x)
+    → Guards (Tests (Holds known) (Holds on) (HoldsWhere missed) first) v c0 c1 n n' → Writes (Tests (Holds on) (Holds if_yes) (Holds second_no) second) w c1 c2 y y' n' n''
+    → Writes (Tests (Holds known) (Holds if_yes) (Holds if_no) (λ packet. first packet and_then second packet)) weight c0 c2 y y' n n''
+Writes-guarded known on if_yes second_no if_no missed first second weight few of_self of_no guards writes = Writes-weight weight few
+    (Guards-writes (λ at_yes at_no mid words h k. Tests-and (Holds known) (Holds on) (Holds if_yes) (HoldsWhere missed) (Holds second_no) (Holds if_no) first second of_self of_no at_yes at_no mid words k h) guards writes)
+
+-- a guard in front of a guard
+pub Guards-both : (known on on' last : Known) (one two if_no : Option Known) (first second : List ℕ → Truth) {v w : ℕ} {c0 c1 c2 : List ℕ} {n n' n'' : Open} → last ≡ on' → ((packet : List ℕ) (x : ℕ) → HoldsWhere one packet x → HoldsWhere if_no packet x)
+    → ((packet : List ℕ) (x : ℕ) → HoldsWhere two packet x → HoldsWhere if_no packet x) → Guards (Tests (Holds known) (Holds on) (HoldsWhere one) first) v c0 c1 n n' → Guards (Tests (Holds on) (Holds on') (HoldsWhere two) second) w c1 c2 n' n''
+    → Guards (Tests (Holds known) (Holds last) (HoldsWhere if_no) (λ packet. first packet and_then second packet)) (v + w) c0 c2 n n''
+Guards-both known on on' last one two if_no first second {v = v} {w = w} {c0 = c0} {c2 = c2} {n = n} {n'' = n''} same of_one of_two guards guards' =
+    subst (λ k. Guards (Tests (Holds known) (Holds k) (HoldsWhere if_no) (λ packet. first packet and_then second packet)) (v + w) c0 c2 n n'') (sym same)
+    (Guards-guards (λ at_yes at_no mid words h k. Tests-and (Holds known) (Holds on) (Holds on') (HoldsWhere one) (HoldsWhere two) (HoldsWhere if_no) first second of_one of_two at_yes at_no mid words k h) guards guards')

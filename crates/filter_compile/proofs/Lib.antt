@@ -1,9 +1,9 @@
-pub mod PushLemmas
-pub mod TargetLemmas
-pub mod CheckLemmas
 pub mod PacketLemmas
+pub mod ValueLemmas
+pub mod ArithmeticLemmas
 pub mod TestLemmas
 pub mod HeaderLemmas
-pub mod ArithmeticLemmas
 pub mod GuardLemmas
 pub mod ProgramLemmas
+pub mod StepLemmas
+pub mod RelationLemmas

@@ -1,64 +1,54 @@
 -- The whole program: the tests of an expression in front of the two instructions that return.
-use Rattle.std.proofs.Common.{◌≡◌, ◌∙◌, ◌<◌, ◌≤◌, List, [], ap, arith, false, inl, length, length-append, refl, subst, sym, ℕ, ⊎_elim}
+use Rattle.std.proofs.Common.{◌≡◌, ◌∙◌, ◌-◌, ◌<◌, ◌≤◌, List, [], arith, length, subst, ℕ, ⊎_elim}
 use Rattle.bpf_insn.specs.declared.instruction.Insn.TheVariants.{ReturnConstant}
 use Rattle.bpf_verify.specs.declared.TheConstants.{MAX_INSTRUCTIONS}
 use Rattle.bpf_verify.specs.Accepted.{IsAccepted}
 use Rattle.bpf_machine.specs.Meaning.{Ret, mean, no_cells}
+use Rattle.backpatch.specs.Finished.{IsFinished}
+use Rattle.backpatch.specs.Holes.{IsAppended, IsLanded, Open}
+use Rattle.backpatch.specs.Pieces.{Meaning, Writes}
+use Rattle.backpatch.proofs.FinishLemmas.{finished}
+use Rattle.backpatch.proofs.PushedLemmas.{mean_pushed, return_loads}
 use Rattle.filter_tree.specs.declared.truth.Truth.{Truth}
 use Rattle.filter_tree.specs.declared.truth.Truth.TheVariants.{Fails, No, Yes}
 use Rattle.filter_tree.specs.Measure.{size_of, weight_of}
 use Rattle.filter_tree.specs.Tree.{Tree}
 use Rattle.filter_tree.specs.Truth.{truth_of}
-use Rattle.filter_compile.specs.declared.TheConstants.{ACCEPTED}
-use Rattle.filter_compile.specs.Answer.{AnswersFor, answer_of}
-use Rattle.filter_compile.specs.body.Piece.{GoesBy, IsPushed, IsWellFormed, LoadsStored, Tests, target}
-use Rattle.filter_compile.proofs.PushLemmas.{IsInFront-pushed, loads_pushed, mean_pushed, well_formed_last, well_formed_pushed}
-use Rattle.filter_compile.proofs.TargetLemmas.{target-all, target-front}
-use Rattle.filter_compile.proofs.CheckLemmas.{not_empty}
+use Rattle.packet_facts.specs.declared.known.Known.{Known}
+use Rattle.packet_facts.specs.Known.{Holds}
+use Rattle.filter_compile.specs.declared.TheConstants.{ACCEPTED, SHORT}
+use Rattle.filter_compile.specs.Answer.{AnswersFor, HasNoFarJump, answer_of}
+use Rattle.filter_compile.specs.body.Piece.{GoesBy, Tests}
 
-returns_load_nothing : (k : ℕ) (before after : List ℕ) → IsPushed (ReturnConstant k) before after → LoadsStored 0 after
-returns_load_nothing k before after pushed =
-    loads_pushed (ReturnConstant k) before after pushed 0 0 (λ cell none. absurd none) (λ cell low. inl low) (λ t leads. let inside = leads.1 in absurd (omega arith))
+module _ (tree : Tree) (known if_yes if_no : Known) (yes_by no_by : ℕ) (program : List ℕ) (whole : IsFinished (Tests (Holds known) (Holds if_yes) (Holds if_no) (truth_of tree)) (weight_of tree) ACCEPTED 0 yes_by no_by program) where
+  pub program_within : length program ≤ size_of tree
+  program_within = let few = whole.within in omega arith
 
-module _ (tree : Tree) (y n : ℕ) (one two after : List ℕ) (reject : IsPushed (ReturnConstant 0) [] one) (accept : IsPushed (ReturnConstant ACCEPTED) one two) (y_is : y ≡ length two) (n_is : n ≡ length one) (tests : Tests false (truth_of tree) y n (weight_of tree) two after) where
-  one_long : length one ≡ 1
-  one_long = ap length reject.2
+  pub program_accepted : size_of tree ≤ MAX_INSTRUCTIONS → IsAccepted program
+  program_accepted fits =
+      let few = whole.within in
+      let loads = whole.meant.loads_stored (return_loads ACCEPTED whole.at_no whole.at_yes whole.accepts 0) (return_loads 0 _ whole.at_no whole.rejects 0) in record {
+        not_empty = whole.not_empty;
+        not_too_long = omega arith;
+        faultless = whole.faultless;
+        ends_in_return = whole.ends_in_return;
+        stores_before = λ pc cell load earlier path. ⊎_elim (λ (low : cell < 0). absurd (omega arith)) (λ stored. stored) (loads pc cell load earlier path);
+      }
 
-  two_long : length two ≡ 2
-  two_long = ap length accept.2 ∙ (let e = one_long in omega arith)
-
-  at_yes : target y two ≡ two
-  at_yes = ap (λ k. target k two) y_is ∙ target-all two
-
-  at_no : target n two ≡ one
-  at_no =
-      ap (λ k. target k two) n_is ∙ (target-front 1 (length one) one two (IsInFront-pushed (ReturnConstant ACCEPTED) one two accept) (omega arith) ∙ target-all one)
-
-  pub program_well_formed : IsWellFormed after
-  program_well_formed =
-      tests.well_formed (let e = two_long in omega arith) (let e = one_long in omega arith)
-      (well_formed_pushed (ReturnConstant ACCEPTED) one two accept refl (well_formed_last (ReturnConstant 0) one reject refl tt))
-
-  program_loads : LoadsStored 0 after
-  program_loads =
-      tests.loads_stored (subst (LoadsStored 0) (sym at_yes) (returns_load_nothing ACCEPTED one two accept)) (subst (LoadsStored 0) (sym at_no) (returns_load_nothing 0 [] one reject))
-
-  pub program_within : length after ≤ size_of tree
-  program_within = let front = tests.in_front in let few = front.2 in omega (arith, ap length front.1, length-append front.0 two, two_long)
-
-  pub program_accepted : size_of tree ≤ MAX_INSTRUCTIONS → IsAccepted after
-  program_accepted fits = let low = program_within in record {
-    not_empty = not_empty after program_well_formed;
-    not_too_long = omega arith;
-    faultless = program_well_formed.faultless;
-    ends_in_return = program_well_formed.ends_in_return;
-    stores_before = λ pc cell load earlier path. ⊎_elim (λ (low : cell < 0). absurd (omega arith)) (λ stored. stored) (program_loads pc cell load earlier path);
-  }
-
-  answered : (t : Truth) (packet : List ℕ) → GoesBy t false y n two after packet 0 0 no_cells → mean after 0 0 no_cells packet ≡ Ret (answer_of t)
-  answered Yes packet h = h.4 ∙ (ap (λ l. mean l h.0 h.1 h.2 packet) at_yes ∙ mean_pushed (ReturnConstant ACCEPTED) one two accept h.0 h.1 h.2 packet)
-  answered No packet h = h.4 ∙ (ap (λ l. mean l h.0 h.1 h.2 packet) at_no ∙ mean_pushed (ReturnConstant 0) [] one reject h.0 h.1 h.2 packet)
+  answered : (t : Truth) (packet : List ℕ) → GoesBy t (Holds if_yes) (Holds if_no) whole.at_yes whole.at_no program packet 0 0 no_cells → mean program 0 0 no_cells packet ≡ Ret (answer_of t)
+  answered Yes packet h = h.4 ∙ mean_pushed (ReturnConstant ACCEPTED) whole.at_no whole.at_yes whole.accepts h.0 h.1 h.2 packet
+  answered No packet h = h.4 ∙ mean_pushed (ReturnConstant 0) _ whole.at_no whole.rejects h.0 h.1 h.2 packet
   answered Fails packet h = h
 
-  pub program_answers : AnswersFor tree after
-  program_answers packet ok = answered (truth_of tree packet) packet (tests.goes packet ok 0 0 no_cells tt)
+  pub program_answers : ((packet : List ℕ) (x : ℕ) → Holds known packet x) → AnswersFor tree program
+  program_answers nothing packet ok = answered (truth_of tree packet) packet (whole.meant.goes packet ok 0 0 no_cells (nothing packet 0))
+
+  pub program_jumpless : yes_by ≡ size_of tree - 2 → no_by ≡ size_of tree - 1 → size_of tree ≤ SHORT → HasNoFarJump program
+  program_jumpless yes_is no_is short = whole.jumpless (omega arith) (omega arith)
+
+-- the code of an expression, its two exits landed before the two returns
+pub program_finished : {means : Meaning} {w accept reject : ℕ} {c0 c1 c2 c3 c4 c5 : List ℕ} {yes_old yes_new no_old no_new : Open} → c0 ≡ [] → yes_old.holes ≡ [] → no_old.holes ≡ []
+    → Writes means w c0 c1 yes_old yes_new no_old no_new → IsLanded yes_new.holes c1 c2 → IsAppended (ReturnConstant accept) c2 c3 → IsLanded no_new.holes c3 c4 → IsAppended (ReturnConstant reject) c4 c5
+    → IsFinished means w accept reject yes_old.by no_old.by c5
+program_finished {means = means} {w = w} {c1 = c1} {yes_old = yes_old} {yes_new = yes_new} {no_old = no_old} {no_new = no_new} begins yes_empty no_empty writes =
+    finished yes_empty no_empty (subst (λ (l : List ℕ). Writes means w l c1 yes_old yes_new no_old no_new) begins writes)

@@ -1,118 +1,244 @@
--- Tests of packets: a check of what is loaded, and tests that are made of others.
-use Rattle.std.proofs.Common.{◌≡◌, ◌∙◌, ◌∷◌, ◌+◌, ◌<◌, ◌^◌, ◌≤◌, Bool, List, None, Option, Some, ap, arith, cond, false, inl, length, refl, subst, sym, true, ℕ}
+-- Tests of packets: a check of what is loaded, tests that are made of others, and what is known where they lead.
+use Rattle.std.proofs.Common.{◌≡◌, ◌∙◌, ◌<◌, ◌^◌, Bool, List, None, Option, Some, ap, cond, false, refl, subst, true, ℕ}
 use Rattle.bpf_insn.specs.declared.instruction.Insn.{Insn}
 use Rattle.bpf_machine.specs.Meaning.{Cells, a_or_end, mean}
 use Rattle.filter_tree.specs.declared.truth.Truth.{Truth}
 use Rattle.filter_tree.specs.declared.truth.Truth.TheVariants.{Fails, No, Yes}
 use Rattle.filter_tree.specs.Outcome.{◌and_then◌, ◌or_else◌, answer, opposite, tested}
 use Rattle.filter_compile.specs.Answer.{IsPacket}
-use Rattle.filter_compile.specs.body.Header.{Knows}
-use Rattle.filter_compile.specs.body.Piece.{Asks, GoesBy, IsPlain, IsPushed, LoadsAs, LoadsStored, Tests, target}
-use Rattle.filter_compile.proofs.PushLemmas.{after_effect, mean_pushed, well_formed_pushed}
-use Rattle.filter_compile.proofs.TargetLemmas.{in_front-both, in_front-more, in_front-none, target-all, target-front}
-use Rattle.filter_compile.proofs.CheckLemmas.{loads_next, not_empty}
+use Rattle.backpatch.specs.Checks.{Checks}
+use Rattle.backpatch.specs.Runs.{ComesTo, IsPushed}
+use Rattle.backpatch.proofs.PushedLemmas.{after_effect, mean_pushed}
+use Rattle.packet_facts.specs.Known.{Knows}
+use Rattle.filter_compile.specs.body.Piece.{Asks, Compares, ComesWith, Computes, DecidedBy, Decides, Facts, GoesBy, IsPlain, LoadsAs, Pairs, PairsWith, Tests}
+use Rattle.filter_compile.proofs.ValueLemmas.{plain_loads}
 
--- ---- the outcome of a check
+-- ---- questions to a number in A
 
--- where a check leads is where its truth leads
-pub goes_by_answer : (holds known : Bool) (y n : ℕ) (before after packet : List ℕ) (a a' x : ℕ) (cells : Cells) → Knows known packet x
-    → mean after a x cells packet ≡ mean (target (cond holds y n) before) a' x cells packet → GoesBy (answer holds) known y n before after packet a x cells
-goes_by_answer true known y n before after packet a a' x cells knows on = (a', x, cells, knows, on)
-goes_by_answer false known y n before after packet a a' x cells knows on = (a', x, cells, knows, on)
+pub Asks-checks : {left : ℕ → ℕ} {check : ℕ → ℕ → Bool} {at_yes at_no words : List ℕ} (asked : ℕ → Bool) → ((a x : ℕ) → a < 2 ^ 32 → check a x ≡ asked a) → Checks left check at_yes at_no words → Asks asked at_yes at_no words
+Asks-checks {left = left} {at_yes = at_yes} {at_no = at_no} asked same h = record {
+  loads_stored = h.loads_stored;
+  goes = λ packet a x cells fits. (left a, h.goes packet a x cells ∙ ap (λ b. mean (cond b at_yes at_no) (left a) x cells packet) (same a x fits));
+}
 
-pub plain_loads : (insn : Insn) → IsPlain insn → (before after : List ℕ) (d : ℕ) → IsPushed insn before after → LoadsStored d before → LoadsStored d after
-plain_loads insn plain before after d pushed ok = loads_next insn before after d d pushed plain.next (λ cell l. absurd (plain.loads_none cell l)) (λ cell low. inl low) ok
+-- ---- the outcome of a question
 
-module _ (known : Bool) (insn : Insn) (part : List ℕ → Option ℕ) (check : ℕ → Bool) (y n w : ℕ) (before mid after : List ℕ) (pushed : IsPushed insn mid after) (plain : IsPlain insn) (loads : LoadsAs known insn part)
-    (fits : (packet : List ℕ) (v : ℕ) → IsPacket packet → part packet ≡ Some v → v < 2 ^ 32) (asks : Asks check y n w before mid) where
-  loaded_goes : (packet : List ℕ) → IsPacket packet → (a x : ℕ) (cells : Cells) → Knows known packet x → (found : Option ℕ) → part packet ≡ found
-      → mean after a x cells packet ≡ after_effect (a_or_end found x cells) mid packet → GoesBy (tested check found) known y n before after packet a x cells
-  loaded_goes packet ok a x cells knows None is on = on
-  loaded_goes packet ok a x cells knows (Some v) is on =
-      goes_by_answer (check v) known y n before after packet a (asks.left v) x cells knows
-      (on ∙ (asks.checks.goes packet v x cells ∙ ap (λ b. mean (target (cond b y n) before) (asks.left v) x cells packet) (asks.same v x (fits packet v ok is))))
+decided_by_answer : (holds : Bool) (at_yes at_no words packet : List ℕ) (a a' x : ℕ) (cells : Cells) → mean words a x cells packet ≡ mean (cond holds at_yes at_no) a' x cells packet → DecidedBy (answer holds) at_yes at_no words packet a x cells
+decided_by_answer true at_yes at_no words packet a a' x cells on = (a', on)
+decided_by_answer false at_yes at_no words packet a a' x cells on = (a', on)
 
-  pub Tests-loaded : Tests known (λ packet. tested check (part packet)) y n (w + 1) before after
-  Tests-loaded = record {
-    in_front = let few = asks.checks.in_front.2 in (pushed.0 ∷ asks.checks.in_front.0, pushed.2 ∙ ap (λ l. pushed.0 ∷ l) asks.checks.in_front.1, omega arith);
-    well_formed = λ some_yes some_no ok. well_formed_pushed insn mid after pushed (plain.faultless _) (asks.checks.well_formed some_yes some_no ok);
-    loads_stored = λ at_yes at_no. plain_loads insn plain mid after 0 pushed (asks.checks.loads_stored 0 at_yes at_no);
+module _ (known : Bool) (insn : Insn) (part : List ℕ → Option ℕ) (check : ℕ → Bool) (at_yes at_no mid words : List ℕ) (pushed : IsPushed insn mid words) (plain : IsPlain insn) (loads : LoadsAs known insn part)
+    (fits : (packet : List ℕ) (v : ℕ) → IsPacket packet → part packet ≡ Some v → v < 2 ^ 32) (asks : Asks check at_yes at_no mid) where
+  loaded_goes : (packet : List ℕ) → IsPacket packet → (a x : ℕ) (cells : Cells) (found : Option ℕ) → part packet ≡ found → mean words a x cells packet ≡ after_effect (a_or_end found x cells) mid packet
+      → DecidedBy (tested check found) at_yes at_no words packet a x cells
+  loaded_goes packet ok a x cells None is on = on
+  loaded_goes packet ok a x cells (Some v) is on = let t = asks.goes packet v x cells (fits packet v ok is) in decided_by_answer (check v) at_yes at_no words packet a t.0 x cells (on ∙ t.1)
+
+  pub Decides-loaded : Decides known (λ packet. tested check (part packet)) at_yes at_no words
+  Decides-loaded = record {
+    loads_stored = λ yes_ok no_ok. plain_loads insn plain mid words 0 pushed (asks.loads_stored 0 yes_ok no_ok);
     goes = λ packet ok a x cells knows.
-        loaded_goes packet ok a x cells knows (part packet) refl (mean_pushed insn mid after pushed a x cells packet ∙ ap (λ e. after_effect e mid packet) (loads packet a x cells knows));
+        loaded_goes packet ok a x cells (part packet) refl (mean_pushed insn mid words pushed a x cells packet ∙ ap (λ e. after_effect e mid packet) (loads packet a x cells knows));
   }
 
--- ---- tests made of others
+-- ---- decisions made of others
 
-same_truth : (t u : Truth) (known : Bool) (y n : ℕ) (before after packet : List ℕ) (a x : ℕ) (cells : Cells) → t ≡ u → GoesBy t known y n before after packet a x cells → GoesBy u known y n before after packet a x cells
-same_truth t u known y n before after packet a x cells is h = subst (λ v. GoesBy v known y n before after packet a x cells) is h
-
-pub Tests-same : (known : Bool) (truth other : List ℕ → Truth) (y n w : ℕ) (before after : List ℕ) → ((packet : List ℕ) → IsPacket packet → truth packet ≡ other packet) → Tests known truth y n w before after → Tests known other y n w before after
-Tests-same known truth other y n w before after same h = record {
-  in_front = h.in_front;
-  well_formed = h.well_formed;
+pub Decides-same : (known : Bool) (truth other : List ℕ → Truth) (at_yes at_no words : List ℕ) → ((packet : List ℕ) → IsPacket packet → truth packet ≡ other packet) → Decides known truth at_yes at_no words → Decides known other at_yes at_no words
+Decides-same known truth other at_yes at_no words same h = record {
   loads_stored = h.loads_stored;
-  goes = λ packet ok a x cells knows. same_truth (truth packet) (other packet) known y n before after packet a x cells (same packet ok) (h.goes packet ok a x cells knows);
+  goes = λ packet ok a x cells knows. subst (λ t. DecidedBy t at_yes at_no words packet a x cells) (same packet ok) (h.goes packet ok a x cells knows);
 }
 
-pub Tests-weight : (known : Bool) (truth : List ℕ → Truth) (y n w v : ℕ) (before after : List ℕ) → w ≤ v → Tests known truth y n w before after → Tests known truth y n v before after
-Tests-weight known truth y n w v before after low h = record { in_front = in_front-more w v before after low h.in_front; well_formed = h.well_formed; loads_stored = h.loads_stored; goes = h.goes }
+opposite_decided : (t : Truth) (at_yes at_no words packet : List ℕ) (a x : ℕ) (cells : Cells) → DecidedBy t at_no at_yes words packet a x cells → DecidedBy (opposite t) at_yes at_no words packet a x cells
+opposite_decided Yes at_yes at_no words packet a x cells h = h
+opposite_decided No at_yes at_no words packet a x cells h = h
+opposite_decided Fails at_yes at_no words packet a x cells h = h
 
-opposite_goes : (t : Truth) (known : Bool) (y n : ℕ) (before after packet : List ℕ) (a x : ℕ) (cells : Cells) → GoesBy t known n y before after packet a x cells → GoesBy (opposite t) known y n before after packet a x cells
-opposite_goes Yes known y n before after packet a x cells h = h
-opposite_goes No known y n before after packet a x cells h = h
-opposite_goes Fails known y n before after packet a x cells h = h
-
-pub Tests-not : (known : Bool) (truth : List ℕ → Truth) (y n w : ℕ) (before after : List ℕ) → Tests known truth n y w before after → Tests known (λ packet. opposite (truth packet)) y n w before after
-Tests-not known truth y n w before after h = record {
-  in_front = h.in_front;
-  well_formed = λ some_yes some_no ok. h.well_formed some_no some_yes ok;
-  loads_stored = λ at_yes at_no. h.loads_stored at_no at_yes;
-  goes = λ packet ok a x cells knows. opposite_goes (truth packet) known y n before after packet a x cells (h.goes packet ok a x cells knows);
+pub Decides-not : (known : Bool) (truth : List ℕ → Truth) (at_yes at_no words : List ℕ) → Decides known truth at_no at_yes words → Decides known (λ packet. opposite (truth packet)) at_yes at_no words
+Decides-not known truth at_yes at_no words h = record {
+  loads_stored = λ yes_ok no_ok. h.loads_stored no_ok yes_ok;
+  goes = λ packet ok a x cells knows. opposite_decided (truth packet) at_yes at_no words packet a x cells (h.goes packet ok a x cells knows);
 }
 
--- nothing is written: the test is yes
-pub Tests-none : (known : Bool) (n : ℕ) (before : List ℕ) → Tests known (λ packet. Yes) (length before) n 0 before before
-Tests-none known n before = record {
-  in_front = in_front-none before;
-  well_formed = λ some_yes some_no ok. ok;
-  loads_stored = λ at_yes at_no. subst (LoadsStored 0) (target-all before) at_yes;
-  goes = λ packet ok a x cells knows. (a, x, cells, knows, ap (λ l. mean l a x cells packet) (sym (target-all before)));
+decided_on : (t : Truth) (at_yes at_no mid words packet : List ℕ) (a a' x : ℕ) (cells : Cells) → mean words a x cells packet ≡ mean mid a' x cells packet → DecidedBy t at_yes at_no mid packet a' x cells → DecidedBy t at_yes at_no words packet a x cells
+decided_on Yes at_yes at_no mid words packet a a' x cells on h = (h.0, on ∙ h.1)
+decided_on No at_yes at_no mid words packet a a' x cells on h = (h.0, on ∙ h.1)
+decided_on Fails at_yes at_no mid words packet a a' x cells on h = on ∙ h
+
+module _ (known : Bool) (first second : List ℕ → Truth) (at_yes at_no mid words : List ℕ) (later : Decides known second at_yes at_no mid) where
+  decides_and_goes : (t : Truth) (packet : List ℕ) → IsPacket packet → (a x : ℕ) (cells : Cells) → Knows known packet x → DecidedBy t mid at_no words packet a x cells → DecidedBy (t and_then second packet) at_yes at_no words packet a x cells
+  decides_and_goes Yes packet ok a x cells knows h = decided_on (second packet) at_yes at_no mid words packet a h.0 x cells h.1 (later.goes packet ok h.0 x cells knows)
+  decides_and_goes No packet ok a x cells knows h = h
+  decides_and_goes Fails packet ok a x cells knows h = h
+
+  pub Decides-and : Decides known first mid at_no words → Decides known (λ packet. first packet and_then second packet) at_yes at_no words
+  Decides-and h = record {
+    loads_stored = λ yes_ok no_ok. h.loads_stored (later.loads_stored yes_ok no_ok) no_ok;
+    goes = λ packet ok a x cells knows. decides_and_goes (first packet) packet ok a x cells knows (h.goes packet ok a x cells knows);
+  }
+
+  decides_or_goes : (t : Truth) (packet : List ℕ) → IsPacket packet → (a x : ℕ) (cells : Cells) → Knows known packet x → DecidedBy t at_yes mid words packet a x cells → DecidedBy (t or_else second packet) at_yes at_no words packet a x cells
+  decides_or_goes Yes packet ok a x cells knows h = h
+  decides_or_goes No packet ok a x cells knows h = decided_on (second packet) at_yes at_no mid words packet a h.0 x cells h.1 (later.goes packet ok h.0 x cells knows)
+  decides_or_goes Fails packet ok a x cells knows h = h
+
+  pub Decides-or : Decides known first at_yes mid words → Decides known (λ packet. first packet or_else second packet) at_yes at_no words
+  Decides-or h = record {
+    loads_stored = λ yes_ok no_ok. h.loads_stored yes_ok (later.loads_stored yes_ok no_ok);
+    goes = λ packet ok a x cells knows. decides_or_goes (first packet) packet ok a x cells knows (h.goes packet ok a x cells knows);
+  }
+
+-- ---- tests with facts
+
+module _ (known : Bool) (given when_yes when_no : Facts) (truth : List ℕ → Truth) (at_yes at_no words : List ℕ) (knows : (packet : List ℕ) (x : ℕ) → given packet x → Knows known packet x)
+    (on_yes : (packet : List ℕ) (x : ℕ) → given packet x → truth packet ≡ Yes → when_yes packet x) (on_no : (packet : List ℕ) (x : ℕ) → given packet x → truth packet ≡ No → when_no packet x) where
+  decided_goes : (t : Truth) (packet : List ℕ) (a x : ℕ) (cells : Cells) → given packet x → truth packet ≡ t → DecidedBy t at_yes at_no words packet a x cells → GoesBy t when_yes when_no at_yes at_no words packet a x cells
+  decided_goes Yes packet a x cells g is h = (h.0, x, cells, on_yes packet x g is, h.1)
+  decided_goes No packet a x cells g is h = (h.0, x, cells, on_no packet x g is, h.1)
+  decided_goes Fails packet a x cells g is h = h
+
+  -- a decision, and what it tells where it leads
+  pub Tests-decided : Decides known truth at_yes at_no words → Tests given when_yes when_no truth at_yes at_no words
+  Tests-decided h = record {
+    loads_stored = h.loads_stored;
+    goes = λ packet ok a x cells g. decided_goes (truth packet) packet a x cells g refl (h.goes packet ok a x cells (knows packet x g));
+  }
+
+pub Tests-same : (given when_yes when_no : Facts) (truth other : List ℕ → Truth) (at_yes at_no words : List ℕ) → ((packet : List ℕ) (x : ℕ) → IsPacket packet → given packet x → truth packet ≡ other packet)
+    → Tests given when_yes when_no truth at_yes at_no words → Tests given when_yes when_no other at_yes at_no words
+Tests-same given when_yes when_no truth other at_yes at_no words same h = record {
+  loads_stored = h.loads_stored;
+  goes = λ packet ok a x cells g. subst (λ t. GoesBy t when_yes when_no at_yes at_no words packet a x cells) (same packet x ok g) (h.goes packet ok a x cells g);
 }
 
 -- a run that comes to words goes on as they do
-pub on_from : (t : Truth) (known : Bool) (y n : ℕ) (before mid after packet : List ℕ) (a a' x x' : ℕ) (cells cells' : Cells) → mean after a x cells packet ≡ mean mid a' x' cells' packet
-    → GoesBy t known y n before mid packet a' x' cells' → GoesBy t known y n before after packet a x cells
-on_from Yes known y n before mid after packet a a' x x' cells cells' on h = (h.0, h.1, h.2, h.3, on ∙ h.4)
-on_from No known y n before mid after packet a a' x x' cells cells' on h = (h.0, h.1, h.2, h.3, on ∙ h.4)
-on_from Fails known y n before mid after packet a a' x x' cells cells' on h = on ∙ h
+pub on_from : (t : Truth) (when_yes when_yes' when_no when_no' : Facts) → ((packet : List ℕ) (x : ℕ) → when_yes packet x → when_yes' packet x) → ((packet : List ℕ) (x : ℕ) → when_no packet x → when_no' packet x)
+    → (at_yes at_no mid words packet : List ℕ) (a a' x x' : ℕ) (cells cells' : Cells) → mean words a x cells packet ≡ mean mid a' x' cells' packet → GoesBy t when_yes when_no at_yes at_no mid packet a' x' cells' → GoesBy t when_yes' when_no' at_yes at_no words packet a x cells
+on_from Yes when_yes when_yes' when_no when_no' weaker weaker' at_yes at_no mid words packet a a' x x' cells cells' on h = (h.0, h.1, h.2, weaker packet h.1 h.3, on ∙ h.4)
+on_from No when_yes when_yes' when_no when_no' weaker weaker' at_yes at_no mid words packet a a' x x' cells cells' on h = (h.0, h.1, h.2, weaker' packet h.1 h.3, on ∙ h.4)
+on_from Fails when_yes when_yes' when_no when_no' weaker weaker' at_yes at_no mid words packet a a' x x' cells cells' on h = on ∙ h
 
-module _ (known : Bool) (first second : List ℕ → Truth) (y n w v : ℕ) (before mid after : List ℕ) (y_low : y ≤ length before) (n_low : n ≤ length before) (later : Tests known second y n w before mid) where
-  and_goes : (t : Truth) (packet : List ℕ) → IsPacket packet → (a x : ℕ) (cells : Cells) → GoesBy t known (length mid) n mid after packet a x cells → GoesBy (t and_then second packet) known y n before after packet a x cells
-  and_goes Yes packet ok a x cells h =
-      on_from (second packet) known y n before mid after packet a h.0 x h.1 cells h.2 (h.4 ∙ ap (λ l. mean l h.0 h.1 h.2 packet) (target-all mid)) (later.goes packet ok h.0 h.1 h.2 h.3)
-  and_goes No packet ok a x cells h = (h.0, h.1, h.2, h.3, h.4 ∙ ap (λ l. mean l h.0 h.1 h.2 packet) (target-front w n before mid later.in_front n_low))
+pub Tests-weaker : (given given' when_yes when_yes' when_no when_no' : Facts) (truth : List ℕ → Truth) → ((packet : List ℕ) (x : ℕ) → given' packet x → given packet x) → ((packet : List ℕ) (x : ℕ) → when_yes packet x → when_yes' packet x)
+    → ((packet : List ℕ) (x : ℕ) → when_no packet x → when_no' packet x) → (at_yes at_no words : List ℕ) → Tests given when_yes when_no truth at_yes at_no words → Tests given' when_yes' when_no' truth at_yes at_no words
+Tests-weaker given given' when_yes when_yes' when_no when_no' truth stronger weaker weaker' at_yes at_no words h = record {
+  loads_stored = h.loads_stored;
+  goes = λ packet ok a x cells g. on_from (truth packet) when_yes when_yes' when_no when_no' weaker weaker' at_yes at_no words words packet a a x x cells cells refl (h.goes packet ok a x cells (stronger packet x g));
+}
+
+opposite_goes : (t : Truth) (when_yes when_no : Facts) (at_yes at_no words packet : List ℕ) (a x : ℕ) (cells : Cells) → GoesBy t when_no when_yes at_no at_yes words packet a x cells → GoesBy (opposite t) when_yes when_no at_yes at_no words packet a x cells
+opposite_goes Yes when_yes when_no at_yes at_no words packet a x cells h = h
+opposite_goes No when_yes when_no at_yes at_no words packet a x cells h = h
+opposite_goes Fails when_yes when_no at_yes at_no words packet a x cells h = h
+
+pub Tests-not : (given when_yes when_no : Facts) (truth : List ℕ → Truth) (at_yes at_no words : List ℕ) → Tests given when_no when_yes truth at_no at_yes words → Tests given when_yes when_no (λ packet. opposite (truth packet)) at_yes at_no words
+Tests-not given when_yes when_no truth at_yes at_no words h = record {
+  loads_stored = λ yes_ok no_ok. h.loads_stored no_ok yes_ok;
+  goes = λ packet ok a x cells g. opposite_goes (truth packet) when_yes when_no at_yes at_no words packet a x cells (h.goes packet ok a x cells g);
+}
+
+abbrev pub AreWeaker : Facts → Facts → Type 0
+AreWeaker facts weaker = (packet : List ℕ) (x : ℕ) → facts packet x → weaker packet x
+
+same_facts : (facts : Facts) → AreWeaker facts facts
+same_facts facts packet x h = h
+
+module _ (given between when_yes no1 no2 no3 : Facts) (first second : List ℕ → Truth) (weaker1 : AreWeaker no1 no3) (weaker2 : AreWeaker no2 no3) (at_yes at_no mid words : List ℕ) (later : Tests between when_yes no2 second at_yes at_no mid) where
+  and_goes : (t : Truth) (packet : List ℕ) → IsPacket packet → (a x : ℕ) (cells : Cells) → GoesBy t between no1 mid at_no words packet a x cells → GoesBy (t and_then second packet) when_yes no3 at_yes at_no words packet a x cells
+  and_goes Yes packet ok a x cells h = on_from (second packet) when_yes when_yes no2 no3 (same_facts when_yes) weaker2 at_yes at_no mid words packet a h.0 x h.1 cells h.2 h.4 (later.goes packet ok h.0 h.1 h.2 h.3)
+  and_goes No packet ok a x cells h = (h.0, h.1, h.2, weaker1 packet h.1 h.3, h.4)
   and_goes Fails packet ok a x cells h = h
 
-  pub Tests-and : (here : ℕ) → here ≡ length mid → Tests known first here n v mid after → Tests known (λ packet. first packet and_then second packet) y n (v + w) before after
-  Tests-and here is near = let h = subst (λ k. Tests known first k n v mid after) is near in record {
-    in_front = in_front-both w v before mid after later.in_front h.in_front;
-    well_formed = λ some_yes some_no ok. let later_ok = later.well_formed some_yes some_no ok in h.well_formed (not_empty mid later_ok) some_no later_ok;
-    loads_stored = λ at_yes at_no.
-        h.loads_stored (subst (LoadsStored 0) (sym (target-all mid)) (later.loads_stored at_yes at_no)) (subst (LoadsStored 0) (sym (target-front w n before mid later.in_front n_low)) at_no);
-    goes = λ packet ok a x cells knows. and_goes (first packet) packet ok a x cells (h.goes packet ok a x cells knows);
+  pub Tests-and : Tests given between no1 first mid at_no words → Tests given when_yes no3 (λ packet. first packet and_then second packet) at_yes at_no words
+  Tests-and h = record {
+    loads_stored = λ yes_ok no_ok. h.loads_stored (later.loads_stored yes_ok no_ok) no_ok;
+    goes = λ packet ok a x cells g. and_goes (first packet) packet ok a x cells (h.goes packet ok a x cells g);
   }
 
-  or_goes : (t : Truth) (packet : List ℕ) → IsPacket packet → (a x : ℕ) (cells : Cells) → GoesBy t known y (length mid) mid after packet a x cells → GoesBy (t or_else second packet) known y n before after packet a x cells
-  or_goes Yes packet ok a x cells h = (h.0, h.1, h.2, h.3, h.4 ∙ ap (λ l. mean l h.0 h.1 h.2 packet) (target-front w y before mid later.in_front y_low))
-  or_goes No packet ok a x cells h =
-      on_from (second packet) known y n before mid after packet a h.0 x h.1 cells h.2 (h.4 ∙ ap (λ l. mean l h.0 h.1 h.2 packet) (target-all mid)) (later.goes packet ok h.0 h.1 h.2 h.3)
+module _ (given between when_no yes1 yes2 yes3 : Facts) (first second : List ℕ → Truth) (weaker1 : AreWeaker yes1 yes3) (weaker2 : AreWeaker yes2 yes3) (at_yes at_no mid words : List ℕ) (later : Tests between yes2 when_no second at_yes at_no mid) where
+  or_goes : (t : Truth) (packet : List ℕ) → IsPacket packet → (a x : ℕ) (cells : Cells) → GoesBy t yes1 between at_yes mid words packet a x cells → GoesBy (t or_else second packet) yes3 when_no at_yes at_no words packet a x cells
+  or_goes Yes packet ok a x cells h = (h.0, h.1, h.2, weaker1 packet h.1 h.3, h.4)
+  or_goes No packet ok a x cells h = on_from (second packet) yes2 yes3 when_no when_no weaker2 (same_facts when_no) at_yes at_no mid words packet a h.0 x h.1 cells h.2 h.4 (later.goes packet ok h.0 h.1 h.2 h.3)
   or_goes Fails packet ok a x cells h = h
 
-  pub Tests-or : (here : ℕ) → here ≡ length mid → Tests known first y here v mid after → Tests known (λ packet. first packet or_else second packet) y n (v + w) before after
-  Tests-or here is near = let h = subst (λ k. Tests known first y k v mid after) is near in record {
-    in_front = in_front-both w v before mid after later.in_front h.in_front;
-    well_formed = λ some_yes some_no ok. let later_ok = later.well_formed some_yes some_no ok in h.well_formed some_yes (not_empty mid later_ok) later_ok;
-    loads_stored = λ at_yes at_no.
-        h.loads_stored (subst (LoadsStored 0) (sym (target-front w y before mid later.in_front y_low)) at_yes) (subst (LoadsStored 0) (sym (target-all mid)) (later.loads_stored at_yes at_no));
-    goes = λ packet ok a x cells knows. or_goes (first packet) packet ok a x cells (h.goes packet ok a x cells knows);
+  pub Tests-or : Tests given yes1 between first at_yes mid words → Tests given yes3 when_no (λ packet. first packet or_else second packet) at_yes at_no words
+  Tests-or h = record {
+    loads_stored = λ yes_ok no_ok. h.loads_stored yes_ok (later.loads_stored yes_ok no_ok);
+    goes = λ packet ok a x cells g. or_goes (first packet) packet ok a x cells (h.goes packet ok a x cells g);
   }
+
+-- ---- tests that are known
+
+module _ (given when_yes when_no : Facts) (truth : List ℕ → Truth) (at_yes at_no words : List ℕ) where
+  -- what is known to be yes goes there at once
+  pub Tests-yes : AreWeaker given when_yes → ((packet : List ℕ) (x : ℕ) → given packet x → truth packet ≡ Yes) → ComesTo at_yes words → Tests given when_yes when_no truth at_yes at_no words
+  Tests-yes weaker known runs = record {
+    loads_stored = λ yes_ok no_ok. runs.loads_stored 0 yes_ok;
+    goes = λ packet ok a x cells g. rw (known packet x g) (a, x, cells, weaker packet x g, runs.goes packet a x cells);
+  }
+
+  pub Tests-no : AreWeaker given when_no → ((packet : List ℕ) (x : ℕ) → given packet x → truth packet ≡ No) → ComesTo at_no words → Tests given when_yes when_no truth at_yes at_no words
+  Tests-no weaker known runs = record {
+    loads_stored = λ yes_ok no_ok. runs.loads_stored 0 no_ok;
+    goes = λ packet ok a x cells g. rw (known packet x g) (a, x, cells, weaker packet x g, runs.goes packet a x cells);
+  }
+
+-- nothing is written: the test is known to be yes
+pub Tests-none : (given when_yes when_no : Facts) (truth : List ℕ → Truth) (at_no words : List ℕ) → AreWeaker given when_yes → ((packet : List ℕ) (x : ℕ) → given packet x → truth packet ≡ Yes) → Tests given when_yes when_no truth words at_no words
+Tests-none given when_yes when_no truth at_no words weaker known =
+    Tests-yes given when_yes when_no truth words at_no words weaker known record { loads_stored = λ d ok. ok; goes = λ packet a x cells. refl }
+
+-- ---- values that are compared
+
+-- a test of a value, which fails where there is none
+abbrev pub from_value : (ℕ → Truth) → Option ℕ → Truth
+from_value truth None = Fails
+from_value truth (Some v) = truth v
+
+module _ (given : Facts) (known between after : Bool) (value : List ℕ → Option ℕ) (truth : List ℕ → ℕ → Truth) (when : Facts) (at_yes at_no mid words : List ℕ) (knows : (packet : List ℕ) (x : ℕ) → given packet x → Knows known packet x)
+    (tells : (packet : List ℕ) (x x' : ℕ) → given packet x → Knows after packet x' → when packet x') (computes : Computes (λ packet a. value packet) known between 0 mid words) (compares : Compares truth between after at_yes at_no mid) where
+  told : (t : Truth) (packet : List ℕ) (a x x0 : ℕ) (cells : Cells) → given packet x0 → GoesBy t (Knows after) (Knows after) at_yes at_no words packet a x cells → GoesBy t when when at_yes at_no words packet a x cells
+  told Yes packet a x x0 cells g h = (h.0, h.1, h.2, tells packet x0 h.1 g h.3, h.4)
+  told No packet a x x0 cells g h = (h.0, h.1, h.2, tells packet x0 h.1 g h.3, h.4)
+  told Fails packet a x x0 cells g h = h
+
+  value_goes : (found : Option ℕ) (packet : List ℕ) → IsPacket packet → (a x : ℕ) (cells : Cells) → ComesWith found between 0 mid words packet a x cells → GoesBy (from_value (truth packet) found) (Knows after) (Knows after) at_yes at_no words packet a x cells
+  value_goes None packet ok a x cells h = h
+  value_goes (Some v) packet ok a x cells h =
+      on_from (truth packet v) (Knows after) (Knows after) (Knows after) (Knows after) (same_facts (Knows after)) (same_facts (Knows after)) at_yes at_no mid words packet a v x h.0 cells h.1 h.4 (compares.goes packet ok v h.0 h.1 h.3)
+
+  pub Tests-value : Tests given when when (λ packet. from_value (truth packet) (value packet)) at_yes at_no words
+  Tests-value = record {
+    loads_stored = λ yes_ok no_ok. computes.loads_stored (compares.loads_stored yes_ok no_ok);
+    goes = λ packet ok a x cells g. told (from_value (truth packet) (value packet)) packet a x x cells g (value_goes (value packet) packet ok a x cells (computes.comes packet ok a x cells (knows packet x g)));
+  }
+
+goes_by_answer : (holds known : Bool) (at_yes at_no words packet : List ℕ) (a a' x x' : ℕ) (cells cells' : Cells) → Knows known packet x' → mean words a x cells packet ≡ mean (cond holds at_yes at_no) a' x' cells' packet
+    → GoesBy (answer holds) (Knows known) (Knows known) at_yes at_no words packet a x cells
+goes_by_answer true known at_yes at_no words packet a a' x x' cells cells' knows on = (a', x', cells', knows, on)
+goes_by_answer false known at_yes at_no words packet a a' x x' cells cells' knows on = (a', x', cells', knows, on)
+
+-- A is compared with a number
+pub Compares-checks : (check : ℕ → ℕ → Bool) (holds : ℕ → Bool) (known : Bool) (at_yes at_no words : List ℕ) → ((a x : ℕ) → check a x ≡ holds a) → Checks (λ a. a) check at_yes at_no words → Compares (λ packet a. answer (holds a)) known known at_yes at_no words
+Compares-checks check holds known at_yes at_no words same h = record {
+  loads_stored = h.loads_stored 0;
+  goes = λ packet ok a x cells knows.
+      goes_by_answer (holds a) known at_yes at_no words packet a a x x cells cells knows (h.goes packet a x cells ∙ ap (λ b. mean (cond b at_yes at_no) a x cells packet) (same a x));
+}
+
+-- A is compared with a value in X
+module _ (right : List ℕ → Option ℕ) (check : ℕ → ℕ → Bool) (given : Bool) (at_yes at_no mid words : List ℕ) (pairs : Pairs right given 0 mid words) (checks : Checks (λ a. a) check at_yes at_no mid) where
+  paired_goes : (found : Option ℕ) (packet : List ℕ) (a x : ℕ) (cells : Cells) → PairsWith found 0 mid words packet a x cells → GoesBy (tested (check a) found) (Knows false) (Knows false) at_yes at_no words packet a x cells
+  paired_goes None packet a x cells h = h
+  paired_goes (Some r) packet a x cells h = goes_by_answer (check a r) false at_yes at_no words packet a a x r cells h.0 tt (h.2 ∙ checks.goes packet a r h.0)
+
+  pub Compares-pair : Compares (λ packet a. tested (check a) (right packet)) given false at_yes at_no words
+  Compares-pair = record {
+    loads_stored = λ yes_ok no_ok. pairs.loads_stored (checks.loads_stored 0 yes_ok no_ok);
+    goes = λ packet ok a x cells knows. paired_goes (right packet) packet a x cells (pairs.comes packet ok a x cells knows);
+  }
+
+pub Compares-same : (truth other : List ℕ → ℕ → Truth) (given after : Bool) (at_yes at_no words : List ℕ) → ((packet : List ℕ) (a : ℕ) → truth packet a ≡ other packet a) → Compares truth given after at_yes at_no words → Compares other given after at_yes at_no words
+Compares-same truth other given after at_yes at_no words same h = record {
+  loads_stored = h.loads_stored;
+  goes = λ packet ok a x cells knows. subst (λ t. GoesBy t (Knows after) (Knows after) at_yes at_no words packet a x cells) (same packet a) (h.goes packet ok a x cells knows);
+}

@@ -1,5 +1,7 @@
--- What the program of an expression answers.
+-- What the program of an expression answers, and what a short one has not.
 use Rattle.std.specs.Prelude.{◌≡◌, List, ℕ}
+use Rattle.bpf_insn.specs.declared.instruction.Insn.TheVariants.{Jump}
+use Rattle.bpf_verify.specs.Path.{IsAt}
 use Rattle.bpf_machine.specs.Meaning.{Ret, ending_of}
 use Rattle.filter_tree.specs.Tree.{Tree}
 use Rattle.filter_tree.specs.Truth.{truth_of}
@@ -8,3 +10,7 @@ pub use Rattle.filter_tree.specs.Answer.{IsPacket, answer_of}
 -- on each packet the program ends with the answer of the expression
 abbrev pub AnswersFor : Tree → List ℕ → Type 0
 AnswersFor tree program = (packet : List ℕ) → IsPacket packet → ending_of program packet ≡ Ret (answer_of (truth_of tree packet))
+
+-- no instruction of the program is a JA, the jump that may be far
+abbrev pub HasNoFarJump : List ℕ → Type 0
+HasNoFarJump program = (pc k : ℕ) → ¬ IsAt program pc (Jump k)

@@ -1,3 +1,5 @@
 -- Models of the code: what the contracts of private functions cite. No public clause stands on them.
 pub mod Piece
 pub mod Header
+pub mod Sides
+pub mod Arithmetic

@@ -2,12 +2,13 @@
 
 ghost use Rattle.std.specs.Prelude.{◌+◌, ◌≤◌, OnOk, length};
 ghost use Rattle.bpf_verify.specs.declared.TheConstants.{MAX_INSTRUCTIONS};
+ghost use Rattle.backpatch.specs.Pieces.{Writes};
 ghost use Rattle.filter_tree.specs.Prefix.{covers};
 ghost use Rattle.filter_tree.specs.Primitive.{is_between};
 ghost use Rattle.filter_compile.specs.body.Header.{passes, weight_of_check};
 ghost use Rattle.filter_compile.specs.body.Piece.{Asks};
 
-use crate::code::Code;
+use backpatch::{Code, Exit};
 use bpf_insn::{Insn, Operand, Operation, Test};
 use filter_tree::Prefix;
 use std::alloc::{AllocError, Allocator};
@@ -24,48 +25,62 @@ pub(crate) enum Check {
 }
 
 // The code of each finds the number in A.
-impl<A: Allocator> Code<A> {
-    fn covered(&mut self, prefix: Prefix, yes: usize, no: usize) -> Result<(), AllocError>
-        requires targets { (yes ≤ length self.old) × (no ≤ length self.old) }
-        requires room { length self.old + 4 ≤ MAX_INSTRUCTIONS }
-        ensures asks { OnOk result (Asks (covers prefix) yes no 4 self.old self.new) }
-        ensures not_less { OnOk result (length self.old ≤ length self.new) }
-        ensures not_more { OnOk result (length self.new ≤ length self.old + 4) }
-    {
-        let address = prefix.address();
-        // The verifier refuses a shift by 32.
-        if prefix.length() == 0 {
-            self.branch(Test::Equal, Operand::K(0), yes, no)?;
-            return self.push(Insn::Alu(Operation::And, Operand::K(0)));
-        }
-        let shift = 32 - prefix.length();
-        self.branch(Test::Equal, Operand::K(address >> shift), yes, no)?;
-        self.push(Insn::Alu(Operation::Rsh, Operand::K(shift)))
+fn covered<'a, A: Allocator>(
+    code: &mut Code<'a, A>,
+    prefix: Prefix,
+    yes: &mut Exit<'a, A>,
+    no: &mut Exit<'a, A>,
+) -> Result<(), AllocError>
+    requires room { length code.old + 4 ≤ MAX_INSTRUCTIONS }
+    ensures writes { OnOk result (Writes (Asks (covers prefix)) 4 code.old code.new yes.old yes.new no.old no.new) }
+{
+    let address = prefix.address();
+    // The verifier refuses a shift by 32.
+    if prefix.length() == 0 {
+        code.push(Insn::Alu(Operation::And, Operand::K(0)))?;
+        return code.branch(Test::Equal, Operand::K(0), yes, no);
     }
+    let shift = 32 - prefix.length();
+    code.push(Insn::Alu(Operation::Rsh, Operand::K(shift)))?;
+    code.branch(Test::Equal, Operand::K(address >> shift), yes, no)
+}
 
-    fn between(&mut self, n: u16, m: u16, yes: usize, no: usize) -> Result<(), AllocError>
-        requires targets { (yes ≤ length self.old) × (no ≤ length self.old) }
-        requires room { length self.old + 6 ≤ MAX_INSTRUCTIONS }
-        ensures asks { OnOk result (Asks (is_between n m) yes no 6 self.old self.new) }
-        ensures not_less { OnOk result (length self.old ≤ length self.new) }
-        ensures not_more { OnOk result (length self.new ≤ length self.old + 6) }
-    {
-        self.branch(Test::Greater, Operand::K(n.max(m) as u32), no, yes)?;
-        let here = self.len();
-        self.branch(Test::GreaterOrEqual, Operand::K(n.min(m) as u32), here, no)
-    }
+fn between<'a, A: Allocator>(
+    code: &mut Code<'a, A>,
+    n: u16,
+    m: u16,
+    yes: &mut Exit<'a, A>,
+    no: &mut Exit<'a, A>,
+) -> Result<(), AllocError>
+    requires room { length code.old + 6 ≤ MAX_INSTRUCTIONS }
+    requires behind { length code.old + 6 ≤ no.old.by }
+    ensures writes { OnOk result (Writes (Asks (is_between n m)) 6 code.old code.new yes.old yes.new no.old no.new) }
+{
+    let mut on = code.exit(code.len() + 3);
+    code.branch(
+        Test::GreaterOrEqual,
+        Operand::K(n.min(m) as u32),
+        &mut on,
+        no,
+    )?;
+    code.land(&on);
+    code.branch(Test::Greater, Operand::K(n.max(m) as u32), no, yes)
+}
 
-    pub(crate) fn check(&mut self, check: &Check, yes: usize, no: usize) -> Result<(), AllocError>
-        requires targets { (yes ≤ length self.old) × (no ≤ length self.old) }
-        requires room { length self.old + weight_of_check check.now ≤ MAX_INSTRUCTIONS }
-        ensures asks { OnOk result (Asks (passes check.now) yes no (weight_of_check check.now) self.old self.new) }
-        ensures not_less { OnOk result (length self.old ≤ length self.new) }
-        ensures not_more { OnOk result (length self.new ≤ length self.old + weight_of_check check.now) }
-    {
-        match check {
-            Check::Equal(n) => self.branch(Test::Equal, Operand::K(*n), yes, no),
-            Check::Covered(prefix) => self.covered(*prefix, yes, no),
-            Check::Between(n, m) => self.between(*n, *m, yes, no),
-        }
+/// Writes the question.
+pub(crate) fn ask<'a, A: Allocator>(
+    code: &mut Code<'a, A>,
+    check: &Check,
+    yes: &mut Exit<'a, A>,
+    no: &mut Exit<'a, A>,
+) -> Result<(), AllocError>
+    requires room { length code.old + weight_of_check check.now ≤ MAX_INSTRUCTIONS }
+    requires behind { length code.old + weight_of_check check.now ≤ no.old.by }
+    ensures writes { OnOk result (Writes (Asks (passes check.now)) (weight_of_check check.now) code.old code.new yes.old yes.new no.old no.new) }
+{
+    match check {
+        Check::Equal(n) => code.branch(Test::Equal, Operand::K(*n), yes, no),
+        Check::Covered(prefix) => covered(code, *prefix, yes, no),
+        Check::Between(n, m) => between(code, *n, *m, yes, no),
     }
 }

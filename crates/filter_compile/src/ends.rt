@@ -2,12 +2,13 @@
 
 ghost use Rattle.std.specs.Prelude.{◌+◌, ◌≤◌, OnOk, length};
 ghost use Rattle.bpf_verify.specs.declared.TheConstants.{MAX_INSTRUCTIONS};
+ghost use Rattle.backpatch.specs.Pieces.{NeverFaults, Writes};
 ghost use Rattle.filter_tree.specs.Outcome.{tested};
 ghost use Rattle.filter_compile.specs.body.Header.{by_header, end_of, ends_pass, passes, weight_of_check, weight_of_ends};
-ghost use Rattle.filter_compile.specs.body.Piece.{IsPlain, LoadsAs, Tests};
+ghost use Rattle.filter_compile.specs.body.Piece.{Decides, IsPlain, LoadsAs};
 
-use crate::check::Check;
-use crate::code::Code;
+use crate::check::{Check, ask};
+use backpatch::{Code, Exit};
 use bpf_insn::{Insn, Size};
 use filter_tree::Direction;
 use std::alloc::{AllocError, Allocator};
@@ -29,6 +30,7 @@ pub(crate) enum End {
 fn load(part: Part, end: End) -> Insn
     ensures loads { LoadsAs (by_header part) result (end_of part end) }
     ensures plain { IsPlain result }
+    ensures no_fault { NeverFaults result }
 {
     match (part, end) {
         (Part::Address, End::Source) => Insn::LoadAbsolute(Size::Word, 12),
@@ -38,53 +40,53 @@ fn load(part: Part, end: End) -> Insn
     }
 }
 
-impl<A: Allocator> Code<A> {
-    fn end(
-        &mut self,
-        part: Part,
-        end: End,
-        check: &Check,
-        yes: usize,
-        no: usize,
-    ) -> Result<(), AllocError>
-        requires targets { (yes ≤ length self.old) × (no ≤ length self.old) }
-        requires room { length self.old + (weight_of_check check.now + 1) ≤ MAX_INSTRUCTIONS }
-        ensures tests { OnOk result (Tests (by_header part) (λ packet. tested (passes check.now) (end_of part end packet)) yes no (weight_of_check check.now + 1) self.old self.new) }
-        ensures not_less { OnOk result (length self.old ≤ length self.new) }
-        ensures not_more { OnOk result (length self.new ≤ length self.old + (weight_of_check check.now + 1)) }
-    {
-        self.check(check, yes, no)?;
-        self.push(load(part, end))
-    }
+fn test_end<'a, A: Allocator>(
+    code: &mut Code<'a, A>,
+    part: Part,
+    end: End,
+    check: &Check,
+    yes: &mut Exit<'a, A>,
+    no: &mut Exit<'a, A>,
+) -> Result<(), AllocError>
+    requires room { length code.old + (weight_of_check check.now + 1) ≤ MAX_INSTRUCTIONS }
+    requires behind { length code.old + (weight_of_check check.now + 1) ≤ no.old.by }
+    ensures writes { OnOk result (Writes (Decides (by_header part) (λ packet. tested (passes check.now) (end_of part end packet))) (weight_of_check check.now + 1) code.old code.new yes.old yes.new no.old no.new) }
+{
+    code.push(load(part, end))?;
+    ask(code, check, yes, no)
+}
 
-    /// Writes the test of the ends that a direction means, the source first.
-    pub(crate) fn ends(
-        &mut self,
-        part: Part,
-        direction: Direction,
-        check: &Check,
-        yes: usize,
-        no: usize,
-    ) -> Result<(), AllocError>
-        requires targets { (yes ≤ length self.old) × (no ≤ length self.old) }
-        requires room { length self.old + weight_of_ends direction check.now ≤ MAX_INSTRUCTIONS }
-        ensures tests { OnOk result (Tests (by_header part) (ends_pass part direction check.now) yes no (weight_of_ends direction check.now) self.old self.new) }
-        ensures not_less { OnOk result (length self.old ≤ length self.new) }
-        ensures not_more { OnOk result (length self.new ≤ length self.old + weight_of_ends direction check.now) }
-    {
-        match direction {
-            Direction::Source => self.end(part, End::Source, check, yes, no),
-            Direction::Destination => self.end(part, End::Destination, check, yes, no),
-            Direction::Either => {
-                self.end(part, End::Destination, check, yes, no)?;
-                let here = self.len();
-                self.end(part, End::Source, check, yes, here)
-            }
-            Direction::Both => {
-                self.end(part, End::Destination, check, yes, no)?;
-                let here = self.len();
-                self.end(part, End::Source, check, here, no)
-            }
+// The most instructions of the test of one end.
+const ONE_END: u32 = 7;
+
+/// Writes the test of the ends that a direction means, the source first.
+pub(crate) fn ends<'a, A: Allocator>(
+    code: &mut Code<'a, A>,
+    part: Part,
+    direction: Direction,
+    check: &Check,
+    yes: &mut Exit<'a, A>,
+    no: &mut Exit<'a, A>,
+) -> Result<(), AllocError>
+    requires room { length code.old + weight_of_ends direction check.now ≤ MAX_INSTRUCTIONS }
+    requires yes_behind { length code.old + weight_of_ends direction check.now ≤ yes.old.by }
+    requires behind { length code.old + weight_of_ends direction check.now ≤ no.old.by }
+    ensures writes { OnOk result (Writes (Decides (by_header part) (ends_pass part direction check.now)) (weight_of_ends direction check.now) code.old code.new yes.old yes.new no.old no.new) }
+{
+    match direction {
+        Direction::Source => test_end(code, part, End::Source, check, yes, no),
+        Direction::Destination => test_end(code, part, End::Destination, check, yes, no),
+        Direction::Either => {
+            let mut on = code.exit(code.len() + ONE_END);
+            test_end(code, part, End::Source, check, yes, &mut on)?;
+            code.land(&on);
+            test_end(code, part, End::Destination, check, yes, no)
+        }
+        Direction::Both => {
+            let mut on = code.exit(code.len() + ONE_END);
+            test_end(code, part, End::Source, check, &mut on, no)?;
+            code.land(&on);
+            test_end(code, part, End::Destination, check, yes, no)
         }
     }
 }

@@ -7,35 +7,43 @@ ghost use Rattle.bpf_verify.specs.Accepted.{IsAccepted};
 ghost use Rattle.bpf_verify.specs.declared.TheConstants.{CELLS, MAX_INSTRUCTIONS};
 ghost use Rattle.filter_tree.specs.Measure.{cells_of, size_of};
 ghost use Rattle.filter_tree.specs.View.{tree_of};
-ghost use Rattle.filter_compile.specs.Answer.{AnswersFor};
+ghost use Rattle.filter_compile.specs.Answer.{AnswersFor, HasNoFarJump};
 ghost use Rattle.filter_compile.specs.declared.fault.CompileFault.TheVariants.{CellsExceeded, TooLong};
 
 mod arithmetic;
 mod check;
-mod code;
 mod ends;
 mod expression;
 mod fault;
+mod guard;
 mod header;
 mod primitive;
 mod relation;
+mod sides;
 
-use crate::code::Code;
+use crate::expression::expression;
+use backpatch::Code;
 use bpf_insn::Insn;
 use bpf_verify::{CELLS, MAX_INSTRUCTIONS, Program};
 pub use fault::CompileFault;
 use filter_tree::Expr;
+use packet_facts::Known;
 use std::alloc::Allocator;
 
 /// What a program answers where it accepts a packet: the whole of it is kept.
 pub const ACCEPTED: u32 = 65_535;
 
+/// The largest size of an expression whose program has only jumps of tests, which reach 255 instructions behind them.
+pub const SHORT: u32 = 257;
+
 /// Compiles an expression to a program in the memory of `alloc`, charged by the expression's size.
 ///
-/// On a packet the program answers `ACCEPTED` where the expression is true, and 0 where it is false or fails. Fails with
+/// On a packet the program answers `ACCEPTED` where the expression is true, and 0 where it is false or fails. Short
+/// programs have no JA: those of expressions whose size is at most `SHORT`. Fails with
 /// `CellsExceeded` exactly where it needs more than 16 scratch cells, else with `TooLong` exactly where its size is above
-/// 4096, both before any memory is taken, else with `OutOfMemory` where an allocation was refused.
-pub fn compile<A: Allocator, B: Allocator>(
+/// 4096, both before any memory is taken, else with `OutOfMemory` where an allocation was refused. Lists of jumps, which a
+/// clone of `alloc` holds while the program is written, are given up before the answer.
+pub fn compile<A: Allocator, B: Allocator + Clone>(
     alloc: B,
     expr: &Expr<A>,
 ) -> Result<Program<B>, CompileFault>
@@ -45,6 +53,7 @@ pub fn compile<A: Allocator, B: Allocator>(
     ensures answer { IfOk result (λ program. AnswersFor (tree_of expr.now) program.words) }
     ensures charge { IfOk result (λ program. program.charge ≡ size_of (tree_of expr.now)) }
     ensures within_size { IfOk result (λ program. length program.words ≤ size_of (tree_of expr.now)) }
+    ensures no_far_jump { size_of (tree_of expr.now) ≤ SHORT → IfOk result (λ program. HasNoFarJump program.words) }
     ensures accepted { IfOk result (λ program. IsAccepted program.words) }
 {
     if expr.cells() > CELLS {
@@ -54,11 +63,21 @@ pub fn compile<A: Allocator, B: Allocator>(
     if size > MAX_INSTRUCTIONS as u32 {
         return Err(CompileFault::TooLong);
     }
-    let mut code = Code::with_room(alloc, size as usize)?;
-    code.push(Insn::ReturnConstant(0))?;
-    let no = code.len();
+    let lists = alloc.clone()?;
+    let mut code = Code::with_room(alloc, &lists, size as usize)?;
+    let mut yes = code.exit(size - 2);
+    let mut no = code.exit(size - 1);
+    expression(
+        &mut code,
+        expr,
+        Known::nothing(),
+        size - 2,
+        &mut yes,
+        &mut no,
+    )?;
+    code.land(&yes);
     code.push(Insn::ReturnConstant(ACCEPTED))?;
-    let yes = code.len();
-    code.expression(expr, yes, no)?;
+    code.land(&no);
+    code.push(Insn::ReturnConstant(0))?;
     Ok(Program::charged(code.into_words(), size))
 }

@@ -1,122 +1,206 @@
 //! The code of a primitive without arithmetic (pcap-filter(7), "Primitives").
 
-ghost use Rattle.std.specs.Prelude.{◌+◌, ◌≤◌, OnOk, false, length};
+ghost use Rattle.std.specs.Prelude.{◌+◌, ◌≤◌, IfOk, OnOk, false, length};
+ghost use Rattle.ipv4_fields.specs.declared.header.Field.TheVariants.{Protocol};
+ghost use Rattle.ipv4_fields.specs.Field.{field_of};
 ghost use Rattle.bpf_verify.specs.declared.TheConstants.{MAX_INSTRUCTIONS};
-ghost use Rattle.filter_tree.specs.Measure.{weight_of_primitive};
 ghost use Rattle.bpf_machine.specs.Meaning.{holds};
-ghost use Rattle.filter_tree.specs.Outcome.{answer};
-ghost use Rattle.filter_tree.specs.Primitive.{address_passes, port_passes, truth_of_primitive};
-ghost use Rattle.filter_compile.specs.body.Header.{passes, weight_of_addresses, weight_of_ports};
-ghost use Rattle.filter_compile.specs.body.Piece.{Tests};
+ghost use Rattle.backpatch.specs.Pieces.{Guards, Writes};
+ghost use Rattle.filter_tree.specs.Measure.{weight_of_primitive};
+ghost use Rattle.filter_tree.specs.Outcome.{◌and_then◌, answer, tested};
+ghost use Rattle.filter_tree.specs.Primitive.{address_passes, has_ports, is_first_fragment, is_ip, is_protocol, port_passes, truth_of_primitive};
+ghost use Rattle.packet_facts.specs.Known.{Holds};
+ghost use Rattle.filter_compile.specs.body.Header.{passes, weight_of_addresses, weight_of_ports, weight_of_transport};
+ghost use Rattle.filter_compile.specs.body.Piece.{Decides, Tests};
+ghost use Rattle.filter_compile.specs.body.Sides.{HoldsWhere};
 
 use crate::check::Check;
-use crate::code::Code;
-use crate::ends::Part;
+use crate::ends::{Part, ends};
+use crate::guard::{guard_first_fragment, guard_ip, guard_transport, load_header, must_ask};
+use crate::header::{is_ip, is_protocol};
+use crate::sides::{Passed, Sides};
+use backpatch::{Code, Exit};
 use bpf_insn::{Insn, Operand, Test};
 use filter_tree::{Direction, Primitive, Transport};
+use packet_facts::Known;
 use std::alloc::{AllocError, Allocator};
 
-impl<A: Allocator> Code<A> {
-    fn addresses(
-        &mut self,
-        direction: Direction,
-        check: &Check,
-        yes: usize,
-        no: usize,
-    ) -> Result<(), AllocError>
-        requires targets { (yes ≤ length self.old) × (no ≤ length self.old) }
-        requires room { length self.old + weight_of_addresses direction check.now ≤ MAX_INSTRUCTIONS }
-        ensures tests { OnOk result (Tests false (address_passes direction (passes check.now)) yes no (weight_of_addresses direction check.now) self.old self.new) }
-        ensures not_less { OnOk result (length self.old ≤ length self.new) }
-        ensures not_more { OnOk result (length self.new ≤ length self.old + weight_of_addresses direction check.now) }
-    {
-        self.ends(Part::Address, direction, check, yes, no)?;
-        let here = self.len();
-        self.is_ip(here, no)
+fn version<'a, A: Allocator>(
+    code: &mut Code<'a, A>,
+    known: Known,
+    yes: &mut Exit<'a, A>,
+    no: &mut Exit<'a, A>,
+) -> Result<Sides, AllocError>
+    requires room { length code.old + 5 ≤ MAX_INSTRUCTIONS }
+    ensures writes { IfOk result (λ sides. Writes (Tests (Holds known) (Holds sides.yes) (Holds sides.no) is_ip) 5 code.old code.new yes.old yes.new no.old no.new) }
+{
+    if !must_ask(true, known.ip()) {
+        code.leave(yes)?;
+        return Ok(Sides::both(known));
     }
+    is_ip(code, yes, no)?;
+    Ok(Sides {
+        yes: known.with_ip(),
+        no: known.without_ip(),
+    })
+}
 
-    fn ports(
-        &mut self,
-        transport: Transport,
-        direction: Direction,
-        check: &Check,
-        yes: usize,
-        no: usize,
-    ) -> Result<(), AllocError>
-        requires targets { (yes ≤ length self.old) × (no ≤ length self.old) }
-        requires room { length self.old + weight_of_ports transport direction check.now ≤ MAX_INSTRUCTIONS }
-        ensures tests { OnOk result (Tests false (port_passes transport direction (passes check.now)) yes no (weight_of_ports transport direction check.now) self.old self.new) }
-        ensures not_less { OnOk result (length self.old ≤ length self.new) }
-        ensures not_more { OnOk result (length self.new ≤ length self.old + weight_of_ports transport direction check.now) }
-    {
-        self.ends(Part::Port, direction, check, yes, no)?;
-        self.push(Insn::LoadXHeader(0))?;
-        let ends = self.len();
-        self.is_first_fragment(ends, no)?;
-        let fragment = self.len();
-        self.has_ports(transport, fragment, no)?;
-        let protocol = self.len();
-        self.is_ip(protocol, no)
+fn protocol<'a, A: Allocator>(
+    code: &mut Code<'a, A>,
+    n: u8,
+    known: Known,
+    yes: &mut Exit<'a, A>,
+    no: &mut Exit<'a, A>,
+) -> Result<Sides, AllocError>
+    requires room { length code.old + 4 ≤ MAX_INSTRUCTIONS }
+    ensures writes { IfOk result (λ sides. Writes (Tests (Holds known) (Holds sides.yes) (Holds sides.no) (is_protocol n)) 4 code.old code.new yes.old yes.new no.old no.new) }
+{
+    if !must_ask(true, known.protocol(n)) {
+        code.leave(yes)?;
+        return Ok(Sides::both(known));
     }
+    is_protocol(code, n, yes, no)?;
+    Ok(Sides {
+        yes: known.with_protocol(n),
+        no: known.without_protocol(n),
+    })
+}
 
-    fn length(&mut self, test: Test, n: u32, yes: usize, no: usize) -> Result<(), AllocError>
-        requires targets { (yes ≤ length self.old) × (no ≤ length self.old) }
-        requires room { length self.old + 4 ≤ MAX_INSTRUCTIONS }
-        ensures tests { OnOk result (Tests false (λ packet. answer (holds test (length packet) n)) yes no 4 self.old self.new) }
-        ensures not_less { OnOk result (length self.old ≤ length self.new) }
-        ensures not_more { OnOk result (length self.new ≤ length self.old + 4) }
-    {
-        self.branch(test, Operand::K(n), yes, no)?;
-        self.push(Insn::LoadLength)
+fn addresses<'a, A: Allocator>(
+    code: &mut Code<'a, A>,
+    direction: Direction,
+    check: &Check,
+    known: Known,
+    yes: &mut Exit<'a, A>,
+    no: &mut Exit<'a, A>,
+) -> Result<Sides, AllocError>
+    requires room { length code.old + weight_of_addresses direction check.now ≤ MAX_INSTRUCTIONS }
+    requires yes_behind { length code.old + weight_of_addresses direction check.now ≤ yes.old.by }
+    requires behind { length code.old + weight_of_addresses direction check.now ≤ no.old.by }
+    ensures writes { IfOk result (λ sides. Writes (Tests (Holds known) (Holds sides.yes) (Holds sides.no) (address_passes direction (passes check.now))) (weight_of_addresses direction check.now) code.old code.new yes.old yes.new no.old no.new) }
+{
+    let ip = guard_ip(code, true, known, no)?;
+    ends(code, Part::Address, direction, check, yes, no)?;
+    Ok(Sides {
+        yes: ip.on,
+        no: ip.or_no(ip.on),
+    })
+}
+
+// What is tested before ports.
+fn guard_ports<'a, A: Allocator>(
+    code: &mut Code<'a, A>,
+    transport: Transport,
+    known: Known,
+    no: &mut Exit<'a, A>,
+) -> Result<Passed, AllocError>
+    requires room { length code.old + (weight_of_transport transport + 9) ≤ MAX_INSTRUCTIONS }
+    requires behind { length code.old + (weight_of_transport transport + 9) ≤ no.old.by }
+    ensures guards { IfOk result (λ passed. Guards (Tests (Holds known) (Holds passed.on) (HoldsWhere passed.no)
+        (λ packet. is_ip packet and_then tested (has_ports transport) (field_of Protocol packet) and_then is_first_fragment packet)) (weight_of_transport transport + 9) code.old code.new no.old no.new) }
+{
+    let ip = guard_ip(code, true, known, no)?;
+    let protocol = guard_transport(code, transport, ip.on, no)?;
+    let first = guard_first_fragment(code, true, protocol.on, no)?;
+    Ok(ip.and_then(protocol).and_then(first))
+}
+
+fn ports<'a, A: Allocator>(
+    code: &mut Code<'a, A>,
+    transport: Transport,
+    direction: Direction,
+    check: &Check,
+    known: Known,
+    yes: &mut Exit<'a, A>,
+    no: &mut Exit<'a, A>,
+) -> Result<Sides, AllocError>
+    requires room { length code.old + weight_of_ports transport direction check.now ≤ MAX_INSTRUCTIONS }
+    requires yes_behind { length code.old + weight_of_ports transport direction check.now ≤ yes.old.by }
+    requires behind { length code.old + weight_of_ports transport direction check.now ≤ no.old.by }
+    ensures writes { IfOk result (λ sides. Writes (Tests (Holds known) (Holds sides.yes) (Holds sides.no) (port_passes transport direction (passes check.now))) (weight_of_ports transport direction check.now) code.old code.new yes.old yes.new no.old no.new) }
+{
+    let before = guard_ports(code, transport, known, no)?;
+    load_header(code, before.on.header_in_x())?;
+    ends(code, Part::Port, direction, check, yes, no)?;
+    let on = before.on.with_header_in_x(true);
+    Ok(Sides {
+        yes: on,
+        no: before.or_no(on),
+    })
+}
+
+// The packet's number of bytes is tested.
+fn bytes<'a, A: Allocator>(
+    code: &mut Code<'a, A>,
+    test: Test,
+    n: u32,
+    yes: &mut Exit<'a, A>,
+    no: &mut Exit<'a, A>,
+) -> Result<(), AllocError>
+    requires room { length code.old + 4 ≤ MAX_INSTRUCTIONS }
+    ensures writes { OnOk result (Writes (Decides false (λ packet. answer (holds test (length packet) n))) 4 code.old code.new yes.old yes.new no.old no.new) }
+{
+    code.push(Insn::LoadLength)?;
+    code.branch(test, Operand::K(n), yes, no)
+}
+
+pub(crate) fn primitive<'a, A: Allocator>(
+    code: &mut Code<'a, A>,
+    primitive: Primitive,
+    known: Known,
+    yes: &mut Exit<'a, A>,
+    no: &mut Exit<'a, A>,
+) -> Result<Sides, AllocError>
+    requires room { length code.old + weight_of_primitive primitive ≤ MAX_INSTRUCTIONS }
+    requires yes_behind { length code.old + weight_of_primitive primitive ≤ yes.old.by }
+    requires behind { length code.old + weight_of_primitive primitive ≤ no.old.by }
+    ensures writes { IfOk result (λ sides. Writes (Tests (Holds known) (Holds sides.yes) (Holds sides.no) (truth_of_primitive primitive)) (weight_of_primitive primitive) code.old code.new yes.old yes.new no.old no.new) }
+{
+    if known.excludes(&primitive) {
+        code.leave(no)?;
+        return Ok(Sides::both(known));
     }
-
-    pub(crate) fn primitive(
-        &mut self,
-        primitive: Primitive,
-        yes: usize,
-        no: usize,
-    ) -> Result<(), AllocError>
-        requires targets { (yes ≤ length self.old) × (no ≤ length self.old) }
-        requires room { length self.old + weight_of_primitive primitive ≤ MAX_INSTRUCTIONS }
-        ensures tests { OnOk result (Tests false (truth_of_primitive primitive) yes no (weight_of_primitive primitive) self.old self.new) }
-        ensures not_less { OnOk result (length self.old ≤ length self.new) }
-        ensures not_more { OnOk result (length self.new ≤ length self.old + weight_of_primitive primitive) }
-    {
-        match primitive {
-            Primitive::Ip => self.is_ip(yes, no),
-            Primitive::Proto(n) => {
-                self.is_protocol(n, yes, no)?;
-                let here = self.len();
-                self.is_ip(here, no)
-            }
-            Primitive::Host(direction, address) => self.addresses(
-                direction,
-                &Check::Equal(address),
-                yes,
-                no,
-            ),
-            Primitive::Net(direction, prefix) => self.addresses(
-                direction,
-                &Check::Covered(prefix),
-                yes,
-                no,
-            ),
-            Primitive::Port(transport, direction, n) => self.ports(
-                transport,
-                direction,
-                &Check::Equal(n as u32),
-                yes,
-                no,
-            ),
-            Primitive::PortRange(transport, direction, n, m) => self.ports(
-                transport,
-                direction,
-                &Check::Between(n, m),
-                yes,
-                no,
-            ),
-            Primitive::AtMost(n) => self.length(Test::Greater, n, no, yes),
-            Primitive::AtLeast(n) => self.length(Test::GreaterOrEqual, n, yes, no),
+    match primitive {
+        Primitive::Ip => version(code, known, yes, no),
+        Primitive::Proto(n) => {
+            let ip = guard_ip(code, true, known, no)?;
+            let sides = protocol(code, n, ip.on, yes, no)?;
+            Ok(Sides {
+                yes: sides.yes,
+                no: ip.or_no(sides.no),
+            })
+        }
+        Primitive::Host(direction, address) => {
+            addresses(code, direction, &Check::Equal(address), known, yes, no)
+        }
+        Primitive::Net(direction, prefix) => {
+            addresses(code, direction, &Check::Covered(prefix), known, yes, no)
+        }
+        Primitive::Port(transport, direction, n) => ports(
+            code,
+            transport,
+            direction,
+            &Check::Equal(n as u32),
+            known,
+            yes,
+            no,
+        ),
+        Primitive::PortRange(transport, direction, n, m) => ports(
+            code,
+            transport,
+            direction,
+            &Check::Between(n, m),
+            known,
+            yes,
+            no,
+        ),
+        Primitive::AtMost(n) => {
+            bytes(code, Test::Greater, n, no, yes)?;
+            Ok(Sides::both(known))
+        }
+        Primitive::AtLeast(n) => {
+            bytes(code, Test::GreaterOrEqual, n, yes, no)?;
+            Ok(Sides::both(known))
         }
     }
 }

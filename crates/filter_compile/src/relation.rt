@@ -1,122 +1,132 @@
 //! The code of a relation: what it tests of the packet before its accessors, its two sides, and their comparison.
 
-ghost use Rattle.std.specs.Prelude.{◌≡◌, ◌+◌, ◌≤◌, OnOk, false, length};
+ghost use Rattle.std.specs.Prelude.{◌≡◌, ◌+◌, ◌≤◌, IfOk, OnOk, Option, length, List, ℕ};
 ghost use Rattle.bpf_verify.specs.declared.TheConstants.{CELLS, MAX_INSTRUCTIONS};
+ghost use Rattle.backpatch.specs.Checks.{Checks};
+ghost use Rattle.backpatch.specs.Pieces.{Guards, Writes};
+ghost use Rattle.bpf_machine.specs.Meaning.{operand_value};
 ghost use Rattle.filter_tree.specs.Arithmetic.{value_of_arith};
-ghost use Rattle.filter_tree.specs.Measure.{cells_of, weight_of, weight_of_guards, weight_where};
-ghost use Rattle.filter_tree.specs.Outcome.{where_so};
-ghost use Rattle.filter_tree.specs.Primitive.{is_first_fragment, is_ip, is_protocol};
+ghost use Rattle.filter_tree.specs.Measure.{cells_of, cells_of_arith, weight_of, weight_of_arith, weight_of_guards};
 ghost use Rattle.filter_tree.specs.Tree.{relation as relation_tree};
-ghost use Rattle.filter_tree.specs.Truth.{accesses_of_both, guards, holds, truth_of};
+ghost use Rattle.filter_tree.specs.Truth.{guards, holds, truth_of, used_by};
 ghost use Rattle.filter_tree.specs.View.{arith_tree_of};
-ghost use Rattle.filter_compile.specs.body.Piece.{Checks, Tests};
+ghost use Rattle.packet_facts.specs.Known.{Holds};
+ghost use Rattle.filter_compile.specs.body.Piece.{Compares, Tests, compared_with};
+ghost use Rattle.filter_compile.specs.body.Sides.{HoldsWhere};
 
-use crate::code::Code;
+use crate::arithmetic::{Simple, arithmetic, restore, simple_of};
+use crate::guard::{guard_first_fragment, guard_ip, guard_protocol};
+use crate::sides::{Passed, Sides};
+use backpatch::{Code, Exit};
 use bpf_insn::{Insn, Operand, Test};
-use filter_tree::{
-    Arith, Protocol, Relation, accesses_packet, accesses_protocol, accesses_transport,
-};
+use filter_tree::{Accesses, Arith, Relation};
+use packet_facts::Known;
 use std::alloc::{AllocError, Allocator};
 
-// The guards come one behind the other: each goes on to the words that stand when it is written.
-impl<A: Allocator> Code<A> {
-    fn guard_ip(&mut self, used: bool, no: usize) -> Result<(), AllocError>
-        requires target { no ≤ length self.old }
-        requires room { length self.old + weight_where used 5 ≤ MAX_INSTRUCTIONS }
-        ensures tests { OnOk result (Tests false (λ packet. where_so used (is_ip packet)) (length self.old) no (weight_where used 5) self.old self.new) }
-        ensures not_less { OnOk result (length self.old ≤ length self.new) }
-        ensures not_more { OnOk result (length self.new ≤ length self.old + weight_where used 5) }
-    {
-        if used {
-            let here = self.len();
-            return self.is_ip(here, no);
+// What is tested before accessors of these protocols.
+fn guards<'a, A: Allocator>(
+    code: &mut Code<'a, A>,
+    used: Accesses,
+    known: Known,
+    no: &mut Exit<'a, A>,
+) -> Result<Passed, AllocError>
+    requires room { length code.old + weight_of_guards (used_by used) ≤ MAX_INSTRUCTIONS }
+    requires behind { length code.old + weight_of_guards (used_by used) ≤ no.old.by }
+    ensures guards { IfOk result (λ passed. Guards (Tests (Holds known) (Holds passed.on) (HoldsWhere passed.no) (guards (used_by used))) (weight_of_guards (used_by used)) code.old code.new no.old no.new) }
+{
+    let ip = guard_ip(code, used.any(), known, no)?;
+    let tcp = guard_protocol(code, used.tcp, 6, ip.on, no)?;
+    let udp = guard_protocol(code, used.udp, 17, tcp.on, no)?;
+    let icmp = guard_protocol(code, used.icmp, 1, udp.on, no)?;
+    let first = guard_first_fragment(code, used.any_transport(), icmp.on, no)?;
+    Ok(
+        ip.and_then(tcp)
+            .and_then(udp)
+            .and_then(icmp)
+            .and_then(first),
+    )
+}
+
+// A is the left value, and the operand the right one.
+fn compare<'a, A: Allocator>(
+    code: &mut Code<'a, A>,
+    relation: Relation,
+    right: Operand,
+    yes: &mut Exit<'a, A>,
+    no: &mut Exit<'a, A>,
+) -> Result<(), AllocError>
+    requires room { length code.old + 3 ≤ MAX_INSTRUCTIONS }
+    ensures writes { OnOk result (Writes (Checks (λ a. a) (λ a x. holds relation a (operand_value right x))) 3 code.old code.new yes.old yes.new no.old no.new) }
+{
+    match relation {
+        Relation::Greater => code.branch(Test::Greater, right, yes, no),
+        Relation::Less => code.branch(Test::GreaterOrEqual, right, no, yes),
+        Relation::GreaterOrEqual => code.branch(Test::GreaterOrEqual, right, yes, no),
+        Relation::LessOrEqual => code.branch(Test::Greater, right, no, yes),
+        Relation::Equal => code.branch(Test::Equal, right, yes, no),
+        Relation::NotEqual => code.branch(Test::Equal, right, no, yes),
+    }
+}
+
+// A is the left value. Tells whether X still holds the header's length.
+fn compare_with<'a, A: Allocator, B: Allocator>(
+    code: &mut Code<'a, A>,
+    relation: Relation,
+    right: &Arith<B>,
+    held: bool,
+    yes: &mut Exit<'a, A>,
+    no: &mut Exit<'a, A>,
+) -> Result<bool, AllocError>
+    requires cells { 1 + cells_of_arith (arith_tree_of right.now) ≤ CELLS }
+    requires room { length code.old + (weight_of_arith (arith_tree_of right.now) + 6) ≤ MAX_INSTRUCTIONS }
+    ensures writes { IfOk result (λ after. Writes (Compares (compared_with relation (value_of_arith (arith_tree_of right.now))) held after) (weight_of_arith (arith_tree_of right.now) + 6) code.old code.new yes.old yes.new no.old no.new) }
+{
+    match simple_of(right) {
+        Some(Simple::Number(n)) => {
+            compare(code, relation, Operand::K(n), yes, no)?;
+            Ok(held)
         }
-        Ok(())
-    }
-
-    fn guard_protocol(&mut self, used: bool, n: u8, no: usize) -> Result<(), AllocError>
-        requires target { no ≤ length self.old }
-        requires room { length self.old + weight_where used 4 ≤ MAX_INSTRUCTIONS }
-        ensures tests { OnOk result (Tests false (λ packet. where_so used (is_protocol n packet)) (length self.old) no (weight_where used 4) self.old self.new) }
-        ensures not_less { OnOk result (length self.old ≤ length self.new) }
-        ensures not_more { OnOk result (length self.new ≤ length self.old + weight_where used 4) }
-    {
-        if used {
-            let here = self.len();
-            return self.is_protocol(n, here, no);
+        Some(Simple::Length) => {
+            code.push(Insn::LoadXLength)?;
+            compare(code, relation, Operand::X, yes, no)?;
+            Ok(false)
         }
-        Ok(())
-    }
-
-    fn guard_fragment(&mut self, used: bool, no: usize) -> Result<(), AllocError>
-        requires target { no ≤ length self.old }
-        requires room { length self.old + weight_where used 4 ≤ MAX_INSTRUCTIONS }
-        ensures tests { OnOk result (Tests false (λ packet. where_so used (is_first_fragment packet)) (length self.old) no (weight_where used 4) self.old self.new) }
-        ensures not_less { OnOk result (length self.old ≤ length self.new) }
-        ensures not_more { OnOk result (length self.new ≤ length self.old + weight_where used 4) }
-    {
-        if used {
-            let here = self.len();
-            return self.is_first_fragment(here, no);
-        }
-        Ok(())
-    }
-
-    fn guards<B: Allocator>(
-        &mut self,
-        left: &Arith<B>,
-        right: &Arith<B>,
-        no: usize,
-    ) -> Result<(), AllocError>
-        requires target { no ≤ length self.old }
-        requires room { length self.old + weight_of_guards (accesses_of_both (arith_tree_of left.now) (arith_tree_of right.now)) ≤ MAX_INSTRUCTIONS }
-        ensures tests { OnOk result (Tests false (guards (accesses_of_both (arith_tree_of left.now) (arith_tree_of right.now))) (length self.old) no
-            (weight_of_guards (accesses_of_both (arith_tree_of left.now) (arith_tree_of right.now))) self.old self.new) }
-    {
-        self.guard_fragment(accesses_transport(left, right), no)?;
-        self.guard_protocol(accesses_protocol(left, right, Protocol::Icmp), 1, no)?;
-        self.guard_protocol(accesses_protocol(left, right, Protocol::Udp), 17, no)?;
-        self.guard_protocol(accesses_protocol(left, right, Protocol::Tcp), 6, no)?;
-        self.guard_ip(accesses_packet(left, right), no)
-    }
-
-    // A is the left value, X the right one.
-    fn compare(&mut self, relation: Relation, yes: usize, no: usize) -> Result<(), AllocError>
-        requires targets { (yes ≤ length self.old) × (no ≤ length self.old) }
-        requires room { length self.old + 3 ≤ MAX_INSTRUCTIONS }
-        ensures checks { OnOk result (Checks (λ a. a) (holds relation) yes no 3 self.old self.new) }
-        ensures length { OnOk result (length self.new ≡ length self.old + 3) }
-    {
-        match relation {
-            Relation::Greater => self.branch(Test::Greater, Operand::X, yes, no),
-            Relation::Less => self.branch(Test::GreaterOrEqual, Operand::X, no, yes),
-            Relation::GreaterOrEqual => self.branch(Test::GreaterOrEqual, Operand::X, yes, no),
-            Relation::LessOrEqual => self.branch(Test::Greater, Operand::X, no, yes),
-            Relation::Equal => self.branch(Test::Equal, Operand::X, yes, no),
-            Relation::NotEqual => self.branch(Test::Equal, Operand::X, no, yes),
+        None => {
+            code.push(Insn::Store(0))?;
+            arithmetic(code, right, 1, held)?;
+            restore(code, 0)?;
+            compare(code, relation, Operand::X, yes, no)?;
+            Ok(false)
         }
     }
+}
 
-    pub(crate) fn relation<B: Allocator>(
-        &mut self,
-        left: &Arith<B>,
-        relation: Relation,
-        right: &Arith<B>,
-        yes: usize,
-        no: usize,
-    ) -> Result<(), AllocError>
-        requires targets { (yes ≤ length self.old) × (no ≤ length self.old) }
-        requires cells { cells_of (relation_tree (arith_tree_of left.now) relation (arith_tree_of right.now)) ≤ CELLS }
-        requires room { length self.old + weight_of (relation_tree (arith_tree_of left.now) relation (arith_tree_of right.now)) ≤ MAX_INSTRUCTIONS }
-        ensures tests { OnOk result (Tests false (truth_of (relation_tree (arith_tree_of left.now) relation (arith_tree_of right.now))) yes no
-            (weight_of (relation_tree (arith_tree_of left.now) relation (arith_tree_of right.now))) self.old self.new) }
-    {
-        self.compare(relation, yes, no)?;
-        self.push(Insn::LoadCell(0))?;
-        self.push(Insn::CopyToX)?;
-        self.arithmetic(right, 1)?;
-        self.push(Insn::Store(0))?;
-        self.arithmetic(left, 0)?;
-        self.guards(left, right, no)
+pub(crate) fn relation<'a, A: Allocator, B: Allocator>(
+    code: &mut Code<'a, A>,
+    left: &Arith<B>,
+    relation: Relation,
+    right: &Arith<B>,
+    known: Known,
+    yes: &mut Exit<'a, A>,
+    no: &mut Exit<'a, A>,
+) -> Result<Sides, AllocError>
+    requires cells { cells_of (relation_tree (arith_tree_of left.now) relation (arith_tree_of right.now)) ≤ CELLS }
+    requires room { length code.old + weight_of (relation_tree (arith_tree_of left.now) relation (arith_tree_of right.now)) ≤ MAX_INSTRUCTIONS }
+    requires behind { length code.old + weight_of (relation_tree (arith_tree_of left.now) relation (arith_tree_of right.now)) ≤ no.old.by }
+    ensures writes { IfOk result (λ sides. Writes (Tests (Holds known) (Holds sides.yes) (Holds sides.no) (truth_of (relation_tree (arith_tree_of left.now) relation (arith_tree_of right.now))))
+        (weight_of (relation_tree (arith_tree_of left.now) relation (arith_tree_of right.now))) code.old code.new yes.old yes.new no.old no.new) }
+{
+    let used = Accesses::of_both(left, right);
+    if known.excludes_guards(used) {
+        code.leave(no)?;
+        return Ok(Sides::both(known));
     }
+    let before = guards(code, used, known, no)?;
+    let held = arithmetic(code, left, 0, before.on.header_in_x())?;
+    let held = compare_with(code, relation, right, held, yes, no)?;
+    let on = before.on.with_header_in_x(held);
+    Ok(Sides {
+        yes: on,
+        no: before.or_no(on),
+    })
 }

@@ -8,4 +8,5 @@ pub mod Primitive
 pub mod Truth
 pub mod Text
 pub mod Answer
+pub mod body
 pub use Rattle.ipv4_fields.specs.Field

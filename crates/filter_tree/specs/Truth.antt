@@ -1,6 +1,7 @@
 -- What an expression means on a packet (pcap-filter(7); docs/EXPRESSIONS.md, "What an expression means"). It speaks of
 -- the packet's bytes and their number alone.
 use Rattle.std.specs.Prelude.{◌==◌, ◌≡◌, ◌||◌, Bool, List, None, Option, Some, nat_le, nat_lt, not, ℕ}
+use Rattle.filter_tree.specs.declared.sides.Accesses.{Accesses}
 use Rattle.filter_tree.specs.declared.arithmetic.Protocol.{Protocol}
 use Rattle.filter_tree.specs.declared.arithmetic.Protocol.TheVariants.{Icmp, Ip, Tcp, Udp}
 use Rattle.filter_tree.specs.declared.expression.Relation.{Relation}
@@ -30,6 +31,13 @@ compared relator (Some a) (Some b) = answer (holds relator a b)
 -- which protocols the accessors of a relation's two sides have
 abbrev pub accesses_of_both : ArithTree → ArithTree → Protocol → Bool
 accesses_of_both left right protocol = accesses left protocol || accesses right protocol
+
+-- which protocols are among them
+abbrev pub used_by : Accesses → Protocol → Bool
+used_by used Ip = used.ip
+used_by used Tcp = used.tcp
+used_by used Udp = used.udp
+used_by used Icmp = used.icmp
 
 -- whether any of them is a transport protocol's, and whether there is any
 abbrev pub any_transport : (Protocol → Bool) → Bool

@@ -5,7 +5,6 @@
 //! without its allocator.
 #![tactic(auto)]
 
-mod accessed;
 mod arithmetic;
 mod copies;
 mod expression;
@@ -15,14 +14,15 @@ mod measures;
 mod prefix;
 mod primitive;
 mod printing;
+mod sides;
 mod truth;
 mod value;
 
-pub use accessed::{accesses_packet, accesses_protocol, accesses_transport};
 pub use arithmetic::{Arith, Operator, Protocol, Size};
 pub use expression::{Expr, Relation};
 pub use prefix::Prefix;
 pub use primitive::{Direction, Primitive, Transport};
+pub use sides::Accesses;
 pub use truth::Truth;
 
 /// The most bytes of a packet: an IPv4 header's total length has 16 bits (RFC 791, section 3.1).

@@ -7,15 +7,14 @@ ghost use Rattle.ipv4_fields.specs.Field.{field_of};
 ghost use Rattle.filter_tree.specs.Outcome.{◌and_then◌, tested, where_so};
 ghost use Rattle.filter_tree.specs.Prefix.{covers};
 ghost use Rattle.filter_tree.specs.Primitive.{at_ends, has_ports, is_between, is_first_fragment, is_ip, truth_of_primitive};
-ghost use Rattle.filter_tree.specs.Truth.{accepts, accesses_of_both, compared, guards, holds, truth_of};
-ghost use Rattle.filter_tree.specs.View.{arith_tree_of, tree_of};
+ghost use Rattle.filter_tree.specs.Truth.{accepts, compared, guards, holds, truth_of, used_by};
+ghost use Rattle.filter_tree.specs.View.{tree_of};
 
-use crate::accessed::{accesses_packet, accesses_protocol, accesses_transport};
-use crate::arithmetic::{Arith, Protocol};
 use crate::expression::{Expr, Relation};
 use crate::header::{has_ports, is_equal, is_first_fragment, is_ip, is_protocol};
 use crate::prefix::Prefix;
 use crate::primitive::{Direction, Primitive, Transport};
+use crate::sides::Accesses;
 use crate::truth::Truth;
 use ipv4_fields::{Field, field};
 use std::alloc::Allocator;
@@ -39,7 +38,7 @@ impl<A: Allocator> Expr<A> {
         match self {
             Expr::Primitive(primitive) => truth_of_primitive(*primitive, packet),
             Expr::Relation(left, relation, right) => {
-                let guards = guards(left, right, packet);
+                let guards = guards(Accesses::of_both(left, right), packet);
                 guards.and_then(compare(*relation, left.value(packet), right.value(packet)))
             }
             Expr::Not(inner) => inner.truth(packet).opposite(),
@@ -121,17 +120,14 @@ fn has_port_numbers(transport: Transport, packet: &[u8]) -> Truth
         .and_then(is_first_fragment(packet))
 }
 
-fn guards<A: Allocator>(left: &Arith<A>, right: &Arith<A>, packet: &[u8]) -> Truth
-    ensures { result ≡ guards (accesses_of_both (arith_tree_of left.now) (arith_tree_of right.now)) packet.now }
+fn guards(used: Accesses, packet: &[u8]) -> Truth
+    ensures { result ≡ guards (used_by used) packet.now }
 {
-    let udp = accesses_protocol(left, right, Protocol::Udp);
-    let tcp = accesses_protocol(left, right, Protocol::Tcp);
-    let icmp = accesses_protocol(left, right, Protocol::Icmp);
-    where_so(accesses_packet(left, right), is_ip(packet))
-        .and_then(where_so(tcp, is_protocol(6, packet)))
-        .and_then(where_so(udp, is_protocol(17, packet)))
-        .and_then(where_so(icmp, is_protocol(1, packet)))
-        .and_then(where_so(accesses_transport(left, right), is_first_fragment(packet)))
+    where_so(used.any(), is_ip(packet))
+        .and_then(where_so(used.tcp, is_protocol(6, packet)))
+        .and_then(where_so(used.udp, is_protocol(17, packet)))
+        .and_then(where_so(used.icmp, is_protocol(1, packet)))
+        .and_then(where_so(used.any_transport(), is_first_fragment(packet)))
 }
 
 fn where_so(cause: bool, test: Truth) -> Truth

@@ -2,13 +2,13 @@
 
 ghost use Rattle.std.specs.Prelude.{◌≡◌, ◌≤◌, min};
 ghost use Rattle.filter_tree.specs.Measure.{by_direction, cells_of, cells_of_arith, depth_of, depth_of_arith, size_of, weight_of, weight_of_arith, weight_of_guards, weight_of_primitive, weight_where};
-ghost use Rattle.filter_tree.specs.Truth.{accesses_of_both};
+ghost use Rattle.filter_tree.specs.Truth.{used_by};
 ghost use Rattle.filter_tree.specs.View.{arith_tree_of, tree_of};
 
-use crate::accessed::{accesses_packet, accesses_protocol, accesses_transport};
 use crate::arithmetic::{Arith, Protocol};
 use crate::expression::Expr;
 use crate::primitive::{Direction, Primitive, Transport};
+use crate::sides::Accesses;
 use std::alloc::Allocator;
 
 impl<A: Allocator> Arith<A> {
@@ -86,14 +86,16 @@ impl<A: Allocator> Expr<A> {
         self.weight().saturating_add(2)
     }
 
-    fn weight(&self) -> u32
+    /// Tells the weight: the size without the two instructions that return. Takes no memory.
+    pub fn weight(&self) -> u32
         ensures weight_exact { result ≡ min (weight_of (tree_of self.now)) u32.MAX }
     {
         match self {
             Expr::Primitive(primitive) => weight_of_primitive(*primitive),
             Expr::Relation(left, _, right) => {
+                let guards = weight_of_guards(Accesses::of_both(left, right));
                 let sides = left.weight().saturating_add(right.weight());
-                sides.saturating_add(6 + weight_of_guards(left, right))
+                sides.saturating_add(6 + guards)
             }
             Expr::Not(inner) => inner.weight(),
             Expr::And(left, right) => left.weight().saturating_add(right.weight()),
@@ -132,15 +134,15 @@ fn by_direction(direction: Direction, one: u32, two: u32) -> u32
     }
 }
 
-fn weight_of_guards<A: Allocator>(left: &Arith<A>, right: &Arith<A>) -> u32
-    ensures weight { result ≡ weight_of_guards (accesses_of_both (arith_tree_of left.now) (arith_tree_of right.now)) }
+fn weight_of_guards(used: Accesses) -> u32
+    ensures weight { result ≡ weight_of_guards (used_by used) }
     ensures small { result ≤ 21 }
 {
-    let ip = weight_where(accesses_packet(left, right), 5);
-    let tcp = weight_where(accesses_protocol(left, right, Protocol::Tcp), 4);
-    let udp = weight_where(accesses_protocol(left, right, Protocol::Udp), 4);
-    let icmp = weight_where(accesses_protocol(left, right, Protocol::Icmp), 4);
-    ip + tcp + udp + icmp + weight_where(accesses_transport(left, right), 4)
+    let ip = weight_where(used.any(), 5);
+    let tcp = weight_where(used.tcp, 4);
+    let udp = weight_where(used.udp, 4);
+    let icmp = weight_where(used.icmp, 4);
+    ip + tcp + udp + icmp + weight_where(used.any_transport(), 4)
 }
 
 fn weight_where(cause: bool, n: u32) -> u32

@@ -4,6 +4,7 @@ ghost use Rattle.std.specs.Prelude.{◌≡◌, ◌++◌, IfOk, OnOk, string_byte
 ghost use Rattle.std.specs.Fmt.{decimal};
 ghost use Rattle.filter_tree.specs.Text.{beside, printed, printed_address, printed_arith, printed_direction, printed_operator, printed_primitive, printed_protocol, printed_relation, printed_size, printed_transport};
 ghost use Rattle.filter_tree.specs.Tree.{IsArithInRange, IsInRange, IsPrimitiveInRange};
+ghost use Rattle.filter_tree.specs.body.Connective.{printed_connective};
 ghost use Rattle.filter_tree.specs.View.{arith_tree_of, tree_of};
 
 use crate::OutOfMemory;
@@ -164,25 +165,29 @@ fn print_arith<A: Allocator, B: Allocator>(
         Arith::Number(n) => print_number(text, *n),
         Arith::Length => text.push_str("len"),
         Arith::Accessor(protocol, index, size) => {
-            text.push_str(protocol_text(*protocol))?;
-            text.push_str("[")?;
+            write!(text, "{}[", protocol_text(*protocol))?;
             print_arith(text, "", index)?;
-            text.push_str(":")?;
-            text.push_str(size_text(*size))?;
-            text.push_str("]")
+            write!(text, ":{}]", size_text(*size))
         }
         Arith::Operation(left, operator, right) => {
-            text.push_str("(")?;
-            text.push_str(gap)?;
+            write!(text, "({gap}")?;
             print_arith(text, gap, left)?;
-            text.push_str(beside(*operator, gap))?;
-            text.push_str(operator_text(*operator))?;
-            text.push_str(beside(*operator, gap))?;
+            print_operator(text, gap, *operator)?;
             print_arith(text, gap, right)?;
-            text.push_str(gap)?;
-            text.push_str(")")
+            write!(text, "{gap})")
         }
     }
+}
+
+fn print_operator<B: Allocator>(
+    text: &mut String<B>,
+    gap: &str,
+    operator: Operator,
+) -> Result<(), OutOfMemory>
+    ensures { OnOk result (string_bytes text.new ≡ string_bytes text.old ++ (beside operator gap.now ++ printed_operator operator ++ beside operator gap.now)) }
+{
+    let gap = beside(operator, gap);
+    write!(text, "{gap}{}{gap}", operator_text(operator))
 }
 
 fn beside(operator: Operator, gap: &str) -> &str
@@ -205,28 +210,28 @@ fn print_expr<A: Allocator, B: Allocator>(
         Expr::Primitive(primitive) => print_primitive(text, *primitive),
         Expr::Relation(left, relation, right) => {
             print_arith(text, " ", left)?;
-            text.push_str(" ")?;
-            text.push_str(relation_text(*relation))?;
-            text.push_str(" ")?;
+            write!(text, " {} ", relation_text(*relation))?;
             print_arith(text, " ", right)
         }
         Expr::Not(inner) => {
             text.push_str("not ")?;
             print_expr(text, inner)
         }
-        Expr::And(left, right) => {
+        Expr::And(left, right) | Expr::Or(left, right) => {
             text.push_str("( ")?;
             print_expr(text, left)?;
-            text.push_str(" and ")?;
+            text.push_str(connective_text(expr))?;
             print_expr(text, right)?;
             text.push_str(" )")
         }
-        Expr::Or(left, right) => {
-            text.push_str("( ")?;
-            print_expr(text, left)?;
-            text.push_str(" or ")?;
-            print_expr(text, right)?;
-            text.push_str(" )")
-        }
+    }
+}
+
+fn connective_text<A: Allocator>(expr: &Expr<A>) -> &'static str
+    ensures { result.now ≡ printed_connective (tree_of expr.now) }
+{
+    match expr {
+        Expr::And(_, _) => " and ",
+        _ => " or ",
     }
 }

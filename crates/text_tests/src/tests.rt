@@ -4,4 +4,5 @@ mod assembly;
 mod built;
 mod compiling;
 mod parsing;
+mod short_programs;
 mod trees;

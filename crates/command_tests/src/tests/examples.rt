@@ -280,27 +280,27 @@ fn refused_session(rt: HostRuntime) -> Result<(), Fail> {
 }
 
 const UDP_PROGRAM: &str =
-    "ldb [0]\nand #240\njeq #64,0,1\nja +1\nja +5\nldb [9]\njeq #17,0,1\nja +1\nja +1\nret #65535\nret #0\n";
+    "ldb [0]\nand #240\njeq #64,0,3\nldb [9]\njeq #17,0,1\nret #65535\nret #0\n";
 
 const COMPILED_UDP: &str =
-    "charge 11\nldb [0]\nand #240\njeq #64,0,1\nja +1\nja +5\nldb [9]\njeq #17,0,1\nja +1\nja +1\nret #65535\nret #0\n";
+    "charge 11\nldb [0]\nand #240\njeq #64,0,3\nldb [9]\njeq #17,0,1\nret #65535\nret #0\n";
 
-const COMPILED_LESS: &str = "charge 6\nld len\njgt #28,0,1\nja +2\nja +0\nret #65535\nret #0\n";
+const COMPILED_LESS: &str = "charge 6\nld len\njgt #28,1,0\nret #65535\nret #0\n";
 
 // The session of README.md, and the example of `dswitch help compile`. Which instructions a compiled expression has may change:
 // the texts are then written again.
 const FIRST_SESSION: [Row; 6] = [
     (Asked::Compile("ip proto 17"), 0, COMPILED_UDP),
-    (Asked::Check(UDP_PROGRAM), 0, "accepted 11\n"),
+    (Asked::Check(UDP_PROGRAM), 0, "accepted 7\n"),
     (
         Asked::Run(&[SAMPLE_PACKET], UDP_PROGRAM),
         0,
-        "value 65535 steps 8 kept 29\n",
+        "value 65535 steps 6 kept 29\n",
     ),
     (
         Asked::Run(&["4500001d0000000040"], UDP_PROGRAM),
         0,
-        "value 0 steps 5 kept 0\n",
+        "value 0 steps 4 kept 0\n",
     ),
     (
         Asked::Judge(&["4500001d0000000040"], "not ip proto 17"),

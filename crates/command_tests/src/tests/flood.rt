@@ -29,7 +29,7 @@ impl Gate for Open {
 
 #[test]
 fn flood_totals_for_any_worker_count(rt: HostRuntime) -> Result<(), Fail> {
-    for workers in [1usize, 4, 16] {
+    for workers in [1usize, 16, 64] {
         let mut out = Sink::open(rt.alloc());
         let result = flood(&rt, rt.alloc(), workers, DATAGRAMS, &Open, &mut out);
         assert_eq!(rt; result, Ok(()), "{workers} workers");
@@ -41,7 +41,7 @@ fn flood_totals_for_any_worker_count(rt: HostRuntime) -> Result<(), Fail> {
 // Most of these workers have no datagram.
 #[test]
 fn flood_of_few_datagrams(rt: HostRuntime) -> Result<(), Fail> {
-    for (workers, datagrams, text) in [(16usize, 5, FIVE), (3, 0, NONE), (1, 5, FIVE)] {
+    for (workers, datagrams, text) in [(64usize, 5, FIVE), (3, 0, NONE), (1, 5, FIVE)] {
         let mut out = Sink::open(rt.alloc());
         let result = flood(&rt, rt.alloc(), workers, datagrams, &Open, &mut out);
         assert_eq!(rt; result, Ok(()), "{workers} workers");
@@ -128,7 +128,7 @@ fn flood_that_is_not_written_is_e2(rt: HostRuntime) -> Result<(), Fail> {
 fn flood_is_left_to_main(rt: HostRuntime) -> Result<(), Fail> {
     let cases: [&[&str]; 5] = [
         &["flood", "--workers", "1"],
-        &["flood", "--workers", "16"],
+        &["flood", "--workers", "64"],
         &["flood", "--workers=4"],
         &["flood", "--workers", "+4"],
         &["flood", "--workers", "004"],
@@ -159,12 +159,12 @@ fn flood_is_left_to_main(rt: HostRuntime) -> Result<(), Fail> {
 }
 
 #[test]
-fn flood_of_wrong_workers_is_misused(rt: HostRuntime) -> Result<(), Fail> {
+fn sixty_five_workers_is_a_usage_fault(rt: HostRuntime) -> Result<(), Fail> {
     let cases: [&[&str]; 9] = [
         &["flood"],
         &["flood", "--workers"],
         &["flood", "--workers", "0"],
-        &["flood", "--workers", "17"],
+        &["flood", "--workers", "65"],
         &["flood", "--workers", "-1"],
         &["flood", "--workers", "x"],
         &["flood", "--workers", ""],

@@ -101,7 +101,7 @@ fn serve_of_wrong_words_is_misused(rt: HostRuntime) -> Result<(), Fail> {
     for words in cases {
         assert_misused(&rt, rt.alloc(), words)?;
     }
-    for workers in ["0", "17", "-1", "x", ""] {
+    for workers in ["0", "65", "-1", "x", ""] {
         assert_misused(&rt, rt.alloc(), &serve_words(ANY_PORT, ANY_PORT, workers))?;
     }
     Ok(())

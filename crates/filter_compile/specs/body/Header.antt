@@ -1,16 +1,7 @@
 -- Which parts of a packet's headers are loaded, and what they are asked.
-use Rattle.std.specs.Prelude.{◌≡◌, ◌==◌, ◌*◌, ◌+◌, Bool, List, Option, Some, false, true, ℕ}
+use Rattle.std.specs.Prelude.{◌==◌, ◌+◌, Bool, List, Option, false, true, ℕ}
 use Rattle.ipv4_fields.specs.declared.header.Field.TheVariants.{Destination as DestinationAddress, DestinationPort, Source as SourceAddress, SourcePort}
-use Rattle.ipv4_fields.specs.Field.{field_of, ihl_of, number_at}
-use Rattle.bpf_insn.specs.declared.instruction.Operation.{Operation}
-use Rattle.bpf_insn.specs.declared.instruction.Size.{Size as InsnSize}
-use Rattle.bpf_machine.specs.Meaning.{computed}
-use Rattle.bpf_machine.specs.Packet.{packet_number}
-use Rattle.filter_tree.specs.declared.arithmetic.Operator.{Operator}
-use Rattle.filter_tree.specs.declared.arithmetic.Protocol.{Protocol}
-use Rattle.filter_tree.specs.declared.arithmetic.Protocol.TheVariants.{Icmp, Ip, Tcp as Tcp', Udp as Udp'}
-use Rattle.filter_tree.specs.declared.arithmetic.Size.{Size}
-use Rattle.filter_tree.specs.Arithmetic.{byte_count, combined}
+use Rattle.ipv4_fields.specs.Field.{field_of}
 use Rattle.filter_tree.specs.declared.primitive.Direction.{Direction}
 use Rattle.filter_tree.specs.declared.primitive.Transport.{Transport}
 use Rattle.filter_tree.specs.declared.primitive.Transport.TheVariants.{Tcp, Udp, Unnamed}
@@ -25,11 +16,6 @@ use Rattle.filter_compile.specs.declared.ends.End.{End}
 use Rattle.filter_compile.specs.declared.ends.End.TheVariants.{Destination, Source}
 use Rattle.filter_compile.specs.declared.ends.Part.{Part}
 use Rattle.filter_compile.specs.declared.ends.Part.TheVariants.{Address, Port}
-
--- what is known of X: nothing, or that it is the length of the packet's IPv4 header
-abbrev pub Knows : Bool → List ℕ → ℕ → Type 0
-Knows false packet x = Unit {0}
-Knows true packet x = (ihl : ℕ) × (ihl_of packet ≡ Some ihl) × (x ≡ 4 * ihl)
 
 -- whether a number passes a check
 abbrev pub passes : Check → ℕ → Bool
@@ -72,18 +58,3 @@ by_header Port = true
 -- the ends of a packet that a direction means pass a check
 abbrev pub ends_pass : Part → Direction → Check → List ℕ → Truth
 ends_pass part direction check packet = at_ends direction (tested (passes check) (end_of part Source packet)) (tested (passes check) (end_of part Destination packet))
-
--- the operation computes what the operator combines
-abbrev pub DoesAs : Operator → Operation → Type 0
-DoesAs operator operation = (a b : ℕ) → computed operation a b ≡ combined operator a b
-
--- a load of this size reads as many bytes as an accessor of that
-abbrev pub ReadsAs : Size → InsnSize → Type 0
-ReadsAs size insn_size = (packet : List ℕ) (place : ℕ) → packet_number packet insn_size place ≡ number_at (byte_count size) packet place
-
--- the most instructions of an accessor, but for its index
-abbrev pub weight_of_access : Protocol → ℕ
-weight_of_access Ip = 2
-weight_of_access Tcp' = 4
-weight_of_access Udp' = 4
-weight_of_access Icmp = 4

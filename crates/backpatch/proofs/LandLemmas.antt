@@ -1,0 +1,89 @@
+-- What stands behind a landing, and behind words that were written.
+use Rattle.std.proofs.Common.{◌≡◌, ◌+◌, ◌++◌, ◌∷◌, ◌<◌, ◌≤◌, List, Some, [], ap, arith, length, length-append, refl, subst, suc, sym, zero, ℕ, ⊎_elim}
+use Rattle.std.specs.Prelude.{Contains, slice_get}
+use Rattle.std.proofs.lemmas.Bool.{cases_lt}
+use Rattle.std.proofs.lemmas.Option.{slice_get_within}
+use Rattle.bpf_insn.specs.declared.instruction.Insn.{Insn}
+use Rattle.bpf_verify.specs.Path.{IsAt}
+use Rattle.backpatch.specs.declared.hole.Hole.{Hole}
+use Rattle.backpatch.specs.declared.hole.Side.{Side}
+use Rattle.backpatch.specs.declared.hole.Side.TheVariants.{Always, WhenFalse, WhenTrue}
+use Rattle.backpatch.specs.Holes.{AreOpen, CanReach, HasJump, IsAppended, IsHole, IsLanded, IsLonger, shape_of}
+use Rattle.backpatch.specs.Pieces.{IsJumpless}
+use Rattle.backpatch.proofs.ShapeLemmas.{has_as, jump_as, same_insn}
+
+pub at_within : (code : List ℕ) (pc : ℕ) (insn : Insn) → IsAt code pc insn → pc < length code
+at_within code pc insn at = slice_get_within code pc at.0 at.1
+
+-- a jump that can lead to a place can lead to each before it
+pub reach_less : (place : ℕ) (side : Side) (to by : ℕ) → to ≤ by → CanReach place side by → CanReach place side to
+reach_less place WhenTrue to by low h = omega arith
+reach_less place WhenFalse to by low h = omega arith
+reach_less place Always to by low h = tt
+
+pub reach_near : (place : ℕ) (side : Side) (to : ℕ) → to ≤ place + 256 → CanReach place side to
+reach_near place WhenTrue to low = low
+reach_near place WhenFalse to low = low
+reach_near place Always to low = tt
+
+-- ---- one word more
+
+front_get : (before : List ℕ) (word pc w : ℕ) → slice_get before pc ≡ Some w → slice_get (before ++ word ∷ []) pc ≡ Some w
+front_get [] word pc w e = absurd cc
+front_get (first ∷ before) word zero w e = e
+front_get (first ∷ before) word (suc pc) w e = front_get before word pc w e
+
+at_end : (before : List ℕ) (word : ℕ) → slice_get (before ++ word ∷ []) (length before) ≡ Some word
+at_end [] word = refl
+at_end (w ∷ before) word = at_end before word
+
+pub appended_longer : (insn : Insn) (before after : List ℕ) → IsAppended insn before after → IsLonger before after
+appended_longer insn before after does pc old at = subst (λ l. IsAt l pc old) (sym does.2) (at.0, front_get before does.0 pc at.0 at.1, at.2)
+
+pub appended_at : (insn : Insn) (before after : List ℕ) → IsAppended insn before after → IsAt after (length before) insn
+appended_at insn before after does = subst (λ l. IsAt l (length before) insn) (sym does.2) (does.0, at_end before does.0, does.1)
+
+pub appended_long : (insn : Insn) (before after : List ℕ) → IsAppended insn before after → length after ≡ length before + 1
+appended_long insn before after does = omega (arith, ap length does.2, length-append before (does.0 ∷ []))
+
+pub longer_both : (c0 c1 c2 : List ℕ) → IsLonger c0 c1 → IsLonger c1 c2 → IsLonger c0 c2
+longer_both c0 c1 c2 one two pc insn at = two pc insn (one pc insn at)
+
+-- ---- what a landing keeps
+
+module _ (holes : List Hole) (code landed : List ℕ) (lands : IsLanded holes code landed) where
+  -- the instruction at a place has the same shape
+  pub landed_at : (pc : ℕ) (insn : Insn) → IsAt code pc insn → (later : Insn) × IsAt landed pc later × (shape_of later ≡ shape_of insn)
+  landed_at pc insn at = let s = lands.stands pc (omega arith) (at_within code pc insn at) insn at in (s.0, s.1, s.2)
+
+  -- an instruction that has no hole is kept
+  pub kept_at : (pc : ℕ) (insn : Insn) → ((side : Side) → ¬ IsHole holes pc side) → IsAt code pc insn → IsAt landed pc insn
+  kept_at pc insn none at =
+      let s = lands.stands pc (omega arith) (at_within code pc insn at) insn at in
+      subst (IsAt landed pc) (same_insn s.0 insn s.2 (λ side. ⊎_elim (λ waits. absurd (none side waits)) (λ same. same) (s.3 side))) s.1
+
+  -- words in front of the holes are kept
+  pub longer_landed : (front : List ℕ) → ((hole : Hole) → Contains holes hole → length front ≤ hole.place) → IsLonger front code → IsLonger front landed
+  longer_landed front behind grows pc insn at =
+      let low = at_within front pc insn at in kept_at pc insn (λ side waits. let up = behind _ waits in absurd (omega arith)) (grows pc insn at)
+
+  pub jump_landed : (place : ℕ) (side : Side) → HasJump code place side → HasJump landed place side
+  jump_landed place side h = let s = landed_at place h.0 h.2 in let j = has_as side h.1 h.0 s.0 s.2 h.3 in (s.0, j.0, s.1, j.1)
+
+  pub open_landed : (others : List Hole) (by : ℕ) → AreOpen others by code → AreOpen others by landed
+  open_landed others by h hole is = let o = h hole is in (jump_landed hole.place hole.side o.0, o.1)
+
+  pub jumpless_landed : (from until : ℕ) → IsJumpless from until code → IsJumpless from until landed
+  jumpless_landed from until h pc low high =
+      let i = h pc low high in let s = landed_at pc i.0 i.1 in (s.0, s.1, λ is. i.2 (jump_as i.0 s.0 s.2 is))
+
+-- ---- what words that are written behind keep
+
+pub open_longer : (code longer : List ℕ) → IsLonger code longer → (holes : List Hole) (by : ℕ) → AreOpen holes by code → AreOpen holes by longer
+open_longer code longer grows holes by h hole is = let o = h hole is in let j = o.0 in ((j.0, j.1, grows hole.place j.0 j.2, j.3), o.1)
+
+pub jumpless_longer : (code longer : List ℕ) → IsLonger code longer → (from until : ℕ) → IsJumpless from until code → IsJumpless from until longer
+jumpless_longer code longer grows from until h pc low high = let i = h pc low high in (i.0, grows pc i.0 i.1, i.2)
+
+pub jumpless_both : (from mid until : ℕ) (code : List ℕ) → IsJumpless from mid code → IsJumpless mid until code → IsJumpless from until code
+jumpless_both from mid until code one two pc low high = ⊎_elim (λ before. one pc low before) (λ behind. two pc behind high) (cases_lt pc mid)

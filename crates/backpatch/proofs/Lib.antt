@@ -1,0 +1,13 @@
+pub mod ShapeLemmas
+pub mod PushedLemmas
+pub mod PartLemmas
+pub mod WritesLemmas
+pub mod GuardLemmas
+pub mod BothLemmas
+pub mod LandLemmas
+pub mod FillLemmas
+pub mod CheckLemmas
+pub mod JumpLemmas
+pub mod BranchLemmas
+pub mod LeaveLemmas
+pub mod FinishLemmas

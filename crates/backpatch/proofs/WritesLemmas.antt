@@ -1,0 +1,69 @@
+-- What functions that write a piece ensure: another meaning, a greater weight, the exits exchanged; what can be landed.
+use Rattle.std.proofs.Common.{◌≡◌, ◌∙◌, ◌++◌, ◌≤◌, List, [], ap, arith, length, subst, sym, ℕ}
+use Rattle.backpatch.specs.Holes.{AreOpen, Open}
+use Rattle.backpatch.specs.Pieces.{Behind, Meaning, Writes}
+use Rattle.backpatch.proofs.PartLemmas.{IsPart-means, IsPiece-not}
+
+-- ---- one piece
+
+pub Writes-means : {one other : Meaning} {w : ℕ} {before after : List ℕ} {y y' n n' : Open} → ((at_yes at_no words : List ℕ) → one at_yes at_no words → other at_yes at_no words)
+    → Writes one w before after y y' n n' → Writes other w before after y y' n n'
+Writes-means {one} {other} {w} {before} {after} so h = record {
+  ys = h.ys;
+  ns = h.ns;
+  longer = h.longer;
+  yes_grows = h.yes_grows;
+  no_grows = h.no_grows;
+  yes_by = h.yes_by;
+  no_by = h.no_by;
+  piece = IsPart-means Behind one other so w w (length before) (length after) (omega arith) after h.ys h.ns h.piece;
+  yes_open = h.yes_open;
+  no_open = h.no_open;
+  jumpless = h.jumpless;
+}
+
+pub Writes-weight : {means : Meaning} {w : ℕ} {before after : List ℕ} {y y' n n' : Open} (v : ℕ) → w ≤ v → Writes means w before after y y' n n' → Writes means v before after y y' n n'
+Writes-weight {means} {w} {before} {after} v more h = record {
+  ys = h.ys;
+  ns = h.ns;
+  longer = h.longer;
+  yes_grows = h.yes_grows;
+  no_grows = h.no_grows;
+  yes_by = h.yes_by;
+  no_by = h.no_by;
+  piece = IsPart-means Behind means means (λ at_yes at_no words m. m) w v (length before) (length after) more after h.ys h.ns h.piece;
+  yes_open = h.yes_open;
+  no_open = h.no_open;
+  jumpless = h.jumpless;
+}
+
+-- its exits exchanged
+pub Writes-not : {one other : Meaning} {w : ℕ} {before after : List ℕ} {y y' n n' : Open} → ((at_yes at_no words : List ℕ) → one at_no at_yes words → other at_yes at_no words)
+    → Writes one w before after y y' n n' → Writes other w before after n n' y y'
+Writes-not {one} {other} {w} {before} {after} so h = record {
+  ys = h.ns;
+  ns = h.ys;
+  longer = h.longer;
+  yes_grows = h.no_grows;
+  no_grows = h.yes_grows;
+  yes_by = h.no_by;
+  no_by = h.yes_by;
+  piece = IsPiece-not one other so w (length before) (length after) after h.ys h.ns h.piece;
+  yes_open = h.no_open;
+  no_open = h.yes_open;
+  jumpless = λ short_yes short_no. h.jumpless short_no short_yes;
+}
+
+-- all holes of an exit that was empty before are the piece's
+pub all_yes : {means : Meaning} {w : ℕ} {before after : List ℕ} {on on' n n' : Open} → on.holes ≡ [] → (h : Writes means w before after on on' n n') → on'.holes ≡ h.ys
+all_yes empty h = h.yes_grows ∙ ap (λ holes. holes ++ h.ys) empty
+
+pub all_no : {means : Meaning} {w : ℕ} {before after : List ℕ} {y y' on on' : Open} → on.holes ≡ [] → (h : Writes means w before after y y' on on') → on'.holes ≡ h.ns
+all_no empty h = h.no_grows ∙ ap (λ holes. holes ++ h.ns) empty
+
+-- an exit that was empty before can be landed behind
+pub landable : {means : Meaning} {w : ℕ} {before after : List ℕ} {on on' n n' : Open} → on.holes ≡ [] → Writes means w before after on on' n n' → AreOpen on'.holes on'.by after
+landable {after = after} {on' = on'} empty h = subst (λ by. AreOpen on'.holes by after) (sym h.yes_by) (subst (λ holes. AreOpen holes _ after) (sym (all_yes empty h)) h.yes_open)
+
+pub landable_no : {means : Meaning} {w : ℕ} {before after : List ℕ} {y y' on on' : Open} → on.holes ≡ [] → Writes means w before after y y' on on' → AreOpen on'.holes on'.by after
+landable_no {after = after} {on' = on'} empty h = subst (λ by. AreOpen on'.holes by after) (sym h.no_by) (subst (λ holes. AreOpen holes _ after) (sym (all_no empty h)) h.no_open)

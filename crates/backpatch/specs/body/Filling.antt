@@ -1,0 +1,22 @@
+-- What it is to fill a jump.
+use Rattle.std.specs.Prelude.{◌≡◌, ◌-◌, List, Ok, slice_set, ℕ}
+use Rattle.bpf_insn.specs.Word.{instruction_of}
+use Rattle.bpf_insn.specs.declared.instruction.Insn.{Insn}
+use Rattle.bpf_insn.specs.declared.instruction.Insn.TheVariants.{Jump, JumpIf}
+use Rattle.bpf_insn.specs.Table.{offsets}
+use Rattle.bpf_verify.specs.Path.{IsAt}
+use Rattle.backpatch.specs.declared.hole.Hole.{Hole}
+use Rattle.backpatch.specs.declared.hole.Side.{Side}
+use Rattle.backpatch.specs.declared.hole.Side.TheVariants.{Always, WhenFalse, WhenTrue}
+
+-- the instruction with one of its jumps this long
+abbrev pub with_offset : Side → ℕ → Insn → Insn
+with_offset WhenTrue k (JumpIf test operand skips) = JumpIf test operand (offsets k skips.jf)
+with_offset WhenFalse k (JumpIf test operand skips) = JumpIf test operand (offsets skips.jt k)
+with_offset Always k (Jump old) = Jump k
+with_offset _ k insn = insn
+
+-- the jump of a hole is filled
+abbrev pub IsFilledIn : Hole → ℕ → List ℕ → List ℕ → Type 0
+IsFilledIn hole to before after =
+    (insn : Insn) × (word : ℕ) × IsAt before hole.place insn × (instruction_of word ≡ Ok (with_offset hole.side (to - hole.place - 1) insn)) × (after ≡ slice_set before hole.place word)

@@ -1,0 +1,215 @@
+//! The words of a program, as far as it is written.
+
+ghost use Rattle.std.specs.Prelude.{◌≡◌, ◌<◌, ◌≤◌, ◌+◌, ◌++◌, ◌∷◌, Contains, IfOk, OnOk, [], length};
+ghost use Rattle.bpf_insn.specs.declared.instruction.Insn.TheVariants.{Jump};
+ghost use Rattle.bpf_verify.specs.declared.TheConstants.{MAX_INSTRUCTIONS};
+ghost use Rattle.backpatch.specs.Holes.{AreOpen, CanReach, HasJump, IsAppended, IsLanded, Open, hole_at};
+ghost use Rattle.backpatch.specs.declared.hole.Hole.{Hole as HoleValue};
+ghost use Rattle.backpatch.specs.declared.hole.Side.TheVariants.{Always};
+ghost use Rattle.backpatch.specs.Pieces.{Writes};
+ghost use Rattle.backpatch.specs.Runs.{GoesToYes};
+ghost use Rattle.backpatch.specs.Checks.{Checks, asks};
+ghost use Rattle.backpatch.specs.body.Filling.{IsFilledIn};
+ghost use Rattle.backpatch.specs.body.Noting.{IsNoted};
+
+use crate::exit::Exit;
+use crate::hole::{Hole, Side};
+use bpf_insn::{Insn, Offsets, Operand, Test};
+use std::alloc::{AllocError, Allocator};
+use std::marker::Model;
+
+/// The words of a program, as far as it is written, and where the lists of its exits are allocated.
+///
+/// Contracts see it as the list of its words. A place is how many words stand before it. After a call that failed, nothing is
+/// said of the code and of the exits that were passed.
+#[derive(Drop)]
+pub struct Code<'a, A: Allocator> {
+    words: Vec<u64, A>,
+    lists: &'a A,
+}
+
+impl<'a, A: Allocator> Model for Code<'a, A> {
+    ghost use Rattle.std.specs.Prelude.{List, ℕ};
+
+    ghost Value = { List ℕ };
+
+    ghost view = { λ c. c.words.items };
+}
+
+impl<'a, A: Allocator> Code<'a, A> {
+    /// A program with no word yet and room for so many; the lists of its exits are allocated in `lists`. Fails where the
+    /// allocation is refused.
+    pub fn with_room(alloc: A, lists: &'a A, room: usize) -> Result<Code<'a, A>, AllocError>
+        ensures empty { IfOk result (λ code. code ≡ []) }
+    {
+        Ok(Code {
+            words: Vec::with_capacity(alloc, room)?,
+            lists,
+        })
+    }
+
+    /// How many words it has.
+    pub fn len(&self) -> u32
+        requires room { length self.now ≤ MAX_INSTRUCTIONS }
+        ensures length { result ≡ length self.now }
+    {
+        self.words.len() as u32
+    }
+
+    /// An exit that no jump goes to yet, which will stand at the place `by` at the latest.
+    pub fn exit(&self, by: u32) -> Exit<'a, A>
+        ensures empty { result.holes ≡ [] }
+        ensures by { result.by ≡ by }
+    {
+        Exit::new(self.lists, by)
+    }
+
+    /// Writes an instruction. Fails where an allocation is refused.
+    pub fn push(&mut self, insn: Insn) -> Result<(), AllocError>
+        ensures appended { OnOk result (IsAppended insn self.old self.new) }
+    {
+        self.words.push(insn.to_word())?;
+        Ok(())
+    }
+
+    /// Says that the exit stands at the end: each of its jumps leads there.
+    pub fn land(&mut self, exit: &Exit<'a, A>)
+        requires open { AreOpen exit.now.holes exit.now.by self.old }
+        requires by { length self.old ≤ exit.now.by }
+        requires room { length self.old ≤ MAX_INSTRUCTIONS }
+        ensures landed { IsLanded exit.now.holes self.old self.new }
+    {
+        fill_all(&mut self.words, exit.holes());
+    }
+
+    /// Writes a test: it goes to `yes` where it holds and to `no` where it does not. Where an exit can be too far for the
+    /// jump of a test, it goes there by a JA. Fails where an allocation is refused.
+    pub fn branch(
+        &mut self,
+        test: Test,
+        operand: Operand,
+        yes: &mut Exit<'a, A>,
+        no: &mut Exit<'a, A>,
+    ) -> Result<(), AllocError>
+        requires room { length self.old + 3 ≤ MAX_INSTRUCTIONS }
+        ensures writes { OnOk result (Writes (Checks (λ a. a) (asks test operand)) 3 self.old self.new yes.old yes.new no.old no.new) }
+    {
+        let place = self.len();
+        let far_yes = yes.by() > place + 256;
+        let far_no = no.by() > place + 256;
+        // Where both are far, the JA of `no` stands behind that of `yes`.
+        let jf = if far_yes && far_no { 1 } else { 0 };
+        self.push(Insn::JumpIf(test, operand, Offsets { jt: 0, jf }))?;
+        self.note(far_yes, place, Side::WhenTrue, yes)?;
+        self.note(far_no, place, Side::WhenFalse, no)?;
+        Ok(())
+    }
+
+    /// Writes an instruction that goes to the exit always. Fails where an allocation is refused.
+    pub fn leave(&mut self, exit: &mut Exit<'a, A>) -> Result<(), AllocError>
+        requires room { length self.old + 1 ≤ MAX_INSTRUCTIONS }
+        ensures writes { OnOk result ((other : Open) → Writes GoesToYes 1 self.old self.new exit.old exit.new other other) }
+    {
+        let place = self.len();
+        if exit.by() > place + 256 {
+            self.jump(exit)?;
+        } else {
+            // It goes there where A is 0 and where it is not.
+            self.push(Insn::JumpIf(Test::Equal, Operand::K(0), Offsets { jt: 0, jf: 0 }))?;
+            exit.add(place, Side::WhenTrue)?;
+            exit.add(place, Side::WhenFalse)?;
+        }
+        Ok(())
+    }
+
+    // Notes a jump of the test at the place, or of a JA that it leads to.
+    fn note(
+        &mut self,
+        far: bool,
+        place: u32,
+        side: Side,
+        exit: &mut Exit<'a, A>,
+    ) -> Result<(), AllocError>
+        requires room { length self.old ≤ MAX_INSTRUCTIONS }
+        ensures noted { OnOk result (IsNoted far place side self.old self.new exit.old exit.new) }
+        ensures by { exit.new.by ≡ exit.old.by }
+    {
+        if far {
+            self.jump(exit)?;
+        } else {
+            exit.add(place, side)?;
+        }
+        Ok(())
+    }
+
+    // Writes a JA to the exit.
+    fn jump(&mut self, exit: &mut Exit<'a, A>) -> Result<(), AllocError>
+        requires room { length self.old ≤ MAX_INSTRUCTIONS }
+        ensures appended { OnOk result (IsAppended (Jump 0) self.old self.new) }
+        ensures holes { OnOk result (exit.new.holes ≡ exit.old.holes ++ hole_at (length self.old) Always ∷ []) }
+        ensures by { exit.new.by ≡ exit.old.by }
+    {
+        let place = self.len();
+        self.push(Insn::Jump(0))?;
+        exit.add(place, Side::Always)
+    }
+
+    /// Gives the words.
+    pub fn into_words(self) -> Vec<u64, A>
+        ensures words { result.items ≡ self.entry }
+    {
+        self.words
+    }
+}
+
+// Fills the jump of a hole.
+fn fill<A: Allocator>(words: &mut Vec<u64, A>, hole: Hole, to: usize)
+    requires there { HasJump words.old.items hole.place hole.side }
+    requires within { hole.place < length words.old.items }
+    requires behind { hole.place < to }
+    requires near { CanReach hole.place hole.side to }
+    requires room { to ≤ MAX_INSTRUCTIONS }
+    ensures filled { IsFilledIn hole to words.old.items words.new.items }
+{
+    let place = hole.place as usize;
+    let skip = to - place - 1;
+    let insn = Insn::from_word(words[place]);
+    let Ok(insn) = insn else {
+        return;
+    };
+    let filled = match (insn, hole.side) {
+        (Insn::JumpIf(test, operand, offsets), Side::WhenTrue) => Insn::JumpIf(
+            test,
+            operand,
+            Offsets {
+                jt: skip as u8,
+                jf: offsets.jf,
+            },
+        ),
+        (Insn::JumpIf(test, operand, offsets), Side::WhenFalse) => Insn::JumpIf(
+            test,
+            operand,
+            Offsets {
+                jt: offsets.jt,
+                jf: skip as u8,
+            },
+        ),
+        (Insn::Jump(_), Side::Always) => Insn::Jump(skip as u32),
+        _ => insn,
+    };
+    words[place] = filled.to_word();
+}
+
+// Fills holes with the end.
+fn fill_all<A: Allocator>(words: &mut Vec<u64, A>, holes: &[Hole])
+    requires there { (hole : HoleValue) → Contains holes.now hole → HasJump words.old.items hole.place hole.side }
+    requires within { (hole : HoleValue) → Contains holes.now hole → hole.place < length words.old.items }
+    requires near { (hole : HoleValue) → Contains holes.now hole → CanReach hole.place hole.side (length words.old.items) }
+    requires room { length words.old.items ≤ MAX_INSTRUCTIONS }
+    ensures landed { IsLanded holes.now words.old.items words.new.items }
+{
+    let to = words.len();
+    for hole in holes {
+        fill(words, *hole, to);
+    }
+}

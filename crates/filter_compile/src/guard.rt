@@ -1,0 +1,148 @@
+//! Tests that come before others: each falls through where it holds, and is left out where it is known to.
+
+ghost use Rattle.std.specs.Prelude.{◌≡◌, ◌+◌, ◌≤◌, IfOk, OnOk, false, length, true};
+ghost use Rattle.ipv4_fields.specs.declared.header.Field.TheVariants.{Protocol};
+ghost use Rattle.ipv4_fields.specs.Field.{field_of};
+ghost use Rattle.bpf_verify.specs.declared.TheConstants.{MAX_INSTRUCTIONS};
+ghost use Rattle.backpatch.specs.Pieces.{Extends, Guards};
+ghost use Rattle.filter_tree.specs.declared.truth.Truth.{Truth};
+ghost use Rattle.filter_tree.specs.declared.truth.Truth.TheVariants.{Yes};
+ghost use Rattle.filter_tree.specs.Measure.{weight_where};
+ghost use Rattle.filter_tree.specs.Outcome.{tested, where_so};
+ghost use Rattle.filter_tree.specs.Primitive.{has_ports, is_first_fragment, is_ip, is_protocol};
+ghost use Rattle.packet_facts.specs.Known.{Holds, Settles};
+ghost use Rattle.filter_compile.specs.body.Header.{weight_of_transport};
+ghost use Rattle.filter_compile.specs.body.Piece.{LoadsHeader, Tests};
+ghost use Rattle.filter_compile.specs.body.Sides.{HoldsWhere};
+
+use crate::header::{has_ports, is_first_fragment, is_ip, is_protocol};
+use crate::sides::Passed;
+use backpatch::{Code, Exit};
+use bpf_insn::Insn;
+use filter_tree::Transport;
+use packet_facts::Known;
+use std::alloc::{AllocError, Allocator};
+
+/// Tests whether a test has to be written: there is cause, and what is known does not tell that it is true.
+pub(crate) fn must_ask(used: bool, told: Option<bool>) -> bool
+    ensures used { result ≡ true → used ≡ true }
+    ensures left_out { result ≡ false → (truth : Truth) → Settles told truth → where_so used truth ≡ Yes }
+{
+    match told {
+        Some(true) => false,
+        _ => used,
+    }
+}
+
+pub(crate) fn guard_ip<'a, A: Allocator>(
+    code: &mut Code<'a, A>,
+    used: bool,
+    known: Known,
+    no: &mut Exit<'a, A>,
+) -> Result<Passed, AllocError>
+    requires room { length code.old + weight_where used 5 ≤ MAX_INSTRUCTIONS }
+    requires behind { length code.old + weight_where used 5 ≤ no.old.by }
+    ensures guards { IfOk result (λ passed. Guards (Tests (Holds known) (Holds passed.on) (HoldsWhere passed.no) (λ packet. where_so used (is_ip packet))) (weight_where used 5) code.old code.new no.old no.new) }
+{
+    if !must_ask(used, known.ip()) {
+        return Ok(Passed::at_once(known));
+    }
+    let mut on = code.exit(code.len() + 5);
+    is_ip(code, &mut on, no)?;
+    code.land(&on);
+    Ok(Passed {
+        on: known.with_ip(),
+        no: Some(known.without_ip()),
+    })
+}
+
+pub(crate) fn guard_protocol<'a, A: Allocator>(
+    code: &mut Code<'a, A>,
+    used: bool,
+    n: u8,
+    known: Known,
+    no: &mut Exit<'a, A>,
+) -> Result<Passed, AllocError>
+    requires room { length code.old + weight_where used 4 ≤ MAX_INSTRUCTIONS }
+    requires behind { length code.old + weight_where used 4 ≤ no.old.by }
+    ensures guards { IfOk result (λ passed. Guards (Tests (Holds known) (Holds passed.on) (HoldsWhere passed.no) (λ packet. where_so used (is_protocol n packet))) (weight_where used 4) code.old code.new no.old no.new) }
+{
+    if !must_ask(used, known.protocol(n)) {
+        return Ok(Passed::at_once(known));
+    }
+    let mut on = code.exit(code.len() + 4);
+    is_protocol(code, n, &mut on, no)?;
+    code.land(&on);
+    Ok(Passed {
+        on: known.with_protocol(n),
+        no: Some(known.without_protocol(n)),
+    })
+}
+
+// The most instructions of the test of a protocol that has ports.
+fn weight_of(transport: Transport) -> u32
+    ensures { result ≡ weight_of_transport transport }
+{
+    match transport {
+        Transport::Tcp => 4,
+        Transport::Udp => 4,
+        Transport::Unnamed => 10,
+    }
+}
+
+pub(crate) fn guard_transport<'a, A: Allocator>(
+    code: &mut Code<'a, A>,
+    transport: Transport,
+    known: Known,
+    no: &mut Exit<'a, A>,
+) -> Result<Passed, AllocError>
+    requires room { length code.old + weight_of_transport transport ≤ MAX_INSTRUCTIONS }
+    requires behind { length code.old + weight_of_transport transport ≤ no.old.by }
+    ensures guards { IfOk result (λ passed. Guards (Tests (Holds known) (Holds passed.on) (HoldsWhere passed.no) (λ packet. tested (has_ports transport) (field_of Protocol packet))) (weight_of_transport transport) code.old code.new no.old no.new) }
+{
+    if !must_ask(true, known.transport(transport)) {
+        return Ok(Passed::at_once(known));
+    }
+    let mut on = code.exit(code.len() + weight_of(transport));
+    has_ports(code, transport, &mut on, no)?;
+    code.land(&on);
+    Ok(Passed {
+        on: known.with_transport(transport),
+        no: Some(known.without_transport(transport)),
+    })
+}
+
+pub(crate) fn guard_first_fragment<'a, A: Allocator>(
+    code: &mut Code<'a, A>,
+    used: bool,
+    known: Known,
+    no: &mut Exit<'a, A>,
+) -> Result<Passed, AllocError>
+    requires room { length code.old + weight_where used 4 ≤ MAX_INSTRUCTIONS }
+    requires behind { length code.old + weight_where used 4 ≤ no.old.by }
+    ensures guards { IfOk result (λ passed. Guards (Tests (Holds known) (Holds passed.on) (HoldsWhere passed.no) (λ packet. where_so used (is_first_fragment packet))) (weight_where used 4) code.old code.new no.old no.new) }
+{
+    if !must_ask(used, known.first_fragment()) {
+        return Ok(Passed::at_once(known));
+    }
+    let mut on = code.exit(code.len() + 4);
+    is_first_fragment(code, &mut on, no)?;
+    code.land(&on);
+    Ok(Passed {
+        on: known.with_first_fragment(),
+        no: Some(known.without_first_fragment()),
+    })
+}
+
+/// Writes the load of the header's length into X where X does not hold it.
+pub(crate) fn load_header<'a, A: Allocator>(
+    code: &mut Code<'a, A>,
+    held: bool,
+) -> Result<(), AllocError>
+    ensures extends { OnOk result (Extends (LoadsHeader held) 1 code.old code.new) }
+{
+    if held {
+        return Ok(());
+    }
+    code.push(Insn::LoadXHeader(0))
+}

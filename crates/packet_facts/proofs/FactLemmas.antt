@@ -1,0 +1,183 @@
+-- What holds of a packet and of X where the facts hold: the truth of each test that they settle, and the loads that were made.
+use Rattle.std.proofs.Common.{◌≡◌, ◌∙◌, ◌*◌, Bool, List, None, Option, Some, ap, false, refl, subst, sym, true, ℕ, ⊎_elim}
+use Rattle.std.specs.Prelude.{◌==◌, if◌then◌else◌}
+use Rattle.std.proofs.lemmas.Bool.{cases_eq, eq-eqb, ne_eqb}
+use Rattle.ipv4_fields.specs.declared.header.Field.TheVariants as field_is
+use Rattle.ipv4_fields.specs.Field.{field_of, ihl_of}
+use Rattle.filter_tree.specs.declared.arithmetic.Protocol.{Protocol as DataProtocol}
+use Rattle.filter_tree.specs.declared.arithmetic.Protocol.TheVariants as data_is
+use Rattle.filter_tree.specs.declared.primitive.Transport.{Transport}
+use Rattle.filter_tree.specs.declared.primitive.Transport.TheVariants.{Tcp, Udp, Unnamed}
+use Rattle.filter_tree.specs.declared.sides.Accesses.{Accesses}
+use Rattle.filter_tree.specs.declared.truth.Truth.{Truth}
+use Rattle.filter_tree.specs.declared.truth.Truth.TheVariants.{No, Yes}
+use Rattle.filter_tree.specs.Measure.{weight_of_guards}
+use Rattle.filter_tree.specs.Outcome.{answer, tested}
+use Rattle.filter_tree.specs.Primitive.{has_ports, is_first_fragment, is_ip, is_protocol}
+use Rattle.filter_tree.specs.Truth.{guards, used_by}
+use Rattle.packet_facts.specs.declared.header.Header.{Header}
+use Rattle.packet_facts.specs.declared.header.Header.TheVariants as header_is
+use Rattle.packet_facts.specs.declared.header.Protocol.{Protocol}
+use Rattle.packet_facts.specs.declared.header.Protocol.TheVariants.{Any, Is, IsNot}
+use Rattle.packet_facts.specs.declared.known.Known.{Known}
+use Rattle.packet_facts.specs.Known.{Holds, IsHeader, IsProtocol, Knows, Settles}
+use Rattle.packet_facts.specs.Told.{first_fragment_of, first_told, header_in_x_of, ip_of, ip_told, named_told, number_told, ports_told, protocol_in, protocol_of, transport_of}
+
+-- ---- what is settled
+
+settles_ip : (header : Header) (packet : List ℕ) → IsHeader header packet → Settles (ip_told header) (is_ip packet)
+settles_ip header_is.Any packet is = tt
+settles_ip header_is.NotIpv4 packet is = is
+settles_ip (header_is.Ipv4 protocol first) packet is = is.0
+
+settles_first : (header : Header) (packet : List ℕ) → IsHeader header packet → Settles (first_told header) (is_first_fragment packet)
+settles_first header_is.Any packet is = tt
+settles_first header_is.NotIpv4 packet is = tt
+settles_first (header_is.Ipv4 protocol first) packet is = is.2
+
+protocol_is : (header : Header) (packet : List ℕ) → IsHeader header packet → IsProtocol (protocol_in header) packet
+protocol_is header_is.Any packet is = tt
+protocol_is header_is.NotIpv4 packet is = tt
+protocol_is (header_is.Ipv4 protocol first) packet is = is.1
+
+settles_answer : (b : Bool) (truth : Truth) → truth ≡ answer b → Settles (Some b) truth
+settles_answer true truth is = is
+settles_answer false truth is = is
+
+settles_number : (protocol : Protocol) (n : ℕ) (packet : List ℕ) → IsProtocol protocol packet → Settles (number_told protocol n) (is_protocol n packet)
+settles_number Any n packet is = tt
+settles_number (Is m) n packet is = settles_answer (m == n) (is_protocol n packet) (ap (tested (λ k. k == n)) is)
+settles_number (IsNot m) n packet is =
+    let P : Bool → Type 0 = λ b. Settles (if b then Some false else None) (is_protocol n packet) in
+    ⊎_elim
+    (λ (e : m ≡ n). let other : (is.0 == n) ≡ false = ne_eqb is.0 n (λ same. is.2 (same ∙ sym e)) in
+    subst P (sym (eq-eqb m n e)) (ap (tested (λ k. k == n)) is.1 ∙ ap answer other))
+    (λ ne. subst P (sym (ne_eqb m n ne)) tt)
+    (cases_eq m n)
+
+settles_ports : (protocol : Protocol) (packet : List ℕ) → IsProtocol protocol packet → Settles (ports_told protocol) (tested (has_ports Unnamed) (field_of field_is.Protocol packet))
+settles_ports Any packet is = tt
+settles_ports (Is m) packet is = settles_answer (has_ports Unnamed m) (tested (has_ports Unnamed) (field_of field_is.Protocol packet)) (ap (tested (has_ports Unnamed)) is)
+settles_ports (IsNot m) packet is = tt
+
+settles_named : (transport : Transport) (protocol : Protocol) (packet : List ℕ) → IsProtocol protocol packet
+    → Settles (named_told protocol transport) (tested (has_ports transport) (field_of field_is.Protocol packet))
+settles_named Tcp protocol packet is = settles_number protocol 6 packet is
+settles_named Udp protocol packet is = settles_number protocol 17 packet is
+settles_named Unnamed protocol packet is = settles_ports protocol packet is
+
+module _ (known : Known) (packet : List ℕ) (x : ℕ) (holds : Holds known packet x) where
+  -- the truth of each test, as far as the facts tell it
+  pub ip_settled : Settles (ip_of known) (is_ip packet)
+  ip_settled = settles_ip known.header packet holds.0
+
+  pub protocol_settled : (n : ℕ) → Settles (protocol_of known n) (is_protocol n packet)
+  protocol_settled n = settles_number (protocol_in known.header) n packet (protocol_is known.header packet holds.0)
+
+  pub transport_settled : (transport : Transport) → Settles (transport_of known transport) (tested (has_ports transport) (field_of field_is.Protocol packet))
+  transport_settled transport = settles_named transport (protocol_in known.header) packet (protocol_is known.header packet holds.0)
+
+  pub first_fragment_settled : Settles (first_fragment_of known) (is_first_fragment packet)
+  first_fragment_settled = settles_first known.header packet holds.0
+
+  -- the same where the answer is known
+  pub ip_yes : ip_of known ≡ Some true → is_ip packet ≡ Yes
+  ip_yes told = subst (λ o. Settles o (is_ip packet)) told ip_settled
+
+  pub ip_no : ip_of known ≡ Some false → is_ip packet ≡ No
+  ip_no told = subst (λ o. Settles o (is_ip packet)) told ip_settled
+
+  pub protocol_yes : (n : ℕ) → protocol_of known n ≡ Some true → is_protocol n packet ≡ Yes
+  protocol_yes n told = subst (λ o. Settles o (is_protocol n packet)) told (protocol_settled n)
+
+  pub protocol_no : (n : ℕ) → protocol_of known n ≡ Some false → is_protocol n packet ≡ No
+  protocol_no n told = subst (λ o. Settles o (is_protocol n packet)) told (protocol_settled n)
+
+  pub transport_yes : (transport : Transport) → transport_of known transport ≡ Some true → tested (has_ports transport) (field_of field_is.Protocol packet) ≡ Yes
+  transport_yes transport told = subst (λ o. Settles o (tested (has_ports transport) (field_of field_is.Protocol packet))) told (transport_settled transport)
+
+  pub transport_no : (transport : Transport) → transport_of known transport ≡ Some false → tested (has_ports transport) (field_of field_is.Protocol packet) ≡ No
+  transport_no transport told = subst (λ o. Settles o (tested (has_ports transport) (field_of field_is.Protocol packet))) told (transport_settled transport)
+
+  pub first_fragment_yes : first_fragment_of known ≡ Some true → is_first_fragment packet ≡ Yes
+  first_fragment_yes told = subst (λ o. Settles o (is_first_fragment packet)) told first_fragment_settled
+
+  pub first_fragment_no : first_fragment_of known ≡ Some false → is_first_fragment packet ≡ No
+  first_fragment_no told = subst (λ o. Settles o (is_first_fragment packet)) told first_fragment_settled
+
+  -- what is known of X
+  pub x_known : Knows (header_in_x_of known) packet x
+  x_known = holds.1
+
+  pub header_known : header_in_x_of known ≡ true → (ihl : ℕ) × (ihl_of packet ≡ Some ihl) × (x ≡ 4 * ihl)
+  header_known told = subst (λ b. Knows b packet x) told holds.1
+
+  -- another value of X, of which as much is known
+  pub Holds-x : (x' : ℕ) → Knows (header_in_x_of known) packet x' → Holds known packet x'
+  Holds-x x' knows = (holds.0, knows)
+
+  pub Holds-any_x : header_in_x_of known ≡ false → (x' : ℕ) → Holds known packet x'
+  Holds-any_x told x' = (holds.0, subst (λ b. Knows b packet x') (sym told) tt)
+
+-- ---- loads that were made
+
+loaded_settled : (check : ℕ → Bool) (field : Option ℕ) (b : Bool) → Settles (Some b) (tested check field) → (value : ℕ) × (field ≡ Some value)
+loaded_settled check None true is = cc
+loaded_settled check None false is = cc
+loaded_settled check (Some value) b is = (value, refl)
+
+module _ (known : Known) (packet : List ℕ) (x : ℕ) (holds : Holds known packet x) where
+  pub version_loaded : (b : Bool) → ip_of known ≡ Some b → (version : ℕ) × (field_of field_is.Version packet ≡ Some version)
+  version_loaded b told = loaded_settled (λ version. version == 4) (field_of field_is.Version packet) b (subst (λ o. Settles o (is_ip packet)) told (ip_settled known packet x holds))
+
+  pub protocol_loaded : (n : ℕ) (b : Bool) → protocol_of known n ≡ Some b → (number : ℕ) × (field_of field_is.Protocol packet ≡ Some number)
+  protocol_loaded n b told =
+      loaded_settled (λ number. number == n) (field_of field_is.Protocol packet) b (subst (λ o. Settles o (is_protocol n packet)) told (protocol_settled known packet x holds n))
+
+  pub transport_loaded : (transport : Transport) (b : Bool) → transport_of known transport ≡ Some b → (number : ℕ) × (field_of field_is.Protocol packet ≡ Some number)
+  transport_loaded transport b told =
+      loaded_settled (has_ports transport) (field_of field_is.Protocol packet) b
+      (subst (λ o. Settles o (tested (has_ports transport) (field_of field_is.Protocol packet))) told (transport_settled known packet x holds transport))
+
+  pub fragment_loaded : (b : Bool) → first_fragment_of known ≡ Some b → (offset : ℕ) × (field_of field_is.FragmentOffset packet ≡ Some offset)
+  fragment_loaded b told =
+      loaded_settled (λ offset. offset == 0) (field_of field_is.FragmentOffset packet) b
+      (subst (λ o. Settles o (is_first_fragment packet)) told (first_fragment_settled known packet x holds))
+
+-- ---- protocol and fragment are told of packets of IPv4 alone
+
+ip_by_number : (header : Header) (n : ℕ) (b : Bool) → number_told (protocol_in header) n ≡ Some b → ip_told header ≡ Some true
+ip_by_number header_is.Any n b told = cc
+ip_by_number header_is.NotIpv4 n b told = cc
+ip_by_number (header_is.Ipv4 protocol first) n b told = refl
+
+ip_by_ports : (header : Header) (b : Bool) → ports_told (protocol_in header) ≡ Some b → ip_told header ≡ Some true
+ip_by_ports header_is.Any b told = cc
+ip_by_ports header_is.NotIpv4 b told = cc
+ip_by_ports (header_is.Ipv4 protocol first) b told = refl
+
+pub ip_by_protocol : (known : Known) (n : ℕ) (b : Bool) → protocol_of known n ≡ Some b → ip_of known ≡ Some true
+ip_by_protocol known n b told = ip_by_number known.header n b told
+
+pub ip_by_transport : (known : Known) (transport : Transport) (b : Bool) → transport_of known transport ≡ Some b → ip_of known ≡ Some true
+ip_by_transport known Tcp b told = ip_by_number known.header 6 b told
+ip_by_transport known Udp b told = ip_by_number known.header 17 b told
+ip_by_transport known Unnamed b told = ip_by_ports known.header b told
+
+ip_by_first : (header : Header) (b : Bool) → first_told header ≡ Some b → ip_told header ≡ Some true
+ip_by_first header_is.Any b told = cc
+ip_by_first header_is.NotIpv4 b told = cc
+ip_by_first (header_is.Ipv4 protocol first) b told = refl
+
+pub ip_by_fragment : (known : Known) (b : Bool) → first_fragment_of known ≡ Some b → ip_of known ≡ Some true
+ip_by_fragment known b told = ip_by_first known.header b told
+
+-- ---- the guards of what accessors read, by each of the four
+
+pub guards-used_by : (used : Accesses) (other : DataProtocol → Bool) → used.ip ≡ other data_is.Ip → used.tcp ≡ other data_is.Tcp → used.udp ≡ other data_is.Udp → used.icmp ≡ other data_is.Icmp
+    → (packet : List ℕ) → guards (used_by used) packet ≡ guards other packet
+guards-used_by used other ip tcp udp icmp packet = cc
+
+pub weight-used_by : (used : Accesses) (other : DataProtocol → Bool) → used.ip ≡ other data_is.Ip → used.tcp ≡ other data_is.Tcp → used.udp ≡ other data_is.Udp → used.icmp ≡ other data_is.Icmp
+    → weight_of_guards (used_by used) ≡ weight_of_guards other
+weight-used_by used other ip tcp udp icmp = cc

@@ -1,0 +1,43 @@
+-- What the facts say of a packet and of X. Each says that the packet has the bytes, and what they are or are not.
+use Rattle.std.specs.Prelude.{◌≡◌, ◌≢◌, ◌*◌, List, None, Option, Some, Bool, false, true, ℕ}
+use Rattle.ipv4_fields.specs.declared.header.Field.TheVariants as field_is
+use Rattle.ipv4_fields.specs.Field.{field_of, ihl_of}
+use Rattle.filter_tree.specs.declared.truth.Truth.{Truth}
+use Rattle.filter_tree.specs.declared.truth.Truth.TheVariants.{No, Yes}
+use Rattle.filter_tree.specs.Primitive.{is_first_fragment, is_ip}
+use Rattle.packet_facts.specs.declared.header.Header.{Header}
+use Rattle.packet_facts.specs.declared.header.Header.TheVariants as header_is
+use Rattle.packet_facts.specs.declared.header.Protocol.{Protocol}
+use Rattle.packet_facts.specs.declared.header.Protocol.TheVariants.{Any, Is, IsNot}
+use Rattle.packet_facts.specs.declared.known.Known.{Known}
+
+-- what is known of a truth, if anything is
+abbrev pub Settles : Option Bool → Truth → Type 0
+Settles None truth = Unit {0}
+Settles (Some true) truth = truth ≡ Yes
+Settles (Some false) truth = truth ≡ No
+
+-- the packet's protocol is as known
+abbrev pub IsProtocol : Protocol → List ℕ → Type 0
+IsProtocol Any packet = Unit {0}
+IsProtocol (Is n) packet = field_of field_is.Protocol packet ≡ Some n
+IsProtocol (IsNot n) packet = (m : ℕ) × (field_of field_is.Protocol packet ≡ Some m) × (m ≢ n)
+
+-- whether it has the beginning of the datagram is as known
+abbrev pub IsFirst : Option Bool → List ℕ → Type 0
+IsFirst first packet = Settles first (is_first_fragment packet)
+
+-- its header is as known
+abbrev pub IsHeader : Header → List ℕ → Type 0
+IsHeader header_is.Any packet = Unit {0}
+IsHeader header_is.NotIpv4 packet = is_ip packet ≡ No
+IsHeader (header_is.Ipv4 protocol first) packet = (is_ip packet ≡ Yes) × IsProtocol protocol packet × IsFirst first packet
+
+-- X is as known: it holds the length of the packet's IPv4 header, or nothing is known of it
+abbrev pub Knows : Bool → List ℕ → ℕ → Type 0
+Knows false packet x = Unit {0}
+Knows true packet x = (ihl : ℕ) × (ihl_of packet ≡ Some ihl) × (x ≡ 4 * ihl)
+
+-- the packet and X are as known
+abbrev pub Holds : Known → List ℕ → ℕ → Type 0
+Holds known packet x = IsHeader known.header packet × Knows known.header_in_x packet x

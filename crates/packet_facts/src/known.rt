@@ -1,0 +1,114 @@
+//! What is known where a part of a program begins: how facts are joined, and what they tell.
+
+ghost use Rattle.std.specs.Prelude.{◌≡◌, ◌&&◌, List, Some, true, ℕ};
+ghost use Rattle.ipv4_fields.specs.declared.header.Field.TheVariants.{Protocol as ProtocolField};
+ghost use Rattle.ipv4_fields.specs.Field.{field_of};
+ghost use Rattle.filter_tree.specs.declared.primitive.Transport.TheVariants.{Unnamed};
+ghost use Rattle.filter_tree.specs.Outcome.{tested};
+ghost use Rattle.filter_tree.specs.Primitive.{has_ports, is_first_fragment, is_ip, is_protocol};
+ghost use Rattle.packet_facts.specs.Known.{Holds, Settles};
+ghost use Rattle.packet_facts.specs.Told.{agreed, first_fragment_of, header_in_x_of, ip_of, protocol_of, transport_of};
+
+use crate::header::{Header, Protocol, join_headers};
+use filter_tree::Transport;
+
+/// What is known of a packet, and whether X holds the length of its IPv4 header.
+#[derive(Clone, Copy, Debug, PartialEq, Eq)]
+pub struct Known {
+    pub(crate) header: Header,
+    pub(crate) header_in_x: bool,
+}
+
+impl Known {
+    /// Knows nothing.
+    pub fn nothing() -> Known
+        ensures holds { (packet : List ℕ) (x : ℕ) → Holds result packet x }
+    {
+        Known {
+            header: Header::Any,
+            header_in_x: false,
+        }
+    }
+
+    /// Knows what holds where one or the other does: where two ways meet.
+    pub fn join(self, other: Known) -> Known
+        ensures of_self { (packet : List ℕ) (x : ℕ) → Holds self packet x → Holds result packet x }
+        ensures of_other { (packet : List ℕ) (x : ℕ) → Holds other packet x → Holds result packet x }
+        ensures ip { ip_of result ≡ agreed (ip_of self) (ip_of other) }
+        ensures protocol { (n : ℕ) → protocol_of self n ≡ Some true → protocol_of other n ≡ Some true → protocol_of result n ≡ Some true }
+        ensures first_fragment { first_fragment_of result ≡ agreed (first_fragment_of self) (first_fragment_of other) }
+        ensures header_in_x { header_in_x_of result ≡ (header_in_x_of self && header_in_x_of other) }
+    {
+        Known {
+            header: join_headers(self.header, other.header),
+            header_in_x: self.header_in_x && other.header_in_x,
+        }
+    }
+
+    /// Tells whether the packet is one of IPv4, `None` where that is not known.
+    pub fn ip(self) -> Option<bool>
+        ensures exact { result ≡ ip_of self }
+        ensures known { (packet : List ℕ) (x : ℕ) → Holds self packet x → Settles result (is_ip packet) }
+    {
+        match self.header {
+            Header::Any => None,
+            Header::NotIpv4 => Some(false),
+            Header::Ipv4(_, _) => Some(true),
+        }
+    }
+
+    /// Tells whether the protocol has this number, `None` where that is not known. It is known only where the packet is
+    /// known to be one of IPv4.
+    pub fn protocol(self, n: u8) -> Option<bool>
+        ensures exact { result ≡ protocol_of self n }
+        ensures known { (packet : List ℕ) (x : ℕ) → Holds self packet x → Settles result (is_protocol n packet) }
+    {
+        match self.header {
+            Header::Ipv4(Protocol::Is(m), _) => Some(m == n),
+            Header::Ipv4(Protocol::IsNot(m), _) if m == n => Some(false),
+            _ => None,
+        }
+    }
+
+    /// Tells whether the protocol is the one that is named, else TCP, UDP or SCTP; `None` where that is not known. It is
+    /// known only where the packet is known to be one of IPv4.
+    pub fn transport(self, transport: Transport) -> Option<bool>
+        ensures exact { result ≡ transport_of self transport }
+        ensures known { (packet : List ℕ) (x : ℕ) → Holds self packet x → Settles result (tested (has_ports transport) (field_of ProtocolField packet)) }
+    {
+        match transport {
+            Transport::Tcp => self.protocol(6),
+            Transport::Udp => self.protocol(17),
+            Transport::Unnamed => self.ports(),
+        }
+    }
+
+    fn ports(self) -> Option<bool>
+        ensures exact { result ≡ transport_of self Unnamed }
+        ensures known { (packet : List ℕ) (x : ℕ) → Holds self packet x → Settles result (tested (has_ports Unnamed) (field_of ProtocolField packet)) }
+    {
+        match self.header {
+            Header::Ipv4(Protocol::Is(n), _) => Some(n == 6 || n == 17 || n == 132),
+            _ => None,
+        }
+    }
+
+    /// Tells whether the packet has the beginning of the datagram, `None` where that is not known. It is known only where
+    /// the packet is known to be one of IPv4.
+    pub fn first_fragment(self) -> Option<bool>
+        ensures exact { result ≡ first_fragment_of self }
+        ensures known { (packet : List ℕ) (x : ℕ) → Holds self packet x → Settles result (is_first_fragment packet) }
+    {
+        match self.header {
+            Header::Ipv4(_, first) => first,
+            _ => None,
+        }
+    }
+
+    /// Tests whether X is known to hold the length of the header.
+    pub fn header_in_x(self) -> bool
+        ensures exact { result ≡ header_in_x_of self }
+    {
+        self.header_in_x
+    }
+}

@@ -1,0 +1,159 @@
+//! What is known after a test, on its two sides.
+
+ghost use Rattle.std.specs.Prelude.{◌≡◌, List, None, Some, false, true, ℕ};
+ghost use Rattle.ipv4_fields.specs.declared.header.Field.TheVariants.{Protocol as ProtocolField};
+ghost use Rattle.ipv4_fields.specs.Field.{field_of};
+ghost use Rattle.filter_tree.specs.declared.truth.Truth.TheVariants.{No, Yes};
+ghost use Rattle.filter_tree.specs.Outcome.{tested};
+ghost use Rattle.filter_tree.specs.Primitive.{has_ports, is_first_fragment, is_ip, is_protocol};
+ghost use Rattle.packet_facts.specs.Known.{Holds, Knows};
+ghost use Rattle.packet_facts.specs.Told.{first_fragment_of, header_in_x_of, IsNamed, ip_of, knows_protocol, protocol_of, transport_of};
+
+use crate::header::{Header, Protocol};
+use crate::known::Known;
+use filter_tree::Transport;
+
+// What was known stays known. A side that no packet takes keeps the facts as they came.
+impl Known {
+    /// Knows besides that the packet is one of IPv4.
+    pub fn with_ip(self) -> Known
+        ensures holds { (packet : List ℕ) (x : ℕ) → Holds self packet x → is_ip packet ≡ Yes → Holds result packet x }
+        ensures kept { (packet : List ℕ) (x : ℕ) → Holds result packet x → Holds self packet x }
+        ensures learned { ip_of self ≡ None → ip_of result ≡ Some true }
+        ensures same_x { header_in_x_of result ≡ header_in_x_of self }
+    {
+        match self.header {
+            Header::Any => Known {
+                header: Header::Ipv4(Protocol::Any, None),
+                ..self
+            },
+            _ => self,
+        }
+    }
+
+    /// Knows besides that it is none.
+    pub fn without_ip(self) -> Known
+        ensures holds { (packet : List ℕ) (x : ℕ) → Holds self packet x → is_ip packet ≡ No → Holds result packet x }
+        ensures kept { (packet : List ℕ) (x : ℕ) → Holds result packet x → Holds self packet x }
+        ensures learned { ip_of self ≡ None → ip_of result ≡ Some false }
+        ensures same_x { header_in_x_of result ≡ header_in_x_of self }
+    {
+        match self.header {
+            Header::Any => Known {
+                header: Header::NotIpv4,
+                ..self
+            },
+            _ => self,
+        }
+    }
+
+    /// Knows besides that the protocol has this number, where the packet is known to be one of IPv4.
+    pub fn with_protocol(self, n: u8) -> Known
+        ensures holds { (packet : List ℕ) (x : ℕ) → Holds self packet x → is_protocol n packet ≡ Yes → Holds result packet x }
+        ensures kept { (packet : List ℕ) (x : ℕ) → Holds result packet x → Holds self packet x }
+        ensures learned { ip_of self ≡ Some true → protocol_of self n ≡ None → protocol_of result n ≡ Some true }
+        ensures same_x { header_in_x_of result ≡ header_in_x_of self }
+    {
+        let is = Protocol::Is(n);
+        match self.header {
+            Header::Ipv4(Protocol::Any, first) => Known {
+                header: Header::Ipv4(is, first),
+                ..self
+            },
+            Header::Ipv4(Protocol::IsNot(m), first) if m != n => Known {
+                header: Header::Ipv4(is, first),
+                ..self
+            },
+            _ => self,
+        }
+    }
+
+    /// Knows besides that it has another number, where the packet is known to be one of IPv4. Of two numbers that it has
+    /// not the first stays known.
+    pub fn without_protocol(self, n: u8) -> Known
+        ensures holds { (packet : List ℕ) (x : ℕ) → Holds self packet x → is_protocol n packet ≡ No → Holds result packet x }
+        ensures kept { (packet : List ℕ) (x : ℕ) → Holds result packet x → Holds self packet x }
+        ensures learned { ip_of self ≡ Some true → knows_protocol self ≡ false → protocol_of result n ≡ Some false }
+        ensures same_x { header_in_x_of result ≡ header_in_x_of self }
+    {
+        match self.header {
+            Header::Ipv4(Protocol::Any, first) => Known {
+                header: Header::Ipv4(Protocol::IsNot(n), first),
+                ..self
+            },
+            _ => self,
+        }
+    }
+
+    /// Knows besides that the protocol is the one that is named; where none is, TCP, UDP or SCTP, of which nothing is kept.
+    pub fn with_transport(self, transport: Transport) -> Known
+        ensures holds { (packet : List ℕ) (x : ℕ) → Holds self packet x → tested (has_ports transport) (field_of ProtocolField packet) ≡ Yes → Holds result packet x }
+        ensures kept { (packet : List ℕ) (x : ℕ) → Holds result packet x → Holds self packet x }
+        ensures learned { ip_of self ≡ Some true → transport_of self transport ≡ None → IsNamed transport → transport_of result transport ≡ Some true }
+        ensures same_x { header_in_x_of result ≡ header_in_x_of self }
+    {
+        match transport {
+            Transport::Tcp => self.with_protocol(6),
+            Transport::Udp => self.with_protocol(17),
+            Transport::Unnamed => self,
+        }
+    }
+
+    /// Knows besides that the protocol is not the one that is named; where none is, none of TCP, UDP and SCTP, of which
+    /// SCTP is kept.
+    pub fn without_transport(self, transport: Transport) -> Known
+        ensures holds { (packet : List ℕ) (x : ℕ) → Holds self packet x → tested (has_ports transport) (field_of ProtocolField packet) ≡ No → Holds result packet x }
+        ensures kept { (packet : List ℕ) (x : ℕ) → Holds result packet x → Holds self packet x }
+        ensures learned { ip_of self ≡ Some true → knows_protocol self ≡ false → IsNamed transport → transport_of result transport ≡ Some false }
+        ensures same_x { header_in_x_of result ≡ header_in_x_of self }
+    {
+        match transport {
+            Transport::Tcp => self.without_protocol(6),
+            Transport::Udp => self.without_protocol(17),
+            Transport::Unnamed => self.without_protocol(132),
+        }
+    }
+
+    /// Knows besides that the packet has the beginning of the datagram, where it is known to be one of IPv4.
+    pub fn with_first_fragment(self) -> Known
+        ensures holds { (packet : List ℕ) (x : ℕ) → Holds self packet x → is_first_fragment packet ≡ Yes → Holds result packet x }
+        ensures kept { (packet : List ℕ) (x : ℕ) → Holds result packet x → Holds self packet x }
+        ensures learned { ip_of self ≡ Some true → first_fragment_of self ≡ None → first_fragment_of result ≡ Some true }
+        ensures same_x { header_in_x_of result ≡ header_in_x_of self }
+    {
+        match self.header {
+            Header::Ipv4(protocol, None) => Known {
+                header: Header::Ipv4(protocol, Some(true)),
+                ..self
+            },
+            _ => self,
+        }
+    }
+
+    /// Knows besides that it has a later part of it, where it is known to be one of IPv4.
+    pub fn without_first_fragment(self) -> Known
+        ensures holds { (packet : List ℕ) (x : ℕ) → Holds self packet x → is_first_fragment packet ≡ No → Holds result packet x }
+        ensures kept { (packet : List ℕ) (x : ℕ) → Holds result packet x → Holds self packet x }
+        ensures learned { ip_of self ≡ Some true → first_fragment_of self ≡ None → first_fragment_of result ≡ Some false }
+        ensures same_x { header_in_x_of result ≡ header_in_x_of self }
+    {
+        match self.header {
+            Header::Ipv4(protocol, None) => Known {
+                header: Header::Ipv4(protocol, Some(false)),
+                ..self
+            },
+            _ => self,
+        }
+    }
+
+    /// Knows the same of the packet where X was written: whether X holds the length of the header now.
+    pub fn with_header_in_x(self, held: bool) -> Known
+        ensures holds { (packet : List ℕ) (x x' : ℕ) → Holds self packet x → Knows held packet x' → Holds result packet x' }
+        ensures learned { header_in_x_of result ≡ held }
+    {
+        Known {
+            header: self.header,
+            header_in_x: held,
+        }
+    }
+}
