@@ -73,7 +73,7 @@ fn proposal_after(step: Step, proposal: Option<usize>) -> Option<usize>
 }
 
 impl<A: Allocator> World<A> {
-    /// The word at a place of the table, `None` from 65,553 on. Each world is what a legal trace from an opening of the table
+    /// The word at a place of the table, `None` from 131,137 on. Each world is what a legal trace from an opening of the table
     /// leads to, so what `every_trace` says holds of it.
     pub fn word(&self, place: usize) -> Option<u64>
         ensures word { result ≡ slice_get self.now.words place }

@@ -100,7 +100,10 @@ fn batch_at_limit_and_at_end(rt: HostRuntime) -> Result<(), Fail> {
         assert!(rt; batch_of(&mut bench, &mut source, limit) == judged(4, more));
         assert_eq!(rt; totals(&mut bench.tally), [1, 1, 0, 0, 2, 0, 0]);
         let sends = &bench.sends;
-        assert_eq!(rt; (sends.to(0), sends.to(1)), (Some(socket(3)), Some(socket(3))));
+        assert_eq!(rt;
+            (sends.to(0), sends.to(1)),
+            (Some(socket(3)), Some(socket(3)))
+        );
         assert_eq!(rt; (sends.count(), sends.bytes().len()), (2, 58));
     }
     Ok(())

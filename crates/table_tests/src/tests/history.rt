@@ -137,8 +137,10 @@ impl History {
                 _ => None,
             },
             Fetch { worker, place } => match self.last_of(worker) {
-                Some((Pin { .. }, word)) if self.row_of(place) == Some((word % ROWS as u64) as usize) =>
-                    self.word(place),
+                Some((Pin { .. }, word))
+                    if self.row_of(place) == Some((word % ROWS as u64) as usize) => self.word(
+                    place,
+                ),
                 _ => None,
             },
             Leave { worker } => match self.last_of(worker) {

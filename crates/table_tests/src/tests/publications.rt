@@ -112,7 +112,10 @@ fn is_used_again(
     assert!(rt; is_published(alloc, operator, number)?);
     assert_eq!(rt; read_whole(worker), (number, 0));
     let row = row_of(number);
-    assert!(rt; row < ROWS && operator.zeros_from(row) <= 6, "version {number}");
+    assert!(rt;
+        row < ROWS && operator.zeros_from(row) <= 6,
+        "version {number}"
+    );
     Ok(())
 }
 
@@ -210,8 +213,20 @@ fn fills_beside(alloc: Global, operator: &mut Operator, worker: &mut Worker) -> 
 fn busy_when_no_row_is_free(rt: HostRuntime) -> Result<(), Fail> {
     let (mut operator, mut worker) = table(rt.alloc())?;
     assert!(rt; fills_beside(rt.alloc(), &mut operator, &mut worker)?);
-    assert_eq!(rt; operator.sweep(), Reclaimed { first: 0, count: 15 });
-    assert_eq!(rt; operator.sweep(), Reclaimed { first: 15, count: 0 });
+    assert_eq!(rt;
+        operator.sweep(),
+        Reclaimed {
+            first: 0,
+            count: 15
+        }
+    );
+    assert_eq!(rt;
+        operator.sweep(),
+        Reclaimed {
+            first: 15,
+            count: 0
+        }
+    );
     assert!(rt; is_published(rt.alloc(), &mut operator, 16)?);
     Ok(())
 }

@@ -14,7 +14,8 @@ use bpf_verify::Program;
 use ipv4_fields::Endpoint;
 use member_group::{Command, Config};
 use read_section::{
-    CHARGE_LIMIT, LAST_NUMBER, OpenFault, Operator, ROW_WORDS, ROWS, Reclaimed, WORKERS, Worker, open,
+    CHARGE_LIMIT, LAST_NUMBER, OpenFault, Operator, ROW_WORDS, ROWS, Reclaimed, WORKERS, Worker,
+    open,
 };
 use std::alloc::Global;
 use std::process::Abort;

@@ -183,7 +183,10 @@ const ANSWERS: [(Step, Option<u64>); 33] = [
 fn steps_and_their_answers(rt: HostRuntime) -> Result<(), Fail> {
     let mut world = World::new(Config::new(rt.alloc()))?;
     for (step, answer) in &ANSWERS {
-        assert!(rt; world.step(*step) == answer.ok_or(StepFault::NotLegal), "{step:?}");
+        assert!(rt;
+            world.step(*step) == answer.ok_or(StepFault::NotLegal),
+            "{step:?}"
+        );
     }
     world.propose(Config::new(rt.alloc()))?;
     assert_eq!(rt; world.step(Publish { row: 7 }), Err(StepFault::NotLegal));
