@@ -1,9 +1,13 @@
 -- Two pieces, of which the first one's yes, or no, is landed between them.
 use Rattle.std.proofs.Common.{◌≡◌, ◌+◌, ◌≤◌, List, [], ℕ}
 use Rattle.backpatch.specs.Holes.{IsLanded, Open}
-use Rattle.backpatch.specs.Pieces.{Meaning, Writes, swapped}
+use Rattle.backpatch.specs.Pieces.{Meaning, Writes}
 use Rattle.backpatch.proofs.GuardLemmas.{Guards-landed, Guards-writes}
 use Rattle.backpatch.proofs.WritesLemmas.{Writes-not}
+
+-- the meaning with its two targets exchanged
+abbrev swapped : Meaning → Meaning
+swapped means at_yes at_no words = means at_no at_yes words
 
 pub Writes-and : {one two both : Meaning} {v w : ℕ} {c0 c1 c2 c3 : List ℕ} {on on' y y' n n' n'' : Open} → on.holes ≡ [] → on.by ≤ n.by
     → ((at_yes at_no mid words : List ℕ) → one mid at_no words → two at_yes at_no mid → both at_yes at_no words)

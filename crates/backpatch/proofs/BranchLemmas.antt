@@ -1,7 +1,7 @@
 -- A test that is written: each of its two jumps waits itself, or leads to a JA behind it, which waits.
 use Rattle.std.proofs.Common.{◌≡◌, ◌∙◌, ◌+◌, ◌++◌, ◌∷◌, ◌<◌, ◌≤◌, ◌⊎◌, Bool, List, Some, [], ap, arith, cond, drop, false, inl, inr, length, refl, subst, suc, sym, true, zero, ℕ, ⊎_elim}
-use Rattle.std.specs.Prelude.{◌&&◌, if◌then◌else◌, Contains, nat_lt}
-use Rattle.std.proofs.lemmas.Bool.{cases_lt, le-ltb, lt-ltb, ltb-false, ltb-true}
+use Rattle.std.specs.Prelude.{◌&&◌, if◌then◌else◌, Contains}
+use Rattle.std.proofs.lemmas.Bool.{cases_lt, le-ltb, lt-ltb}
 use Rattle.bpf_insn.specs.declared.instruction.Insn.{Insn}
 use Rattle.bpf_insn.specs.declared.instruction.Insn.TheVariants.{Jump, JumpIf}
 use Rattle.bpf_insn.specs.declared.instruction.Operand.{Operand}
@@ -15,7 +15,7 @@ use Rattle.backpatch.specs.declared.hole.Side.{Side}
 use Rattle.backpatch.specs.declared.hole.Side.TheVariants.{Always, WhenFalse, WhenTrue}
 use Rattle.backpatch.specs.Checks.{Checks, asks}
 use Rattle.backpatch.specs.Holes.{CanReach, HasJump, IsAppended, IsFilled, IsHole, IsLonger, LeadsTo, Open, hole_at, offset_of, shape_of}
-use Rattle.backpatch.specs.Pieces.{IsJumpless, IsPiece, Writes}
+use Rattle.backpatch.specs.Pieces.{HasFarJumpsOnly, IsFarFrom, IsJump, IsPiece, Writes, far_words}
 use Rattle.backpatch.specs.Runs.{ComesTo}
 use Rattle.backpatch.specs.body.Noting.{IsNoted}
 use Rattle.backpatch.proofs.JumpLemmas.{filled_jump, jump_comes, jump_faultless, test_checks, test_faultless}
@@ -136,14 +136,23 @@ module _ (code : List ℕ) (p until by_yes by_no jt jf : ℕ) (test : Test) (ope
     sound = branch_sound;
   }
 
-  near_place : (side : Side) (skip by : ℕ) (hole : Hole) → by ≤ 256 → IsWay hy hn code p until side skip by hole → hole.place ≡ p
-  near_place side skip by hole short (inl near) = ap (λ h. h.place) near.0
-  near_place side skip by hole short (inr far) = let f = far.far in absurd (omega arith)
+  -- at a place stands the test, or a JA for an exit that is far from the test
+  abbrev IsSparing : ℕ → ℕ → Type 0
+  IsSparing last pc = (insn : Insn) × IsAt code pc insn × (IsJump insn → IsFarFrom last p pc)
 
-  branch_jumpless : by_yes ≤ 256 → by_no ≤ 256 → IsJumpless p until code
-  branch_jumpless short_yes short_no pc low high =
-      let e : pc ≡ p = ⊎_elim (λ e. e) (λ more. ⊎_elim (λ e. e ∙ near_place WhenTrue jt by_yes hy short_yes yes_way) (λ e. e ∙ near_place WhenFalse jf by_no hn short_no no_way) more) (covers pc low high) in
-      (JumpIf test operand (offsets jt jf), subst (λ q. IsAt code q (JumpIf test operand (offsets jt jf))) (sym e) at, λ is. is)
+  test_sparing : (last : ℕ) → IsSparing last p
+  test_sparing last = (JumpIf test operand (offsets jt jf), at, λ is. absurd is)
+
+  way_sparing : (last : ℕ) (side : Side) (skip by : ℕ) (hole : Hole) → by ≤ last → IsWay hy hn code p until side skip by hole → IsSparing last hole.place
+  way_sparing last side skip by hole low (inl near) = subst (IsSparing last) (sym (ap (λ h. h.place) near.0)) (test_sparing last)
+  way_sparing last side skip by hole low (inr far) =
+      let f = far.far in let i = far.inside in
+      subst (IsSparing last) (sym (ap (λ h. h.place) far.is)) (Jump 0, far.jump, λ is. record { place = p; inside = omega arith; before = omega arith; beside = omega arith; far = omega arith })
+
+  branch_far_jumps : (last : ℕ) → by_yes ≤ last → by_no ≤ last → HasFarJumpsOnly last p until code
+  branch_far_jumps last low_yes low_no pc low high = ⊎_elim (λ e. subst (IsSparing last) (sym e) (test_sparing last)) (λ more. ⊎_elim
+      (λ e. subst (IsSparing last) (sym e) (way_sparing last WhenTrue jt by_yes hy low_yes yes_way))
+      (λ e. subst (IsSparing last) (sym e) (way_sparing last WhenFalse jf by_no hn low_no no_way)) more) (covers pc low high)
 
   branch_written : (before : List ℕ) (yes_old yes_new no_old no_new : Open) → p ≡ length before → until ≡ length code → by_yes ≡ yes_old.by → by_no ≡ no_old.by → IsLonger before code
       → yes_new.holes ≡ yes_old.holes ++ hy ∷ [] → no_new.holes ≡ no_old.holes ++ hn ∷ [] → yes_new.by ≡ yes_old.by → no_new.by ≡ no_old.by
@@ -162,22 +171,31 @@ module _ (code : List ℕ) (p until by_yes by_no jt jf : ℕ) (test : Test) (ope
         (subst (λ by. HasJump code hy.place hy.side × CanReach hy.place hy.side by) yes_is (has_jump WhenTrue jt by_yes hy refl yes_way));
     no_open = λ hole is. subst (λ h. HasJump code h.place h.side × CanReach h.place h.side no_old.by) (sym (only hn hole is))
         (subst (λ by. HasJump code hn.place hn.side × CanReach hn.place hn.side by) no_is (has_jump WhenFalse jf by_no hn refl no_way));
-    jumpless = λ short_yes short_no. subst (λ b. IsJumpless b (length code) code) begins (subst (λ e. IsJumpless p e code) ends (branch_jumpless (omega arith) (omega arith)));
+    far_jumps = λ last low_yes low_no. subst (λ b. HasFarJumpsOnly last b (length code) code) begins (subst (λ e. HasFarJumpsOnly last p e code) ends (branch_far_jumps last (omega arith) (omega arith)));
   }
 
 -- ---- what was written
+
+-- it is told whether a place is far from a test
+pub record Tells (test by : ℕ) (far : Bool) : Type 0 where
+  pub if_far : far ≡ true → test + 256 < by
+  pub if_near : far ≡ false → by ≤ test + 256
+
+told_words : (test by : ℕ) (far : Bool) → Tells test by far → (if far then 1 else 0) ≡ far_words test by
+told_words test by true told = sym (ap (λ b. if b then 1 else 0) (lt-ltb (test + 256) by (told.if_far refl)))
+told_words test by false told = sym (ap (λ b. if b then 1 else 0) (le-ltb (test + 256) by (told.if_near refl)))
 
 -- how far the no jump of the test leads: over the JA of the yes jump to one of its own, or not
 abbrev pub skip_of : Bool → Bool → ℕ
 skip_of far_yes far_no = if far_yes && far_no then 1 else 0
 
-pub skip_both : (jf last one other : ℕ) → last < one → last < other → jf ≡ 1 → jf ≡ skip_of (nat_lt last one) (nat_lt last other)
-skip_both jf last one other far_yes far_no is = is ∙ sym (ap (λ far. skip_of far (nat_lt last other)) (lt-ltb last one far_yes) ∙ ap (λ far. skip_of true far) (lt-ltb last other far_no))
+pub skip_both : (jf : ℕ) (far_yes far_no : Bool) → far_yes ≡ true → far_no ≡ true → jf ≡ 1 → jf ≡ skip_of far_yes far_no
+skip_both jf far_yes far_no yes_far no_far is = is ∙ sym (ap (λ far. skip_of far far_no) yes_far ∙ ap (λ far. skip_of true far) no_far)
 
-pub skip_not : (jf last one other : ℕ) → ((last < one) × (other ≤ last)) ⊎ (one ≤ last) → jf ≡ 0 → jf ≡ skip_of (nat_lt last one) (nat_lt last other)
-skip_not jf last one other which is = ⊎_elim
-    (λ far. is ∙ sym (ap (λ b. skip_of b (nat_lt last other)) (lt-ltb last one far.0) ∙ ap (λ b. skip_of true b) (le-ltb last other far.1)))
-    (λ near. is ∙ sym (ap (λ b. skip_of b (nat_lt last other)) (le-ltb last one near))) which
+pub skip_not : (jf : ℕ) (far_yes far_no : Bool) → ((far_yes ≡ true) × (far_no ≡ false)) ⊎ (far_yes ≡ false) → jf ≡ 0 → jf ≡ skip_of far_yes far_no
+skip_not jf far_yes far_no which is = ⊎_elim
+    (λ far. is ∙ sym (ap (λ b. skip_of b far_no) far.0 ∙ ap (λ b. skip_of true b) far.1))
+    (λ near. is ∙ sym (ap (λ b. skip_of b far_no) near)) which
 
 true_false : WhenTrue ≡ WhenFalse → ⊥
 true_false e = cc
@@ -196,6 +214,16 @@ always_false e = cc
 
 closed_by : (hy hn : Hole) (p : ℕ) (side : Side) → (side ≡ hy.side → ⊥) → (side ≡ hn.side → ⊥) → ¬ Waits hy hn p side
 closed_by hy hn p side yes_other no_other waits = ⊎_elim (λ y. yes_other (ap (λ h. h.side) (only hy (hole_at p side) y))) (λ n. no_other (ap (λ h. h.side) (only hn (hole_at p side) n))) waits
+
+-- how many words were written
+noted_words : (far : Bool) (place : ℕ) (side : Side) (code later : List ℕ) (old new : Open) → IsNoted far place side code later old new → length later ≡ length code + (if far then 1 else 0)
+noted_words false place side code later old new h = omega (arith, ap length h.0)
+noted_words true place side code later old new h = appended_long (Jump 0) code later h.0
+
+pub branch_words : (far_yes far_no : Bool) (p : ℕ) (insn : Insn) (before c1 c2 c3 : List ℕ) (yes_old yes_new no_old no_new : Open) → p ≡ length before → IsAppended insn before c1
+    → Tells p yes_old.by far_yes → Tells p no_old.by far_no → IsNoted far_yes p WhenTrue c1 c2 yes_old yes_new → IsNoted far_no p WhenFalse c2 c3 no_old no_new → length c3 ≡ p + 1 + far_words p yes_old.by + far_words p no_old.by
+branch_words far_yes far_no p insn before c1 c2 c3 yes_old yes_new no_old no_new begins does yes_told no_told yes_noted no_noted =
+    omega (arith, begins, appended_long insn before c1 does, noted_words far_yes p WhenTrue c1 c2 yes_old yes_new yes_noted, noted_words far_no p WhenFalse c2 c3 no_old no_new no_noted, told_words p yes_old.by far_yes yes_told, told_words p no_old.by far_no no_told)
 
 module _ (before c1 c2 c3 : List ℕ) (p jf : ℕ) (test : Test) (operand : Operand) (yes_old yes_new no_old no_new : Open) (begins : p ≡ length before) (does : IsAppended (JumpIf test operand (offsets 0 jf)) before c1)
     (yes_by : yes_new.by ≡ yes_old.by) (no_by : no_new.by ≡ no_old.by) where
@@ -260,13 +288,9 @@ module _ (before c1 c2 c3 : List ℕ) (p jf : ℕ) (test : Test) (operand : Oper
       (λ pc low high. ⊎_elim (λ below. inl (omega arith)) (λ up. inr (⊎_elim (λ below. inl (omega (arith, long))) (λ up'. inr (omega arith)) (cases_lt pc (p + 2)))) (cases_lt pc (p + 1)))
       before yes_old yes_new no_old no_new begins (sym l) refl refl (grown c3 grows) yes_grows no_grows yes_by no_by
 
-  by_cases : (far_yes far_no : Bool) → nat_lt (p + 256) yes_old.by ≡ far_yes → nat_lt (p + 256) no_old.by ≡ far_no → jf ≡ skip_of far_yes far_no
+  pub branch_writes : (far_yes far_no : Bool) → Tells p yes_old.by far_yes → Tells p no_old.by far_no → jf ≡ skip_of far_yes far_no
       → IsNoted far_yes p WhenTrue c1 c2 yes_old yes_new → IsNoted far_no p WhenFalse c2 c3 no_old no_new → Written
-  by_cases false false y n skip yes_noted no_noted = near_near skip (ltb-false _ _ y) yes_noted.0 yes_noted.1 (ltb-false _ _ n) no_noted.0 no_noted.1
-  by_cases false true y n skip yes_noted no_noted = near_far skip (ltb-false _ _ y) yes_noted.0 yes_noted.1 (ltb-true _ _ n) no_noted.0 no_noted.1
-  by_cases true false y n skip yes_noted no_noted = far_near skip (ltb-true _ _ y) yes_noted.0 yes_noted.1 (ltb-false _ _ n) no_noted.0 no_noted.1
-  by_cases true true y n skip yes_noted no_noted = far_far skip (ltb-true _ _ y) yes_noted.0 yes_noted.1 (ltb-true _ _ n) no_noted.0 no_noted.1
-
-  pub branch_writes : jf ≡ skip_of (nat_lt (p + 256) yes_old.by) (nat_lt (p + 256) no_old.by) → IsNoted (nat_lt (p + 256) yes_old.by) p WhenTrue c1 c2 yes_old yes_new → IsNoted (nat_lt (p + 256) no_old.by) p WhenFalse c2 c3 no_old no_new
-      → Writes (Checks (λ a. a) (asks test operand)) 3 before c3 yes_old yes_new no_old no_new
-  branch_writes = by_cases (nat_lt (p + 256) yes_old.by) (nat_lt (p + 256) no_old.by) refl refl
+  branch_writes false false y n skip yes_noted no_noted = near_near skip (y.if_near refl) yes_noted.0 yes_noted.1 (n.if_near refl) no_noted.0 no_noted.1
+  branch_writes false true y n skip yes_noted no_noted = near_far skip (y.if_near refl) yes_noted.0 yes_noted.1 (n.if_far refl) no_noted.0 no_noted.1
+  branch_writes true false y n skip yes_noted no_noted = far_near skip (y.if_far refl) yes_noted.0 yes_noted.1 (n.if_near refl) no_noted.0 no_noted.1
+  branch_writes true true y n skip yes_noted no_noted = far_far skip (y.if_far refl) yes_noted.0 yes_noted.1 (n.if_far refl) no_noted.0 no_noted.1

@@ -5,17 +5,29 @@ use Rattle.std.proofs.Math.Seq.{drop-length}
 use Rattle.std.proofs.lemmas.Bool.{cases_lt}
 use Rattle.bpf_insn.specs.declared.instruction.Insn.{Insn}
 use Rattle.bpf_insn.specs.declared.instruction.Insn.TheVariants.{Jump, ReturnConstant}
-use Rattle.bpf_verify.specs.Accepted.{IsFaultless, word_fault}
+use Rattle.bpf_verify.specs.Accepted.{EndsInReturn, IsFaultless, IsFaultlessBelow, word_fault}
 use Rattle.bpf_verify.specs.Path.{IsAt}
 use Rattle.bpf_verify.proofs.PlaceLemmas.{IsAt-unique}
 use Rattle.backpatch.specs.declared.hole.Hole.{Hole}
 use Rattle.backpatch.specs.Holes.{AreOpen, IsAppended, IsFilled, IsHole, IsLanded, IsLonger, LeadsTo, Open, StandsAt}
-use Rattle.backpatch.specs.Pieces.{IsJump, IsJumpless, IsPiece, Meaning, Writes}
+use Rattle.backpatch.specs.Pieces.{HasFarJumpsOnly, IsFarFrom, IsJump, IsPiece, Meaning, Writes}
 use Rattle.backpatch.specs.Runs.{IsPushed}
-use Rattle.backpatch.specs.Finished.{IsFinished}
-use Rattle.backpatch.proofs.LandLemmas.{appended_at, appended_long, appended_longer, at_within, jumpless_landed, jumpless_longer, kept_at, open_landed, open_longer}
+use Rattle.backpatch.proofs.LandLemmas.{appended_at, appended_long, appended_longer, at_within, each_longer, far_landed, kept_at, open_landed, open_longer}
 use Rattle.backpatch.proofs.PushedLemmas.{pushed_at}
 use Rattle.backpatch.proofs.WritesLemmas.{all_no, all_yes, landable_no}
+
+-- the program means this between its beginning and its two returns, and has a JA only where the last place of its exits is far
+pub record IsFinished (means : Meaning) (weight accept reject yes_by no_by : ℕ) (program : List ℕ) : Type 0 where
+  pub at_yes : List ℕ
+  pub at_no : List ℕ
+  pub accepts : IsPushed (ReturnConstant accept) at_no at_yes
+  pub rejects : IsPushed (ReturnConstant reject) [] at_no
+  pub meant : means at_yes at_no program
+  pub not_empty : 0 < length program
+  pub within : length program ≤ weight + 2
+  pub faultless : IsFaultlessBelow program (length program)
+  pub ends_in_return : EndsInReturn program
+  pub far_jumps : (last : ℕ) → yes_by ≤ last → no_by ≤ last → (pc k : ℕ) → IsAt program pc (Jump k) → IsFarFrom last 0 pc
 
 -- the no exit can still be landed behind the first return
 pub landable_last : {means : Meaning} {w : ℕ} {insn : Insn} {c0 c1 c2 c3 : List ℕ} {yes_old yes_new no_old no_new : Open} → yes_old.holes ≡ [] → no_old.holes ≡ []
@@ -28,7 +40,7 @@ landable_last {insn = insn} {c1 = c1} {c2} {c3} {no_new = no_new} yes_empty no_e
 return_faultless : (program : List ℕ) (pc k : ℕ) → IsAt program pc (ReturnConstant k) → IsFaultless program pc
 return_faultless program pc k at = (at.0, at.1, ap (word_fault (length program) pc) at.2)
 
-module _ (means : Meaning) (w accept reject by_yes by_no : ℕ) (c1 c2 c3 c4 c5 : List ℕ) (ys ns : List Hole) (piece : IsPiece means w 0 (length c1) c1 ys ns) (short : by_yes ≤ 256 → by_no ≤ 256 → IsJumpless 0 (length c1) c1)
+module _ (means : Meaning) (w accept reject by_yes by_no : ℕ) (c1 c2 c3 c4 c5 : List ℕ) (ys ns : List Hole) (piece : IsPiece means w 0 (length c1) c1 ys ns) (sparing : (last : ℕ) → by_yes ≤ last → by_no ≤ last → HasFarJumpsOnly last 0 (length c1) c1)
     (lands_yes : IsLanded ys c1 c2) (accepts : IsAppended (ReturnConstant accept) c2 c3) (lands_no : IsLanded ns c3 c4) (rejects : IsAppended (ReturnConstant reject) c4 c5) where
   abbrev end : ℕ
   end = length c1
@@ -88,15 +100,15 @@ module _ (means : Meaning) (w accept reject by_yes by_no : ℕ) (c1 c2 c3 c4 c5 
   no_jump_at : (pc k m : ℕ) → IsAt c5 pc (Jump k) → IsAt c5 pc (ReturnConstant m) → ⊥
   no_jump_at pc k m at is = let e = IsAt-unique c5 pc (Jump k) (ReturnConstant m) at is in cc
 
-  program_jumpless : by_yes ≤ 256 → by_no ≤ 256 → (pc k : ℕ) → ¬ IsAt c5 pc (Jump k)
-  program_jumpless short_yes short_no pc k at =
-      let low = at_within c5 pc (Jump k) at in ⊎_elim
+  program_far_jumps : (last : ℕ) → by_yes ≤ last → by_no ≤ last → (pc k : ℕ) → IsAt c5 pc (Jump k) → IsFarFrom last 0 pc
+  program_far_jumps last low_yes low_no pc k at =
+      let low = at_within c5 pc (Jump k) at in let so : ℕ → Insn → Type 0 = λ q insn. IsJump insn → IsFarFrom last 0 q in ⊎_elim
       (λ before.
-      let kept = jumpless_longer c4 c5 fourth_fifth 0 end (jumpless_landed ns c3 c4 lands_no 0 end (jumpless_longer c2 c3 second_third 0 end (jumpless_landed ys c1 c2 lands_yes 0 end (short short_yes short_no)))) in
+      let kept = each_longer so c4 c5 fourth_fifth 0 end (far_landed ns c3 c4 lands_no last 0 end (each_longer so c2 c3 second_third 0 end (far_landed ys c1 c2 lands_yes last 0 end (sparing last low_yes low_no)))) in
       let i = kept pc (omega arith) before in i.2 (subst IsJump (IsAt-unique c5 pc (Jump k) i.0 at i.1) tt))
-      (λ behind. ⊎_elim
+      (λ behind. absurd (⊎_elim
       (λ first. no_jump_at pc k accept at (let e : end ≡ pc = omega arith in subst (λ n. IsAt c5 n (ReturnConstant accept)) e at_accept))
-      (λ second. no_jump_at pc k reject at (let e : end + 1 ≡ pc = omega (arith, long) in subst (λ n. IsAt c5 n (ReturnConstant reject)) e at_reject)) (cases_lt pc (end + 1))) (cases_lt pc end)
+      (λ second. no_jump_at pc k reject at (let e : end + 1 ≡ pc = omega (arith, long) in subst (λ n. IsAt c5 n (ReturnConstant reject)) e at_reject)) (cases_lt pc (end + 1)))) (cases_lt pc end)
 
   is_finished : IsFinished means w accept reject by_yes by_no c5
   is_finished = record {
@@ -109,14 +121,14 @@ module _ (means : Meaning) (w accept reject by_yes by_no : ℕ) (c1 c2 c3 c4 c5 
     within = let l = piece.light in omega (arith, long);
     faultless = program_faultless;
     ends_in_return = (ReturnConstant reject, subst (λ n. IsAt c5 n (ReturnConstant reject)) (let e : end + 1 ≡ length c5 - 1 = omega (arith, long) in e) at_reject, tt);
-    jumpless = program_jumpless;
+    far_jumps = program_far_jumps;
   }
 
 pub finished : {means : Meaning} {w accept reject : ℕ} {c1 c2 c3 c4 c5 : List ℕ} {yes_old yes_new no_old no_new : Open} → yes_old.holes ≡ [] → no_old.holes ≡ []
     → Writes means w [] c1 yes_old yes_new no_old no_new → IsLanded yes_new.holes c1 c2 → IsAppended (ReturnConstant accept) c2 c3 → IsLanded no_new.holes c3 c4 → IsAppended (ReturnConstant reject) c4 c5
     → IsFinished means w accept reject yes_old.by no_old.by c5
 finished {means} {w} {accept} {reject} {c1} {c2} {c3} {c4} {c5} {yes_old} {yes_new} {no_old} {no_new} yes_empty no_empty h lands_yes accepts lands_no rejects =
-    is_finished means w accept reject yes_old.by no_old.by c1 c2 c3 c4 c5 h.ys h.ns h.piece h.jumpless (subst (λ holes. IsLanded holes c1 c2) (all_yes yes_empty h) lands_yes) accepts
+    is_finished means w accept reject yes_old.by no_old.by c1 c2 c3 c4 c5 h.ys h.ns h.piece h.far_jumps (subst (λ holes. IsLanded holes c1 c2) (all_yes yes_empty h) lands_yes) accepts
     (subst (λ holes. IsLanded holes c3 c4) (all_no no_empty h) lands_no) rejects
 
 -- the same, where the code that was begun with is known to be empty

@@ -11,9 +11,10 @@ use Rattle.bpf_verify.specs.Accepted.{IsFaultless, word_fault}
 use Rattle.bpf_verify.specs.Path.{IsAt}
 use Rattle.backpatch.specs.declared.hole.Hole.{Hole}
 use Rattle.backpatch.specs.Holes.{AreOpen, IsAppended, IsFilled, IsLanded, IsLonger, Open}
-use Rattle.backpatch.specs.Pieces.{Behind, Extends, Guards, IsGuard, IsJump, IsJumpless, Meaning, NeverFaults, Next, Step, Writes}
+use Rattle.backpatch.specs.Pieces.{Behind, HasFarJumpsOnly, IsJump, Meaning, Writes}
 use Rattle.backpatch.specs.Runs.{IsPushed}
-use Rattle.backpatch.proofs.LandLemmas.{appended_at, appended_long, appended_longer, jumpless_both, jumpless_landed, jumpless_longer, longer_both, longer_landed, open_landed, open_longer}
+use Rattle.backpatch.specs.body.Guards.{Extends, Guards, IsGuard, NeverFaults, Next, Step}
+use Rattle.backpatch.proofs.LandLemmas.{appended_at, appended_long, appended_longer, each_both, far_both, far_landed, longer_both, longer_landed, open_landed, open_longer}
 use Rattle.backpatch.proofs.PartLemmas.{IsGuard-landed, IsPart-behind, IsPart-means, no_hole}
 use Rattle.backpatch.proofs.PushedLemmas.{pushed_at}
 use Rattle.backpatch.proofs.ShapeLemmas.{same_insn}
@@ -32,8 +33,8 @@ Guards-landed {means} {w} {c0} {c1} {c2} {on} {on'} {n} empty short h lands' =
       no_by = h.no_by;
       guard = subst (λ until. IsGuard means w (length c0) until c2 h.ns) (sym lands.same_length) guard;
       no_open = open_landed h.ys c1 c2 lands h.ns n.by h.no_open;
-      jumpless = λ low. subst (λ until. IsJumpless (length c0) until c2) (sym lands.same_length)
-          (jumpless_landed h.ys c1 c2 lands (length c0) (length c1) (h.jumpless (let s = short in omega arith) low));
+      far_jumps = λ last low. subst (λ until. HasFarJumpsOnly last (length c0) until c2) (sym lands.same_length)
+          (far_landed h.ys c1 c2 lands last (length c0) (length c1) (h.far_jumps last (let s = short in omega arith) low));
     }
 
 pub Guards-landed_no : {one other : Meaning} {w : ℕ} {c0 c1 c2 : List ℕ} {on on' y y' : Open} → on.holes ≡ [] → on.by ≤ y.by → ((at_yes at_no words : List ℕ) → one at_no at_yes words → other at_yes at_no words)
@@ -49,7 +50,7 @@ Guards-means {one} {other} {w} {before} {after} so h = record {
   no_by = h.no_by;
   guard = IsPart-means Next one other so w w (length before) (length after) (omega arith) after [] h.ns h.guard;
   no_open = h.no_open;
-  jumpless = h.jumpless;
+  far_jumps = h.far_jumps;
 }
 
 pub Guards-weight : {means : Meaning} {w : ℕ} {before after : List ℕ} {n n' : Open} (v : ℕ) → w ≤ v → Guards means w before after n n' → Guards means v before after n n'
@@ -60,7 +61,7 @@ Guards-weight {means} {w} {before} {after} v more h = record {
   no_by = h.no_by;
   guard = IsPart-means Next means means (λ at_yes at_no words m. m) w v (length before) (length after) more after [] h.ns h.guard;
   no_open = h.no_open;
-  jumpless = h.jumpless;
+  far_jumps = h.far_jumps;
 }
 
 nothing : (means : Meaning) (code : List ℕ) → ((at_no words : List ℕ) → means words at_no words) → IsGuard means 0 (length code) (length code) code []
@@ -83,7 +84,7 @@ Guards-none {means} code n is = record {
   no_by = refl;
   guard = nothing means code is;
   no_open = λ hole none. no_hole hole none;
-  jumpless = λ low pc up down. absurd (omega arith);
+  far_jumps = λ last low pc up down. absurd (omega arith);
 }
 
 -- the holes of two parts
@@ -106,7 +107,7 @@ Guards-writes {one} {two} {both} {v} {w} {c0} {c1} {c2} {y} {y'} {n} {n'} and g 
       (Contains-append_cases g.ns h.ns) (Contains-append_left g.ns h.ns) (Contains-append_right g.ns h.ns) and;
   yes_open = h.yes_open;
   no_open = both_open g.ns h.ns n.by n'.by c1 c2 g.no_by h.longer g.no_open h.no_open;
-  jumpless = λ low_yes low_no. jumpless_both (length c0) (length c1) (length c2) c2 (jumpless_longer c1 c2 h.longer (length c0) (length c1) (g.jumpless low_no)) (h.jumpless low_yes (let e = g.no_by in omega arith));
+  far_jumps = λ last low_yes low_no. far_both last (length c0) (length c1) (length c2) c1 c2 g.guard.forward h.longer (g.far_jumps last low_no) (h.far_jumps last low_yes (let e = g.no_by in omega arith));
 }
 
 pub Guards-guards : {one two both : Meaning} {v w : ℕ} {c0 c1 c2 : List ℕ} {n n' n'' : Open} → ((at_yes at_no mid words : List ℕ) → one mid at_no words → two at_yes at_no mid → both at_yes at_no words)
@@ -119,7 +120,7 @@ Guards-guards {one} {two} {both} {v} {w} {c0} {c1} {c2} {n} {n'} and g h = recor
   guard = IsPart-behind Next (λ until on_yes here. omega arith) one two both v w (length c0) (length c1) (length c2) c1 c2 g.ns [] h.ns (g.ns ++ h.ns) g.guard h.longer h.guard
       (Contains-append_cases g.ns h.ns) (Contains-append_left g.ns h.ns) (Contains-append_right g.ns h.ns) and;
   no_open = both_open g.ns h.ns n.by n'.by c1 c2 g.no_by h.longer g.no_open h.no_open;
-  jumpless = λ low_no. jumpless_both (length c0) (length c1) (length c2) c2 (jumpless_longer c1 c2 h.longer (length c0) (length c1) (g.jumpless low_no)) (h.jumpless (let e = g.no_by in omega arith));
+  far_jumps = λ last low_no. far_both last (length c0) (length c1) (length c2) c1 c2 g.guard.forward h.longer (g.far_jumps last low_no) (h.far_jumps last (let e = g.no_by in omega arith));
 }
 
 -- ---- straight code
@@ -184,7 +185,7 @@ Extends-guard n h = record {
   no_by = refl;
   guard = h.straight;
   no_open = λ hole none. no_hole hole none;
-  jumpless = λ low. h.jumpless;
+  far_jumps = λ last low pc up down. let i = h.jumpless pc up down in (i.0, i.1, λ is. absurd (i.2 is));
 }
 
 pub Extends-extends : {one two both : Step} {v w : ℕ} {c0 c1 c2 : List ℕ} → ((behind mid words : List ℕ) → one mid words → two behind mid → both behind words) → Extends one v c0 c1 → Extends two w c1 c2 → Extends both (v + w) c0 c2
@@ -192,7 +193,7 @@ Extends-extends {one} {two} {both} {v} {w} {c0} {c1} {c2} and g h = record {
   longer = longer_both c0 c1 c2 g.longer h.longer;
   straight = IsPart-behind Next (λ until on_yes here. omega arith) (λ at_yes at_no words. one at_yes words) (λ at_yes at_no words. two at_yes words) (λ at_yes at_no words. both at_yes words)
       v w (length c0) (length c1) (length c2) c1 c2 [] [] [] [] g.straight h.longer h.straight (λ hole is. inl is) (λ hole is. is) (λ hole is. is) (λ at_yes at_no mid words. and at_yes mid words);
-  jumpless = jumpless_both (length c0) (length c1) (length c2) c2 (jumpless_longer c1 c2 h.longer (length c0) (length c1) g.jumpless) h.jumpless;
+  jumpless = each_both (λ pc insn. ¬ IsJump insn) (length c0) (length c1) (length c2) c1 c2 h.longer g.jumpless h.jumpless;
 }
 
 pub Extends-writes : {one : Step} {two both : Meaning} {v w : ℕ} {c0 c1 c2 : List ℕ} {y y' n n' : Open} → ((at_yes at_no mid words : List ℕ) → one mid words → two at_yes at_no mid → both at_yes at_no words)

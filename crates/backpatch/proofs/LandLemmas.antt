@@ -9,7 +9,7 @@ use Rattle.backpatch.specs.declared.hole.Hole.{Hole}
 use Rattle.backpatch.specs.declared.hole.Side.{Side}
 use Rattle.backpatch.specs.declared.hole.Side.TheVariants.{Always, WhenFalse, WhenTrue}
 use Rattle.backpatch.specs.Holes.{AreOpen, CanReach, HasJump, IsAppended, IsHole, IsLanded, IsLonger, shape_of}
-use Rattle.backpatch.specs.Pieces.{IsJumpless}
+use Rattle.backpatch.specs.Pieces.{AreInstructions, HasFarJumpsOnly, IsFarFrom, IsJump}
 use Rattle.backpatch.proofs.ShapeLemmas.{has_as, jump_as, same_insn}
 
 pub at_within : (code : List ℕ) (pc : ℕ) (insn : Insn) → IsAt code pc insn → pc < length code
@@ -73,8 +73,8 @@ module _ (holes : List Hole) (code landed : List ℕ) (lands : IsLanded holes co
   pub open_landed : (others : List Hole) (by : ℕ) → AreOpen others by code → AreOpen others by landed
   open_landed others by h hole is = let o = h hole is in (jump_landed hole.place hole.side o.0, o.1)
 
-  pub jumpless_landed : (from until : ℕ) → IsJumpless from until code → IsJumpless from until landed
-  jumpless_landed from until h pc low high =
+  pub far_landed : (last from until : ℕ) → HasFarJumpsOnly last from until code → HasFarJumpsOnly last from until landed
+  far_landed last from until h pc low high =
       let i = h pc low high in let s = landed_at pc i.0 i.1 in (s.0, s.1, λ is. i.2 (jump_as i.0 s.0 s.2 is))
 
 -- ---- what words that are written behind keep
@@ -82,8 +82,17 @@ module _ (holes : List Hole) (code landed : List ℕ) (lands : IsLanded holes co
 pub open_longer : (code longer : List ℕ) → IsLonger code longer → (holes : List Hole) (by : ℕ) → AreOpen holes by code → AreOpen holes by longer
 open_longer code longer grows holes by h hole is = let o = h hole is in let j = o.0 in ((j.0, j.1, grows hole.place j.0 j.2, j.3), o.1)
 
-pub jumpless_longer : (code longer : List ℕ) → IsLonger code longer → (from until : ℕ) → IsJumpless from until code → IsJumpless from until longer
-jumpless_longer code longer grows from until h pc low high = let i = h pc low high in (i.0, grows pc i.0 i.1, i.2)
+pub each_longer : (so : ℕ → Insn → Type 0) (code longer : List ℕ) → IsLonger code longer → (from until : ℕ) → AreInstructions so from until code → AreInstructions so from until longer
+each_longer so code longer grows from until h pc low high = let i = h pc low high in (i.0, grows pc i.0 i.1, i.2)
 
-pub jumpless_both : (from mid until : ℕ) (code : List ℕ) → IsJumpless from mid code → IsJumpless mid until code → IsJumpless from until code
-jumpless_both from mid until code one two pc low high = ⊎_elim (λ before. one pc low before) (λ behind. two pc behind high) (cases_lt pc mid)
+-- of a part and another behind it
+pub each_both : (so : ℕ → Insn → Type 0) (from mid until : ℕ) (code longer : List ℕ) → IsLonger code longer → AreInstructions so from mid code → AreInstructions so mid until longer → AreInstructions so from until longer
+each_both so from mid until code longer grows one two pc low high =
+    ⊎_elim (λ before. each_longer so code longer grows from mid one pc low before) (λ behind. two pc behind high) (cases_lt pc mid)
+
+far_sooner : (last from mid pc : ℕ) → from ≤ mid → IsFarFrom last mid pc → IsFarFrom last from pc
+far_sooner last from mid pc forward h = record { place = h.place; inside = (let i = h.inside in omega arith); before = h.before; beside = h.beside; far = h.far }
+
+pub far_both : (last from mid until : ℕ) (code longer : List ℕ) → from ≤ mid → IsLonger code longer → HasFarJumpsOnly last from mid code → HasFarJumpsOnly last mid until longer → HasFarJumpsOnly last from until longer
+far_both last from mid until code longer forward grows one two = each_both (λ pc insn. IsJump insn → IsFarFrom last from pc) from mid until code longer grows one
+    (λ pc low high. let i = two pc low high in (i.0, i.1, λ is. far_sooner last from mid pc forward (i.2 is)))

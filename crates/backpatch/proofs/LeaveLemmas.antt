@@ -52,7 +52,8 @@ leave_far before after old new far does grows same other = let long = appended_l
   piece = subst (λ e. IsPiece GoesToYes 1 (length before) e after (hole_at (length before) Always ∷ []) []) (sym long) (far_piece after (length before) (appended_at (Jump 0) before after does));
   yes_open = λ hole is. subst (λ h. HasJump after h.place h.side × CanReach h.place h.side old.by) (sym (only (hole_at (length before) Always) hole is)) ((Jump 0, 0, appended_at (Jump 0) before after does, refl), tt);
   no_open = λ hole none. no_hole hole none;
-  jumpless = λ short_yes short_no. absurd (omega arith);
+  far_jumps = λ last low_yes low_no pc low high. let e : length before ≡ pc = omega arith in
+      (Jump 0, subst (λ q. IsAt after q (Jump 0)) e (appended_at (Jump 0) before after does), λ is. record { place = length before; inside = omega arith; before = omega arith; beside = omega arith; far = omega arith });
 }
 
 -- ---- a test both jumps of which go there
@@ -114,6 +115,6 @@ leave_near before after old mid new test operand near does first second same oth
           (λ e. subst (λ h. HasJump after h.place h.side × CanReach h.place h.side old.by) (sym e) ((JumpIf test operand (offsets 0 0), 0, at, refl), near))
           (λ e. subst (λ h. HasJump after h.place h.side × CanReach h.place h.side old.by) (sym e) ((JumpIf test operand (offsets 0 0), 0, at, refl), near)) (either_hole (length before) hole is);
       no_open = λ hole none. no_hole hole none;
-      jumpless = λ short_yes short_no pc low high. let e : length before ≡ pc = omega arith in
-          (JumpIf test operand (offsets 0 0), subst (λ q. IsAt after q (JumpIf test operand (offsets 0 0))) e at, λ is. is);
+      far_jumps = λ last low_yes low_no pc low high. let e : length before ≡ pc = omega arith in
+          (JumpIf test operand (offsets 0 0), subst (λ q. IsAt after q (JumpIf test operand (offsets 0 0))) e at, λ is. absurd is);
     }

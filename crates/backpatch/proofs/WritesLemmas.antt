@@ -19,7 +19,7 @@ Writes-means {one} {other} {w} {before} {after} so h = record {
   piece = IsPart-means Behind one other so w w (length before) (length after) (omega arith) after h.ys h.ns h.piece;
   yes_open = h.yes_open;
   no_open = h.no_open;
-  jumpless = h.jumpless;
+  far_jumps = h.far_jumps;
 }
 
 pub Writes-weight : {means : Meaning} {w : ℕ} {before after : List ℕ} {y y' n n' : Open} (v : ℕ) → w ≤ v → Writes means w before after y y' n n' → Writes means v before after y y' n n'
@@ -34,7 +34,7 @@ Writes-weight {means} {w} {before} {after} v more h = record {
   piece = IsPart-means Behind means means (λ at_yes at_no words m. m) w v (length before) (length after) more after h.ys h.ns h.piece;
   yes_open = h.yes_open;
   no_open = h.no_open;
-  jumpless = h.jumpless;
+  far_jumps = h.far_jumps;
 }
 
 -- its exits exchanged
@@ -51,7 +51,7 @@ Writes-not {one} {other} {w} {before} {after} so h = record {
   piece = IsPiece-not one other so w (length before) (length after) after h.ys h.ns h.piece;
   yes_open = h.no_open;
   no_open = h.yes_open;
-  jumpless = λ short_yes short_no. h.jumpless short_no short_yes;
+  far_jumps = λ last low_yes low_no. h.far_jumps last low_no low_yes;
 }
 
 -- all holes of an exit that was empty before are the piece's

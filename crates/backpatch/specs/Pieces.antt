@@ -1,8 +1,8 @@
 -- Pieces of a program with holes: what they mean however their holes are filled, and what a function that writes one ensures.
-use Rattle.std.specs.Prelude.{◌≡◌, ◌+◌, ◌++◌, ◌<◌, ◌≤◌, [], List, None, drop, length, ℕ}
+use Rattle.std.specs.Prelude.{◌≡◌, ◌+◌, ◌++◌, ◌<◌, ◌≤◌, if◌then◌else◌, List, drop, length, nat_lt, ℕ}
 use Rattle.bpf_insn.specs.declared.instruction.Insn.{Insn}
 use Rattle.bpf_insn.specs.declared.instruction.Insn.TheVariants.{Jump}
-use Rattle.bpf_verify.specs.Accepted.{IsFaultless, instruction_fault}
+use Rattle.bpf_verify.specs.Accepted.{IsFaultless}
 use Rattle.bpf_verify.specs.Path.{IsAt}
 use Rattle.backpatch.specs.declared.hole.Hole.{Hole}
 use Rattle.backpatch.specs.Holes.{AreApart, AreOpen, AreWithin, IsFilled, IsLonger, Open}
@@ -11,35 +11,37 @@ use Rattle.backpatch.specs.Holes.{AreApart, AreOpen, AreWithin, IsFilled, IsLong
 abbrev pub Meaning : Type 1
 Meaning = List ℕ → List ℕ → List ℕ → Type 0
 
--- the meaning with its two targets exchanged
-abbrev pub swapped : Meaning → Meaning
-swapped means at_yes at_no words = means at_no at_yes words
-
--- the meaning of straight code: what the words behind it and those at its beginning have to do with each other
-abbrev pub Step : Type 1
-Step = List ℕ → List ℕ → Type 0
-
--- where the yes target of code that ends at a place can be: from there on, or just there
+-- where the yes target of code that ends at a place can be
 abbrev pub Targets : Type 1
 Targets = ℕ → ℕ → Type 0
 
+-- from there on
 abbrev pub Behind : Targets
 Behind until on_yes = until ≤ on_yes
-
-abbrev pub Next : Targets
-Next until on_yes = on_yes ≡ until
 
 abbrev pub IsJump : Insn → Type 0
 IsJump (Jump k) = Unit {0}
 IsJump insn = ⊥
 
--- the instruction has no fault wherever it stands: it is no jump
-abbrev pub NeverFaults : Insn → Type 0
-NeverFaults insn = (len pc : ℕ) → instruction_fault len pc insn ≡ None
+-- how many words more a test at a place takes for an exit: one where the exit can be too far for a jump of the test
+abbrev pub far_words : ℕ → ℕ → ℕ
+far_words place by = if nat_lt (place + 256) by then 1 else 0
 
--- each word of these places is an instruction's, and none is a JA
-abbrev pub IsJumpless : ℕ → ℕ → List ℕ → Type 0
-IsJumpless from until code = (pc : ℕ) → from ≤ pc → pc < until → (insn : Insn) × IsAt code pc insn × (¬ IsJump insn)
+-- each word of these places is an instruction's, of which this is so
+abbrev pub AreInstructions : (ℕ → Insn → Type 0) → ℕ → ℕ → List ℕ → Type 0
+AreInstructions so from until code = (pc : ℕ) → from ≤ pc → pc < until → (insn : Insn) × IsAt code pc insn × so pc insn
+
+-- from this place, or from one of the two before it that is not before another, the last place is too far for a jump of a test
+pub record IsFarFrom (last from pc : ℕ) : Type 0 where
+  pub place : ℕ
+  pub inside : from ≤ place
+  pub before : place ≤ pc
+  pub beside : pc ≤ place + 2
+  pub far : place + 256 < last
+
+-- a JA stands only where the last place is far
+abbrev pub HasFarJumpsOnly : ℕ → ℕ → ℕ → List ℕ → Type 0
+HasFarJumpsOnly last from until code = AreInstructions (λ pc insn. IsJump insn → IsFarFrom last from pc) from until code
 
 -- a part of the code: however its holes are filled, it means this, and no place of it has a fault
 pub record IsPart (targets : Targets) (means : Meaning) (weight from until : ℕ) (code : List ℕ) (ys ns : List Hole) : Type 0 where
@@ -59,10 +61,6 @@ pub record IsPart (targets : Targets) (means : Meaning) (weight from until : ℕ
 abbrev pub IsPiece : Meaning → ℕ → ℕ → ℕ → List ℕ → List Hole → List Hole → Type 0
 IsPiece means weight from until code ys ns = IsPart Behind means weight from until code ys ns
 
--- a guard falls through to the words behind it, or goes to the no target
-abbrev pub IsGuard : Meaning → ℕ → ℕ → ℕ → List ℕ → List Hole → Type 0
-IsGuard means weight from until code ns = IsPart Next means weight from until code [] ns
-
 -- what a function that writes a piece ensures, of the code before and after and of its two exits before and after
 pub record Writes (means : Meaning) (weight : ℕ) (before after : List ℕ) (yes_old yes_new no_old no_new : Open) : Type 0 where
   pub ys : List Hole
@@ -75,20 +73,4 @@ pub record Writes (means : Meaning) (weight : ℕ) (before after : List ℕ) (ye
   pub piece : IsPiece means weight (length before) (length after) after ys ns
   pub yes_open : AreOpen ys yes_old.by after
   pub no_open : AreOpen ns no_old.by after
-  pub jumpless : yes_old.by ≤ 256 → no_old.by ≤ 256 → IsJumpless (length before) (length after) after
-
--- what a function that writes a guard ensures
-pub record Guards (means : Meaning) (weight : ℕ) (before after : List ℕ) (no_old no_new : Open) : Type 0 where
-  pub ns : List Hole
-  pub longer : IsLonger before after
-  pub no_grows : no_new.holes ≡ no_old.holes ++ ns
-  pub no_by : no_new.by ≡ no_old.by
-  pub guard : IsGuard means weight (length before) (length after) after ns
-  pub no_open : AreOpen ns no_old.by after
-  pub jumpless : no_old.by ≤ 256 → IsJumpless (length before) (length after) after
-
--- what a function that writes straight code ensures: each instruction of it goes on to the next
-pub record Extends (step : Step) (weight : ℕ) (before after : List ℕ) : Type 0 where
-  pub longer : IsLonger before after
-  pub straight : IsGuard (λ at_yes at_no words. step at_yes words) weight (length before) (length after) after []
-  pub jumpless : IsJumpless (length before) (length after) after
+  pub far_jumps : (last : ℕ) → yes_old.by ≤ last → no_old.by ≤ last → HasFarJumpsOnly last (length before) (length after) after

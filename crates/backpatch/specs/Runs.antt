@@ -14,10 +14,6 @@ IsPushed insn before after = (word : ℕ) × (instruction_of word ≡ Ok insn) �
 abbrev pub LoadsStored : ℕ → List ℕ → Type 0
 LoadsStored d words = (pc cell : ℕ) → LoadsAt words pc cell → (earlier : List ℕ) → IsPath words (earlier ++ pc ∷ []) → (cell < d) ⊎ IsStoredOn words earlier cell
 
--- the cells below d are kept
-abbrev pub KeepsBelow : ℕ → Cells → Cells → Type 0
-KeepsBelow d cells cells' = (cell : ℕ) → cell < d → cells' cell ≡ cells cell
-
 -- a run over the words comes to the others with nothing changed
 pub record ComesTo (others words : List ℕ) : Type 0 where
   pub loads_stored : (d : ℕ) → LoadsStored d others → LoadsStored d words

@@ -1,12 +1,12 @@
 //! The words of a program, as far as it is written.
 
-ghost use Rattle.std.specs.Prelude.{◌≡◌, ◌<◌, ◌≤◌, ◌+◌, ◌++◌, ◌∷◌, Contains, IfOk, OnOk, [], length};
+ghost use Rattle.std.specs.Prelude.{◌≡◌, ◌<◌, ◌≤◌, ◌+◌, ◌++◌, ◌∷◌, Contains, IfOk, OnOk, [], false, length, true};
 ghost use Rattle.bpf_insn.specs.declared.instruction.Insn.TheVariants.{Jump};
 ghost use Rattle.bpf_verify.specs.declared.TheConstants.{MAX_INSTRUCTIONS};
 ghost use Rattle.backpatch.specs.Holes.{AreOpen, CanReach, HasJump, IsAppended, IsLanded, Open, hole_at};
 ghost use Rattle.backpatch.specs.declared.hole.Hole.{Hole as HoleValue};
 ghost use Rattle.backpatch.specs.declared.hole.Side.TheVariants.{Always};
-ghost use Rattle.backpatch.specs.Pieces.{Writes};
+ghost use Rattle.backpatch.specs.Pieces.{Writes, far_words};
 ghost use Rattle.backpatch.specs.Runs.{GoesToYes};
 ghost use Rattle.backpatch.specs.Checks.{Checks, asks};
 ghost use Rattle.backpatch.specs.body.Filling.{IsFilledIn};
@@ -37,8 +37,8 @@ impl<'a, A: Allocator> Model for Code<'a, A> {
 }
 
 impl<'a, A: Allocator> Code<'a, A> {
-    /// A program with no word yet and room for so many; the lists of its exits are allocated in `lists`. Fails where the
-    /// allocation is refused.
+    /// A program with no word yet. `room` is a hint of how many words it will have; the lists of its exits are allocated in
+    /// `lists`. Fails where the allocation is refused.
     pub fn with_room(alloc: A, lists: &'a A, room: usize) -> Result<Code<'a, A>, AllocError>
         ensures empty { IfOk result (λ code. code ≡ []) }
     {
@@ -82,8 +82,8 @@ impl<'a, A: Allocator> Code<'a, A> {
         fill_all(&mut self.words, exit.holes());
     }
 
-    /// Writes a test: it goes to `yes` where it holds and to `no` where it does not. Where an exit can be too far for the
-    /// jump of a test, it goes there by a JA. Fails where an allocation is refused.
+    /// Writes a test: it goes to `yes` where it holds and to `no` where it does not. Where an exit can be more than 256 places
+    /// behind it, too far for the jump of a test, it goes there by a JA. Fails where an allocation is refused.
     pub fn branch(
         &mut self,
         test: Test,
@@ -93,10 +93,11 @@ impl<'a, A: Allocator> Code<'a, A> {
     ) -> Result<(), AllocError>
         requires room { length self.old + 3 ≤ MAX_INSTRUCTIONS }
         ensures writes { OnOk result (Writes (Checks (λ a. a) (asks test operand)) 3 self.old self.new yes.old yes.new no.old no.new) }
+        ensures words { OnOk result (length self.new ≡ length self.old + 1 + far_words (length self.old) yes.old.by + far_words (length self.old) no.old.by) }
     {
         let place = self.len();
-        let far_yes = yes.by() > place + 256;
-        let far_no = no.by() > place + 256;
+        let far_yes = is_far(place, yes.by());
+        let far_no = is_far(place, no.by());
         // Where both are far, the JA of `no` stands behind that of `yes`.
         let jf = if far_yes && far_no { 1 } else { 0 };
         self.push(Insn::JumpIf(test, operand, Offsets { jt: 0, jf }))?;
@@ -111,7 +112,7 @@ impl<'a, A: Allocator> Code<'a, A> {
         ensures writes { OnOk result ((other : Open) → Writes GoesToYes 1 self.old self.new exit.old exit.new other other) }
     {
         let place = self.len();
-        if exit.by() > place + 256 {
+        if is_far(place, exit.by()) {
             self.jump(exit)?;
         } else {
             // It goes there where A is 0 and where it is not.
@@ -160,6 +161,15 @@ impl<'a, A: Allocator> Code<'a, A> {
     {
         self.words
     }
+}
+
+// Tests whether an exit can be too far for the jump of a test at the place.
+fn is_far(place: u32, by: u32) -> bool
+    requires room { place ≤ MAX_INSTRUCTIONS }
+    ensures far { result ≡ true → place + 256 < by }
+    ensures near { result ≡ false → by ≤ place + 256 }
+{
+    by > place + 256
 }
 
 // Fills the jump of a hole.

@@ -42,8 +42,7 @@ impl<'a, A: Allocator> Exit<'a, A> {
         self.holes.as_slice()
     }
 
-    /// The last place that it can be.
-    pub fn by(&self) -> u32
+    pub(crate) fn by(&self) -> u32
         ensures by { result ≡ self.now.by }
     {
         self.by

@@ -1,8 +1,9 @@
 -- Guards: a test that is left out, and one that falls through where it is true.
 use Rattle.std.proofs.Common.{◌≡◌, ◌+◌, ◌≤◌, Bool, List, Option, Some, [], arith, false, refl, subst, sym, true, ℕ}
 use Rattle.backpatch.specs.Holes.{IsLanded, Open}
-use Rattle.backpatch.specs.Pieces.{Guards, Writes}
+use Rattle.backpatch.specs.Pieces.{Writes}
 use Rattle.backpatch.specs.Runs.{GoesToYes}
+use Rattle.backpatch.specs.body.Guards.{Guards}
 use Rattle.backpatch.proofs.GuardLemmas.{Guards-guards, Guards-landed, Guards-none, Guards-weight, Guards-writes}
 use Rattle.backpatch.proofs.WritesLemmas.{Writes-means, Writes-not, Writes-weight}
 use Rattle.filter_tree.specs.declared.truth.Truth.{Truth}

@@ -7,3 +7,4 @@ pub mod GuardLemmas
 pub mod ProgramLemmas
 pub mod StepLemmas
 pub mod RelationLemmas
+mod StandardFacts

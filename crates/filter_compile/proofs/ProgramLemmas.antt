@@ -4,10 +4,9 @@ use Rattle.bpf_insn.specs.declared.instruction.Insn.TheVariants.{ReturnConstant}
 use Rattle.bpf_verify.specs.declared.TheConstants.{MAX_INSTRUCTIONS}
 use Rattle.bpf_verify.specs.Accepted.{IsAccepted}
 use Rattle.bpf_machine.specs.Meaning.{Ret, mean, no_cells}
-use Rattle.backpatch.specs.Finished.{IsFinished}
 use Rattle.backpatch.specs.Holes.{IsAppended, IsLanded, Open}
 use Rattle.backpatch.specs.Pieces.{Meaning, Writes}
-use Rattle.backpatch.proofs.FinishLemmas.{finished}
+use Rattle.backpatch.proofs.FinishLemmas.{IsFinished, finished}
 use Rattle.backpatch.proofs.PushedLemmas.{mean_pushed, return_loads}
 use Rattle.filter_tree.specs.declared.truth.Truth.{Truth}
 use Rattle.filter_tree.specs.declared.truth.Truth.TheVariants.{Fails, No, Yes}
@@ -17,7 +16,7 @@ use Rattle.filter_tree.specs.Truth.{truth_of}
 use Rattle.packet_facts.specs.declared.known.Known.{Known}
 use Rattle.packet_facts.specs.Known.{Holds}
 use Rattle.filter_compile.specs.declared.TheConstants.{ACCEPTED, SHORT}
-use Rattle.filter_compile.specs.Answer.{AnswersFor, HasNoFarJump, answer_of}
+use Rattle.filter_compile.specs.Answer.{AnswersFor, HasFarJumpsOnly, HasNoFarJump, answer_of}
 use Rattle.filter_compile.specs.body.Piece.{GoesBy, Tests}
 
 module _ (tree : Tree) (known if_yes if_no : Known) (yes_by no_by : ℕ) (program : List ℕ) (whole : IsFinished (Tests (Holds known) (Holds if_yes) (Holds if_no) (truth_of tree)) (weight_of tree) ACCEPTED 0 yes_by no_by program) where
@@ -43,8 +42,12 @@ module _ (tree : Tree) (known if_yes if_no : Known) (yes_by no_by : ℕ) (progra
   pub program_answers : ((packet : List ℕ) (x : ℕ) → Holds known packet x) → AnswersFor tree program
   program_answers nothing packet ok = answered (truth_of tree packet) packet (whole.meant.goes packet ok 0 0 no_cells (nothing packet 0))
 
+  -- a JA has room for 255 instructions behind it
+  pub program_far_jumps : yes_by ≡ size_of tree - 2 → no_by ≡ size_of tree - 1 → HasFarJumpsOnly (size_of tree) program
+  program_far_jumps yes_is no_is pc k at = let f = whole.far_jumps (size_of tree - 1) (omega arith) (omega arith) pc k at in let beside = f.beside in let far = f.far in omega arith
+
   pub program_jumpless : yes_by ≡ size_of tree - 2 → no_by ≡ size_of tree - 1 → size_of tree ≤ SHORT → HasNoFarJump program
-  program_jumpless yes_is no_is short = whole.jumpless (omega arith) (omega arith)
+  program_jumpless yes_is no_is short pc k at = let far = (whole.far_jumps (size_of tree - 1) (omega arith) (omega arith) pc k at).far in omega arith
 
 -- the code of an expression, its two exits landed before the two returns
 pub program_finished : {means : Meaning} {w accept reject : ℕ} {c0 c1 c2 c3 c4 c5 : List ℕ} {yes_old yes_new no_old no_new : Open} → c0 ≡ [] → yes_old.holes ≡ [] → no_old.holes ≡ []

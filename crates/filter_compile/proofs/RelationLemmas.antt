@@ -3,7 +3,8 @@ use Rattle.std.proofs.Common.{◌≡◌, ◌∙◌, ◌+◌, ◌≤◌, Bool, Li
 use Rattle.bpf_insn.specs.declared.instruction.Insn.TheVariants.{LoadXLength}
 use Rattle.backpatch.specs.Checks.{Checks}
 use Rattle.backpatch.specs.Holes.{IsAppended, Open}
-use Rattle.backpatch.specs.Pieces.{Extends, Guards, Writes}
+use Rattle.backpatch.specs.Pieces.{Writes}
+use Rattle.backpatch.specs.body.Guards.{Extends, Guards}
 use Rattle.backpatch.proofs.GuardLemmas.{Extends-pushed, Extends-writes}
 use Rattle.backpatch.proofs.WritesLemmas.{Writes-means, Writes-weight}
 use Rattle.filter_tree.specs.declared.expression.Relation.{Relation}

@@ -1,5 +1,5 @@
--- What the program of an expression answers, and what a short one has not.
-use Rattle.std.specs.Prelude.{◌≡◌, List, ℕ}
+-- What the program of an expression answers, where it has far jumps, and that a short one has none.
+use Rattle.std.specs.Prelude.{◌≡◌, ◌+◌, ◌<◌, List, ℕ}
 use Rattle.bpf_insn.specs.declared.instruction.Insn.TheVariants.{Jump}
 use Rattle.bpf_verify.specs.Path.{IsAt}
 use Rattle.bpf_machine.specs.Meaning.{Ret, ending_of}
@@ -11,6 +11,10 @@ pub use Rattle.filter_tree.specs.Answer.{IsPacket, answer_of}
 abbrev pub AnswersFor : Tree → List ℕ → Type 0
 AnswersFor tree program = (packet : List ℕ) → IsPacket packet → ending_of program packet ≡ Ret (answer_of (truth_of tree packet))
 
--- no instruction of the program is a JA, the jump that may be far
+-- a JA, the jump that may be far, stands only where its size has room for 255 instructions behind it
+abbrev pub HasFarJumpsOnly : ℕ → List ℕ → Type 0
+HasFarJumpsOnly size program = (pc k : ℕ) → IsAt program pc (Jump k) → pc + 255 < size
+
+-- no instruction of the program is a JA
 abbrev pub HasNoFarJump : List ℕ → Type 0
 HasNoFarJump program = (pc k : ℕ) → ¬ IsAt program pc (Jump k)

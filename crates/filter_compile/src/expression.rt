@@ -47,7 +47,7 @@ pub(crate) fn expression<'a, A: Allocator, B: Allocator>(
             })
         }
         Expr::And(left, right) => {
-            let first_end = end - (right.size() - 2);
+            let first_end = end - right.weight();
             let mut on = code.exit(first_end);
             let first = expression(code, left, known, first_end, &mut on, no)?;
             code.land(&on);
@@ -58,7 +58,7 @@ pub(crate) fn expression<'a, A: Allocator, B: Allocator>(
             })
         }
         Expr::Or(left, right) => {
-            let first_end = end - (right.size() - 2);
+            let first_end = end - right.weight();
             let mut on = code.exit(first_end);
             let first = expression(code, left, known, first_end, yes, &mut on)?;
             code.land(&on);

@@ -8,7 +8,7 @@ use std::alloc::AllocError;
 /// Why an expression was not compiled.
 #[derive(Clone, Copy, Debug, PartialEq, Eq)]
 pub enum CompileFault {
-    /// F1: its program would need more than 16 scratch cells.
+    /// F1: its cells, the most that its program uses, are above 16.
     CellsExceeded,
     /// F2: its size is above 4096.
     TooLong,

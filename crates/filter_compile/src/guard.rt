@@ -4,7 +4,7 @@ ghost use Rattle.std.specs.Prelude.{◌≡◌, ◌+◌, ◌≤◌, IfOk, OnOk, f
 ghost use Rattle.ipv4_fields.specs.declared.header.Field.TheVariants.{Protocol};
 ghost use Rattle.ipv4_fields.specs.Field.{field_of};
 ghost use Rattle.bpf_verify.specs.declared.TheConstants.{MAX_INSTRUCTIONS};
-ghost use Rattle.backpatch.specs.Pieces.{Extends, Guards};
+ghost use Rattle.backpatch.specs.body.Guards.{Extends, Guards};
 ghost use Rattle.filter_tree.specs.declared.truth.Truth.{Truth};
 ghost use Rattle.filter_tree.specs.declared.truth.Truth.TheVariants.{Yes};
 ghost use Rattle.filter_tree.specs.Measure.{weight_where};
@@ -122,7 +122,10 @@ pub(crate) fn guard_first_fragment<'a, A: Allocator>(
     requires behind { length code.old + weight_where used 4 ≤ no.old.by }
     ensures guards { IfOk result (λ passed. Guards (Tests (Holds known) (Holds passed.on) (HoldsWhere passed.no) (λ packet. where_so used (is_first_fragment packet))) (weight_where used 4) code.old code.new no.old no.new) }
 {
-    if !must_ask(used, known.first_fragment()) {
+    if known.first_fragment() {
+        return Ok(Passed::at_once(known));
+    }
+    if !used {
         return Ok(Passed::at_once(known));
     }
     let mut on = code.exit(code.len() + 4);
@@ -130,7 +133,7 @@ pub(crate) fn guard_first_fragment<'a, A: Allocator>(
     code.land(&on);
     Ok(Passed {
         on: known.with_first_fragment(),
-        no: Some(known.without_first_fragment()),
+        no: Some(known),
     })
 }
 

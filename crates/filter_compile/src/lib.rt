@@ -7,7 +7,7 @@ ghost use Rattle.bpf_verify.specs.Accepted.{IsAccepted};
 ghost use Rattle.bpf_verify.specs.declared.TheConstants.{CELLS, MAX_INSTRUCTIONS};
 ghost use Rattle.filter_tree.specs.Measure.{cells_of, size_of};
 ghost use Rattle.filter_tree.specs.View.{tree_of};
-ghost use Rattle.filter_compile.specs.Answer.{AnswersFor, HasNoFarJump};
+ghost use Rattle.filter_compile.specs.Answer.{AnswersFor, HasFarJumpsOnly, HasNoFarJump};
 ghost use Rattle.filter_compile.specs.declared.fault.CompileFault.TheVariants.{CellsExceeded, TooLong};
 
 mod arithmetic;
@@ -33,16 +33,16 @@ use std::alloc::Allocator;
 /// What a program answers where it accepts a packet: the whole of it is kept.
 pub const ACCEPTED: u32 = 65_535;
 
-/// The largest size of an expression whose program has only jumps of tests, which reach 255 instructions behind them.
+/// Up to this size the program of an expression has only jumps of tests, which reach 255 instructions behind them.
 pub const SHORT: u32 = 257;
 
 /// Compiles an expression to a program in the memory of `alloc`, charged by the expression's size.
 ///
 /// On a packet the program answers `ACCEPTED` where the expression is true, and 0 where it is false or fails. Short
 /// programs have no JA: those of expressions whose size is at most `SHORT`. Fails with
-/// `CellsExceeded` exactly where it needs more than 16 scratch cells, else with `TooLong` exactly where its size is above
-/// 4096, both before any memory is taken, else with `OutOfMemory` where an allocation was refused. Lists of jumps, which a
-/// clone of `alloc` holds while the program is written, are given up before the answer.
+/// `CellsExceeded` exactly where the expression's cells, the most that its program uses, are above 16, else with `TooLong`
+/// exactly where its size is above 4096, both before any memory is taken, else with `OutOfMemory` where an allocation was
+/// refused. Lists of jumps, which a clone of `alloc` holds while the program is written, are given up before the answer.
 pub fn compile<A: Allocator, B: Allocator + Clone>(
     alloc: B,
     expr: &Expr<A>,
@@ -53,6 +53,7 @@ pub fn compile<A: Allocator, B: Allocator + Clone>(
     ensures answer { IfOk result (λ program. AnswersFor (tree_of expr.now) program.words) }
     ensures charge { IfOk result (λ program. program.charge ≡ size_of (tree_of expr.now)) }
     ensures within_size { IfOk result (λ program. length program.words ≤ size_of (tree_of expr.now)) }
+    ensures far_jumps { IfOk result (λ program. HasFarJumpsOnly (size_of (tree_of expr.now)) program.words) }
     ensures no_far_jump { size_of (tree_of expr.now) ≤ SHORT → IfOk result (λ program. HasNoFarJump program.words) }
     ensures accepted { IfOk result (λ program. IsAccepted program.words) }
 {

@@ -3,7 +3,8 @@
 ghost use Rattle.std.specs.Prelude.{◌≡◌, ◌+◌, ◌≤◌, IfOk, OnOk, Option, length, List, ℕ};
 ghost use Rattle.bpf_verify.specs.declared.TheConstants.{CELLS, MAX_INSTRUCTIONS};
 ghost use Rattle.backpatch.specs.Checks.{Checks};
-ghost use Rattle.backpatch.specs.Pieces.{Guards, Writes};
+ghost use Rattle.backpatch.specs.Pieces.{Writes};
+ghost use Rattle.backpatch.specs.body.Guards.{Guards};
 ghost use Rattle.bpf_machine.specs.Meaning.{operand_value};
 ghost use Rattle.filter_tree.specs.Arithmetic.{value_of_arith};
 ghost use Rattle.filter_tree.specs.Measure.{cells_of, cells_of_arith, weight_of, weight_of_arith, weight_of_guards};

@@ -1,5 +1,5 @@
--- The measures of a tree: its depth, the scratch cells that its program needs, and the most instructions that its program
--- has (docs/EXPRESSIONS.md, "Measures").
+-- The measures of a tree: its depth, the most scratch cells that its program uses, and the most instructions that its
+-- program has (docs/EXPRESSIONS.md, "Measures").
 use Rattle.std.specs.Prelude.{◌+◌, Bool, false, max, true, ℕ}
 use Rattle.filter_tree.specs.declared.arithmetic.Protocol.{Protocol}
 use Rattle.filter_tree.specs.declared.arithmetic.Protocol.TheVariants.{Icmp, Ip as IpData, Tcp as TcpData, Udp as UdpData}
@@ -25,7 +25,7 @@ depth_of (negation tree) = 1 + depth_of tree
 depth_of (conjunction left right) = 1 + max (depth_of left) (depth_of right)
 depth_of (disjunction left right) = 1 + max (depth_of left) (depth_of right)
 
--- the left value of an operation or a relation waits in a cell while the right one is computed
+-- the left value of an operation or a relation can wait in a cell while the right one is computed
 abbrev pub cells_of_arith : ArithTree → ℕ
 cells_of_arith (number n) = 0
 cells_of_arith packet_length = 0

@@ -24,7 +24,7 @@ impl<A: Allocator> Arith<A> {
         }
     }
 
-    /// Tells how many scratch cells its program needs. Takes no memory.
+    /// Tells the cells: the most scratch cells that its program uses. Takes no memory.
     pub fn cells(&self) -> u32
         ensures cells_exact { result ≡ min (cells_of_arith (arith_tree_of self.now)) u32.MAX }
     {
@@ -66,7 +66,7 @@ impl<A: Allocator> Expr<A> {
         }
     }
 
-    /// Tells how many scratch cells its program needs. Takes no memory.
+    /// Tells the cells: the most scratch cells that its program uses. Takes no memory.
     pub fn cells(&self) -> u32
         ensures cells_exact { result ≡ min (cells_of (tree_of self.now)) u32.MAX }
     {

@@ -20,8 +20,8 @@ use Rattle.packet_facts.specs.declared.header.Header.TheVariants as header_is
 use Rattle.packet_facts.specs.declared.header.Protocol.{Protocol}
 use Rattle.packet_facts.specs.declared.header.Protocol.TheVariants.{Any, Is, IsNot}
 use Rattle.packet_facts.specs.declared.known.Known.{Known}
-use Rattle.packet_facts.specs.Known.{Holds, IsHeader, IsProtocol, Knows, Settles}
-use Rattle.packet_facts.specs.Told.{first_fragment_of, first_told, header_in_x_of, ip_of, ip_told, named_told, number_told, ports_told, protocol_in, protocol_of, transport_of}
+use Rattle.packet_facts.specs.Known.{Holds, IsFirst, IsHeader, IsProtocol, Knows, Settles}
+use Rattle.packet_facts.specs.Told.{first_fragment_of, first_in, header_in_x_of, ip_of, ip_told, named_told, number_told, ports_told, protocol_in, protocol_of, transport_of}
 
 -- ---- what is settled
 
@@ -30,10 +30,10 @@ settles_ip header_is.Any packet is = tt
 settles_ip header_is.NotIpv4 packet is = is
 settles_ip (header_is.Ipv4 protocol first) packet is = is.0
 
-settles_first : (header : Header) (packet : List ℕ) → IsHeader header packet → Settles (first_told header) (is_first_fragment packet)
-settles_first header_is.Any packet is = tt
-settles_first header_is.NotIpv4 packet is = tt
-settles_first (header_is.Ipv4 protocol first) packet is = is.2
+first_is : (header : Header) (packet : List ℕ) → IsHeader header packet → IsFirst (first_in header) packet
+first_is header_is.Any packet is = tt
+first_is header_is.NotIpv4 packet is = tt
+first_is (header_is.Ipv4 protocol first) packet is = is.2
 
 protocol_is : (header : Header) (packet : List ℕ) → IsHeader header packet → IsProtocol (protocol_in header) packet
 protocol_is header_is.Any packet is = tt
@@ -77,9 +77,6 @@ module _ (known : Known) (packet : List ℕ) (x : ℕ) (holds : Holds known pack
   pub transport_settled : (transport : Transport) → Settles (transport_of known transport) (tested (has_ports transport) (field_of field_is.Protocol packet))
   transport_settled transport = settles_named transport (protocol_in known.header) packet (protocol_is known.header packet holds.0)
 
-  pub first_fragment_settled : Settles (first_fragment_of known) (is_first_fragment packet)
-  first_fragment_settled = settles_first known.header packet holds.0
-
   -- the same where the answer is known
   pub ip_yes : ip_of known ≡ Some true → is_ip packet ≡ Yes
   ip_yes told = subst (λ o. Settles o (is_ip packet)) told ip_settled
@@ -99,11 +96,8 @@ module _ (known : Known) (packet : List ℕ) (x : ℕ) (holds : Holds known pack
   pub transport_no : (transport : Transport) → transport_of known transport ≡ Some false → tested (has_ports transport) (field_of field_is.Protocol packet) ≡ No
   transport_no transport told = subst (λ o. Settles o (tested (has_ports transport) (field_of field_is.Protocol packet))) told (transport_settled transport)
 
-  pub first_fragment_yes : first_fragment_of known ≡ Some true → is_first_fragment packet ≡ Yes
-  first_fragment_yes told = subst (λ o. Settles o (is_first_fragment packet)) told first_fragment_settled
-
-  pub first_fragment_no : first_fragment_of known ≡ Some false → is_first_fragment packet ≡ No
-  first_fragment_no told = subst (λ o. Settles o (is_first_fragment packet)) told first_fragment_settled
+  pub first_fragment_yes : first_fragment_of known ≡ true → is_first_fragment packet ≡ Yes
+  first_fragment_yes told = subst (λ b. IsFirst b packet) told (first_is known.header packet holds.0)
 
   -- what is known of X
   pub x_known : Knows (header_in_x_of known) packet x
@@ -139,10 +133,8 @@ module _ (known : Known) (packet : List ℕ) (x : ℕ) (holds : Holds known pack
       loaded_settled (has_ports transport) (field_of field_is.Protocol packet) b
       (subst (λ o. Settles o (tested (has_ports transport) (field_of field_is.Protocol packet))) told (transport_settled known packet x holds transport))
 
-  pub fragment_loaded : (b : Bool) → first_fragment_of known ≡ Some b → (offset : ℕ) × (field_of field_is.FragmentOffset packet ≡ Some offset)
-  fragment_loaded b told =
-      loaded_settled (λ offset. offset == 0) (field_of field_is.FragmentOffset packet) b
-      (subst (λ o. Settles o (is_first_fragment packet)) told (first_fragment_settled known packet x holds))
+  pub fragment_loaded : first_fragment_of known ≡ true → (offset : ℕ) × (field_of field_is.FragmentOffset packet ≡ Some offset)
+  fragment_loaded told = loaded_settled (λ offset. offset == 0) (field_of field_is.FragmentOffset packet) true (first_fragment_yes known packet x holds told)
 
 -- ---- protocol and fragment are told of packets of IPv4 alone
 
@@ -164,13 +156,13 @@ ip_by_transport known Tcp b told = ip_by_number known.header 6 b told
 ip_by_transport known Udp b told = ip_by_number known.header 17 b told
 ip_by_transport known Unnamed b told = ip_by_ports known.header b told
 
-ip_by_first : (header : Header) (b : Bool) → first_told header ≡ Some b → ip_told header ≡ Some true
-ip_by_first header_is.Any b told = cc
-ip_by_first header_is.NotIpv4 b told = cc
-ip_by_first (header_is.Ipv4 protocol first) b told = refl
+ip_by_first : (header : Header) → first_in header ≡ true → ip_told header ≡ Some true
+ip_by_first header_is.Any told = cc
+ip_by_first header_is.NotIpv4 told = cc
+ip_by_first (header_is.Ipv4 protocol first) told = refl
 
-pub ip_by_fragment : (known : Known) (b : Bool) → first_fragment_of known ≡ Some b → ip_of known ≡ Some true
-ip_by_fragment known b told = ip_by_first known.header b told
+pub ip_by_fragment : (known : Known) → first_fragment_of known ≡ true → ip_of known ≡ Some true
+ip_by_fragment known told = ip_by_first known.header told
 
 -- ---- the guards of what accessors read, by each of the four
 

@@ -23,9 +23,10 @@ IsProtocol Any packet = Unit {0}
 IsProtocol (Is n) packet = field_of field_is.Protocol packet ≡ Some n
 IsProtocol (IsNot n) packet = (m : ℕ) × (field_of field_is.Protocol packet ≡ Some m) × (m ≢ n)
 
--- whether it has the beginning of the datagram is as known
-abbrev pub IsFirst : Option Bool → List ℕ → Type 0
-IsFirst first packet = Settles first (is_first_fragment packet)
+-- it has the beginning of the datagram, where that is known
+abbrev pub IsFirst : Bool → List ℕ → Type 0
+IsFirst false packet = Unit {0}
+IsFirst true packet = is_first_fragment packet ≡ Yes
 
 -- its header is as known
 abbrev pub IsHeader : Header → List ℕ → Type 0

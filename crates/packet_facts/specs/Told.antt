@@ -1,5 +1,5 @@
 -- What the facts tell of each test, none where it has to be made. Protocol and fragment are known only of a packet that
--- is known to be one of IPv4.
+-- is known to be one of IPv4, and of the fragment only that it is the first.
 use Rattle.std.specs.Prelude.{◌==◌, ◌≢◌, ◌&&◌, ◌||◌, if◌then◌else◌, Bool, None, Option, Some, false, true, ℕ}
 use Rattle.filter_tree.specs.declared.arithmetic.Protocol.{Protocol as DataProtocol}
 use Rattle.filter_tree.specs.declared.arithmetic.Protocol.TheVariants.{Icmp as IcmpData, Tcp as TcpData, Udp as UdpData}
@@ -8,7 +8,7 @@ use Rattle.filter_tree.specs.declared.primitive.Primitive.TheVariants.{AtLeast, 
 use Rattle.filter_tree.specs.declared.primitive.Transport.{Transport}
 use Rattle.filter_tree.specs.declared.primitive.Transport.TheVariants.{Tcp, Udp, Unnamed}
 use Rattle.filter_tree.specs.Primitive.{has_ports}
-use Rattle.filter_tree.specs.Truth.{any_accessor, any_transport}
+use Rattle.filter_tree.specs.Truth.{any_accessor}
 use Rattle.packet_facts.specs.declared.header.Header.{Header}
 use Rattle.packet_facts.specs.declared.header.Header.TheVariants as header_is
 use Rattle.packet_facts.specs.declared.header.Protocol.{Protocol}
@@ -27,22 +27,28 @@ ip_told header_is.Any = None
 ip_told header_is.NotIpv4 = Some false
 ip_told (header_is.Ipv4 protocol first) = Some true
 
--- what is known of the protocol, and whether it has the beginning of the datagram
+-- what is known of the protocol, and whether it is known to have the beginning of the datagram
 abbrev pub protocol_in : Header → Protocol
 protocol_in header_is.Any = Any
 protocol_in header_is.NotIpv4 = Any
 protocol_in (header_is.Ipv4 protocol first) = protocol
 
-abbrev pub first_told : Header → Option Bool
-first_told header_is.Any = None
-first_told header_is.NotIpv4 = None
-first_told (header_is.Ipv4 protocol first) = first
+abbrev pub first_in : Header → Bool
+first_in header_is.Any = false
+first_in header_is.NotIpv4 = false
+first_in (header_is.Ipv4 protocol first) = first
 
 -- whether the protocol has a number
 abbrev pub number_told : Protocol → ℕ → Option Bool
 number_told Any n = None
 number_told (Is m) n = Some (m == n)
 number_told (IsNot m) n = if m == n then Some false else None
+
+-- whether it is known by its number
+abbrev pub is_number : Protocol → Bool
+is_number Any = false
+is_number (Is n) = true
+is_number (IsNot n) = false
 
 -- whether it is TCP, UDP or SCTP
 abbrev pub ports_told : Protocol → Option Bool
@@ -69,8 +75,11 @@ protocol_of known n = number_told (protocol_in known.header) n
 abbrev pub transport_of : Known → Transport → Option Bool
 transport_of known transport = named_told (protocol_in known.header) transport
 
-abbrev pub first_fragment_of : Known → Option Bool
-first_fragment_of known = first_told known.header
+abbrev pub knows_number : Known → Bool
+knows_number known = is_number (protocol_in known.header)
+
+abbrev pub first_fragment_of : Known → Bool
+first_fragment_of known = first_in known.header
 
 -- whether X is known to hold the length of the header
 abbrev pub header_in_x_of : Known → Bool
@@ -90,13 +99,9 @@ is_known (IsNot n) = true
 abbrev pub knows_protocol : Known → Bool
 knows_protocol known = is_known (protocol_in known.header)
 
--- whether the packet has a later part of a datagram whose protocol was loaded
-abbrev pub is_later : Known → Bool
-is_later known = knows_protocol known && is_no (first_fragment_of known)
-
 -- whether a primitive is known to be false, without a load before that may fail
 abbrev pub has_no_ports : Known → Transport → Bool
-has_no_ports known transport = is_no (ip_of known) || is_no (transport_of known transport) || is_later known
+has_no_ports known transport = is_no (ip_of known) || is_no (transport_of known transport)
 
 abbrev pub excludes_of : Known → Primitive → Bool
 excludes_of known Ip = is_no (ip_of known)
@@ -115,4 +120,3 @@ excludes_guards_of known used =
     || (used TcpData && is_no (protocol_of known 6))
     || (used UdpData && is_no (protocol_of known 17))
     || (used IcmpData && is_no (protocol_of known 1))
-    || (any_transport used && is_later known)

@@ -5,10 +5,9 @@ ghost use Rattle.filter_tree.specs.declared.truth.Truth.TheVariants.{No};
 ghost use Rattle.filter_tree.specs.Primitive.{truth_of_primitive};
 ghost use Rattle.filter_tree.specs.Truth.{guards, used_by};
 ghost use Rattle.packet_facts.specs.Known.{Holds};
-ghost use Rattle.packet_facts.specs.Told.{excludes_guards_of, excludes_of, has_no_ports, ip_of, is_later, is_no, protocol_of, transport_of};
-ghost use Rattle.packet_facts.specs.body.Decided.{IsLaterFragment, IsNotIp, IsNotProtocol, IsNotTransport, IsWithoutPorts};
+ghost use Rattle.packet_facts.specs.Told.{excludes_guards_of, excludes_of, has_no_ports, ip_of, is_no, protocol_of, transport_of};
+ghost use Rattle.packet_facts.specs.body.Decided.{IsNotIp, IsNotProtocol, IsNotTransport, IsWithoutPorts};
 
-use crate::header::{Header, Protocol};
 use crate::known::Known;
 use filter_tree::{Accesses, Primitive, Transport};
 
@@ -35,20 +34,8 @@ impl Known {
         matches!(self.transport(transport), Some(false))
     }
 
-    // A later fragment whose protocol was loaded.
-    fn is_later_fragment(self) -> bool
-        ensures exact { result ≡ is_later self }
-        ensures known { IsTrue result → (packet : List ℕ) (x : ℕ) → Holds self packet x → IsLaterFragment packet }
-    {
-        match self.header {
-            Header::Ipv4(Protocol::Is(_), Some(false)) => true,
-            Header::Ipv4(Protocol::IsNot(_), Some(false)) => true,
-            _ => false,
-        }
-    }
-
-    /// Tests whether a primitive is known to be false, so that no packet passes it. What is false but may fail before it
-    /// is, as the fragment of a packet whose protocol is not known, is none.
+    /// Tests whether a primitive is known to be false, so that no packet passes it: its test of the version or that of the
+    /// protocol is known to be no.
     pub fn excludes(self, primitive: &Primitive) -> bool
         ensures exact { result ≡ excludes_of self primitive.now }
         ensures excluded { IsTrue result → (packet : List ℕ) (x : ℕ) → Holds self packet x → truth_of_primitive primitive.now packet ≡ No }
@@ -69,7 +56,7 @@ impl Known {
         ensures exact { result ≡ has_no_ports self transport }
         ensures known { IsTrue result → (packet : List ℕ) (x : ℕ) → Holds self packet x → IsWithoutPorts transport packet }
     {
-        self.is_not_ip() || self.is_not_transport(transport) || self.is_later_fragment()
+        self.is_not_ip() || self.is_not_transport(transport)
     }
 
     /// Tests whether the guards of a relation whose accessors read these protocols' data are known to be false.
@@ -80,7 +67,6 @@ impl Known {
         let tcp = used.tcp && self.is_not_protocol(6);
         let udp = used.udp && self.is_not_protocol(17);
         let icmp = used.icmp && self.is_not_protocol(1);
-        let later = used.any_transport() && self.is_later_fragment();
-        (used.any() && self.is_not_ip()) || tcp || udp || icmp || later
+        (used.any() && self.is_not_ip()) || tcp || udp || icmp
     }
 }

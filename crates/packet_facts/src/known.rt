@@ -1,13 +1,14 @@
 //! What is known where a part of a program begins: how facts are joined, and what they tell.
 
-ghost use Rattle.std.specs.Prelude.{◌≡◌, ◌&&◌, List, Some, true, ℕ};
+ghost use Rattle.std.specs.Prelude.{◌≡◌, ◌&&◌, IsTrue, List, Some, false, true, ℕ};
 ghost use Rattle.ipv4_fields.specs.declared.header.Field.TheVariants.{Protocol as ProtocolField};
 ghost use Rattle.ipv4_fields.specs.Field.{field_of};
 ghost use Rattle.filter_tree.specs.declared.primitive.Transport.TheVariants.{Unnamed};
+ghost use Rattle.filter_tree.specs.declared.truth.Truth.TheVariants.{Yes};
 ghost use Rattle.filter_tree.specs.Outcome.{tested};
 ghost use Rattle.filter_tree.specs.Primitive.{has_ports, is_first_fragment, is_ip, is_protocol};
-ghost use Rattle.packet_facts.specs.Known.{Holds, Settles};
-ghost use Rattle.packet_facts.specs.Told.{agreed, first_fragment_of, header_in_x_of, ip_of, protocol_of, transport_of};
+ghost use Rattle.packet_facts.specs.Known.{Holds, Knows, Settles};
+ghost use Rattle.packet_facts.specs.Told.{agreed, first_fragment_of, header_in_x_of, ip_of, knows_number, protocol_of, transport_of};
 
 use crate::header::{Header, Protocol, join_headers};
 use filter_tree::Transport;
@@ -30,13 +31,15 @@ impl Known {
         }
     }
 
-    /// Knows what holds where one or the other does: where two ways meet.
+    /// Knows what holds where one or the other does: where two ways meet. Of two protocols none is known; a number that
+    /// neither is stays known, unless both are known by theirs.
     pub fn join(self, other: Known) -> Known
         ensures of_self { (packet : List ℕ) (x : ℕ) → Holds self packet x → Holds result packet x }
         ensures of_other { (packet : List ℕ) (x : ℕ) → Holds other packet x → Holds result packet x }
         ensures ip { ip_of result ≡ agreed (ip_of self) (ip_of other) }
         ensures protocol { (n : ℕ) → protocol_of self n ≡ Some true → protocol_of other n ≡ Some true → protocol_of result n ≡ Some true }
-        ensures first_fragment { first_fragment_of result ≡ agreed (first_fragment_of self) (first_fragment_of other) }
+        ensures excluded { (n : ℕ) → protocol_of self n ≡ Some false → protocol_of other n ≡ Some false → (knows_number self && knows_number other) ≡ false → protocol_of result n ≡ Some false }
+        ensures first_fragment { first_fragment_of result ≡ (first_fragment_of self && first_fragment_of other) }
         ensures header_in_x { header_in_x_of result ≡ (header_in_x_of self && header_in_x_of other) }
     {
         Known {
@@ -93,21 +96,22 @@ impl Known {
         }
     }
 
-    /// Tells whether the packet has the beginning of the datagram, `None` where that is not known. It is known only where
-    /// the packet is known to be one of IPv4.
-    pub fn first_fragment(self) -> Option<bool>
+    /// Tests whether the packet is known to have the beginning of the datagram. It is only where the packet is known to be
+    /// one of IPv4.
+    pub fn first_fragment(self) -> bool
         ensures exact { result ≡ first_fragment_of self }
-        ensures known { (packet : List ℕ) (x : ℕ) → Holds self packet x → Settles result (is_first_fragment packet) }
+        ensures known { IsTrue result → (packet : List ℕ) (x : ℕ) → Holds self packet x → is_first_fragment packet ≡ Yes }
     {
         match self.header {
             Header::Ipv4(_, first) => first,
-            _ => None,
+            _ => false,
         }
     }
 
     /// Tests whether X is known to hold the length of the header.
     pub fn header_in_x(self) -> bool
         ensures exact { result ≡ header_in_x_of self }
+        ensures known { IsTrue result → (packet : List ℕ) (x : ℕ) → Holds self packet x → Knows true packet x }
     {
         self.header_in_x
     }

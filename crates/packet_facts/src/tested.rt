@@ -3,6 +3,7 @@
 ghost use Rattle.std.specs.Prelude.{◌≡◌, List, None, Some, false, true, ℕ};
 ghost use Rattle.ipv4_fields.specs.declared.header.Field.TheVariants.{Protocol as ProtocolField};
 ghost use Rattle.ipv4_fields.specs.Field.{field_of};
+ghost use Rattle.filter_tree.specs.declared.primitive.Transport.TheVariants.{Unnamed};
 ghost use Rattle.filter_tree.specs.declared.truth.Truth.TheVariants.{No, Yes};
 ghost use Rattle.filter_tree.specs.Outcome.{tested};
 ghost use Rattle.filter_tree.specs.Primitive.{has_ports, is_first_fragment, is_ip, is_protocol};
@@ -13,7 +14,7 @@ use crate::header::{Header, Protocol};
 use crate::known::Known;
 use filter_tree::Transport;
 
-// What was known stays known. A side that no packet takes keeps the facts as they came.
+// What was known stays known.
 impl Known {
     /// Knows besides that the packet is one of IPv4.
     pub fn with_ip(self) -> Known
@@ -24,7 +25,7 @@ impl Known {
     {
         match self.header {
             Header::Any => Known {
-                header: Header::Ipv4(Protocol::Any, None),
+                header: Header::Ipv4(Protocol::Any, false),
                 ..self
             },
             _ => self,
@@ -105,6 +106,7 @@ impl Known {
         ensures holds { (packet : List ℕ) (x : ℕ) → Holds self packet x → tested (has_ports transport) (field_of ProtocolField packet) ≡ No → Holds result packet x }
         ensures kept { (packet : List ℕ) (x : ℕ) → Holds result packet x → Holds self packet x }
         ensures learned { ip_of self ≡ Some true → knows_protocol self ≡ false → IsNamed transport → transport_of result transport ≡ Some false }
+        ensures no_sctp { ip_of self ≡ Some true → knows_protocol self ≡ false → transport ≡ Unnamed → protocol_of result 132 ≡ Some false }
         ensures same_x { header_in_x_of result ≡ header_in_x_of self }
     {
         match transport {
@@ -118,28 +120,12 @@ impl Known {
     pub fn with_first_fragment(self) -> Known
         ensures holds { (packet : List ℕ) (x : ℕ) → Holds self packet x → is_first_fragment packet ≡ Yes → Holds result packet x }
         ensures kept { (packet : List ℕ) (x : ℕ) → Holds result packet x → Holds self packet x }
-        ensures learned { ip_of self ≡ Some true → first_fragment_of self ≡ None → first_fragment_of result ≡ Some true }
+        ensures learned { ip_of self ≡ Some true → first_fragment_of result ≡ true }
         ensures same_x { header_in_x_of result ≡ header_in_x_of self }
     {
         match self.header {
-            Header::Ipv4(protocol, None) => Known {
-                header: Header::Ipv4(protocol, Some(true)),
-                ..self
-            },
-            _ => self,
-        }
-    }
-
-    /// Knows besides that it has a later part of it, where it is known to be one of IPv4.
-    pub fn without_first_fragment(self) -> Known
-        ensures holds { (packet : List ℕ) (x : ℕ) → Holds self packet x → is_first_fragment packet ≡ No → Holds result packet x }
-        ensures kept { (packet : List ℕ) (x : ℕ) → Holds result packet x → Holds self packet x }
-        ensures learned { ip_of self ≡ Some true → first_fragment_of self ≡ None → first_fragment_of result ≡ Some false }
-        ensures same_x { header_in_x_of result ≡ header_in_x_of self }
-    {
-        match self.header {
-            Header::Ipv4(protocol, None) => Known {
-                header: Header::Ipv4(protocol, Some(false)),
+            Header::Ipv4(protocol, _) => Known {
+                header: Header::Ipv4(protocol, true),
                 ..self
             },
             _ => self,
@@ -149,6 +135,7 @@ impl Known {
     /// Knows the same of the packet where X was written: whether X holds the length of the header now.
     pub fn with_header_in_x(self, held: bool) -> Known
         ensures holds { (packet : List ℕ) (x x' : ℕ) → Holds self packet x → Knows held packet x' → Holds result packet x' }
+        ensures kept { (packet : List ℕ) (x x' : ℕ) → Holds result packet x' → Knows (header_in_x_of self) packet x → Holds self packet x }
         ensures learned { header_in_x_of result ≡ held }
     {
         Known {

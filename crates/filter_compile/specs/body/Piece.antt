@@ -4,7 +4,7 @@ use Rattle.ipv4_fields.specs.Field.{ihl_of}
 use Rattle.bpf_insn.specs.declared.instruction.Insn.{Insn}
 use Rattle.bpf_verify.specs.Path.{Loads, successors}
 use Rattle.bpf_machine.specs.Meaning.{Cells, Ret, a_or_end, effect, mean}
-use Rattle.backpatch.specs.Runs.{KeepsBelow, LoadsStored}
+use Rattle.backpatch.specs.Runs.{LoadsStored}
 use Rattle.filter_tree.specs.declared.expression.Relation.{Relation}
 use Rattle.filter_tree.specs.declared.truth.Truth.{Truth}
 use Rattle.filter_tree.specs.declared.truth.Truth.TheVariants.{Fails, No, Yes}
@@ -14,6 +14,10 @@ use Rattle.packet_facts.specs.Known.{Knows}
 use Rattle.filter_compile.specs.Answer.{IsPacket}
 
 -- ---- values
+
+-- the cells below d are kept
+abbrev pub KeepsBelow : ℕ → Cells → Cells → Type 0
+KeepsBelow d cells cells' = (cell : ℕ) → cell < d → cells' cell ≡ cells cell
 
 -- a run over the words comes to the later ones with this value in A, with this known of X, and with the cells below d kept;
 -- without a value it ends with 0

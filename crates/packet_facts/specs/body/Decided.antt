@@ -22,9 +22,6 @@ IsNotProtocol n packet = IsLoaded packet × (is_protocol n packet ≡ No)
 abbrev pub IsNotTransport : Transport → List ℕ → Type 0
 IsNotTransport transport packet = IsLoaded packet × (tested (has_ports transport) (field_of Protocol packet) ≡ No)
 
-abbrev pub IsLaterFragment : List ℕ → Type 0
-IsLaterFragment packet = IsLoaded packet × (is_first_fragment packet ≡ No)
-
 -- what comes before the ports of a primitive is no
 abbrev pub IsWithoutPorts : Transport → List ℕ → Type 0
 IsWithoutPorts transport packet = (is_ip packet and_then tested (has_ports transport) (field_of Protocol packet) and_then is_first_fragment packet) ≡ No

@@ -327,15 +327,42 @@ fn program_fits(
     Ok(is_found(rt, &compile(&arena, tree)))
 }
 
+// The fewest bytes in which the tree's program finds room; it finds it in each greater number too.
+fn least_room(rt: &impl Abort, alloc: Global, tree: &Expr<Global>) -> Result<Option<usize>, Fail> {
+    let mut least = None;
+    for room in 0..ARENA {
+        let fits = program_fits(rt, alloc, tree, room)?;
+        assert!(rt; fits || least.is_none(), "{room} bytes");
+        if fits && least.is_none() {
+            least = Some(room);
+        }
+    }
+    Ok(least)
+}
+
+// `greater 30 or greater 30 or .. or greater 29` with so many parts: a jump of each leads to yes.
+fn alternatives(alloc: Global, count: u32) -> Tree {
+    let mut tree = Expr::Primitive(Primitive::AtLeast(30));
+    for _ in 2..count {
+        tree = or(alloc, tree, Primitive::AtLeast(30))?;
+    }
+    or(alloc, tree, Primitive::AtLeast(29))
+}
+
 #[test]
 fn each_allocation_refused_in_turn(rt: HostRuntime) -> Result<(), Fail> {
     let tree: Expr<Global> = Expr::Primitive(PORT_53);
-    let mut found_room = false;
-    for room in 0..ARENA {
-        let fits = program_fits(&rt, rt.alloc(), &tree, room)?;
-        assert!(rt; fits || !found_room, "{room} bytes");
-        found_room = fits;
-    }
-    assert!(rt; found_room, "a program of 30 words fits in 1024 bytes");
+    // 30 words, and the lists of jumps stay within the frame.
+    let room = least_room(&rt, rt.alloc(), &tree)?.unwrap_or(0);
+    assert!(rt; 240 <= room && room < 304, "{room} bytes");
+    Ok(())
+}
+
+#[test]
+fn growing_list_of_jumps_refused_in_turn(rt: HostRuntime) -> Result<(), Fail> {
+    let tree = alternatives(rt.alloc(), 9)?;
+    // 38 words, and a list of nine jumps of eight bytes each, one more than the frame holds.
+    let room = least_room(&rt, rt.alloc(), &tree)?.unwrap_or(0);
+    assert!(rt; 376 <= room, "{room} bytes");
     Ok(())
 }
