@@ -53,9 +53,7 @@ Example:
   $ dswitch compile 'less 28'
   charge 6
   ld len
-  jgt #28,0,1
-  ja +2
-  ja +0
+  jgt #28,1,0
   ret #65535
   ret #0";
 
@@ -86,6 +84,7 @@ Reads lines from standard input, and prints one line for each before it reads on
 no groups, and is version 0. KEY and TO are ADDRESS:PORT, ID is a number, HEX an IPv4 packet.
   add KEY, remove KEY                              ok version N
   join KEY ID TO, leave KEY ID                     ok version N
+  lock KEY ID                                      ok version N
   selector KEY asm TEXT, selector KEY none         ok version N
   filter KEY ID asm TEXT, filter KEY ID expr TEXT  ok version N
   filter KEY ID none                               ok version N
@@ -98,7 +97,7 @@ Example:
   $ printf 'add 10.0.0.2:53\\njoin 10.0.0.2:53 1 127.0.0.1:9001\\nshow\\n' | dswitch replay
   ok version 1
   ok version 2
-  version 2 groups 1 members 1 charge 9";
+  version 2 groups 1 members 1 charge 10";
 
 pub const FLOOD: &str = "Judge 4096 datagrams in worker threads while versions are replaced";
 

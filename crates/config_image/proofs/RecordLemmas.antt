@@ -6,16 +6,16 @@ use Rattle.ipv4_fields.specs.Endpoint.{endpoint_number}
 use Rattle.member_group.specs.declared.TheConstants.{GROUP_WORDS, MEMBER_WORDS}
 use Rattle.member_group.specs.declared.member.Member.{Member}
 use Rattle.member_group.specs.Charge.{members_of}
-use Rattle.config_image.specs.Image.{Group, all_member_records, filter_words, group_program_words, group_records, member_records, program_words, reference, words_of}
+use Rattle.config_image.specs.Image.{Group, all_member_records, filter_words, group_program_words, group_records, lock_word, member_records, program_words, reference, words_of}
 use Rattle.config_image.proofs.LengthLemmas.{length-member_records, members_of-cons}
 use Rattle.config_image.proofs.WordLemmas.{slice_get-append_left, slice_get-append_right}
 
--- the four words of a group, the three words of a member
+-- the four words of a group, and of a member
 abbrev pub group_record : ℕ → ℕ → Group → List ℕ
 group_record members programs group = endpoint_number group.key ∷ members ∷ length group.members ∷ reference programs group.selector ∷ []
 
 abbrev pub member_record : ℕ → Member ProgramValue → List ℕ
-member_record filter member = member.id ∷ endpoint_number member.to ∷ reference filter member.filter ∷ []
+member_record filter member = member.id ∷ endpoint_number member.to ∷ reference filter member.filter ∷ lock_word member.locked ∷ []
 
 -- a word of the first part, and of the rest
 in_first : (first rest : List ℕ) (i j : ℕ) → i ≡ j → j < length first → slice_get (first ++ rest) i ≡ slice_get first j

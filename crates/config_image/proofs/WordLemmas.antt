@@ -9,7 +9,7 @@ use Rattle.member_group.specs.Charge.{members_of}
 use Rattle.member_group.specs.declared.member.Member.{Member}
 use Rattle.config_image.proofs.LengthLemmas.{length-member_records, members_of-cons}
 use Rattle.ipv4_fields.specs.Endpoint.{endpoint_number}
-use Rattle.config_image.specs.Image.{Group, all_member_records, filter_words, group_program_words, group_records, member_records, program_words, reference, words_of}
+use Rattle.config_image.specs.Image.{Group, all_member_records, filter_words, group_program_words, group_records, lock_word, member_records, program_words, reference, words_of}
 
 pub slice_get-append_left : (xs ys : List ℕ) (i : ℕ) → i < length xs → slice_get (xs ++ ys) i ≡ slice_get xs i
 slice_get-append_left [] ys i inside = absurd (omega arith)
@@ -85,7 +85,7 @@ module _ (members : List (Member ProgramValue)) (i : ℕ) (member : Member Progr
   pub member_records_more : (place left n : ℕ) → MEMBER_WORDS ≤ left → n ≡ length (words_of member.filter)
       → slice_get (member_records (place + n) (drop (i + 1) members)) (left - MEMBER_WORDS) ≡ slice_get (member_records place (drop i members)) left
   member_records_more place left n past counted =
-      let first = member.id ∷ endpoint_number member.to ∷ reference place member.filter ∷ [] in
+      let first = member.id ∷ endpoint_number member.to ∷ reference place member.filter ∷ lock_word member.locked ∷ [] in
       let rest = member_records (place + length (words_of member.filter)) (drop (i + 1) members) in
       rw counted (later_word (member_records place (drop i members)) first rest left MEMBER_WORDS (from_item (member_records place) members i member inside is) refl past)
 

@@ -1,5 +1,5 @@
 -- The words in which the table keeps a configuration (docs/SWITCH.md, "Image").
-use Rattle.std.specs.Prelude.{◌≡◌, ◌*◌, ◌+◌, ◌++◌, ◌∷◌, List, None, Option, Some, [], length, replicate, take, ℕ}
+use Rattle.std.specs.Prelude.{◌≡◌, ◌*◌, ◌+◌, ◌++◌, ◌∷◌, Bool, List, None, Option, Some, [], false, length, replicate, take, true, ℕ}
 use Rattle.bpf_verify.specs.Program.{ProgramValue}
 use Rattle.ipv4_fields.specs.Endpoint.{endpoint_number}
 use Rattle.member_group.specs.declared.TheConstants.{GROUP_WORDS, HEAD_WORDS, MEMBER_WORDS}
@@ -41,11 +41,17 @@ group_records members place (group ∷ rest) =
     endpoint_number group.key ∷ members ∷ length group.members ∷ reference place group.selector
     ∷ group_records (members + MEMBER_WORDS * length group.members) (place + length (group_program_words group)) rest
 
--- three words a member: its number, where its packets are sent, its filter's reference; the first filter begins at this place
+-- 1 where a member is locked, else 0
+abbrev pub lock_word : Bool → ℕ
+lock_word true = 1
+lock_word false = 0
+
+-- four words a member: its number, where its packets are sent, its filter's reference, its lock; the first filter begins at
+-- this place
 abbrev pub member_records : ℕ → List (Member ProgramValue) → List ℕ
 member_records place [] = []
 member_records place (member ∷ rest) =
-    member.id ∷ endpoint_number member.to ∷ reference place member.filter
+    member.id ∷ endpoint_number member.to ∷ reference place member.filter ∷ lock_word member.locked
     ∷ member_records (place + length (words_of member.filter)) rest
 
 -- the member records of one group behind those of the other; the programs of the first group begin at this place

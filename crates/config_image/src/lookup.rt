@@ -148,7 +148,7 @@ fn read_filter<W: Words>(words: &mut W, entry: usize) -> Option<ProgramPlace>
 /// Tells which member a group has at an index, in words that begin with an image.
 ///
 /// `group` and `index` are counted from 0. Reads three words. Takes no memory. For who wants the member alone; judging a packet
-/// wants its filter too, and uses `member_with_filter`.
+/// wants its filter too, and uses `member_with_filter`. Whether it is locked is not read: no verdict asks for it.
 pub fn member_at<W: Words>(words: &mut W, group: usize, index: usize) -> MemberEntry
     requires { (config : List Group) × (member : Member ProgramValue) × BeginsWithImage (W.words words.old) config × HasMember config group index member }
     ensures member_found { (config : List Group) (member : Member ProgramValue) → BeginsWithImage (W.words words.old) config → HasMember config group index member → IsMemberFound member result }

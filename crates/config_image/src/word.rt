@@ -5,7 +5,7 @@ ghost use Rattle.std.specs.List.{All};
 ghost use Rattle.std.specs.Option.{option_map};
 ghost use Rattle.member_group.specs.Charge.{members_of};
 ghost use Rattle.member_group.specs.Group.{IsConfig, IsGroup};
-ghost use Rattle.config_image.specs.Image.{all_member_records, filter_words, group_program_words, group_records, image, member_records, program_words, reference};
+ghost use Rattle.config_image.specs.Image.{all_member_records, filter_words, group_program_words, group_records, image, lock_word, member_records, program_words, reference};
 
 use crate::size::{members_in, programs_len, words, words_in};
 use bpf_verify::{MAX_INSTRUCTIONS, Program};
@@ -27,6 +27,12 @@ pub(crate) fn program_reference<A: Allocator>(place: usize, program: Option<&Pro
         Some(program) => place as u64 * 65536 + program.words().len() as u64,
         None => 0,
     }
+}
+
+pub(crate) fn lock_word(locked: bool) -> u64
+    ensures { result ≡ lock_word locked }
+{
+    if locked { 1 } else { 0 }
 }
 
 // Word `word` of the groups' records, where member records begin at `members_at` and programs at `programs_at`.
@@ -76,7 +82,8 @@ fn member_word<A: Allocator>(members: &[Member<Program<A>>], word: usize, filter
             return match left {
                 0 => u64::from(member.id),
                 1 => member.to.number(),
-                _ => program_reference(place, member.filter.as_ref()),
+                2 => program_reference(place, member.filter.as_ref()),
+                _ => lock_word(member.locked),
             };
         }
         left -= MEMBER_WORDS;

@@ -7,7 +7,7 @@ ghost use Rattle.member_group.specs.Group.{IsConfig, IsGroup};
 ghost use Rattle.config_image.specs.Image.{all_member_records, filter_words, group_program_words, group_records, image, member_records, members_begin, program_words, programs_begin};
 
 use crate::size::{members_in, programs_len, words, words_in};
-use crate::word::{PLACE_LIMIT, program_reference};
+use crate::word::{PLACE_LIMIT, lock_word, program_reference};
 use bpf_verify::Program;
 use member_group::{
     Config, GROUP_LIMIT, GROUP_WORDS, Group, HEAD_WORDS, MEMBER_LIMIT, MEMBER_WORDS, Member,
@@ -80,7 +80,8 @@ fn write_member_records<A: Allocator, S: WordSink>(
     let mut place = filters_at;
     for member in members {
         let filter = program_reference(place, member.filter.as_ref());
-        let record = [u64::from(member.id), member.to.number(), filter];
+        let locked = lock_word(member.locked);
+        let record = [u64::from(member.id), member.to.number(), filter, locked];
         write_words(&record, sink);
         place += words(member.filter.as_ref()).len();
     }

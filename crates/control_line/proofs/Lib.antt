@@ -1,3 +1,4 @@
+mod FormLemmas
 mod RequestLemmas
 mod PacketLemmas
 mod ProgramLemmas

@@ -27,7 +27,7 @@ use Rattle.control_line.specs.Request.{Request, Spells, change, show, sweep}
 use Rattle.program_text.specs.Program.{Source}
 use Rattle.control_line.proofs.ChangeLemmas.{agrees_with, charged_alike, scanned_keeps, still_agrees}
 use Rattle.control_line.proofs.OverLemmas.{members_of-over}
-use Rattle.control_line.proofs.RequestLemmas.{differ}
+use Rattle.control_line.proofs.FormLemmas.{differ}
 
 -- ---- lines
 

@@ -3,7 +3,7 @@ use Rattle.std.proofs.Common.{◌≡◌, ◌∙◌, List, None, Some, ap, arith,
 use Rattle.member_group.specs.Refusal.{first_refusal}
 use Rattle.member_group.specs.Command.{after}
 use Rattle.member_group.specs.declared.command.Command.{Command}
-use Rattle.member_group.specs.declared.command.Command.TheVariants.{AddGroup, ClearFilter, ClearSelector, Join, Leave, RemoveGroup, SetFilter, SetSelector}
+use Rattle.member_group.specs.declared.command.Command.TheVariants.{AddGroup, ClearFilter, ClearSelector, Join, Leave, LockFilter, RemoveGroup, SetFilter, SetSelector}
 use Rattle.member_group.specs.declared.refusal.Refusal.{Refusal}
 use Rattle.control_line.specs.declared.reason.Reason.{Reason}
 use Rattle.control_line.specs.declared.reason.Reason.TheVariants as reason
@@ -41,6 +41,7 @@ one_made laws (SetSelector key source) one other means also = means.2 ∙ ap (Se
 one_made laws (ClearSelector key) one other means also = means ∙ sym also
 one_made laws (SetFilter key id source) one other means also = means.2 ∙ ap (SetFilter key id) (laws.one_program source means.0 also.0 means.1 also.1) ∙ sym also.2
 one_made laws (ClearFilter key id) one other means also = means ∙ sym also
+one_made laws (LockFilter key id) one other means also = means ∙ sym also
 
 not_at_fault : TextLaws → (command : Command Source) (made : Command TextProgram) (source : Source) (why : Reason) → Means command made → program_in command ≡ Some source → IsRefusalOfText source why → ⊥
 not_at_fault laws (AddGroup key) made source why means has fault = absurd (cc)
@@ -53,6 +54,7 @@ not_at_fault laws (ClearSelector key) made source why means has fault = absurd (
 not_at_fault laws (SetFilter key id text) made source why means has fault =
     let same : text ≡ source = cc in laws.not_both source means.0 fault.0 (subst (λ s. IsMeaningOf s means.0) same means.1) fault.1
 not_at_fault laws (ClearFilter key id) made source why means has fault = absurd (cc)
+not_at_fault laws (LockFilter key id) made source why means has fault = absurd (cc)
 
 -- ---- changes
 

@@ -1,18 +1,20 @@
 -- No line asks for two things.
-use Rattle.std.proofs.Common.{◌≡◌, ◌≢◌, ◌∙◌, ◌∷◌, ◌++◌, List, None, Option, Some, ap, arith, codes, decimal, inl, refl, subst, sym, ℕ}
+use Rattle.std.proofs.Common.{◌≡◌, ◌≢◌, ◌∙◌, ◌∷◌, ◌++◌, List, None, Option, Some, ap, arith, codes, decimal, false, inl, refl, subst, sym, ℕ}
+use Rattle.std.specs.Prelude.{bytes_eq}
 use Rattle.std.proofs.lemmas.Fmt.{decimal_injective}
 use Rattle.std.proofs.lemmas.List.{append_cancel_left}
 use Rattle.member_group.specs.Map.{key_of}
 use Rattle.member_group.specs.declared.command.Command.{Command}
-use Rattle.member_group.specs.declared.command.Command.TheVariants.{AddGroup, ClearFilter, ClearSelector, Join, Leave, RemoveGroup, SetFilter, SetSelector}
+use Rattle.member_group.specs.declared.command.Command.TheVariants.{AddGroup, Join, Leave, LockFilter, RemoveGroup}
+use Rattle.ipv4_fields.specs.declared.endpoint.Endpoint.{Endpoint}
 use Rattle.ipv4_fields.specs.Cut.{Lacks}
 use Rattle.ipv4_fields.specs.Endpoint.{endpoint_text}
-use Rattle.control_line.specs.Request.{spaced}
-use Rattle.control_line.specs.Request.{AsksForOneThing, Spells, change, show, sweep}
+use Rattle.control_line.specs.Request.{AsksForOneThing, Spells, change, show, spaced, sweep}
 use Rattle.program_text.specs.Program.{Source, assembly, expression}
 use Rattle.control_line.specs.body.Reading.{program_fields}
 use Rattle.ipv4_fields.proofs.TextLemmas.{has_separator, number_parts, one_cut, one_endpoint}
-use Rattle.control_line.proofs.RequestLemmas.{args_of, as_add, as_filter, as_join, as_leave, as_remove, as_selector, at_word, differ, filter_command, key_range, keyed, lacks-endpoint, lacks-test, lacks-word, parts, rest_of, selector_command, word_of}
+use Rattle.control_line.proofs.FormLemmas.{IsOfEndpoint, IsOfFilter, IsOfKey, IsOfNumber, IsOfSelector, Row, add_row, args_at, args_of, differ, differs, filter_command, filter_row, form_at, join_row, key_range, lacks-endpoint, lacks-row, lacks-test, leave_row, lock_row, one_row, parts, remove_row, rest_of, row_of, selector_command, selector_row, word_at, word_of}
+use Rattle.control_line.proofs.RequestLemmas.{at_word, keyed}
 
 -- ---- fields
 
@@ -31,7 +33,7 @@ one_program (Some (expression text)) (Some (expression other)) same = ap (λ t. 
 
 module _ (line : List ℕ) (one other : Command Source) (spells : Spells line (change one)) (also : Spells line (change other)) where
   at_one : (word_of one ≡ word_of other) × (args_of one ≡ args_of other)
-  at_one = at_word (word_of one) (args_of one) other (lacks-word one) (subst (λ text. Spells text (change other)) (parts line one spells) also)
+  at_one = at_word (word_of one) (args_of one) other (lacks-row (row_of one)) (subst (λ text. Spells text (change other)) (parts line one spells) also)
 
   same_keys : endpoint_text (key_of one) ≡ endpoint_text (key_of other) → key_of one ≡ key_of other
   same_keys = one_endpoint (key_of one) (key_of other) (key_range line one spells) (key_range line other also)
@@ -43,71 +45,64 @@ module _ (line : List ℕ) (one other : Command Source) (spells : Spells line (c
       (sym (keyed one not_add not_remove) ∙ (at_one.1 ∙ keyed other (λ e. not_add (at_one.0 ∙ e)) (λ e. not_remove (at_one.0 ∙ e)))) in
       (same_keys cut.0, cut.1)
 
-  two_adds : word_of one ≡ codes "add" → one ≡ other
-  two_adds word =
-      let is = as_add one word in
-      let also_is = as_add other (sym at_one.0 ∙ word) in
-      let args : endpoint_text (key_of one) ≡ endpoint_text (key_of other) = sym (ap args_of is) ∙ (at_one.1 ∙ ap args_of also_is) in
-      is ∙ ap AddGroup (same_keys args) ∙ sym also_is
+  -- a key alone
+  two_of_key : (make : Endpoint → Command Source) → IsOfKey make one → IsOfKey make other → args_of one ≡ endpoint_text (key_of one) → args_of other ≡ endpoint_text (key_of other) → one ≡ other
+  two_of_key make is also_is args other_args = is ∙ ap make (same_keys (sym args ∙ (at_one.1 ∙ other_args))) ∙ sym also_is
 
-  two_removes : word_of one ≡ codes "remove" → one ≡ other
-  two_removes word =
-      let is = as_remove one word in
-      let also_is = as_remove other (sym at_one.0 ∙ word) in
-      let args : endpoint_text (key_of one) ≡ endpoint_text (key_of other) = sym (ap args_of is) ∙ (at_one.1 ∙ ap args_of also_is) in
-      is ∙ ap RemoveGroup (same_keys args) ∙ sym also_is
+  module _ (not_add : word_of one ≢ codes "add") (not_remove : word_of one ≢ codes "remove") where
+    -- a key and a member's number
+    two_of_number : (make : Endpoint → ℕ → Command Source) → IsOfNumber make one → IsOfNumber make other → one ≡ other
+    two_of_number make is also_is =
+        let args = same_args not_add not_remove in
+        let number = decimal_injective is.0 also_is.0 (omega (arith, is.1)) (omega (arith, also_is.1)) (sym is.2 ∙ (args.1 ∙ also_is.2)) in
+        is.3 ∙ ap (λ key. make key is.0) args.0 ∙ ap (make (key_of other)) number ∙ sym also_is.3
 
-  two_leaves : word_of one ≡ codes "leave" → one ≡ other
-  two_leaves word =
-      let is = as_leave line one spells word in
-      let also_is = as_leave line other also (sym at_one.0 ∙ word) in
-      let args = same_args (λ e. differ 0 (sym word ∙ e) refl) (λ e. differ 0 (sym word ∙ e) refl) in
-      let number = decimal_injective is.0 also_is.0 (omega (arith, is.1)) (omega (arith, also_is.1)) (sym is.2 ∙ (args.1 ∙ also_is.2)) in
-      is.3 ∙ ap (λ key. Leave key is.0) args.0 ∙ ap (Leave (key_of other)) number ∙ sym also_is.3
+    two_of_endpoint : (make : Endpoint → ℕ → Endpoint → Command Source) → IsOfEndpoint make one → IsOfEndpoint make other → one ≡ other
+    two_of_endpoint make is also_is =
+        let args = same_args not_add not_remove in
+        let tail = number_parts 32 is.0 also_is.0 (endpoint_text is.2) (endpoint_text also_is.2) (inl (omega arith)) (omega (arith, is.1)) (omega (arith, also_is.1)) (sym (is.4 ∙ ap (λ t. decimal is.0 ++ 32 ∷ t) is.5) ∙ (args.1 ∙ (also_is.4 ∙ ap (λ t. decimal also_is.0 ++ 32 ∷ t) also_is.5))) in
+        is.6
+        ∙ ap (λ key. make key is.0 is.2) args.0
+        ∙ ap (λ id. make (key_of other) id is.2) tail.0
+        ∙ ap (make (key_of other) also_is.0) (one_endpoint is.2 also_is.2 is.3 also_is.3 tail.1)
+        ∙ sym also_is.6
 
-  two_joins : word_of one ≡ codes "join" → one ≡ other
-  two_joins word =
-      let is = as_join line one spells word in
-      let also_is = as_join line other also (sym at_one.0 ∙ word) in
-      let args = same_args (λ e. differ 0 (sym word ∙ e) refl) (λ e. differ 0 (sym word ∙ e) refl) in
-      let tail = number_parts 32 is.0 also_is.0 (endpoint_text is.2) (endpoint_text also_is.2) (inl (omega arith)) (omega (arith, is.1)) (omega (arith, also_is.1)) (sym is.4 ∙ (args.1 ∙ also_is.4)) in
-      is.6
-      ∙ ap (λ key. Join key is.0 is.2) args.0
-      ∙ ap (λ id. Join (key_of other) id is.2) tail.0
-      ∙ ap (Join (key_of other) also_is.0) (one_endpoint is.2 also_is.2 is.3 also_is.3 tail.1)
-      ∙ sym also_is.6
+    two_of_selector : IsOfSelector one → IsOfSelector other → one ≡ other
+    two_of_selector is also_is =
+        let args = same_args not_add not_remove in
+        is.3
+        ∙ ap (λ key. selector_command key is.0) args.0
+        ∙ ap (selector_command (key_of other)) (one_program is.0 also_is.0 (sym is.2 ∙ (args.1 ∙ also_is.2)))
+        ∙ sym also_is.3
 
-  two_selectors : word_of one ≡ codes "selector" → one ≡ other
-  two_selectors word =
-      let is = as_selector line one spells word in
-      let also_is = as_selector line other also (sym at_one.0 ∙ word) in
-      let args = same_args (λ e. differ 0 (sym word ∙ e) refl) (λ e. differ 0 (sym word ∙ e) refl) in
-      is.3
-      ∙ ap (λ key. selector_command key is.0) args.0
-      ∙ ap (selector_command (key_of other)) (one_program is.0 also_is.0 (sym is.2 ∙ (args.1 ∙ also_is.2)))
-      ∙ sym also_is.3
+    two_of_filter : IsOfFilter one → IsOfFilter other → one ≡ other
+    two_of_filter is also_is =
+        let args = same_args not_add not_remove in
+        let tail = number_parts 32 is.0 also_is.0 (spaced (program_fields is.2)) (spaced (program_fields also_is.2)) (inl (omega arith)) (omega (arith, is.1)) (omega (arith, also_is.1)) (sym (is.3 ∙ ap (λ t. decimal is.0 ++ 32 ∷ t) is.4) ∙ (args.1 ∙ (also_is.3 ∙ ap (λ t. decimal also_is.0 ++ 32 ∷ t) also_is.4))) in
+        is.5
+        ∙ ap (λ key. filter_command key is.0 is.2) args.0
+        ∙ ap (λ id. filter_command (key_of other) id is.2) tail.0
+        ∙ ap (filter_command (key_of other) also_is.0) (one_program is.2 also_is.2 tail.1)
+        ∙ sym also_is.5
 
-  two_filters : word_of one ≡ codes "filter" → one ≡ other
-  two_filters word =
-      let is = as_filter line one spells word in
-      let also_is = as_filter line other also (sym at_one.0 ∙ word) in
-      let args = same_args (λ e. differ 0 (sym word ∙ e) refl) (λ e. differ 0 (sym word ∙ e) refl) in
-      let tail = number_parts 32 is.0 also_is.0 (spaced (program_fields is.2)) (spaced (program_fields also_is.2)) (inl (omega arith)) (omega (arith, is.1)) (omega (arith, also_is.1)) (sym (is.3 ∙ ap (λ t. decimal is.0 ++ 32 ∷ t) is.4) ∙ (args.1 ∙ (also_is.3 ∙ ap (λ t. decimal also_is.0 ++ 32 ∷ t) also_is.4))) in
-      is.5
-      ∙ ap (λ key. filter_command key is.0 is.2) args.0
-      ∙ ap (λ id. filter_command (key_of other) id is.2) tail.0
-      ∙ ap (filter_command (key_of other) also_is.0) (one_program is.2 also_is.2 tail.1)
-      ∙ sym also_is.5
+  -- the word of a row is neither of the two that a key alone follows
+  apart : (row : Row) → word_of one ≡ word_at row → (bytes_eq (word_at row) (codes "add") ≡ false) → (bytes_eq (word_at row) (codes "remove") ≡ false) → (word_of one ≢ codes "add") × (word_of one ≢ codes "remove")
+  apart row word not_add not_remove = (λ e. differs (word_at row) (codes "add") not_add (sym word ∙ e), λ e. differs (word_at row) (codes "remove") not_remove (sym word ∙ e))
 
-one_command : (line : List ℕ) (one other : Command Source) → Spells line (change one) → Spells line (change other) → one ≡ other
-one_command line (AddGroup key) other spells also = two_adds line _ other spells also refl
-one_command line (RemoveGroup key) other spells also = two_removes line _ other spells also refl
-one_command line (Join key id to) other spells also = two_joins line _ other spells also refl
-one_command line (Leave key id) other spells also = two_leaves line _ other spells also refl
-one_command line (SetSelector key source) other spells also = two_selectors line _ other spells also refl
-one_command line (ClearSelector key) other spells also = two_selectors line _ other spells also refl
-one_command line (SetFilter key id source) other spells also = two_filters line _ other spells also refl
-one_command line (ClearFilter key id) other spells also = two_filters line _ other spells also refl
+  one_of_row : (row : Row) → row_of one ≡ row → row_of other ≡ row → one ≡ other
+  one_of_row row is also_is = by_row row (ap word_at is) (ap word_at also_is) (ap (λ r. args_at r one) is) (ap (λ r. args_at r other) also_is)
+    where
+      by_row : (row : Row) → word_of one ≡ word_at row → word_of other ≡ word_at row → args_of one ≡ args_at row one → args_of other ≡ args_at row other → one ≡ other
+      by_row add_row word also_word args other_args = two_of_key AddGroup (form_at add_row line one spells word) (form_at add_row line other also also_word) args other_args
+      by_row remove_row word also_word args other_args = two_of_key RemoveGroup (form_at remove_row line one spells word) (form_at remove_row line other also also_word) args other_args
+      by_row selector_row word also_word args other_args = let no = apart selector_row word refl refl in two_of_selector no.0 no.1 (form_at selector_row line one spells word) (form_at selector_row line other also also_word)
+      by_row leave_row word also_word args other_args = let no = apart leave_row word refl refl in two_of_number no.0 no.1 Leave (form_at leave_row line one spells word) (form_at leave_row line other also also_word)
+      by_row lock_row word also_word args other_args = let no = apart lock_row word refl refl in two_of_number no.0 no.1 LockFilter (form_at lock_row line one spells word) (form_at lock_row line other also also_word)
+      by_row join_row word also_word args other_args = let no = apart join_row word refl refl in two_of_endpoint no.0 no.1 Join (form_at join_row line one spells word) (form_at join_row line other also also_word)
+      by_row filter_row word also_word args other_args = let no = apart filter_row word refl refl in two_of_filter no.0 no.1 (form_at filter_row line one spells word) (form_at filter_row line other also also_word)
+
+  pub one_command : one ≡ other
+  one_command = one_of_row (row_of one) refl (one_row (row_of other) (row_of one) (sym at_one.0))
 
 -- a line that asks for a change has a space
 spaceless : (line : List ℕ) (command : Command Source) → Spells line (change command) → (word : List ℕ) → Lacks 32 word → line ≢ word

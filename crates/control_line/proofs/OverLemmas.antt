@@ -7,15 +7,15 @@ use Rattle.std.proofs.lemmas.List.{length-map, map-append, take-map}
 use Rattle.ipv4_fields.specs.declared.endpoint.Endpoint.{Endpoint}
 use Rattle.ipv4_fields.specs.Endpoint.{endpoint_number}
 use Rattle.member_group.specs.Charge.{charge_by, members_of, programs_of, programs_of_group}
-use Rattle.member_group.specs.Command.{after, joined, left, with_changed, with_filter, with_group, with_selector}
+use Rattle.member_group.specs.Command.{after, joined, left, locked, with_changed, with_filter, with_group, with_selector}
 use Rattle.member_group.specs.Group.{GroupOf, group_of, has_id, has_key, member_of}
-use Rattle.member_group.specs.Refusal.{clear_filter_causes, clear_selector_causes, first_of, first_refusal, in_group, join_causes, lacks_filter, lacks_member, leave_causes, set_filter_causes}
+use Rattle.member_group.specs.Refusal.{clear_filter_causes, clear_selector_causes, first_of, first_refusal, has_locked, in_group, is_locked, join_causes, lacks_filter, lacks_member, member_causes, set_filter_causes}
 use Rattle.member_group.specs.declared.TheConstants.{GROUP_LIMIT, GROUP_WORDS, HEAD_WORDS, MEMBER_LIMIT, MEMBER_WORDS}
 use Rattle.member_group.specs.declared.command.Command.{Command}
-use Rattle.member_group.specs.declared.command.Command.TheVariants.{AddGroup, ClearFilter, ClearSelector, Join, Leave, RemoveGroup, SetFilter, SetSelector}
+use Rattle.member_group.specs.declared.command.Command.TheVariants.{AddGroup, ClearFilter, ClearSelector, Join, Leave, LockFilter, RemoveGroup, SetFilter, SetSelector}
 use Rattle.member_group.specs.declared.member.Member.{Member}
 use Rattle.member_group.specs.declared.refusal.Refusal.{Refusal}
-use Rattle.member_group.specs.declared.refusal.Refusal.TheVariants.{GroupExists, GroupFull, MemberExists, NoMember, NoProgram, TooManyGroups}
+use Rattle.member_group.specs.declared.refusal.Refusal.TheVariants.{GroupExists, GroupFull, Locked, MemberExists, NoMember, NoProgram, TooManyGroups}
 use Rattle.control_line.specs.Agrees.{config_over, group_over, member_over}
 use Rattle.control_line.specs.body.Reading.{command_over}
 
@@ -79,7 +79,7 @@ module _ {P Q : Type 0} (over : P → Q) where
   with_members group members = record { key = group.key; selector = option_map over group.selector; members = members }
 
   joined-over : (id : ℕ) (to : Endpoint) (group : GroupOf P) → joined id to (group_over over group) ≡ group_over over (joined id to group)
-  joined-over id to group = ap (with_members group) (sym (map-append (member_over over) group.members (record { id = id; to = to; filter = None } ∷ [])))
+  joined-over id to group = ap (with_members group) (sym (map-append (member_over over) group.members (record { id = id; to = to; filter = None; locked = false } ∷ [])))
 
   left-over : (id : ℕ) (group : GroupOf P) → left id (group_over over group) ≡ group_over over (left id group)
   left-over id group = ap (with_members group) (by_last (length (map (member_over over) group.members) - 1) (length group.members - 1) (ap (λ n. n - 1) (length-map group.members (member_over over))))
@@ -98,7 +98,14 @@ module _ {P Q : Type 0} (over : P → Q) where
   filter-over id filter group =
       ap (with_members group)
       (map-commutes (member_over over) (λ member. cond (has_id id member) (record member { filter = filter }) member) (λ member. cond (has_id id member) (record member { filter = option_map over filter }) member)
-      (λ member. elim (has_id id member) as (λ b. cond b (record { id = member.id; to = member.to; filter = option_map over filter }) (member_over over member) ≡ member_over over (cond b (record member { filter = filter }) member)) [ true ↦ refl | false ↦ refl ])
+      (λ member. elim (has_id id member) as (λ b. cond b (record { id = member.id; to = member.to; filter = option_map over filter; locked = member.locked }) (member_over over member) ≡ member_over over (cond b (record member { filter = filter }) member)) [ true ↦ refl | false ↦ refl ])
+      group.members)
+
+  locked-over : (id : ℕ) (group : GroupOf P) → locked id (group_over over group) ≡ group_over over (locked id group)
+  locked-over id group =
+      ap (with_members group)
+      (map-commutes (member_over over) (λ member. cond (has_id id member) (record member { locked = true }) member) (λ member. cond (has_id id member) (record member { locked = true }) member)
+      (λ member. elim (has_id id member) as (λ b. cond b (record { id = member.id; to = member.to; filter = option_map over member.filter; locked = true }) (member_over over member) ≡ member_over over (cond b (record member { locked = true }) member)) [ true ↦ refl | false ↦ refl ])
       group.members)
 
   added-over : (key : Endpoint) (config : List (GroupOf P)) → with_group key (config_over over config) ≡ config_over over (with_group key config)
@@ -120,6 +127,7 @@ module _ {P Q : Type 0} (over : P → Q) where
   after-over (ClearSelector key) config = changed-over key (with_selector None) (with_selector None) (λ group. refl) config
   after-over (SetFilter key id program) config = changed-over key (with_filter id (Some program)) (with_filter id (Some (over program))) (filter-over id (Some program)) config
   after-over (ClearFilter key id) config = changed-over key (with_filter id None) (with_filter id None) (filter-over id None) config
+  after-over (LockFilter key id) config = changed-over key (locked id) (locked id) (locked-over id) config
 
   pub group-over : (key : Endpoint) (config : List (GroupOf P)) → group_of key (config_over over config) ≡ option_map (group_over over) (group_of key config)
   group-over key config = find-map (group_over over) (has_key key) (has_key key) (λ group. refl) config
@@ -144,6 +152,13 @@ module _ {P Q : Type 0} (over : P → Q) where
       by_member None = refl
       by_member (Some member) = is_none-over over member.filter
 
+  has_locked-over : (id : ℕ) (group : GroupOf P) → has_locked id (group_over over group) ≡ has_locked id group
+  has_locked-over id group = ap is_locked (member-over id group) ∙ by_member (member_of id group)
+    where
+      by_member : (found : Option (Member P)) → is_locked (option_map (member_over over) found) ≡ is_locked found
+      by_member None = refl
+      by_member (Some member) = refl
+
   join_causes-over : (id : ℕ) (group : GroupOf P) → join_causes id (group_over over group) ≡ join_causes id group
   join_causes-over id group =
       ap (λ b. (b, MemberExists) ∷ (nat_le MEMBER_LIMIT (length (map (member_over over) group.members)), GroupFull) ∷ []) (ap is_some (member-over id group) ∙ is_some-over (member_over over) (member_of id group))
@@ -151,8 +166,17 @@ module _ {P Q : Type 0} (over : P → Q) where
 
   clear_filter_causes-over : (id : ℕ) (group : GroupOf P) → clear_filter_causes id (group_over over group) ≡ clear_filter_causes id group
   clear_filter_causes-over id group =
-      ap (λ b. (b, NoMember) ∷ (lacks_filter id (group_over over group), NoProgram) ∷ []) (lacks_member-over id group)
-      ∙ ap (λ b. (lacks_member id group, NoMember) ∷ (b, NoProgram) ∷ []) (lacks_filter-over id group)
+      ap (λ b. (b, NoMember) ∷ (has_locked id (group_over over group), Locked) ∷ (lacks_filter id (group_over over group), NoProgram) ∷ []) (lacks_member-over id group)
+      ∙ ap (λ b. (lacks_member id group, NoMember) ∷ (b, Locked) ∷ (lacks_filter id (group_over over group), NoProgram) ∷ []) (has_locked-over id group)
+      ∙ ap (λ b. (lacks_member id group, NoMember) ∷ (has_locked id group, Locked) ∷ (b, NoProgram) ∷ []) (lacks_filter-over id group)
+
+  set_filter_causes-over : (id : ℕ) (group : GroupOf P) → set_filter_causes id (group_over over group) ≡ set_filter_causes id group
+  set_filter_causes-over id group =
+      ap (λ b. (b, NoMember) ∷ (has_locked id (group_over over group), Locked) ∷ []) (lacks_member-over id group)
+      ∙ ap (λ b. (lacks_member id group, NoMember) ∷ (b, Locked) ∷ []) (has_locked-over id group)
+
+  member_causes-over : (id : ℕ) (group : GroupOf P) → member_causes id (group_over over group) ≡ member_causes id group
+  member_causes-over id group = ap (λ b. (b, NoMember) ∷ []) (lacks_member-over id group)
 
   -- the first refusal of a command
   pub first_refusal-over : (command : Command P) (config : List (GroupOf P)) → first_refusal (command_over over command) (config_over over config) ≡ first_refusal command config
@@ -161,11 +185,12 @@ module _ {P Q : Type 0} (over : P → Q) where
       ∙ ap (λ n. first_of ((is_some (group_of key config), GroupExists) ∷ (nat_le GROUP_LIMIT n, TooManyGroups) ∷ [])) (length-map config (group_over over))
   first_refusal-over (RemoveGroup key) config = in_group-over (λ group. []) (λ group. []) (λ group. refl) key config
   first_refusal-over (Join key id to) config = in_group-over (join_causes id) (join_causes id) (join_causes-over id) key config
-  first_refusal-over (Leave key id) config = in_group-over (leave_causes id) (leave_causes id) (λ group. ap (λ b. (b, NoMember) ∷ []) (lacks_member-over id group)) key config
+  first_refusal-over (Leave key id) config = in_group-over (member_causes id) (member_causes id) (member_causes-over id) key config
   first_refusal-over (SetSelector key program) config = in_group-over (λ group. []) (λ group. []) (λ group. refl) key config
   first_refusal-over (ClearSelector key) config = in_group-over clear_selector_causes clear_selector_causes (λ group. ap (λ b. (b, NoProgram) ∷ []) (is_none-over over group.selector)) key config
-  first_refusal-over (SetFilter key id program) config = in_group-over (set_filter_causes id) (set_filter_causes id) (λ group. ap (λ b. (b, NoMember) ∷ []) (lacks_member-over id group)) key config
+  first_refusal-over (SetFilter key id program) config = in_group-over (set_filter_causes id) (set_filter_causes id) (set_filter_causes-over id) key config
   first_refusal-over (ClearFilter key id) config = in_group-over (clear_filter_causes id) (clear_filter_causes id) (clear_filter_causes-over id) key config
+  first_refusal-over (LockFilter key id) config = in_group-over (member_causes id) (member_causes id) (member_causes-over id) key config
 
   pub members_of-over : (config : List (GroupOf P)) → members_of (config_over over config) ≡ members_of config
   members_of-over config = sum_by-map (group_over over) _ _ (λ group. length-map group.members (member_over over)) config

@@ -15,7 +15,7 @@ TextConfig = List (GroupOf TextProgram)
 
 -- a member, a group and a configuration with another kind of programs
 abbrev pub member_over : {P Q : Type 0} → (P → Q) → Member P → Member Q
-member_over over member = record { id = member.id; to = member.to; filter = option_map over member.filter }
+member_over over member = record { id = member.id; to = member.to; filter = option_map over member.filter; locked = member.locked }
 
 abbrev pub group_over : {P Q : Type 0} → (P → Q) → GroupOf P → GroupOf Q
 group_over over group =
@@ -31,8 +31,8 @@ pub record Agreeing : Type 0 where
   pub charge : program.charge ≡ text_charge text
   pub ending : (packet : List ℕ) → IsPacket packet → ending_of program.words packet ≡ text_ending text packet
 
--- two configurations are the sides of one whose programs are pairs that agree: they have the same keys, the same members,
--- and a program in the same places, with the same charge and the same ending on every packet
+-- two configurations are the sides of one whose programs are pairs that agree: they have the same keys, the same members with
+-- the same locks, and a program in the same places, with the same charge and the same ending on every packet
 abbrev pub Agrees : TextConfig → List Group → Type 0
 Agrees text config =
     (pairs : List (GroupOf Agreeing))

@@ -4,7 +4,7 @@ use Rattle.member_group.specs.Charge.{charge_by, members_of}
 use Rattle.member_group.specs.Command.{after}
 use Rattle.member_group.specs.Refusal.{first_refusal}
 use Rattle.member_group.specs.declared.command.Command.{Command}
-use Rattle.member_group.specs.declared.command.Command.TheVariants.{AddGroup, ClearFilter, ClearSelector, Join, Leave, RemoveGroup, SetFilter, SetSelector}
+use Rattle.member_group.specs.declared.command.Command.TheVariants.{AddGroup, ClearFilter, ClearSelector, Join, Leave, LockFilter, RemoveGroup, SetFilter, SetSelector}
 use Rattle.member_group.specs.declared.refusal.Refusal.{Refusal}
 use Rattle.config_image.specs.Image.{Group}
 use Rattle.versions.specs.Free.{number_after}
@@ -42,6 +42,7 @@ Means (SetSelector key source) made = (program : TextProgram) × IsMeaningOf sou
 Means (ClearSelector key) made = made ≡ ClearSelector key
 Means (SetFilter key id source) made = (program : TextProgram) × IsMeaningOf source program × (made ≡ SetFilter key id program)
 Means (ClearFilter key id) made = made ≡ ClearFilter key id
+Means (LockFilter key id) made = made ≡ LockFilter key id
 
 -- what is charged for a configuration
 abbrev pub charge_of_text : TextConfig → ℕ

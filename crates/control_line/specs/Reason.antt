@@ -77,6 +77,7 @@ command_code refusal.TooManyGroups = plain (codes "G5")
 command_code refusal.GroupFull = plain (codes "G6")
 command_code refusal.NoProgram = plain (codes "G7")
 command_code refusal.OutOfMemory = plain (codes "G8")
+command_code refusal.Locked = plain (codes "G9")
 
 abbrev pub publish_code : PublishFault → Code
 publish_code publish.TooBig = plain (codes "B1")

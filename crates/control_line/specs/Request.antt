@@ -2,7 +2,7 @@
 use Rattle.std.specs.Prelude.{◌≡◌, ◌<◌, ◌^◌, ◌∷◌, ◌++◌, List, [], codes, decimal, ℕ}
 use Rattle.ipv4_fields.specs.Endpoint.{IsEndpoint, endpoint_text}
 use Rattle.member_group.specs.declared.command.Command.{Command}
-use Rattle.member_group.specs.declared.command.Command.TheVariants.{AddGroup, ClearFilter, ClearSelector, Join, Leave, RemoveGroup, SetFilter, SetSelector}
+use Rattle.member_group.specs.declared.command.Command.TheVariants.{AddGroup, ClearFilter, ClearSelector, Join, Leave, LockFilter, RemoveGroup, SetFilter, SetSelector}
 use Rattle.program_text.specs.Program.{Source, assembly, expression}
 
 -- a line asks for a change of the configuration, for its measures, or for a sweep
@@ -26,6 +26,8 @@ HasFields fields (Join key id to) =
     × (fields ≡ codes "join" ∷ endpoint_text key ∷ decimal id ∷ endpoint_text to ∷ [])
 HasFields fields (Leave key id) =
     IsEndpoint key × (id < 2 ^ 32) × (fields ≡ codes "leave" ∷ endpoint_text key ∷ decimal id ∷ [])
+HasFields fields (LockFilter key id) =
+    IsEndpoint key × (id < 2 ^ 32) × (fields ≡ codes "lock" ∷ endpoint_text key ∷ decimal id ∷ [])
 HasFields fields (SetSelector key (assembly text)) =
     IsEndpoint key × (fields ≡ codes "selector" ∷ endpoint_text key ∷ codes "asm" ∷ text ∷ [])
 HasFields fields (SetSelector key (expression text)) = ⊥

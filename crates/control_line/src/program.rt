@@ -67,5 +67,6 @@ pub(crate) fn command_of(
             program: program_of(alloc, program)?,
         }),
         Command::ClearFilter { key, member } => Ok(Command::ClearFilter { key, member }),
+        Command::LockFilter { key, member } => Ok(Command::LockFilter { key, member }),
     }
 }

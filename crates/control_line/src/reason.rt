@@ -31,7 +31,7 @@ pub enum Reason {
     Expression(ParseFault),
     /// F1, F2: the expression has no program.
     Compiling(CompileFault),
-    /// G1 to G7: the configuration refuses the command.
+    /// G1 to G7, G9: the configuration refuses the command.
     Command(Refusal),
     /// B1 to B3: the new configuration is not published.
     Publishing(PublishFault),
@@ -127,6 +127,7 @@ fn command_code(refusal: Refusal) -> Code
         Refusal::GroupFull => "G6",
         Refusal::NoProgram => "G7",
         Refusal::OutOfMemory => "G8",
+        Refusal::Locked => "G9",
     })
 }
 

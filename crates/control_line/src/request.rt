@@ -5,7 +5,7 @@ ghost use Rattle.ipv4_fields.specs.Endpoint.{IsEndpoint, endpoint_text};
 ghost use Rattle.ipv4_fields.specs.Cut.{Lacks};
 ghost use Rattle.program_text.specs.Program.{Source};
 ghost use Rattle.control_line.specs.Request.{spaced};
-ghost use Rattle.control_line.specs.body.Reading.{IsCommandRead, IsRead, program_fields, source_of};
+ghost use Rattle.control_line.specs.body.Reading.{IsCommandRead, IsMemberWord, IsRead, program_fields, source_of};
 
 use ipv4_fields::{Endpoint, read_number, split_at};
 use member_group::Command;
@@ -82,6 +82,27 @@ fn read_filter<'a>(key: Endpoint, member: u32, fields: &'a [u8]) -> Option<Comma
     }
 }
 
+// A line of a key and a member's number.
+fn read_number_line<'a>(
+    word: &'a [u8],
+    key: Endpoint,
+    number: &'a [u8],
+) -> Option<Command<ProgramText<'a>>>
+    requires key { IsEndpoint key }
+    requires word { IsMemberWord word.now }
+    requires last { Lacks 32 number.now }
+    ensures { IsCommandRead (word.now ++ 32 ∷ (endpoint_text key ++ 32 ∷ number.now)) result }
+{
+    let member = read_number(u32::MAX, number)?;
+    if is_word(word, "leave") {
+        return Some(Command::Leave { key, member });
+    }
+    if is_word(word, "lock") {
+        return Some(Command::LockFilter { key, member });
+    }
+    None
+}
+
 // A line that names a member, behind its first two fields.
 fn read_member_line<'a>(
     word: &'a [u8],
@@ -89,24 +110,19 @@ fn read_member_line<'a>(
     fields: &'a [u8],
 ) -> Option<Command<ProgramText<'a>>>
     requires key { IsEndpoint key }
-    requires word { Lacks 32 word.now }
-    requires not_add { word.now ≢ codes "add" }
-    requires not_remove { word.now ≢ codes "remove" }
-    requires not_selector { word.now ≢ codes "selector" }
+    requires word { IsMemberWord word.now }
     ensures { IsCommandRead (word.now ++ 32 ∷ (endpoint_text key ++ 32 ∷ fields.now)) result }
 {
-    if is_word(word, "leave") {
-        let member = read_number(u32::MAX, fields)?;
-        return Some(Command::Leave { key, member });
-    }
-    let (id, fields) = split_at(b' ', fields)?;
+    let Some((id, rest)) = split_at(b' ', fields) else {
+        return read_number_line(word, key, fields);
+    };
     let member = read_number(u32::MAX, id)?;
     if is_word(word, "join") {
-        let to = Endpoint::from_text(fields)?;
+        let to = Endpoint::from_text(rest)?;
         return Some(Command::Join { key, member, to });
     }
     if is_word(word, "filter") {
-        return read_filter(key, member, fields);
+        return read_filter(key, member, rest);
     }
     None
 }

@@ -136,7 +136,7 @@ const SCRIPT: [Case; 12] = [
     (b"leave 10.0.0.2:53 1", "refused G3"),
     (b"selector 10.0.0.2:53 asm ret #0", "ok version 6"),
     (b"filter 10.0.0.2:53 3 expr udp and less 28", "ok version 7"),
-    (b"show", "version 7 groups 1 members 2 charge 28"),
+    (b"show", "version 7 groups 1 members 2 charge 30"),
     (b"sweep", "reclaimed 0 7"),
     (b"sweep", "reclaimed 7 0"),
     (b"", "refused C1"),
@@ -148,7 +148,7 @@ fn lines_are_answered_in_turn(rt: HostRuntime) -> Result<(), Fail> {
 }
 
 // What is no line of the table, for its words, its spaces, its fields or its bytes.
-const NO_LINES: [&[u8]; 51] = [
+const NO_LINES: [&[u8]; 57] = [
     b"",
     b" ",
     b"show ",
@@ -189,6 +189,12 @@ const NO_LINES: [&[u8]; 51] = [
     b"leave 10.0.0.2:53",
     b"leave 10.0.0.2:53 -1",
     b"leave 10.0.0.2:53 1 ",
+    b"lock",
+    b"lock 10.0.0.2:53",
+    b"lock 10.0.0.2:53 -1",
+    b"lock 10.0.0.2:53 1 ",
+    b"lock 10.0.0.2:53 1 none",
+    b"unlock 10.0.0.2:53 1",
     b"selector 10.0.0.2:53",
     b"selector 10.0.0.2:53 asm",
     b"selector 10.0.0.2:53 none ",
@@ -214,13 +220,15 @@ fn other_texts_are_no_lines(rt: HostRuntime) -> Result<(), Fail> {
 }
 
 // The least and the greatest of each field.
-const FIELDS_AT_THEIR_ENDS: [Case; 6] = [
+const FIELDS_AT_THEIR_ENDS: [Case; 8] = [
     (b"add 0.0.0.0:0", "ok version 1"),
     (b"add 255.255.255.255:65535", "ok version 2"),
     (b"join 0.0.0.0:0 0 255.255.255.255:65535", "ok version 3"),
     (b"join 0.0.0.0:0 4294967295 0.0.0.0:0", "ok version 4"),
-    (b"leave 0.0.0.0:0 0", "ok version 5"),
-    (b"remove 255.255.255.255:65535", "ok version 6"),
+    (b"lock 0.0.0.0:0 0", "ok version 5"),
+    (b"lock 0.0.0.0:0 4294967295", "ok version 6"),
+    (b"leave 0.0.0.0:0 0", "ok version 7"),
+    (b"remove 255.255.255.255:65535", "ok version 8"),
 ];
 
 #[test]

@@ -6,13 +6,13 @@ use Rattle.std.proofs.lemmas.List.{get_or_read}
 use Rattle.member_group.specs.declared.TheConstants.{GROUP_LIMIT, MEMBER_LIMIT}
 use Rattle.member_group.specs.declared.member.Member.{Member}
 use Rattle.member_group.specs.declared.refusal.Refusal.{Refusal}
-use Rattle.member_group.specs.declared.refusal.Refusal.TheVariants.{GroupExists, GroupFull, MemberExists, NoGroup, NoMember, NoProgram, OutOfMemory, TooManyGroups}
+use Rattle.member_group.specs.declared.refusal.Refusal.TheVariants.{GroupExists, GroupFull, Locked, MemberExists, NoGroup, NoMember, NoProgram, OutOfMemory, TooManyGroups}
 use Rattle.ipv4_fields.specs.declared.endpoint.Endpoint.{Endpoint}
 use Rattle.member_group.specs.Command.{with_changed}
 use Rattle.member_group.specs.declared.command.Command.TheVariants.{AddGroup, RemoveGroup}
 use Rattle.member_group.specs.Group.{GroupOf, group_of, has_id, has_key, member_of}
 use Rattle.member_group.specs.Place.{IsGapFor, IsNowhere, IsOnlyAt}
-use Rattle.member_group.specs.Refusal.{IsAnswer, clear_filter_causes, first_of, first_refusal, in_group, join_causes, lacks_member, leave_causes}
+use Rattle.member_group.specs.Refusal.{IsAnswer, clear_filter_causes, first_of, first_refusal, in_group, join_causes, lacks_member, member_causes, set_filter_causes}
 use Rattle.member_group.proofs.ConfigLemmas.{group_of-gap}
 use Rattle.member_group.proofs.ListLemmas.{element_at, find-nowhere, find-only_at, map-only_at}
 
@@ -41,11 +41,11 @@ lacks_only_at id group at only =
     let member = element_at group.members at only.inside in
     rw (find-only_at (has_id id) group.members at member.0 member.1 only) refl
 
-pub leaves : {P : Type 0} (id : ℕ) (group : GroupOf P) (at : ℕ) → IsOnlyAt (has_id id) group.members at → first_of (leave_causes id group) ≡ None
-leaves id group at only = rw (lacks_only_at id group at only) refl
+pub has_member : {P : Type 0} (id : ℕ) (group : GroupOf P) (at : ℕ) → IsOnlyAt (has_id id) group.members at → first_of (member_causes id group) ≡ None
+has_member id group at only = rw (lacks_only_at id group at only) refl
 
-pub leave_refused : {P : Type 0} (id : ℕ) (group : GroupOf P) → IsNowhere (has_id id) group.members → first_of (leave_causes id group) ≡ Some NoMember
-leave_refused id group none = rw (lacks_nowhere id group none) refl
+pub no_member : {P : Type 0} (id : ℕ) (group : GroupOf P) → IsNowhere (has_id id) group.members → first_of (member_causes id group) ≡ Some NoMember
+no_member id group none = rw (lacks_nowhere id group none) refl
 
 pub exists_only_at : {P : Type 0} (id : ℕ) (group : GroupOf P) (at : ℕ) → IsOnlyAt (has_id id) group.members at → is_some (member_of id group) ≡ true
 exists_only_at id group at only =
@@ -64,13 +64,26 @@ join_full id group none full = rw (exists_nowhere id group none, le-leb MEMBER_L
 pub joins : {P : Type 0} (id : ℕ) (group : GroupOf P) → IsNowhere (has_id id) group.members → length group.members < MEMBER_LIMIT → first_of (join_causes id group) ≡ None
 joins id group none room = rw (exists_nowhere id group none, lt-leb MEMBER_LIMIT (length group.members) room) refl
 
--- ---- whether a filter is there
+-- ---- whether a member is locked, and a filter is there
 
-pub clears_filter : {P : Type 0} (id : ℕ) (group : GroupOf P) (at : ℕ) (member : Member P) → IsOnlyAt (has_id id) group.members at → member ≡ get_or group.members at member → is_none member.filter ≡ false → first_of (clear_filter_causes id group) ≡ None
-clears_filter id group at member only is some = rw (find-only_at (has_id id) group.members at member is only, some) refl
+module _ {P : Type 0} (id : ℕ) (group : GroupOf P) (at : ℕ) (member : Member P) (only : IsOnlyAt (has_id id) group.members at) (is : member ≡ get_or group.members at member) where
+  pub sets_filter : member.locked ≡ false → first_of (set_filter_causes id group) ≡ None
+  sets_filter free = rw (find-only_at (has_id id) group.members at member is only, free) refl
 
-pub clear_filter_without : {P : Type 0} (id : ℕ) (group : GroupOf P) (at : ℕ) (member : Member P) → IsOnlyAt (has_id id) group.members at → member ≡ get_or group.members at member → is_none member.filter ≡ true → first_of (clear_filter_causes id group) ≡ Some NoProgram
-clear_filter_without id group at member only is none = rw (find-only_at (has_id id) group.members at member is only, none) refl
+  pub set_filter_locked : member.locked ≡ true → first_of (set_filter_causes id group) ≡ Some Locked
+  set_filter_locked locked = rw (find-only_at (has_id id) group.members at member is only, locked) refl
+
+  pub clears_filter : member.locked ≡ false → is_none member.filter ≡ false → first_of (clear_filter_causes id group) ≡ None
+  clears_filter free some = rw (find-only_at (has_id id) group.members at member is only, free, some) refl
+
+  pub clear_filter_locked : member.locked ≡ true → first_of (clear_filter_causes id group) ≡ Some Locked
+  clear_filter_locked locked = rw (find-only_at (has_id id) group.members at member is only, locked) refl
+
+  pub clear_filter_without : member.locked ≡ false → is_none member.filter ≡ true → first_of (clear_filter_causes id group) ≡ Some NoProgram
+  clear_filter_without free none = rw (find-only_at (has_id id) group.members at member is only, free, none) refl
+
+pub set_filter_refused : {P : Type 0} (id : ℕ) (group : GroupOf P) → IsNowhere (has_id id) group.members → first_of (set_filter_causes id group) ≡ Some NoMember
+set_filter_refused id group none = rw (find-nowhere (has_id id) group.members none) refl
 
 pub clear_filter_refused : {P : Type 0} (id : ℕ) (group : GroupOf P) → IsNowhere (has_id id) group.members → first_of (clear_filter_causes id group) ≡ Some NoMember
 clear_filter_refused id group none = rw (find-nowhere (has_id id) group.members none) refl

@@ -1,5 +1,5 @@
 -- What the changes of a group come to where the member stands, and that they keep it a group.
-use Rattle.std.proofs.Common.{◌++◌, ◌+◌, ◌-◌, ◌<◌, ◌∙◌, ◌∷◌, ◌≡◌, ◌≢◌, ◌^◌, Bool, List, None, [], ap, arith, drop, get_or, inl, inr, length, length-append, length-set, map, refl, set, suc, sym, take, ℕ}
+use Rattle.std.proofs.Common.{◌++◌, ◌+◌, ◌-◌, ◌<◌, ◌∙◌, ◌∷◌, ◌≡◌, ◌≢◌, ◌^◌, Bool, List, None, [], ap, arith, drop, false, get_or, inl, inr, length, length-append, length-set, map, refl, set, suc, sym, take, true, ℕ}
 use Rattle.std.specs.Prelude.{if◌then◌else◌, IfSome, Option, slice_index_or}
 use Rattle.std.proofs.Math.Seq.{drop-cons}
 use Rattle.std.proofs.lemmas.Bool.{cases_eq, eq-eqb, true≢false}
@@ -11,9 +11,9 @@ use Rattle.ipv4_fields.specs.Endpoint.{IsEndpoint}
 use Rattle.ipv4_fields.specs.declared.endpoint.Endpoint.{Endpoint}
 use Rattle.member_group.specs.declared.TheConstants.{MEMBER_LIMIT}
 use Rattle.member_group.specs.declared.member.Member.{Member}
-use Rattle.member_group.specs.Command.{joined, left, with_filter}
+use Rattle.member_group.specs.Command.{joined, left, locked, with_filter, with_member}
 use Rattle.member_group.specs.Group.{GroupOf, IsGroup, IsMember, has_id}
-use Rattle.member_group.specs.Place.{IsNowhere, IsOnlyAt, last_in_gap, with_filter_at}
+use Rattle.member_group.specs.Place.{IsNowhere, IsOnlyAt, last_in_gap}
 use Rattle.member_group.proofs.ListLemmas.{AllPairs-set, AllPairs-take, element_at, last_in_gap-end, last_in_gap-inner, map-nowhere, map-only_at}
 
 -- ---- what a definition comes to at a place
@@ -59,29 +59,16 @@ pub left-only_at : {P : Type 0} (id : ℕ) (group : GroupOf P) (at : ℕ) → Is
 left-only_at {P} id group at only =
     ap (λ (members : List (Member P)). record group { members = members }) (map-last_in_gap (has_id id) group.members at only)
 
-pub set-filter_at : {P : Type 0} (filter : Option P) (members : List (Member P)) (at : ℕ) (member : Member P) → at < length members → member ≡ get_or members at member → with_filter_at at filter members ≡ set members at (record member { filter = filter })
-set-filter_at filter members at member inside is =
-    let from_at : drop at members ≡ member ∷ drop (suc at) members = drop-cons members at member inside ∙ ap (λ first. first ∷ drop (suc at) members) (sym is) in
-    rw from_at (sym (set_split members at (record member { filter = filter }) inside))
-
-pub with_filter_at-pieces : {P : Type 0} (filter : Option P) (members : List (Member P)) (at : ℕ) (member : Member P) → at < length members → member ≡ get_or members at member → take at members ++ (record { id = member.id; to = member.to; filter = filter } ∷ drop (at + 1) members) ≡ with_filter_at at filter members
-with_filter_at-pieces filter members at member inside is =
-    let from_at : drop at members ≡ member ∷ drop (at + 1) members = drop_more members at member inside ∙ ap (λ first. first ∷ drop (at + 1) members) (sym is) in
-    rw from_at refl
-
-pub with_filter-only_at : {P : Type 0} (id : ℕ) (filter : Option P) (group : GroupOf P) (at : ℕ) → IsOnlyAt (has_id id) group.members at → with_filter id filter group ≡ record { key = group.key; selector = group.selector; members = with_filter_at at filter group.members }
-with_filter-only_at {P} id filter group at only =
-    let member = element_at group.members at only.inside in
-    let change : Member P → Member P = λ other. record other { filter = filter } in
-    ap (λ (members : List (Member P)). record group { members = members })
-    (map-only_at (has_id id) change group.members at member.0 member.1 only ∙ sym (set-filter_at filter group.members at member.0 only.inside member.1))
+pub with_member-only_at : {P : Type 0} (id : ℕ) (change : Member P → Member P) (group : GroupOf P) (at : ℕ) (member : Member P) → member ≡ get_or group.members at member → IsOnlyAt (has_id id) group.members at → with_member id change group ≡ record { key = group.key; selector = group.selector; members = set group.members at (change member) }
+with_member-only_at {P} id change group at member is only =
+    ap (λ (members : List (Member P)). record group { members = members }) (map-only_at (has_id id) change group.members at member is only)
 
 -- ---- a changed group is a group
 
 pub joined_is_group : (id : ℕ) (to : Endpoint) (group : GroupOf ProgramValue) → id < 2 ^ 32 → IsEndpoint to → IsGroup group → IsNowhere (has_id id) group.members → length group.members < MEMBER_LIMIT → IsGroup (joined id to group)
 joined_is_group id to group id_fits is_endpoint is_group none room = record {
   key = is_group.key;
-  limited = omega (arith, length-append group.members (record { id = id; to = to; filter = None } ∷ []));
+  limited = omega (arith, length-append group.members (record { id = id; to = to; filter = None; locked = false } ∷ []));
   distinct = all_pairs_push (λ member other. member.id ≢ other.id) group.members _ is_group.distinct (λ k d below same. true≢false (sym (eq-eqb _ _ same) ∙ none k d below));
   selector = is_group.selector;
   members = All-push IsMember group.members _ is_group.members (record { id = id_fits; to = is_endpoint; filter = tt });
@@ -115,19 +102,32 @@ left_is_group group at is_group inside =
           }
     ]
 
-pub with_filter_is_group : (filter : Option ProgramValue) (group : GroupOf ProgramValue) (at : ℕ) → IsGroup group → at < length group.members → IfSome filter IsProgram → IsGroup (record { key = group.key; selector = group.selector; members = with_filter_at at filter group.members })
-with_filter_is_group filter group at is_group inside program =
+-- the member that passes is changed to another one of its number
+with_member_is_group : (id : ℕ) (change : Member ProgramValue → Member ProgramValue) (group : GroupOf ProgramValue) (at : ℕ) → IsGroup group → IsOnlyAt (has_id id) group.members at
+    → ((member : Member ProgramValue) → (change member).id ≡ member.id) → ((member : Member ProgramValue) → IsMember member → IsMember (change member)) → IsGroup (with_member id change group)
+with_member_is_group id change group at is_group only same_id still =
     let members = group.members in
+    let inside = only.inside in
     let member = element_at members at inside in
-    let changed : Member ProgramValue = record member.0 { filter = filter } in
-    let before : IsMember member.0 = rw member.1 (is_group.members at member.0 inside) in
-    let here : (d : Member ProgramValue) → (get_or members at d).id ≡ member.0.id = λ d. ap (λ (m : Member ProgramValue). m.id) (sym (get_or_read members at member.0 inside member.1 d)) in
+    let changed : Member ProgramValue = change member.0 in
+    let here : (d : Member ProgramValue) → (get_or members at d).id ≡ changed.id = λ d.
+    ap (λ (m : Member ProgramValue). m.id) (sym (get_or_read members at member.0 inside member.1 d)) ∙ sym (same_id member.0) in
     let limit = is_group.limited in
-    rw (set-filter_at filter members at member.0 inside member.1)
+    rw (with_member-only_at id change group at member.0 member.1 only)
     record {
       key = is_group.key;
       limited = omega (arith, length-set members at changed);
       distinct = AllPairs-set (λ (m : Member ProgramValue) other. m.id ≢ other.id) members at changed (λ k d before below same. is_group.distinct k at d before inside (same ∙ sym (here d))) (λ k d behind below same. is_group.distinct at k d behind below (here d ∙ same)) is_group.distinct;
       selector = is_group.selector;
-      members = All-set IsMember members at changed (record { id = before.id; to = before.to; filter = program }) is_group.members;
+      members = All-set IsMember members at changed (still member.0 (rw member.1 (is_group.members at member.0 inside))) is_group.members;
     }
+
+pub with_filter_is_group : (id : ℕ) (filter : Option ProgramValue) (group : GroupOf ProgramValue) (at : ℕ) → IsGroup group → IsOnlyAt (has_id id) group.members at → IfSome filter IsProgram → IsGroup (with_filter id filter group)
+with_filter_is_group id filter group at is_group only program =
+    with_member_is_group id (λ member. record member { filter = filter }) group at is_group only (λ member. refl)
+    (λ member before. record { id = before.id; to = before.to; filter = program })
+
+pub locked_is_group : (id : ℕ) (group : GroupOf ProgramValue) (at : ℕ) → IsGroup group → IsOnlyAt (has_id id) group.members at → IsGroup (locked id group)
+locked_is_group id group at is_group only =
+    with_member_is_group id (λ member. record member { locked = true }) group at is_group only (λ member. refl)
+    (λ member before. record { id = before.id; to = before.to; filter = before.filter })

@@ -6,8 +6,8 @@ use Rattle.std.specs.Option.{option_map}
 use Rattle.std.proofs.lemmas.Bool.{cases_Bool, cases_eq, cases_order, eq-eqb, eqb-true, le-ltb, lt-ltb, true≢false}
 use Rattle.ipv4_fields.specs.declared.endpoint.Endpoint.{Endpoint}
 use Rattle.ipv4_fields.specs.Endpoint.{endpoint_number}
-use Rattle.member_group.specs.declared.command.Command.TheVariants.{AddGroup, ClearFilter, ClearSelector, Join, Leave, RemoveGroup, SetFilter, SetSelector}
-use Rattle.member_group.specs.Command.{joined, left, with_changed, with_filter, with_group, with_selector, without_group}
+use Rattle.member_group.specs.declared.command.Command.TheVariants.{AddGroup, ClearFilter, ClearSelector, Join, Leave, LockFilter, RemoveGroup, SetFilter, SetSelector}
+use Rattle.member_group.specs.Command.{joined, left, locked, with_changed, with_filter, with_group, with_selector, without_group}
 use Rattle.member_group.specs.Group.{GroupOf, group_of, has_key}
 use Rattle.member_group.specs.Map.{ChangesTheMapAtItsKey, IsOneListAMap, KeepsTheMapElsewhere}
 use Rattle.member_group.specs.Place.{IsNowhere}
@@ -124,6 +124,7 @@ changes_at_its_key (SetSelector key program) config = changed_here key (with_sel
 changes_at_its_key (ClearSelector key) config = changed_here key (with_selector None) config (λ group. refl)
 changes_at_its_key (SetFilter key member program) config = changed_here key (with_filter member (Some program)) config (λ group. refl)
 changes_at_its_key (ClearFilter key member) config = changed_here key (with_filter member None) config (λ group. refl)
+changes_at_its_key (LockFilter key member) config = changed_here key (locked member) config (λ group. refl)
 
 pub keeps_elsewhere : KeepsTheMapElsewhere
 keeps_elsewhere (AddGroup key) config other apart = added_elsewhere key other config apart
@@ -134,6 +135,7 @@ keeps_elsewhere (SetSelector key program) config other apart = changed_elsewhere
 keeps_elsewhere (ClearSelector key) config other apart = changed_elsewhere key other (with_selector None) config (λ group. refl) apart
 keeps_elsewhere (SetFilter key member program) config other apart = changed_elsewhere key other (with_filter member (Some program)) config (λ group. refl) apart
 keeps_elsewhere (ClearFilter key member) config other apart = changed_elsewhere key other (with_filter member None) config (λ group. refl) apart
+keeps_elsewhere (LockFilter key member) config other apart = changed_elsewhere key other (locked member) config (λ group. refl) apart
 
 -- ---- one list a map
 

@@ -18,7 +18,7 @@ programs_of config = flat_map programs_of_group config
 abbrev pub members_of : {P : Type 0} → List (GroupOf P) → ℕ
 members_of config = sum_by (λ group. length group.members) config
 
--- 2, and 4 for each group, and 3 for each member, and what the programs are charged
+-- 2, and 4 for each group, and 4 for each member, and what the programs are charged
 abbrev pub charge_by : {P : Type 0} → (P → ℕ) → List (GroupOf P) → ℕ
 charge_by charge config =
     HEAD_WORDS + GROUP_WORDS * length config + MEMBER_WORDS * members_of config + sum_by charge (programs_of config)

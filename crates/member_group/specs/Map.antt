@@ -5,8 +5,8 @@ use Rattle.bpf_verify.specs.Program.{ProgramValue}
 use Rattle.ipv4_fields.specs.declared.endpoint.Endpoint.{Endpoint}
 use Rattle.ipv4_fields.specs.Endpoint.{endpoint_number}
 use Rattle.member_group.specs.declared.command.Command.{Command}
-use Rattle.member_group.specs.declared.command.Command.TheVariants.{AddGroup, ClearFilter, ClearSelector, Join, Leave, RemoveGroup, SetFilter, SetSelector}
-use Rattle.member_group.specs.Command.{after, joined, left, with_filter, with_selector}
+use Rattle.member_group.specs.declared.command.Command.TheVariants.{AddGroup, ClearFilter, ClearSelector, Join, Leave, LockFilter, RemoveGroup, SetFilter, SetSelector}
+use Rattle.member_group.specs.Command.{after, joined, left, locked, with_filter, with_selector}
 use Rattle.member_group.specs.Group.{GroupOf, IsConfig, group_of}
 
 -- the key that a command names
@@ -19,6 +19,7 @@ key_of (SetSelector key program) = key
 key_of (ClearSelector key) = key
 key_of (SetFilter key member program) = key
 key_of (ClearFilter key member) = key
+key_of (LockFilter key member) = key
 
 -- what a command makes of what the map has at its key
 abbrev pub group_after : {P : Type 0} → Command P → Option (GroupOf P) → Option (GroupOf P)
@@ -30,6 +31,7 @@ group_after (SetSelector key program) found = option_map (with_selector (Some pr
 group_after (ClearSelector key) found = option_map (with_selector None) found
 group_after (SetFilter key member program) found = option_map (with_filter member (Some program)) found
 group_after (ClearFilter key member) found = option_map (with_filter member None) found
+group_after (LockFilter key member) found = option_map (locked member) found
 
 -- at its key a command leaves what it makes of what was there
 abbrev pub ChangesTheMapAtItsKey : Type 0

@@ -1,9 +1,8 @@
 -- Where a group or a member stands in its list.
-use Rattle.std.specs.Prelude.{◌≡◌, ◌++◌, ◌∷◌, ◌<◌, ◌+◌, ◌-◌, ◌≢◌, ◌≤◌, if◌then◌else◌, Bool, List, Option, [], drop, false, length, nat_lt, slice_index_or, slice_range, take, true, ℕ}
+use Rattle.std.specs.Prelude.{◌≡◌, ◌++◌, ◌<◌, ◌+◌, ◌-◌, ◌≢◌, ◌≤◌, if◌then◌else◌, Bool, List, drop, false, length, nat_lt, slice_index_or, slice_range, take, true, ℕ}
 use Rattle.std.specs.List.{All}
 use Rattle.ipv4_fields.specs.declared.endpoint.Endpoint.{Endpoint}
 use Rattle.ipv4_fields.specs.Endpoint.{endpoint_number}
-use Rattle.member_group.specs.declared.member.Member.{Member}
 use Rattle.member_group.specs.Group.{GroupOf}
 
 -- the element at a place passes a test, and no other does
@@ -21,15 +20,6 @@ pub record IsGapFor {P : Type 0} (key : Endpoint) (config : List (GroupOf P)) (p
   pub inside : place ≤ length config
   pub before : (k : ℕ) (d : GroupOf P) → k < place → endpoint_number (slice_index_or config k d).key < endpoint_number key
   pub behind : (k : ℕ) (d : GroupOf P) → place ≤ k → k < length config → endpoint_number key < endpoint_number (slice_index_or config k d).key
-
--- the first member with another filter, or none
-abbrev pub with_filter_first : {P : Type 0} → Option P → List (Member P) → List (Member P)
-with_filter_first filter [] = []
-with_filter_first filter (member ∷ rest) = record member { filter = filter } ∷ rest
-
--- the member at a place with another filter, or none
-abbrev pub with_filter_at : {P : Type 0} → ℕ → Option P → List (Member P) → List (Member P)
-with_filter_at at filter members = take at members ++ with_filter_first filter (drop at members)
 
 -- the last element stands in the place of another; where it is the other itself, it goes
 abbrev pub last_in_gap : {X : Type 0} → ℕ → List X → List X

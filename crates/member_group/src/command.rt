@@ -15,13 +15,13 @@ pub enum Command<P = Program<Global>> {
     RemoveGroup {
         key: Endpoint,
     },
-    /// Adds a member without a filter, behind those that the group has.
+    /// Adds a member without a filter, not locked, behind those that the group has.
     Join {
         key: Endpoint,
         member: u32,
         to: Endpoint,
     },
-    /// Removes a member with its filter. The last member takes its place.
+    /// Removes a member with its filter and its lock. The last member takes its place.
     Leave {
         key: Endpoint,
         member: u32,
@@ -35,14 +35,20 @@ pub enum Command<P = Program<Global>> {
     ClearSelector {
         key: Endpoint,
     },
-    /// Gives a member a filter, in place of any that it has.
+    /// Gives a member a filter, in place of any that it has. The member must not be locked.
     SetFilter {
         key: Endpoint,
         member: u32,
         program: P,
     },
-    /// Takes a member's filter away.
+    /// Takes a member's filter away. The member must not be locked.
     ClearFilter {
+        key: Endpoint,
+        member: u32,
+    },
+    /// Locks a member: its filter, or that it has none, stays as it is until the member leaves or the group is removed
+    /// (socket(7), SO_LOCK_FILTER). A member may be locked again.
+    LockFilter {
         key: Endpoint,
         member: u32,
     },

@@ -68,7 +68,7 @@ impl<A: Allocator> Config<A> {
         members
     }
 
-    /// Tells the charge: 2, and 4 for each group, and 3 for each member, and the charges of the programs.
+    /// Tells the charge: 2, and 4 for each group, and 4 for each member, and the charges of the programs.
     pub fn charge(&self) -> u64
         ensures charge_exact { result ≡ charge_of self.now }
         ensures config { IsConfig self.now }
@@ -235,6 +235,14 @@ impl<A: Allocator + Clone> Config<A> {
         self.with_group_at(at, group)
     }
 
+    fn lock_filter(&self, key: Endpoint, member: u32) -> Result<Config<A>, Refusal>
+        ensures answer { IsAnswer (first_refusal (command.LockFilter key member) self.now) (after (command.LockFilter key member) self.now) result }
+    {
+        let at = self.place_of_group(key)?;
+        let group = self.groups()[at].lock_filter(member)?;
+        self.with_group_at(at, group)
+    }
+
     /// Makes the configuration that a command leaves. This one stays as it is, also where the command is refused.
     ///
     /// `Err` is the first refusal of the command that docs/SWITCH.md lists, else `OutOfMemory` where a growth was refused.
@@ -257,6 +265,7 @@ impl<A: Allocator + Clone> Config<A> {
                 program,
             } => self.set_filter(*key, *member, program),
             Command::ClearFilter { key, member } => self.clear_filter(*key, *member),
+            Command::LockFilter { key, member } => self.lock_filter(*key, *member),
         }
     }
 }

@@ -1,17 +1,18 @@
 //! Groups, and what the commands change in one of them.
 
-ghost use Rattle.std.specs.Prelude.{◌≡◌, ◌<◌, ◌≤◌, ◌^◌, IfOk, None, Some, [], length};
+ghost use Rattle.std.specs.Prelude.{◌≡◌, ◌<◌, ◌≤◌, ◌^◌, IfOk, None, Some, [], length, slice_set, ℕ};
 ghost use Rattle.std.specs.List.{sum_by};
 ghost use Rattle.std.specs.Option.{option_map, option_to_list};
 ghost use Rattle.bpf_verify.specs.declared.TheConstants.{MAX_INSTRUCTIONS};
 ghost use Rattle.member_group.specs.Charge.{charge_of_group};
-ghost use Rattle.member_group.specs.Command.{joined, left, with_filter, with_selector};
-ghost use Rattle.member_group.specs.Group.{IsGroup};
-ghost use Rattle.member_group.specs.Place.{last_in_gap, with_filter_at};
-ghost use Rattle.member_group.specs.Refusal.{IsAnswer, clear_filter_causes, clear_selector_causes, first_of, join_causes, leave_causes, set_filter_causes};
+ghost use Rattle.member_group.specs.Command.{joined, left, locked, with_filter, with_selector};
+ghost use Rattle.member_group.specs.Group.{IsGroup, has_id};
+ghost use Rattle.member_group.specs.Place.{IsOnlyAt, last_in_gap};
+ghost use Rattle.member_group.specs.Refusal.{IsAnswer, clear_filter_causes, clear_selector_causes, first_of, join_causes, member_causes, set_filter_causes};
 
 use crate::member::{
-    Member, append_members, append_with_filter, append_with_last_in_gap, copy_program,
+    Member, append_members, append_with_last_in_gap, append_with_member_at, copy_member,
+    copy_program,
 };
 use crate::place::place_of_member;
 use crate::refusal::Refusal;
@@ -143,6 +144,7 @@ impl<A: Allocator + Clone> Group<A> {
             id,
             to,
             filter: None,
+            locked: false,
         })?;
         self.with_members(members)
     }
@@ -157,14 +159,48 @@ impl<A: Allocator + Clone> Group<A> {
         self.with_members(members)
     }
 
+    // Another member at a place.
+    fn with_member_at(&self, at: usize, member: Member<Program<A>>) -> Result<Group<A>, OutOfMemory>
+        requires inside { at < length self.now.members }
+        ensures changed { IfOk result (λ group. group ≡ record { key = self.now.key; selector = self.now.selector; members = slice_set self.now.members at member }) }
+    {
+        let mut members = self.room_for_members(self.members.len())?;
+        append_with_member_at(&mut members, &self.members, at, member)?;
+        self.with_members(members)
+    }
+
     // Another filter, or none, for the member at a place.
     fn with_filter(&self, at: usize, filter: Option<Program<A>>) -> Result<Group<A>, OutOfMemory>
         requires inside { at < length self.now.members }
-        ensures changed { IfOk result (λ group. group ≡ record { key = self.now.key; selector = self.now.selector; members = with_filter_at at filter self.now.members }) }
+        ensures changed { (id : ℕ) → IsOnlyAt (has_id id) self.now.members at → IfOk result (λ group. group ≡ with_filter id filter self.now) }
     {
-        let mut members = self.room_for_members(self.members.len())?;
-        append_with_filter(&mut members, &self.members, at, filter)?;
-        self.with_members(members)
+        let member = &self.members()[at];
+        self.with_member_at(
+            at,
+            Member {
+                id: member.id,
+                to: member.to,
+                filter,
+                locked: member.locked,
+            },
+        )
+    }
+
+    // The member at a place, locked.
+    fn with_lock(&self, at: usize) -> Result<Group<A>, OutOfMemory>
+        requires inside { at < length self.now.members }
+        ensures changed { (id : ℕ) → IsOnlyAt (has_id id) self.now.members at → IfOk result (λ group. group ≡ locked id self.now) }
+    {
+        let member = copy_member(&self.members()[at], self.members.allocator())?;
+        self.with_member_at(
+            at,
+            Member {
+                id: member.id,
+                to: member.to,
+                filter: member.filter,
+                locked: true,
+            },
+        )
     }
 
     pub(crate) fn join(&self, id: u32, to: Endpoint) -> Result<Group<A>, Refusal>
@@ -183,7 +219,7 @@ impl<A: Allocator + Clone> Group<A> {
 
     pub(crate) fn leave(&self, id: u32) -> Result<Group<A>, Refusal>
         requires group { IsGroup self.now }
-        ensures answer { IsAnswer (first_of (leave_causes id self.now)) (left id self.now) result }
+        ensures answer { IsAnswer (first_of (member_causes id self.now)) (left id self.now) result }
         ensures group { IfOk result IsGroup }
     {
         let Some(at) = place_of_member(self.members(), id) else {
@@ -227,6 +263,9 @@ impl<A: Allocator + Clone> Group<A> {
         let Some(at) = place_of_member(self.members(), id) else {
             return Err(Refusal::NoMember);
         };
+        if self.members()[at].locked {
+            return Err(Refusal::Locked);
+        }
         let filter = program.clone_in(self.members.allocator().clone()?)?;
         Ok(self.with_filter(at, Some(filter))?)
     }
@@ -239,9 +278,24 @@ impl<A: Allocator + Clone> Group<A> {
         let Some(at) = place_of_member(self.members(), id) else {
             return Err(Refusal::NoMember);
         };
-        if self.members()[at].filter.is_none() {
+        let member = &self.members()[at];
+        if member.locked {
+            return Err(Refusal::Locked);
+        }
+        if member.filter.is_none() {
             return Err(Refusal::NoProgram);
         }
         Ok(self.with_filter(at, None)?)
+    }
+
+    pub(crate) fn lock_filter(&self, id: u32) -> Result<Group<A>, Refusal>
+        requires group { IsGroup self.now }
+        ensures answer { IsAnswer (first_of (member_causes id self.now)) (locked id self.now) result }
+        ensures group { IfOk result IsGroup }
+    {
+        let Some(at) = place_of_member(self.members(), id) else {
+            return Err(Refusal::NoMember);
+        };
+        Ok(self.with_lock(at)?)
     }
 }

@@ -30,4 +30,4 @@ pub const HEAD_WORDS: usize = 2;
 pub const GROUP_WORDS: usize = 4;
 
 /// What a configuration counts for a member, beside its filter.
-pub const MEMBER_WORDS: usize = 3;
+pub const MEMBER_WORDS: usize = 4;

@@ -1,19 +1,20 @@
 //! Members of a group, and copies of them.
 
-ghost use Rattle.std.specs.Prelude.{◌≡◌, ◌<◌, ◌++◌, IfOk, OnOk, length};
-ghost use Rattle.member_group.specs.Place.{last_in_gap, with_filter_at};
+ghost use Rattle.std.specs.Prelude.{◌≡◌, ◌<◌, ◌++◌, IfOk, OnOk, length, slice_set};
+ghost use Rattle.member_group.specs.Place.{last_in_gap};
 
 use bpf_verify::{OutOfMemory, Program};
 use ipv4_fields::Endpoint;
 use std::alloc::Allocator;
 
-/// A member of a group: its number, which no other member of the group has, where its packets are sent, and its filter
-/// or none.
+/// A member of a group: its number, which no other member of the group has, where its packets are sent, its filter
+/// or none, and whether it is locked, so that no command changes or clears its filter.
 #[derive(Drop)]
 pub struct Member<P> {
     pub id: u32,
     pub to: Endpoint,
     pub filter: Option<P>,
+    pub locked: bool,
 }
 
 pub(crate) fn copy_program<A: Allocator + Clone>(
@@ -28,7 +29,7 @@ pub(crate) fn copy_program<A: Allocator + Clone>(
     }
 }
 
-fn copy_member<A: Allocator + Clone>(
+pub(crate) fn copy_member<A: Allocator + Clone>(
     member: &Member<Program<A>>,
     alloc: &A,
 ) -> Result<Member<Program<A>>, OutOfMemory>
@@ -38,6 +39,7 @@ fn copy_member<A: Allocator + Clone>(
         id: member.id,
         to: member.to,
         filter: copy_program(&member.filter, alloc)?,
+        locked: member.locked,
     })
 }
 
@@ -72,23 +74,18 @@ pub(crate) fn append_with_last_in_gap<A: Allocator + Clone>(
     append_members(to, &from[at + 1..last])
 }
 
-// Appends all members, the one at a place with another filter, or none.
-pub(crate) fn append_with_filter<A: Allocator + Clone>(
+// Appends all members, with another one at a place.
+pub(crate) fn append_with_member_at<A: Allocator + Clone>(
     to: &mut Vec<Member<Program<A>>, A>,
     from: &[Member<Program<A>>],
     at: usize,
-    filter: Option<Program<A>>,
+    member: Member<Program<A>>,
 ) -> Result<(), OutOfMemory>
     requires inside { at < length from.now }
-    ensures appended { OnOk result (to.new.items ≡ to.old.items ++ with_filter_at at filter from.now) }
+    ensures appended { OnOk result (to.new.items ≡ to.old.items ++ slice_set from.now at member) }
 {
-    let member = &from[at];
     append_members(to, &from[..at])?;
-    to.push(Member {
-        id: member.id,
-        to: member.to,
-        filter,
-    })?;
+    to.push(member)?;
     append_members(to, &from[at + 1..])?;
     Ok(())
 }

@@ -21,6 +21,8 @@ pub enum Refusal {
     TooManyGroups,
     /// The group has `MEMBER_LIMIT` members already.
     GroupFull,
+    /// The member is locked.
+    Locked,
     /// There is no program to clear.
     NoProgram,
     /// The memory of the new configuration was refused.

@@ -1,6 +1,8 @@
 -- What `flood` is given (docs/COMMANDS.md, "flood").
-use Rattle.std.proofs.Common.{◌≡◌, ◌∷◌, [], length, refl, slice_index}
+use Rattle.std.proofs.Common.{◌≡◌, ◌≤◌, ◌∷◌, [], arith, length, refl, slice_index}
+use Rattle.memory_flood.specs.declared.flood_jobs.TheConstants.{BUFFER, LIMIT}
 use Rattle.memory_flood.specs.declared.flood_versions.TheConstants.{PUBLICATIONS}
+use Rattle.sample_group.specs.declared.TheConstants.{SAMPLE_PACKET}
 use Rattle.memory_flood.specs.declared.TheConstants.{DATAGRAMS}
 use Rattle.memory_flood.specs.FloodVersions.{at_port, selector_at}
 use Rattle.memory_flood.specs.Traffic.{datagram_at}
@@ -10,6 +12,13 @@ datagrams = refl
 
 publications : PUBLICATIONS ≡ 64
 publications = refl
+
+batch_limit : LIMIT ≡ 64
+batch_limit = refl
+
+-- a datagram of 29 bytes fits the buffer
+buffer_holds_a_datagram : length SAMPLE_PACKET.now ≤ BUFFER
+buffer_holds_a_datagram = omega arith
 
 -- 127.0.0.1:9001
 first_member : at_port 9001 ≡ record { address = 2130706433; port = 9001 }

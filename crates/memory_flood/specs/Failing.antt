@@ -1,13 +1,14 @@
 -- How the command `flood` fails (docs/COMMANDS.md, "flood").
 use Rattle.std.specs.Prelude.{◌≡◌, ◌≢◌, List, Option, ℕ}
 use Rattle.command_line.specs.declared.ending.Failure.{Failure}
-use Rattle.command_line.specs.declared.ending.Failure.TheVariants.{ReadFailed, WriteFailed}
+use Rattle.command_line.specs.declared.ending.Failure.TheVariants.{BindFailed, PollFailed, ReadFailed, WriteFailed}
 use Rattle.command_line.specs.Ending.{AppendsBeginning, line_of}
 
--- it failed in one of these ways, not in reading; where no write failed nothing was written, and a beginning of the failure's line
--- was told
+-- a write failed, memory was refused, or a thread could not be started; where no write failed nothing was written, and a beginning
+-- of the failure's line was told
 pub record EndsInFloodFailure (before after told_before told_after : Option (List ℕ)) : Type 0 where
   pub failure : Failure
   pub no_read : failure ≢ ReadFailed
+  pub no_socket : (failure ≢ BindFailed) × (failure ≢ PollFailed)
   pub written : failure ≢ WriteFailed → after ≡ before
   pub told : AppendsBeginning told_before told_after (line_of failure)

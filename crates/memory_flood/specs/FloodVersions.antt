@@ -1,5 +1,5 @@
 -- The versions of `flood` (docs/COMMANDS.md, "flood").
-use Rattle.std.specs.Prelude.{◌==◌, ◌%◌, ◌∷◌, if◌then◌else◌, List, None, Option, Some, [], length, ℕ}
+use Rattle.std.specs.Prelude.{◌==◌, ◌%◌, ◌∷◌, if◌then◌else◌, List, None, Option, Some, [], false, length, ℕ}
 use Rattle.bpf_verify.specs.Program.{ProgramValue}
 use Rattle.config_image.specs.Image.{Group}
 use Rattle.ipv4_fields.specs.declared.endpoint.Endpoint.{Endpoint}
@@ -17,7 +17,7 @@ abbrev pub join_of : ℕ → ℕ → Command ProgramValue
 join_of member port = Join SAMPLE_GROUP member (at_port port)
 
 abbrev pub member_at : ℕ → ℕ → Member ProgramValue
-member_at id port = record { id = id; to = at_port port; filter = None }
+member_at id port = record { id = id; to = at_port port; filter = None; locked = false }
 
 -- the sample group with three members and a selector or none
 abbrev pub three_members : Option ProgramValue → List Group

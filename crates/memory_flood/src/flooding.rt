@@ -8,6 +8,7 @@ ghost use Rattle.memory_flood.specs.FloodVersions.{opening_version, successor_at
 ghost use Rattle.memory_flood.specs.Traffic.{numbers_below};
 ghost use Rattle.memory_flood.specs.declared.flood_versions.TheConstants.{PUBLICATIONS};
 ghost use Rattle.worker_threads.specs.Counted.{IsNewWorker};
+ghost use Rattle.worker_threads.specs.ServeFault.{IsRunFault};
 
 use crate::flood_jobs::jobs;
 use crate::flood_versions::{opening, successors};
@@ -53,7 +54,7 @@ fn count_all<R: Threads + Wait + Sync, G: Gate + Sync>(
     requires at_least_one { 1 ≤ workers }
     requires at_most { workers ≤ WORKERS }
     ensures totals { IfOk result (IsFlooded workers datagrams) }
-    ensures never_written { IfErr result (λ fault. fault ≢ ServeFault.WriteFailed) }
+    ensures run_fault { IfErr result IsRunFault }
 {
     let (operator, mut seats, successors) = open_versions(alloc)?;
     let (tally, mut spare) = Tally::open(alloc)?;
@@ -81,6 +82,7 @@ pub fn flood<R: Threads + Wait + Sync, G: Gate + Sync, W: Write>(
     requires at_most { workers ≤ WORKERS }
     ensures totals_line { OnOk result (WritesFlood workers datagrams (W.contents out.old) (W.contents out.new)) }
     ensures nothing_written { IfErr result (λ fault. fault ≢ ServeFault.WriteFailed → out.new ≡ out.old) }
+    ensures no_socket { IfErr result (λ fault. (fault ≢ ServeFault.BindFailed) × (fault ≢ ServeFault.PollFailed)) }
 {
     let totals = count_all(rt, alloc, workers, datagrams, gate)?;
     write_totals(&totals, out)

@@ -1,5 +1,6 @@
--- Worked examples: a table of two workers and two rows of two words, where a configuration is the list of its words.
+-- The limits, and worked examples: a table of two workers and two rows of two words, where a configuration is the list of its words.
 use Rattle.std.proofs.Common.{◌≡◌, ◌∷◌, ℕ, List, [], arith, inl, length, refl, ⊎_elim}
+use Rattle.versions.specs.declared.layout.TheConstants.{CHARGE_LIMIT, LAST_NUMBER, ROWS, WORKERS}
 use Rattle.versions.specs.declared.step.Entry.{Entry}
 use Rattle.versions.specs.declared.step.Event.{Event}
 use Rattle.versions.specs.declared.step.Event.TheVariants.{Proposed, Stepped}
@@ -10,6 +11,19 @@ use Rattle.versions.specs.Step.{entry, place_of}
 use Rattle.versions.specs.View.{last_seen, read_word_after, stage_after, up_to}
 use Rattle.versions.specs.Free.{IsScannedClear, number_after}
 use Rattle.versions.specs.State.{State, start_of, state_after}
+
+-- the limits of the table
+workers : WORKERS ≡ 64
+workers = refl
+
+rows : ROWS ≡ 16
+rows = refl
+
+charge_limit : CHARGE_LIMIT ≡ 8192
+charge_limit = refl
+
+last_number : LAST_NUMBER ≡ 281474976710656
+last_number = refl
 
 abbrev small : Shape (List ℕ)
 small = record { workers = 2; rows = 2; row_words = 2; last_number = 100; charge_limit = 2; charge = length; row = λ config. config }

@@ -12,7 +12,7 @@ pub fn free_versions()
 {}
 
 /// Tells the least of some numbers.
-pub fn least(numbers: &[u64]) -> u64
+pub(crate) fn least(numbers: &[u64]) -> u64
     requires { 0 < length numbers.now }
     ensures below { (w : ℕ) → w < length numbers.now → result ≤ slice_index numbers.now w }
     ensures there { (w : ℕ) × (w < length numbers.now) × (slice_index numbers.now w ≡ result) }
@@ -28,7 +28,7 @@ pub fn least(numbers: &[u64]) -> u64
 
 /// Tells how many versions a scan that gives `word` shows clear, where the current version has the number `number`: those
 /// below the result.
-pub fn clear_below(number: u64, word: u64) -> u64
+pub(crate) fn clear_below(number: u64, word: u64) -> u64
     ensures { (m : ℕ) → (m < result) ↔ ((m < number) × IsClear m word) }
 {
     if word == 0 {

@@ -20,7 +20,7 @@ mod world;
 
 pub use book::Book;
 pub use fault::StepFault;
-pub use freedom::{clear_below, free_versions, least};
+pub use freedom::free_versions;
 pub use layout::{CHARGE_LIMIT, LAST_NUMBER, ROWS, ROWS_BEGIN, TABLE_WORDS, WORKERS, row_word};
 pub use step::{Entry, Event, Step};
 pub use view::{OperatorView, Stage, WorkerView};

@@ -8,7 +8,7 @@ use read_section::{WORKERS, Worker};
 // Read words that are so many words apart never share a cache line of 64 bytes.
 const APART: usize = 8;
 
-// How many times as many workers there are, but for the first so many.
+// The workers behind the first eight, in lines of eight.
 const LINES: usize = WORKERS / APART - 1;
 
 // Moves the worker at a place behind the others.
@@ -25,8 +25,8 @@ fn move_to_end(workers: &mut Vec<Worker>, place: usize)
     };
 }
 
-// Of each line's workers so many are left: moves the first of them, from the last line to the first, behind the others. In front of
-// all lines stands worker 7.
+// Each line has `left` workers left. Moves the first worker of each line to the end, the last line's before the others'. Worker 7
+// stands before the lines.
 fn move_first_of_lines(workers: &mut Vec<Worker>, left: usize)
     requires { left ≤ APART }
     ensures same_workers { IsPermutation workers.old.items workers.new.items }

@@ -1,10 +1,11 @@
 //! The scripts of examples/, as they stand there, with the replies of their sessions.
 
-pub const SCRIPTS: [(&str, &str); 8] = [
+pub const SCRIPTS: [(&str, &str); 9] = [
     (CANARY_SCRIPT, CANARY_REPLIES),
     (DNS_WORKERS_SCRIPT, DNS_WORKERS_REPLIES),
     (FILTER_SCRIPT, FILTER_REPLIES),
     (FRAGMENTS_SCRIPT, FRAGMENTS_REPLIES),
+    (LOCKS_SCRIPT, LOCKS_REPLIES),
     (REFUSED_CHANGES_SCRIPT, REFUSED_CHANGES_REPLIES),
     (REFUSED_TEXTS_SCRIPT, REFUSED_TEXTS_REPLIES),
     (RULES_SCRIPT, RULES_REPLIES),
@@ -45,7 +46,7 @@ const CANARY_REPLIES: &str = "ok version 1\n\
     ok version 8\n\
     version 8 deliver 10.0.0.2:53 1 127.0.0.1:9001 29\n\
     version 8 deliver 10.0.0.2:53 3 127.0.0.1:9013 29\n\
-    version 8 groups 1 members 3 charge 15\n";
+    version 8 groups 1 members 3 charge 18\n";
 
 const DNS_WORKERS_SCRIPT: &str = "add 10.0.0.2:53\n\
     join 10.0.0.2:53 1 127.0.0.1:9001\n\
@@ -72,7 +73,7 @@ const DNS_WORKERS_REPLIES: &str = "ok version 1\n\
     ok version 2\n\
     ok version 3\n\
     ok version 4\n\
-    version 4 groups 1 members 3 charge 15\n\
+    version 4 groups 1 members 3 charge 18\n\
     version 4 deliver 10.0.0.2:53 3 127.0.0.1:9003 57\n\
     version 4 deliver 10.0.0.2:53 2 127.0.0.1:9002 57\n\
     version 4 deliver 10.0.0.2:53 1 127.0.0.1:9001 57\n\
@@ -86,7 +87,7 @@ const DNS_WORKERS_REPLIES: &str = "ok version 1\n\
     version 5 deliver 10.0.0.2:53 1 127.0.0.1:9001 57\n\
     version 5 deliver 10.0.0.2:53 3 127.0.0.1:9003 57\n\
     version 5 deliver 10.0.0.2:53 3 127.0.0.1:9003 57\n\
-    version 5 groups 1 members 2 charge 12\n\
+    version 5 groups 1 members 2 charge 14\n\
     reclaimed 0 5\n";
 
 const FILTER_SCRIPT: &str = "add 10.0.0.2:53\n\
@@ -130,6 +131,36 @@ const FRAGMENTS_REPLIES: &str = "version 0 nogroup\n\
     version 2 malformed\n\
     version 2 deliver 10.0.0.2:53 1 127.0.0.1:9001 68\n";
 
+const LOCKS_SCRIPT: &str = "add 10.0.0.2:53\n\
+    join 10.0.0.2:53 1 127.0.0.1:9001\n\
+    filter 10.0.0.2:53 1 expr udp and less 28\n\
+    lock 10.0.0.2:53 1\n\
+    filter 10.0.0.2:53 1 none\n\
+    filter 10.0.0.2:53 1 asm ret #1\n\
+    filter 10.0.0.2:53 1 asm ld #1\n\
+    lock 10.0.0.2:53 2\n\
+    lock 10.0.0.2:53 1\n\
+    packet 4500001d00000000401100000a0000010a000002138800350009000061\n\
+    show\n\
+    leave 10.0.0.2:53 1\n\
+    join 10.0.0.2:53 1 127.0.0.1:9001\n\
+    filter 10.0.0.2:53 1 none\n";
+
+const LOCKS_REPLIES: &str = "ok version 1\n\
+    ok version 2\n\
+    ok version 3\n\
+    ok version 4\n\
+    refused G9\n\
+    refused G9\n\
+    refused V10\n\
+    refused G3\n\
+    ok version 5\n\
+    version 5 dropped 10.0.0.2:53 1\n\
+    version 5 groups 1 members 1 charge 25\n\
+    ok version 6\n\
+    ok version 7\n\
+    refused G7\n";
+
 const REFUSED_CHANGES_SCRIPT: &str = "join 10.0.0.2:53 1 127.0.0.1:9001\n\
     show\n\
     add 10.0.0.2:53\n\
@@ -158,17 +189,17 @@ const REFUSED_CHANGES_REPLIES: &str = "refused G1\n\
     version 1 groups 1 members 0 charge 6\n\
     ok version 2\n\
     refused G4\n\
-    version 2 groups 1 members 1 charge 9\n\
+    version 2 groups 1 members 1 charge 10\n\
     refused G3\n\
-    version 2 groups 1 members 1 charge 9\n\
+    version 2 groups 1 members 1 charge 10\n\
     refused G3\n\
-    version 2 groups 1 members 1 charge 9\n\
+    version 2 groups 1 members 1 charge 10\n\
     refused G7\n\
-    version 2 groups 1 members 1 charge 9\n\
+    version 2 groups 1 members 1 charge 10\n\
     refused G7\n\
-    version 2 groups 1 members 1 charge 9\n\
+    version 2 groups 1 members 1 charge 10\n\
     refused G1\n\
-    version 2 groups 1 members 1 charge 9\n\
+    version 2 groups 1 members 1 charge 10\n\
     version 2 deliver 10.0.0.2:53 1 127.0.0.1:9001 29\n\
     reclaimed 0 2\n";
 
@@ -203,29 +234,29 @@ const REFUSED_TEXTS_SCRIPT: &str = "add 10.0.0.2:53\n\
 const REFUSED_TEXTS_REPLIES: &str = "ok version 1\n\
     ok version 2\n\
     refused C1\n\
-    version 2 groups 1 members 1 charge 9\n\
+    version 2 groups 1 members 1 charge 10\n\
     refused C1\n\
-    version 2 groups 1 members 1 charge 9\n\
+    version 2 groups 1 members 1 charge 10\n\
     refused C1\n\
-    version 2 groups 1 members 1 charge 9\n\
+    version 2 groups 1 members 1 charge 10\n\
     refused C1\n\
-    version 2 groups 1 members 1 charge 9\n\
+    version 2 groups 1 members 1 charge 10\n\
     refused A1 1\n\
-    version 2 groups 1 members 1 charge 9\n\
+    version 2 groups 1 members 1 charge 10\n\
     refused A4 2\n\
-    version 2 groups 1 members 1 charge 9\n\
+    version 2 groups 1 members 1 charge 10\n\
     refused A1 1\n\
-    version 2 groups 1 members 1 charge 9\n\
+    version 2 groups 1 members 1 charge 10\n\
     refused V8 1\n\
-    version 2 groups 1 members 1 charge 9\n\
+    version 2 groups 1 members 1 charge 10\n\
     refused V11 3\n\
-    version 2 groups 1 members 1 charge 9\n\
+    version 2 groups 1 members 1 charge 10\n\
     refused P1 7\n\
-    version 2 groups 1 members 1 charge 9\n\
+    version 2 groups 1 members 1 charge 10\n\
     refused P4 17\n\
-    version 2 groups 1 members 1 charge 9\n\
+    version 2 groups 1 members 1 charge 10\n\
     refused F1\n\
-    version 2 groups 1 members 1 charge 9\n\
+    version 2 groups 1 members 1 charge 10\n\
     version 2 deliver 10.0.0.2:53 1 127.0.0.1:9001 29\n";
 
 const RULES_SCRIPT: &str = "add 10.0.0.2:53\n\
@@ -265,7 +296,7 @@ const RULES_REPLIES: &str = "ok version 1\n\
     ok version 7\n\
     version 7 deliver 10.0.0.2:53 1 127.0.0.1:9001 29\n\
     ok version 8\n\
-    version 8 groups 1 members 2 charge 16\n\
+    version 8 groups 1 members 2 charge 18\n\
     reclaimed 6 2\n";
 
 const SHORT_SCRIPT: &str = "add 10.0.0.2:53\n\
@@ -283,11 +314,11 @@ const SHORT_SCRIPT: &str = "add 10.0.0.2:53\n\
 const SHORT_REPLIES: &str = "ok version 1\n\
     ok version 2\n\
     ok version 3\n\
-    version 3 groups 1 members 1 charge 15\n\
+    version 3 groups 1 members 1 charge 16\n\
     version 3 deliver 10.0.0.2:53 1 127.0.0.1:9001 57\n\
     version 3 deliver 10.0.0.2:53 1 127.0.0.1:9001 40\n\
     version 3 dropped 10.0.0.2:53 1\n\
     version 3 dropped 10.0.0.2:53 1\n\
     ok version 4\n\
     version 4 deliver 10.0.0.2:53 1 127.0.0.1:9001 29\n\
-    version 4 groups 1 members 1 charge 9\n";
+    version 4 groups 1 members 1 charge 10\n";

@@ -31,7 +31,7 @@ const REPLIES: &str = "ok version 1\n\
     ok version 6\n\
     ok version 7\n\
     version 7 dropped 10.0.0.2:53 3\n\
-    version 7 groups 1 members 2 charge 28\n\
+    version 7 groups 1 members 2 charge 30\n\
     reclaimed 0 7\n\
     reclaimed 7 0\n\
     refused C1\n";

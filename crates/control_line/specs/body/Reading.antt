@@ -1,7 +1,8 @@
 -- What the steps of reading a line give.
-use Rattle.std.specs.Prelude.{◌∷◌, List, MatchOption, None, Option, Some, [], codes, ℕ}
+use Rattle.std.specs.Prelude.{◌≢◌, ◌∷◌, List, MatchOption, None, Option, Some, [], codes, ℕ}
+use Rattle.ipv4_fields.specs.Cut.{Lacks}
 use Rattle.member_group.specs.declared.command.Command.{Command}
-use Rattle.member_group.specs.declared.command.Command.TheVariants.{AddGroup, ClearFilter, ClearSelector, Join, Leave, RemoveGroup, SetFilter, SetSelector}
+use Rattle.member_group.specs.declared.command.Command.TheVariants.{AddGroup, ClearFilter, ClearSelector, Join, Leave, LockFilter, RemoveGroup, SetFilter, SetSelector}
 use Rattle.program_text.specs.Program.{Source, assembly, expression}
 use Rattle.control_line.specs.declared.request.ProgramText.{ProgramText as LentText}
 use Rattle.control_line.specs.declared.request.ProgramText.TheVariants as lent
@@ -30,11 +31,19 @@ command_over over (SetSelector key program) = SetSelector key (over program)
 command_over over (ClearSelector key) = ClearSelector key
 command_over over (SetFilter key id program) = SetFilter key id (over program)
 command_over over (ClearFilter key id) = ClearFilter key id
+command_over over (LockFilter key id) = LockFilter key id
 
 abbrev pub request_of : LentRequest → Request
 request_of (lent_request.Change command) = change (command_over source_of command)
 request_of lent_request.Show = show
 request_of lent_request.Sweep = sweep
+
+-- a word of no line that names a group alone
+pub record IsMemberWord (word : List ℕ) : Type 0 where
+  pub lacks : Lacks 32 word
+  pub not_add : word ≢ codes "add"
+  pub not_remove : word ≢ codes "remove"
+  pub not_selector : word ≢ codes "selector"
 
 -- what a line asks for, or nothing where it is no line of the table
 abbrev pub IsRead : List ℕ → Option LentRequest → Type 0

@@ -71,7 +71,7 @@ const COMMANDS_REFUSED: [Case; 12] = [
     (b"filter 10.0.0.2:53 1 none", "refused G7"),
     (b"filter 10.0.0.2:53 1 asm ret #9", "ok version 3"),
     (b"filter 10.0.0.2:53 1 none", "ok version 4"),
-    (b"show", "version 4 groups 1 members 1 charge 9"),
+    (b"show", "version 4 groups 1 members 1 charge 10"),
 ];
 
 #[test]
@@ -97,7 +97,7 @@ const ONE_TOO_MANY: [Asked; 4] = [
     Asked::Lines(&[
         (b"join 10.0.0.2:1 65 127.0.0.1:9001", "refused G6"),
         (b"join 10.0.0.2:1 1 127.0.0.1:9001", "refused G4"),
-        (b"show", "version 128 groups 64 members 64 charge 450"),
+        (b"show", "version 128 groups 64 members 64 charge 514"),
     ]),
 ];
 
@@ -106,7 +106,7 @@ fn sixty_fifth_group_and_member(rt: HostRuntime) -> Result<(), Fail> {
     expect_session(&rt, rt.alloc(), &ONE_TOO_MANY)
 }
 
-// One group and two members, and filters of 4096 instructions and of 4084. With one more it is too much for a row.
+// One group and two members, and filters of 4096 instructions and of 4082. With one more it is too much for a row.
 const TWO_MEMBERS: [Case; 3] = [
     (b"add 10.0.0.2:53", "ok version 1"),
     (b"join 10.0.0.2:53 1 127.0.0.1:9001", "ok version 2"),
@@ -124,11 +124,11 @@ const LARGEST_CHARGE: [Asked; 6] = [
         "refused V2",
     ),
     Asked::Pieces(
-        &[("filter 10.0.0.2:53 2 asm ret #0", 1), (";ret #0", 4084)],
+        &[("filter 10.0.0.2:53 2 asm ret #0", 1), (";ret #0", 4082)],
         "refused B1",
     ),
     Asked::Pieces(
-        &[("filter 10.0.0.2:53 2 asm ret #0", 1), (";ret #0", 4083)],
+        &[("filter 10.0.0.2:53 2 asm ret #0", 1), (";ret #0", 4081)],
         "ok version 5",
     ),
     Asked::Lines(&[(b"show", "version 5 groups 1 members 2 charge 8192")]),

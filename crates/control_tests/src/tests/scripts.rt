@@ -143,7 +143,7 @@ const REPLIES: &str = "ok version 1\n\
     ok version 6\n\
     ok version 7\n\
     version 7 dropped 10.0.0.2:53 3\n\
-    version 7 groups 1 members 2 charge 28\n\
+    version 7 groups 1 members 2 charge 30\n\
     reclaimed 0 7\n\
     reclaimed 7 0\n\
     refused C1\n";
@@ -151,6 +151,47 @@ const REPLIES: &str = "ok version 1\n\
 #[test]
 fn script_replies_line_by_line(rt: HostRuntime) {
     expect(&rt, rt.alloc(), SCRIPT.as_bytes(), REPLIES);
+}
+
+// Nothing changes or clears the filter of a locked member; the lock ends when it leaves.
+const SCRIPT_WITH_LOCKS: &str = "add 10.0.0.2:53\n\
+    join 10.0.0.2:53 1 127.0.0.1:9001\n\
+    filter 10.0.0.2:53 1 expr udp and less 28\n\
+    lock 10.0.0.2:53 1\n\
+    filter 10.0.0.2:53 1 none\n\
+    filter 10.0.0.2:53 1 asm ret #1\n\
+    filter 10.0.0.2:53 1 asm ld #1\n\
+    lock 10.0.0.2:53 2\n\
+    lock 10.0.0.2:53 1\n\
+    packet 4500001d00000000401100000a0000010a000002138800350009000061\n\
+    show\n\
+    leave 10.0.0.2:53 1\n\
+    join 10.0.0.2:53 1 127.0.0.1:9001\n\
+    filter 10.0.0.2:53 1 none\n";
+
+const REPLIES_WITH_LOCKS: &str = "ok version 1\n\
+    ok version 2\n\
+    ok version 3\n\
+    ok version 4\n\
+    refused G9\n\
+    refused G9\n\
+    refused V10\n\
+    refused G3\n\
+    ok version 5\n\
+    version 5 dropped 10.0.0.2:53 1\n\
+    version 5 groups 1 members 1 charge 25\n\
+    ok version 6\n\
+    ok version 7\n\
+    refused G7\n";
+
+#[test]
+fn script_with_locks(rt: HostRuntime) {
+    expect(
+        &rt,
+        rt.alloc(),
+        SCRIPT_WITH_LOCKS.as_bytes(),
+        REPLIES_WITH_LOCKS,
+    );
 }
 
 #[test]

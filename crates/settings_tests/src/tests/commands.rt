@@ -53,6 +53,7 @@ enum Act {
     Unselect,
     Filter(u32, usize),
     Unfilter(u32),
+    Lock(u32),
 }
 
 fn command(alloc: Global, act: Act) -> Result<Command, Fail> {
@@ -77,6 +78,7 @@ fn command(alloc: Global, act: Act) -> Result<Command, Fail> {
             program: returns(alloc, count)?,
         },
         Act::Unfilter(member) => Command::ClearFilter { key, member },
+        Act::Lock(member) => Command::LockFilter { key, member },
     })
 }
 
@@ -200,7 +202,7 @@ const THREE_MEMBERS: &[Act] = &[
 const ALL_THREE: Content = Content {
     ports: &[53],
     ids: &[1, 2, 3],
-    charge: 2 + 4 + 3 * 3 + 5,
+    charge: 2 + 4 + 4 * 3 + 5,
 };
 
 // The old configuration stays, and so does the order where the last one leaves.
@@ -212,7 +214,7 @@ const GAPS: [Row; 2] = [
         after: Content {
             ports: &[53],
             ids: &[3, 2],
-            charge: 2 + 4 + 3 * 2 + 5,
+            charge: 2 + 4 + 4 * 2 + 5,
         },
     },
     Row {
@@ -222,7 +224,7 @@ const GAPS: [Row; 2] = [
         after: Content {
             ports: &[53],
             ids: &[1, 2],
-            charge: 2 + 4 + 3 * 2,
+            charge: 2 + 4 + 4 * 2,
         },
     },
 ];
@@ -287,12 +289,12 @@ fn sixty_fifth_group(rt: HostRuntime) -> Result<(), Fail> {
 // Commands, and what the configuration is charged after each.
 const LARGEST: [(Act, u64); 7] = [
     (Act::Add(53), 6),
-    (Act::Join(0), 9),
-    (Act::Join(1), 12),
-    (Act::Filter(0, 4096), 12 + 4096),
-    (Act::Filter(1, 4084), 8192),
-    (Act::Filter(1, 4085), 8193),
-    (Act::Unfilter(0), 12 + 4085),
+    (Act::Join(0), 10),
+    (Act::Join(1), 14),
+    (Act::Filter(0, 4096), 14 + 4096),
+    (Act::Filter(1, 4082), 8192),
+    (Act::Filter(1, 4083), 8193),
+    (Act::Unfilter(0), 14 + 4083),
 ];
 
 #[test]
@@ -307,8 +309,12 @@ fn largest_charge_is_published(rt: HostRuntime) -> Result<(), Fail> {
 
 const ONE_MEMBER: &[Act] = &[Act::Add(53), Act::Join(1)];
 
+const LOCKED_BARE: &[Act] = &[Act::Add(53), Act::Join(1), Act::Lock(1)];
+
+const LOCKED_FILTER: &[Act] = &[Act::Add(53), Act::Join(1), Act::Filter(1, 1), Act::Lock(1)];
+
 // After the commands this one is refused so.
-const REFUSED: [(&[Act], Act, Refusal); 14] = [
+const REFUSED: [(&[Act], Act, Refusal); 22] = [
     (&[], Act::Remove(53), Refusal::NoGroup),
     (&[], Act::Join(1), Refusal::NoGroup),
     (&[], Act::Leave(1), Refusal::NoGroup),
@@ -323,6 +329,14 @@ const REFUSED: [(&[Act], Act, Refusal); 14] = [
     (ONE_MEMBER, Act::Unfilter(2), Refusal::NoMember),
     (ONE_MEMBER, Act::Unfilter(1), Refusal::NoProgram),
     (ONE_MEMBER, Act::Unselect, Refusal::NoProgram),
+    (&[], Act::Lock(1), Refusal::NoGroup),
+    (ONE_MEMBER, Act::Lock(2), Refusal::NoMember),
+    (LOCKED_BARE, Act::Filter(1, 1), Refusal::Locked),
+    (LOCKED_BARE, Act::Unfilter(1), Refusal::Locked),
+    (LOCKED_BARE, Act::Filter(2, 1), Refusal::NoMember),
+    (LOCKED_FILTER, Act::Filter(1, 1), Refusal::Locked),
+    (LOCKED_FILTER, Act::Unfilter(1), Refusal::Locked),
+    (LOCKED_FILTER, Act::Unselect, Refusal::NoProgram),
 ];
 
 fn refusal_after(alloc: Global, acts: &[Act], act: Act) -> Result<Option<Refusal>, Fail> {
@@ -337,16 +351,99 @@ fn each_refusal_in_its_order(rt: HostRuntime) -> Result<(), Fail> {
     Ok(())
 }
 
+// Which members of the one group are locked, in order, after commands.
+const LOCKS: [(&[Act], &[bool]); 7] = [
+    (ONE_MEMBER, &[false]),
+    (LOCKED_BARE, &[true]),
+    // Locked again, and beside a selector.
+    (
+        &[
+            Act::Add(53),
+            Act::Join(1),
+            Act::Lock(1),
+            Act::Lock(1),
+            Act::Select(1),
+        ],
+        &[true],
+    ),
+    // A member that joins behind a locked one.
+    (
+        &[Act::Add(53), Act::Join(1), Act::Lock(1), Act::Join(2)],
+        &[true, false],
+    ),
+    // The member that is moved into the gap keeps its own.
+    (
+        &[
+            Act::Add(53),
+            Act::Join(1),
+            Act::Join(2),
+            Act::Lock(2),
+            Act::Leave(1),
+        ],
+        &[true],
+    ),
+    (
+        &[
+            Act::Add(53),
+            Act::Join(1),
+            Act::Join(2),
+            Act::Lock(1),
+            Act::Leave(1),
+        ],
+        &[false],
+    ),
+    // It ends with the member, and with the group.
+    (
+        &[
+            Act::Add(53),
+            Act::Join(1),
+            Act::Lock(1),
+            Act::Leave(1),
+            Act::Join(1),
+            Act::Filter(1, 2),
+            Act::Unfilter(1),
+            Act::Lock(1),
+            Act::Remove(53),
+            Act::Add(53),
+            Act::Join(1),
+        ],
+        &[false],
+    ),
+];
+
+// The members of all groups are locked so, in order.
+fn has_locks(config: &Config, locks: &[bool]) -> bool {
+    let mut rest = locks;
+    for group in config.groups() {
+        for member in group.members() {
+            match rest {
+                [locked, behind @ ..] if *locked == member.locked => rest = behind,
+                _ => return false,
+            }
+        }
+    }
+    rest.is_empty()
+}
+
+#[test]
+fn locks_are_the_members(rt: HostRuntime) -> Result<(), Fail> {
+    for (acts, locks) in &LOCKS {
+        assert!(rt; has_locks(&after_each(rt.alloc(), acts)?, locks));
+    }
+    Ok(())
+}
+
 // Commands, and what the configuration is charged after each.
-const STEPS: [(Act, u64); 9] = [
+const STEPS: [(Act, u64); 10] = [
     (Act::Add(53), 6),
-    (Act::Join(1), 9),
-    (Act::Join(2), 12),
-    (Act::Select(20), 32),
-    (Act::Filter(2, 30), 62),
-    (Act::Leave(1), 59),
-    (Act::Unfilter(2), 29),
-    (Act::Unselect, 9),
+    (Act::Join(1), 10),
+    (Act::Join(2), 14),
+    (Act::Select(20), 34),
+    (Act::Filter(2, 30), 64),
+    (Act::Lock(1), 64),
+    (Act::Leave(1), 60),
+    (Act::Unfilter(2), 30),
+    (Act::Unselect, 10),
     (Act::Remove(53), 2),
 ];
 

@@ -109,6 +109,13 @@ fn two_groups(alloc: Global) -> Result<Config, Fail> {
             program: filter,
         },
     )?;
+    config = applied(
+        &config,
+        Command::LockFilter {
+            key: next,
+            member: 8,
+        },
+    )?;
     let selector = program(alloc, &[RET_ZERO, RET_ONE])?;
     applied(
         &config,
@@ -125,28 +132,67 @@ fn image_of_two_groups(rt: HostRuntime) -> Result<(), Fail> {
     assert_eq!(rt;
         words_of(alloc, &two_groups(alloc)?)?.as_slice(),
         [
-            20,
+            22,
             2,
             0x0a00_0002_0035,
             10,
             0,
-            0x10_0001,
+            0x12_0001,
             0x0a00_0002_0036,
             10,
             2,
-            0x11_0002,
+            0x13_0002,
             7,
             0x7f00_0001_2329,
             0,
+            0,
             8,
             0x7f00_0001_2329,
-            0x13_0001,
+            0x15_0001,
+            1,
             RET_ZERO,
             RET_ZERO,
             RET_ONE,
             RET_ONE,
         ]
         .as_slice()
+    );
+    Ok(())
+}
+
+// The group 10.0.0.2:53 with member 1 at 127.0.0.1:9001, without programs.
+fn with_member(alloc: Global) -> Result<Config, Fail> {
+    let added = applied(&Config::new(alloc), Command::AddGroup { key: SAMPLE_GROUP })?;
+    applied(
+        &added,
+        Command::Join {
+            key: SAMPLE_GROUP,
+            member: 1,
+            to: SAMPLE_MEMBER,
+        },
+    )
+}
+
+fn with_locked_member(alloc: Global) -> Result<Config, Fail> {
+    applied(
+        &with_member(alloc)?,
+        Command::LockFilter {
+            key: SAMPLE_GROUP,
+            member: 1,
+        },
+    )
+}
+
+#[test]
+fn locked_image(rt: HostRuntime) -> Result<(), Fail> {
+    let alloc = rt.alloc();
+    assert_eq!(rt;
+        words_of(alloc, &with_member(alloc)?)?.as_slice(),
+        [10, 1, 0x0a00_0002_0035, 6, 1, 0, 1, 0x7f00_0001_2329, 0, 0].as_slice()
+    );
+    assert_eq!(rt;
+        words_of(alloc, &with_locked_member(alloc)?)?.as_slice(),
+        [10, 1, 0x0a00_0002_0035, 6, 1, 0, 1, 0x7f00_0001_2329, 0, 1].as_slice()
     );
     Ok(())
 }
@@ -170,12 +216,13 @@ impl WordSink for ArraySink {
     }
 }
 
-// The configurations of these tests: without groups, with one group, with two.
-fn sample(alloc: Global, groups: usize) -> Result<Config, Fail> {
-    match groups {
+// The configurations of these tests: without groups, with one group, with two, and with a locked member.
+fn sample(alloc: Global, number: usize) -> Result<Config, Fail> {
+    match number {
         0 => Ok(Config::new(alloc)),
         1 => with_selector(alloc),
-        _ => two_groups(alloc),
+        2 => two_groups(alloc),
+        _ => with_locked_member(alloc),
     }
 }
 
@@ -195,8 +242,8 @@ fn is_written(alloc: Global, config: &Config) -> Result<bool, Fail> {
 
 #[test]
 fn images_are_written(rt: HostRuntime) -> Result<(), Fail> {
-    for groups in 0..3 {
-        let config = sample(rt.alloc(), groups)?;
+    for number in 0..4 {
+        let config = sample(rt.alloc(), number)?;
         assert!(rt; is_written(rt.alloc(), &config)?);
     }
     Ok(())
@@ -270,8 +317,8 @@ fn finds_groups(words: &[u64], config: &Config) -> bool
 
 #[test]
 fn found_again(rt: HostRuntime) -> Result<(), Fail> {
-    for groups in 0..3 {
-        let config = sample(rt.alloc(), groups)?;
+    for number in 0..4 {
+        let config = sample(rt.alloc(), number)?;
         let words = words_of(rt.alloc(), &config)?;
         assert!(rt; finds_groups(words.as_slice(), &config));
     }

@@ -24,7 +24,7 @@ const SCRIPTS: [(u64, usize, u64); 6] = [
 ];
 
 // The replies that are meant to come, by the words that `kind_of` tells of them.
-const KINDS: [&str; 33] = [
+const KINDS: [&str; 34] = [
     "ok",
     "groups",
     "reclaimed",
@@ -45,6 +45,7 @@ const KINDS: [&str; 33] = [
     "G3",
     "G4",
     "G7",
+    "G9",
     "P1",
     "P2",
     "P3",

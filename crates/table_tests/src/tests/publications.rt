@@ -270,7 +270,7 @@ const KEY: Endpoint = Endpoint {
     port: 53,
 };
 
-// One group with two members, whose filters have so many instructions: its charge is 12 more than theirs.
+// One group with two members, whose filters have so many instructions: its charge is 14 more than theirs.
 fn with_filters(alloc: Global, first: usize, second: usize) -> Result<Config, Fail> {
     let group = applied(&Config::new(alloc), Command::AddGroup { key: KEY })?;
     let one = with_filter(alloc, &group, 1, first)?;
@@ -279,13 +279,13 @@ fn with_filters(alloc: Global, first: usize, second: usize) -> Result<Config, Fa
 
 // Tries to publish the greatest charge, and tells whether that is version 1.
 fn greatest_is_published(alloc: Global, operator: &mut Operator) -> Result<bool, Fail> {
-    let greatest = with_filters(alloc, 4096, 4084)?;
+    let greatest = with_filters(alloc, 4096, 4082)?;
     Ok(greatest.charge() == 8192 && matches!(operator.publish(greatest), Ok(1)))
 }
 
 // Tries to publish a charge of one more, and tells whether that is refused.
 fn one_more_is_refused(alloc: Global, operator: &mut Operator) -> Result<bool, Fail> {
-    let refused = operator.publish(with_filters(alloc, 4096, 4085)?);
+    let refused = operator.publish(with_filters(alloc, 4096, 4083)?);
     Ok(matches!(&refused, Err((PublishFault::TooBig, config)) if config.charge() == 8193))
 }
 

@@ -201,7 +201,7 @@ const GROUP: Endpoint = Endpoint {
     port: 53,
 };
 
-const GROUP_IMAGE: [u64; 9] = [9, 1, 0x0a00_0002_0035, 6, 1, 0, 7, 0x7f00_0001_2329, 0];
+const GROUP_IMAGE: [u64; 10] = [10, 1, 0x0a00_0002_0035, 6, 1, 0, 7, 0x7f00_0001_2329, 0, 0];
 
 fn with_group(alloc: Global) -> Result<Config, Fail> {
     let added = Config::new(alloc).apply(&Command::<Program<Global>>::AddGroup { key: GROUP });

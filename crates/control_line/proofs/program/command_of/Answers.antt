@@ -1,5 +1,5 @@
 use Rattle.std.proofs.Common.{ap, refl}
-use Rattle.member_group.specs.declared.command.Command.TheVariants.{AddGroup, ClearFilter, ClearSelector, Join, Leave, RemoveGroup, SetFilter, SetSelector}
+use Rattle.member_group.specs.declared.command.Command.TheVariants.{AddGroup, ClearFilter, ClearSelector, Join, Leave, LockFilter, RemoveGroup, SetFilter, SetSelector}
 use Rattle.control_line.proofs.program.command_of.Goals as goal
 
 pub returns-in-AddGroup : goal.returns-in-AddGroup
@@ -19,6 +19,9 @@ returns-in-ClearSelector c = rw c.in-ClearSelector.is (ClearSelector c.in-ClearS
 
 pub returns-in-ClearFilter : goal.returns-in-ClearFilter
 returns-in-ClearFilter c = rw c.in-ClearFilter.is (ClearFilter c.in-ClearFilter.key c.in-ClearFilter.member, refl, refl)
+
+pub returns-in-LockFilter : goal.returns-in-LockFilter
+returns-in-LockFilter c = rw c.in-LockFilter.is (LockFilter c.in-LockFilter.key c.in-LockFilter.member, refl, refl)
 
 pub returns-in_ok-program_of-in-SetSelector : goal.returns-in_ok-program_of-in-SetSelector
 returns-in_ok-program_of-in-SetSelector c =

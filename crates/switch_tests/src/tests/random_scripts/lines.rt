@@ -152,6 +152,10 @@ pub enum Line {
         member: u32,
         setting: Setting,
     },
+    Lock {
+        key: Endpoint,
+        member: u32,
+    },
     Show,
     Sweep,
     Packet(Datagram),
@@ -165,6 +169,7 @@ impl Line {
             Line::Remove { key } => write!(text, "remove {key}")?,
             Line::Join { key, member, to } => write!(text, "join {key} {member} {to}")?,
             Line::Leave { key, member } => write!(text, "leave {key} {member}")?,
+            Line::Lock { key, member } => write!(text, "lock {key} {member}")?,
             Line::Selector { key, setting } => {
                 write!(text, "selector {key} ")?;
                 setting.write(text)?;

@@ -29,7 +29,7 @@ const MEMBERS: [u32; 6] = [0, 1, 2, 7, 65536, u32::MAX];
 const SOURCE_PORTS: [u16; 8] = [0, 1, 2, 3, 53, 5000, 40000, u16::MAX];
 
 // What is no line for its words, its spaces, its fields or its bytes.
-const NO_LINES: [&str; 24] = [
+const NO_LINES: [&str; 26] = [
     "",
     " show",
     "show ",
@@ -46,6 +46,8 @@ const NO_LINES: [&str; 24] = [
     "join 10.0.0.2:53 1",
     "join 10.0.0.2:53 01 127.0.0.1:9001",
     "leave 10.0.0.2:53 4294967296",
+    "lock 10.0.0.2:53",
+    "lock 10.0.0.2:53 1 none",
     "selector 10.0.0.2:53 asm",
     "selector 10.0.0.2:53 expr udp",
     "filter 10.0.0.2:53 1 none none",
@@ -240,7 +242,8 @@ impl Numbers {
                 let to = self.endpoint();
                 Line::Join { key, member, to }
             }
-            24..=31 => Line::Leave { key, member },
+            24..=29 => Line::Leave { key, member },
+            30..=31 => Line::Lock { key, member },
             32..=41 => {
                 let setting = self.selector(charge);
                 Line::Selector { key, setting }

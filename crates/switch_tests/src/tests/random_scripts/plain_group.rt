@@ -68,6 +68,7 @@ struct Member {
     number: u32,
     to: Endpoint,
     filter: Option<Program>,
+    is_locked: bool,
 }
 
 #[derive(Drop)]
@@ -95,7 +96,7 @@ impl Group {
         for member in &self.members {
             charge = charge
                 .saturating_add(charge_of(member.filter))
-                .saturating_add(3);
+                .saturating_add(4);
         }
         charge
     }
@@ -115,13 +116,14 @@ impl Group {
         if self.members.len() >= 64 {
             return Err(Stop::Refused("G6"));
         }
-        if charge.saturating_add(3) > LARGEST_CHARGE {
+        if charge.saturating_add(4) > LARGEST_CHARGE {
             return Err(Stop::Refused("B1"));
         }
         let member = Member {
             number,
             to,
             filter: None,
+            is_locked: false,
         };
         self.members.push(member).map_err(|_| Stop::OutOfMemory)
     }
@@ -150,7 +152,18 @@ impl Group {
     ) -> Result<(), Stop> {
         let index = self.index(number)?;
         if let Some(member) = self.members.get_mut(index) {
+            if member.is_locked {
+                return Err(Stop::Refused("G9"));
+            }
             member.filter = replaced(member.filter, program, charge)?;
+        }
+        Ok(())
+    }
+
+    pub fn lock(&mut self, number: u32) -> Result<(), Stop> {
+        let index = self.index(number)?;
+        if let Some(member) = self.members.get_mut(index) {
+            member.is_locked = true;
         }
         Ok(())
     }
@@ -178,7 +191,15 @@ impl Group {
 
     pub fn judge(&self, datagram: &Datagram, text: &mut String) -> Result<(), AllocError> {
         let key = self.key;
-        let Some(Member { number, to, filter }) = self.chosen(datagram) else {
+        let Some(
+            Member {
+                number,
+                to,
+                filter,
+                ..
+            },
+        ) = self.chosen(datagram)
+        else {
             return text.push_str("nomembers");
         };
         let size = u32::from(datagram.size());

@@ -18,6 +18,9 @@ enum Change {
     Leave {
         member: u32,
     },
+    Lock {
+        member: u32,
+    },
     Select {
         program: Option<Program>,
     },
@@ -89,6 +92,7 @@ impl Switch {
         match change {
             Change::Join { member, to } => group.join(member, to, charge),
             Change::Leave { member } => group.leave(member),
+            Change::Lock { member } => group.lock(member),
             Change::Select { program } => group.select(program, charge),
             Change::Filter { member, program } => group.filter(member, program, charge),
         }
@@ -101,6 +105,7 @@ impl Switch {
             Line::Remove { key } => return self.remove(key),
             Line::Join { key, member, to } => (key, Change::Join { member, to }),
             Line::Leave { key, member } => (key, Change::Leave { member }),
+            Line::Lock { key, member } => (key, Change::Lock { member }),
             Line::Selector { key, setting } => {
                 let program = setting.program()?;
                 (key, Change::Select { program })

@@ -1,6 +1,6 @@
 use Rattle.std.proofs.Common.{refl}
 use Rattle.member_group.specs.Command.{left}
-use Rattle.member_group.specs.Refusal.{leave_causes}
+use Rattle.member_group.specs.Refusal.{member_causes}
 use Rattle.member_group.proofs.AnswerLemmas.{group_changed, group_refused, no_group, same_key}
 use Rattle.member_group.proofs.config.Config.leave.Goals as goal
 
@@ -9,12 +9,12 @@ leave-requires g c =
     record { group = rw (c.index-groups-at.is, c.groups.ensures.groups) (c.groups.ensures.config.groups c.in_ok-at.at c.index-groups-at.result c.in_ok-at.ensures.found.inside) }
 
 pub returns-in_err-at : goal.returns-in_err-at
-returns-in_err-at g c = record { answer = no_group (leave_causes c.args.member) _ _ _ _ c.in_err-at.ensures.absent c.from_residual.ensures.1 }
+returns-in_err-at g c = record { answer = no_group (member_causes c.args.member) _ _ _ _ c.in_err-at.ensures.absent c.from_residual.ensures.1 }
 
 pub returns-in_err-group : goal.returns-in_err-group
 returns-in_err-group g c =
     record {
-      answer = group_refused (leave_causes c.args.member) (left c.args.member) c.args.key c.args.self.now c.in_ok-at.at c.index-groups-at.result _ _ _
+      answer = group_refused (member_causes c.args.member) (left c.args.member) c.args.key c.args.self.now c.in_ok-at.at c.index-groups-at.result _ _ _
           c.in_ok-at.ensures.found (rw (← c.groups.ensures.groups) c.index-groups-at.is) c.in_err-group.ensures.answer c.from_residual-in_err-group.ensures.1;
     }
 
@@ -26,6 +26,6 @@ with_group_at-requires-clause-same_key g c =
 pub returns : goal.returns
 returns g c =
     record {
-      answer = group_changed (leave_causes c.args.member) (left c.args.member) c.args.key c.args.self.now c.in_ok-at.at c.index-groups-at.result c.in_ok-group.group _
+      answer = group_changed (member_causes c.args.member) (left c.args.member) c.args.key c.args.self.now c.in_ok-at.at c.index-groups-at.result c.in_ok-group.group _
           c.in_ok-at.ensures.found (rw (← c.groups.ensures.groups) c.index-groups-at.is) c.in_ok-group.ensures.answer c.with_group_at.ensures.changed;
     }

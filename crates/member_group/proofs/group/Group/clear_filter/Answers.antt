@@ -1,31 +1,36 @@
-use Rattle.std.proofs.Common.{◌∙◌, refl, sym}
-use Rattle.member_group.proofs.AnswerLemmas.{clear_filter_refused, clear_filter_without, clears_filter, made_answer, memory_answer, refused_answer}
-use Rattle.member_group.proofs.GroupLemmas.{with_filter-only_at, with_filter_is_group}
+use Rattle.std.proofs.Common.{refl}
+use Rattle.member_group.proofs.AnswerLemmas.{clear_filter_locked, clear_filter_refused, clear_filter_without, clears_filter, made_answer, memory_answer, refused_answer}
+use Rattle.member_group.proofs.GroupLemmas.{with_filter_is_group}
 use Rattle.member_group.proofs.group.Group.clear_filter.Goals as goal
 
 pub returns-in_default-clause-answer : goal.returns-in_default-clause-answer
 returns-in_default-clause-answer g c =
     refused_answer _ _ _ (clear_filter_refused c.args.id c.args.self.now (rw (← c.members.ensures.members) c.in_default.ensures.absent))
 
+pub returns-then-member-clause-answer : goal.returns-then-member-clause-answer
+returns-then-member-clause-answer g c =
+    refused_answer _ _ _
+    (clear_filter_locked c.args.id c.args.self.now c.in-Some.at c.index-members-at.result (rw (← c.members.ensures.members) c.in-Some.ensures.found) (rw (← c.members-2.ensures.members) c.index-members-at.is) c.if-member.true)
+
 pub returns-then-is_none-clause-answer : goal.returns-then-is_none-clause-answer
 returns-then-is_none-clause-answer g c =
     refused_answer _ _ _
-    (clear_filter_without c.args.id c.args.self.now c.in-Some.at c.index-members-at.result (rw (← c.members.ensures.members) c.in-Some.ensures.found) (rw (← c.members-2.ensures.members) c.index-members-at.is) (rw (c.index-members-at.is, c.if-is_none.ensures) refl))
+    (clear_filter_without c.args.id c.args.self.now c.in-Some.at c.index-members-at.result (rw (← c.members.ensures.members) c.in-Some.ensures.found) (rw (← c.members-2.ensures.members) c.index-members-at.is) c.if-member.false (rw c.if-is_none.ensures refl))
 
 pub returns-in_err-with_filter-clause-answer : goal.returns-in_err-with_filter-clause-answer
 returns-in_err-with_filter-clause-answer g c =
     memory_answer _ _ _
-    (clears_filter c.args.id c.args.self.now c.in-Some.at c.index-members-at.result (rw (← c.members.ensures.members) c.in-Some.ensures.found) (rw (← c.members-2.ensures.members) c.index-members-at.is) (rw (c.index-members-at.is, c.if-is_none.ensures) refl))
+    (clears_filter c.args.id c.args.self.now c.in-Some.at c.index-members-at.result (rw (← c.members.ensures.members) c.in-Some.ensures.found) (rw (← c.members-2.ensures.members) c.index-members-at.is) c.if-member.false (rw c.if-is_none.ensures refl))
     c.from_residual.ensures.1
 
 pub returns-clause-answer : goal.returns-clause-answer
 returns-clause-answer g c =
     let only = rw c.members.ensures.members at c.in-Some.ensures.found in
     made_answer _ _ _
-    (clears_filter c.args.id c.args.self.now c.in-Some.at c.index-members-at.result only (rw (← c.members-2.ensures.members) c.index-members-at.is) (rw (c.index-members-at.is, c.if-is_none.ensures) refl))
-    (c.in_ok-with_filter.ensures.changed ∙ sym (with_filter-only_at c.args.id _ c.args.self.now c.in-Some.at only))
+    (clears_filter c.args.id c.args.self.now c.in-Some.at c.index-members-at.result only (rw (← c.members-2.ensures.members) c.index-members-at.is) c.if-member.false (rw c.if-is_none.ensures refl))
+    (c.in_ok-with_filter.ensures.changed c.args.id only)
 
 pub returns-clause-group : goal.returns-clause-group
 returns-clause-group g c =
     let only = rw c.members.ensures.members at c.in-Some.ensures.found in
-    rw c.in_ok-with_filter.ensures.changed (with_filter_is_group _ c.args.self.now c.in-Some.at c.requires.group only.inside tt)
+    rw (c.in_ok-with_filter.ensures.changed c.args.id only) (with_filter_is_group c.args.id _ c.args.self.now c.in-Some.at c.requires.group only tt)

@@ -1,20 +1,20 @@
 use Rattle.std.proofs.Common.{◌∙◌, sym}
-use Rattle.member_group.proofs.AnswerLemmas.{leave_refused, leaves, made_answer, memory_answer, refused_answer}
+use Rattle.member_group.proofs.AnswerLemmas.{has_member, made_answer, memory_answer, no_member, refused_answer}
 use Rattle.member_group.proofs.GroupLemmas.{left-only_at, left_is_group}
 use Rattle.member_group.proofs.group.Group.leave.Goals as goal
 
 pub returns-in_default-clause-answer : goal.returns-in_default-clause-answer
 returns-in_default-clause-answer g c =
-    refused_answer _ _ _ (leave_refused c.args.id c.args.self.now (rw (← c.members.ensures.members) c.in_default.ensures.absent))
+    refused_answer _ _ _ (no_member c.args.id c.args.self.now (rw (← c.members.ensures.members) c.in_default.ensures.absent))
 
 pub returns-in_err-without_member-clause-answer : goal.returns-in_err-without_member-clause-answer
 returns-in_err-without_member-clause-answer g c =
-    memory_answer _ _ _ (leaves c.args.id c.args.self.now c.in-Some.at (rw (← c.members.ensures.members) c.in-Some.ensures.found)) c.from_residual.ensures.1
+    memory_answer _ _ _ (has_member c.args.id c.args.self.now c.in-Some.at (rw (← c.members.ensures.members) c.in-Some.ensures.found)) c.from_residual.ensures.1
 
 pub returns-clause-answer : goal.returns-clause-answer
 returns-clause-answer g c =
     let only = rw c.members.ensures.members at c.in-Some.ensures.found in
-    made_answer _ _ _ (leaves c.args.id c.args.self.now c.in-Some.at only) (c.in_ok-without_member.ensures.changed ∙ sym (left-only_at c.args.id c.args.self.now c.in-Some.at only))
+    made_answer _ _ _ (has_member c.args.id c.args.self.now c.in-Some.at only) (c.in_ok-without_member.ensures.changed ∙ sym (left-only_at c.args.id c.args.self.now c.in-Some.at only))
 
 pub returns-clause-group : goal.returns-clause-group
 returns-clause-group g c =

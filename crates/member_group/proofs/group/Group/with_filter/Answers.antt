@@ -1,0 +1,10 @@
+use Rattle.member_group.proofs.GroupLemmas.{with_member-only_at}
+use Rattle.member_group.proofs.group.Group.with_filter.Goals as goal
+
+pub returns : goal.returns
+returns g c =
+    record {
+      changed = λ id only.
+          rw (with_member-only_at id (λ member. record member { filter = c.args.filter }) c.args.self.now c.args.at c.index-members-at.result (rw (← c.members.ensures.members) c.index-members-at.is) only)
+          c.with_member_at.ensures.changed;
+    }

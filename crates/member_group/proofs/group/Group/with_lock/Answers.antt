@@ -1,0 +1,11 @@
+use Rattle.std.proofs.Common.{true}
+use Rattle.member_group.proofs.GroupLemmas.{with_member-only_at}
+use Rattle.member_group.proofs.group.Group.with_lock.Goals as goal
+
+pub returns : goal.returns
+returns g c =
+    record {
+      changed = λ id only.
+          rw (with_member-only_at id (λ member. record member { locked = true }) c.args.self.now c.args.at c.index-members-at.result (rw (← c.members.ensures.members) c.index-members-at.is) only, ← c.in_ok-member.ensures.copied)
+          c.with_member_at.ensures.changed;
+    }
