@@ -1,5 +1,6 @@
 mod ListLemmas
 mod VersionsRuleLemmas
+mod HeldLemmas
 mod WorkerKept
 mod OperatorKept
 mod SeatKept

@@ -20,7 +20,7 @@ use Rattle.versions.proofs.ListLemmas.{elem_there, row_inside}
 use Rattle.versions.proofs.Coherence.{Coheres, log_of_is}
 use Rattle.read_section.specs.declared.versions_rule.SeatView.{SeatView}
 use Rattle.read_section.specs.body.Plays.{OperatorKnows, fills, publishes, scans}
-use Rattle.read_section.specs.body.VersionsRule.{IsLeftByTrace}
+use Rattle.read_section.specs.VersionsRule.{IsLeftByTrace}
 use Rattle.read_section.specs.View.{TellsLog}
 use Rattle.read_section.specs.body.SeatView.{with_operator}
 use Rattle.read_section.proofs.ListLemmas.{contains_snoc}

@@ -16,7 +16,7 @@ use Rattle.versions.specs.State.{IsOpening, State, new_operator, new_workers, st
 use Rattle.versions.proofs.ListLemmas.{contains_first, elem_below, elem_snoc}
 use Rattle.versions.proofs.MirrorLemmas.{none_some, some_same}
 use Rattle.read_section.specs.declared.versions_rule.SeatView.{SeatView}
-use Rattle.read_section.specs.body.VersionsRule.{IsLeftByTrace, IsViewOf, KnowsOperator, KnowsWorker}
+use Rattle.read_section.specs.VersionsRule.{IsLeftByTrace, IsViewOf, KnowsOperator, KnowsWorker}
 use Rattle.read_section.specs.body.SeatView.{first_seat, nobody, note_of, published_by, seen_by, spare_alone, told_by, with_worker_of, without_spare, without_worker, worker_alone}
 use Rattle.read_section.proofs.VersionsRuleLemmas.{knows_after, now, rule_now}
 

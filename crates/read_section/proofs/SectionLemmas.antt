@@ -9,9 +9,8 @@ use Rattle.versions.specs.declared.step.Entry.{Entry}
 use Rattle.versions.specs.declared.view.Stage.{Stage}
 use Rattle.versions.specs.declared.view.Stage.TheVariants.{Announced, Inside, Outside, Peeked}
 use Rattle.versions.specs.declared.view.WorkerView.{WorkerView}
-use Rattle.versions.specs.Layout.{IsInRow}
 use Rattle.versions.specs.View.{after_leave, next_stage, read_word_of, stage_after}
-use Rattle.versions.specs.Legal.{IsInOrder, IsLogOf}
+use Rattle.versions.specs.Legal.{FetchesHeld, IsHeldPlace, IsInOrder, IsLogOf}
 use Rattle.versions.specs.Step.{IsStepOf, entry}
 use Rattle.versions.specs.Table.{the_shape}
 use Rattle.versions.proofs.ListLemmas.{contains_first}
@@ -24,41 +23,37 @@ use Rattle.read_section.specs.body.Steps.{IsOwnLogOf}
 use Rattle.read_section.specs.Worker.{Enters, IsInside, IsOutside, WorkerValue, left, left_from, steps}
 
 -- the fetches that a log ends with
-module _ (w r : ℕ) where
+module _ (w : ℕ) (stage : Stage) where
   abbrev IsFetched : List Entry → Type 0
-  IsFetched log = (fetches : List Entry) × (log ≡ fetches ++ before_fetches log) × ((entry : Entry) → Contains fetches entry → IsFetchIn w r entry.step)
+  IsFetched log = (fetches : List Entry) × (log ≡ fetches ++ before_fetches log) × ((entry : Entry) → Contains fetches entry → IsFetchIn w stage entry.step)
 
   none_fetched : (log : List Entry) → before_fetches log ≡ log → IsFetched log
   none_fetched log e = ([], sym e, λ entry c. absurd (let l = c.1 in omega arith))
 
-  one_more_fetched : (newest : Entry) (older : List Entry) (place : ℕ) → newest.step ≡ Fetch w place → IsInRow the_shape r place → before_fetches (newest ∷ older) ≡ before_fetches older → IsFetched older → IsFetched (newest ∷ older)
-  one_more_fetched newest older place is inside same (fetches, all, each) = (
+  one_more_fetched : (newest : Entry) (older : List Entry) (place : ℕ) → newest.step ≡ Fetch w place → IsHeldPlace the_shape stage place → before_fetches (newest ∷ older) ≡ before_fetches older → IsFetched older → IsFetched (newest ∷ older)
+  one_more_fetched newest older place is held same (fetches, all, each) = (
     newest ∷ fetches,
     ap (λ l. newest ∷ l) (all ∙ ap (λ l. fetches ++ l) (sym same)),
-    λ entry c. ⊎_elim (λ e. subst (λ (y : Entry). IsFetchIn w r y.step) e (place, is, inside)) (λ later. each entry later) (contains_first newest entry fetches c),
+    λ entry c. ⊎_elim (λ e. subst (λ (y : Entry). IsFetchIn w stage y.step) e (place, is, held)) (λ later. each entry later) (contains_first newest entry fetches c),
   )
 
-inside_row : (j m q k n r : ℕ) → Inside j m q ≡ Inside k n r → q ≡ r
-inside_row j m q k n r e = cc
-
 module _ (w k n r : ℕ) where
-  -- the log of a worker inside a section of row r ends with fetches in row r, back to its pin
-  fetched_log : (log : List Entry) → IsLogOf the_shape w log → stage_after the_shape.rows log ≡ Inside k n r → IsFetched w r log
-  fetched_log [] own stage = none_fetched w r [] refl
+  -- the log of a worker inside a section ends with fetches of words of the version held, back to its pin or a later peek
+  fetched_log : (log : List Entry) → IsLogOf the_shape w log → stage_after the_shape.rows log ≡ Inside k n r → IsFetched w (Inside k n r) log
+  fetched_log [] own stage = none_fetched w (Inside k n r) [] refl
   fetched_log (newest ∷ older) own stage = go newest.step newest.word own stage (λ inside. fetched_log older own.0 inside)
     where
-      go : (step : Step) (x : ℕ) → IsLogOf the_shape w older × IsStepOf w step × IsInOrder the_shape (stage_after the_shape.rows older) step x → next_stage the_shape.rows (stage_after the_shape.rows older) step x ≡ Inside k n r
-          → (stage_after the_shape.rows older ≡ Inside k n r → IsFetched w r older) → IsFetched w r (entry step x ∷ older)
-      go (Peek v) x own stage before = none_fetched w r (entry (Peek v) x ∷ older) refl
-      go (Announce v) x own stage before = none_fetched w r (entry (Announce v) x ∷ older) refl
-      go (Pin v) x own stage before = none_fetched w r (entry (Pin v) x ∷ older) refl
+      go : (step : Step) (x : ℕ) → IsLogOf the_shape w older × IsStepOf w step × IsInOrder (stage_after the_shape.rows older) step x × FetchesHeld the_shape (stage_after the_shape.rows older) step → next_stage the_shape.rows (stage_after the_shape.rows older) step x ≡ Inside k n r
+          → (stage_after the_shape.rows older ≡ Inside k n r → IsFetched w (Inside k n r) older) → IsFetched w (Inside k n r) (entry step x ∷ older)
+      go (Peek v) x own stage before = none_fetched w (Inside k n r) (entry (Peek v) x ∷ older) refl
+      go (Announce v) x own stage before = none_fetched w (Inside k n r) (entry (Announce v) x ∷ older) refl
+      go (Pin v) x own stage before = none_fetched w (Inside k n r) (entry (Pin v) x ∷ older) refl
       go (Fetch v place) x own stage before =
-          let order = own.2 in let same : order.2 ≡ r = inside_row order.0 order.1 order.2 k n r (sym order.3 ∙ stage) in
-          one_more_fetched w r (entry (Fetch v place) x) older place (ap (λ (u : ℕ). Fetch u place) own.1) (subst (λ q. IsInRow the_shape q place) same order.4) refl (before stage)
-      go (Leave v) x own stage before = none_fetched w r (entry (Leave v) x ∷ older) refl
-      go (Fill p y) x own stage before = none_fetched w r (entry (Fill p y) x ∷ older) refl
-      go (Publish q) x own stage before = none_fetched w r (entry (Publish q) x ∷ older) refl
-      go (Scan p) x own stage before = none_fetched w r (entry (Scan p) x ∷ older) refl
+          one_more_fetched w (Inside k n r) (entry (Fetch v place) x) older place (ap (λ (u : ℕ). Fetch u place) own.1) (subst (λ q. IsHeldPlace the_shape q place) stage own.3) refl (before stage)
+      go (Leave v) x own stage before = none_fetched w (Inside k n r) (entry (Leave v) x ∷ older) refl
+      go (Fill p y) x own stage before = none_fetched w (Inside k n r) (entry (Fill p y) x ∷ older) refl
+      go (Publish q) x own stage before = none_fetched w (Inside k n r) (entry (Publish q) x ∷ older) refl
+      go (Scan p) x own stage before = none_fetched w (Inside k n r) (entry (Scan p) x ∷ older) refl
 
 -- any log
 front_fetches : (log : List Entry) → (fetches : List Entry) × (log ≡ fetches ++ before_fetches log)
@@ -84,7 +79,11 @@ EndsInFetches-outside worker out = let t = front_fetches worker.view.log in reco
 pub EndsInFetches-inside : (worker : WorkerValue) (n r : ℕ) → IsInside worker.view.stage n r → IsOwnLogOf worker → EndsInFetches worker
 EndsInFetches-inside worker n r inside own =
     let k = read_word_of worker.view.stage in let t = fetched_log worker.view.number k n r worker.view.log own.order (sym own.stage ∙ inside) in
-    record { fetches = t.0; log = t.1; each = λ j m q e stage c. subst (λ (p : ℕ). IsFetchIn worker.view.number p e.step) (inside_row k n r j m q (sym inside ∙ stage)) (t.2 e c) }
+    record { fetches = t.0; log = t.1; each = λ j m q e stage c. subst (λ p. IsFetchIn worker.view.number p e.step) (sym inside ∙ stage) (t.2 e c) }
+
+pub EndsInFetches-held : (held : Option Held) (worker : WorkerValue) → TellsStage held worker.view.stage → IsOwnLogOf worker → EndsInFetches worker
+EndsInFetches-held None worker at own = EndsInFetches-outside worker at
+EndsInFetches-held (Some h) worker at own = EndsInFetches-inside worker h.version h.row at.0 own
 
 -- what a worker keeps of its section tells whether it is inside
 pub outside_of_none : (held : Option Held) (stage : Stage) → is_some held ≡ false → TellsStage held stage → IsOutside stage
@@ -137,7 +136,7 @@ module _ (before inside last after : WorkerValue) (entered : Enters before insid
   whole_section = let number = ap (λ (w : WorkerValue). w.view.number) same in let after_is : after.view ≡ after_leave last.view = ap (λ (w : WorkerValue). w.view) e ∙ left_is in record {
     entered = entered;
     fetches = since.fetches;
-    each = λ k n r newest stage c. subst (λ (w : ℕ). IsFetchIn w r newest.step) number (since.each k n r newest (last_stage ∙ stage) c);
+    each = λ k n r newest stage c. subst (λ (w : ℕ). IsFetchIn w (Inside k n r) newest.step) number (since.each k n r newest (last_stage ∙ stage) c);
     log = ap (λ (v : WorkerView (List Group)). v.log) after_is
         ∙ ((λ i. entry (Leave (number i)) 0 ∷ last.view.log) ∙ ap (λ l. entry (Leave inside.view.number) 0 ∷ l) (since.log ∙ ap (λ l. since.fetches ++ l) (ap (λ (w : WorkerValue). w.view.log) same ∙ pinned_log)));
     outside = ap (λ (v : WorkerView (List Group)). v.stage) after_is;

@@ -15,14 +15,14 @@ use Rattle.versions.specs.declared.view.OperatorView.{OperatorView}
 use Rattle.versions.specs.Layout.{Shape}
 use Rattle.versions.specs.View.{BeginsWith, up_to}
 use Rattle.versions.specs.State.{State, after_step, change, start_of, state_after}
-use Rattle.versions.specs.Legal.{IsLegal, IsLegalStep}
+use Rattle.versions.specs.Legal.{IsLegal, IsLegalStep, IsReached}
 use Rattle.versions.proofs.ListLemmas.{change_else, change_here, elem_below}
 use Rattle.versions.proofs.MirrorLemmas.{some_same}
 use Rattle.versions.proofs.Coherence.{Coheres, current_is, seen_is}
-use Rattle.versions.proofs.TraceLemmas.{Coheres-start, Coheres-trace}
+use Rattle.versions.proofs.TraceLemmas.{Coheres-reached}
 use Rattle.read_section.specs.declared.versions_rule.SeatView.{SeatView}
 use Rattle.read_section.specs.body.Plays.{ShowsSeat}
-use Rattle.read_section.specs.body.VersionsRule.{IsLeftByTrace, IsViewOf, KnowsOperator, KnowsWorker}
+use Rattle.read_section.specs.VersionsRule.{IsLeftByTrace, IsViewOf, KnowsOperator, KnowsWorker}
 use Rattle.read_section.specs.body.SeatView.{with_operator, with_worker}
 
 module _ {C : Type 0} where
@@ -50,8 +50,11 @@ module _ {C : Type 0} (shape : Shape C) (IsPublishable : C → Type 0) {S : Type
   abbrev pub now : (s : table.State S (SeatView C)) → IsLeftByTrace shape IsPublishable config s → State C
   now s kept = state_after shape (start_of shape config kept.rows) kept.trace
 
+  pub reached : (s : table.State S (SeatView C)) (kept : IsLeftByTrace shape IsPublishable config s) → IsReached shape (now s kept)
+  reached s kept = record { config = config; rows = kept.rows; trace = kept.trace; opening = kept.opening; legal = kept.legal; reached = refl }
+
   pub rule_now : (s : table.State S (SeatView C)) (kept : IsLeftByTrace shape IsPublishable config s) → Coheres shape (now s kept)
-  rule_now s kept = Coheres-trace shape (start_of shape config kept.rows) (Coheres-start shape config kept.rows kept.opening) kept.trace kept.legal
+  rule_now s kept = Coheres-reached shape (now s kept) (reached s kept)
 
   -- the trace goes on to a state that the seat's new view and the other seats' views are of
   pub IsLeftByTrace-on : (s : table.State S (SeatView C)) (kept : IsLeftByTrace shape IsPublishable config s) (id : ℕ) (v v' : SeatView C) (trace : List (Event C)) (after : State C)
@@ -147,4 +150,5 @@ module _ {C : Type 0} (shape : Shape C) (IsPublishable : C → Type 0) {S : Type
         told = subst (λ l. BeginsWith l v.told) (sym all) ours.told;
         all = λ o q. all ∙ ap (λ (y : OperatorView C). y.published) (sym (ours.operator o q).1);
         publishable = λ c there. kept.publishable c (subst (λ l. Contains l c) all there);
+        own = (h.each_worker view.number view mine.1).own;
       }

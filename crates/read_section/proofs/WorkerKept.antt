@@ -1,7 +1,5 @@
 -- A worker's steps keep the rule, and what each tells.
-use Rattle.std.proofs.Common.{◌≡◌, ℕ, suc, ◌+◌, ◌*◌, ◌/◌, ◌%◌, ◌<◌, ◌≤◌, List, [], ◌∷◌, Some, ap, arith, get_or, refl, set, slice_index, subst, sym, ◌∙◌}
-use mathlib.Core.Option.{some}
-use lib.ListN.{get_elem?}
+use Rattle.std.proofs.Common.{◌≡◌, ℕ, ◌+◌, ◌/◌, ◌≤◌, List, Some, ap, refl, set, slice_index, subst, sym, ◌∙◌}
 use Rattle.atomic_table.specs.Table.{Allows, Me, keeps}
 use Rattle.atomic_table.specs.Table as table
 use Rattle.versions.specs.declared.step.Step.TheVariants.{Announce, Fetch, Leave, Peek, Pin}
@@ -9,16 +7,14 @@ use Rattle.versions.specs.declared.view.Stage.TheVariants.{Announced, Inside, Pe
 use Rattle.versions.specs.declared.view.WorkerView.{WorkerView}
 use Rattle.versions.specs.Layout.{IsInRow, Shape}
 use Rattle.versions.specs.View.{after_announce, after_fetch, after_leave, after_peek, after_pin, up_to}
-use Rattle.versions.specs.Free.{IsScannedClear, number_after}
-use Rattle.versions.specs.Legal.{MayPeek}
+use Rattle.versions.specs.Legal.{IsHeldPlace, MayPeek}
 use Rattle.versions.specs.Safety.{IsOwnLog}
-use Rattle.versions.proofs.ListLemmas.{elem_front}
-use Rattle.versions.proofs.Coherence.{Bounds}
-use Rattle.versions.proofs.SafetyLemmas.{held_is_kept}
 use Rattle.read_section.specs.declared.versions_rule.SeatView.{SeatView}
 use Rattle.read_section.specs.body.Plays.{IsWordIn, ShowsSeat, WorkerKnows, announces, fetches, leaves, peeks, pins}
-use Rattle.read_section.specs.body.VersionsRule.{IsLeftByTrace}
+use Rattle.read_section.specs.Held.{IsSeenWord}
+use Rattle.read_section.specs.VersionsRule.{IsLeftByTrace}
 use Rattle.read_section.specs.body.SeatView.{with_worker}
+use Rattle.read_section.proofs.HeldLemmas.{held_word}
 use Rattle.read_section.proofs.VersionsRuleLemmas.{IsLeftByTrace-worker, for_worker, loaded, now, rule_now, shown}
 
 module _ {C : Type 0} (shape : Shape C) (IsPublishable : C → Type 0) {S : Type 0} (config : C) where
@@ -71,34 +67,28 @@ module _ {C : Type 0} (shape : Shape C) (IsPublishable : C → Type 0) {S : Type
       → Allows Kept slots id me place (λ x. x) (fetches shape at me)
   allows_fetch slots id me view k n r place at is no_spare stage in_row here s kept deep there fits =
       let x : ℕ = slice_index s.words place in let mine = (kept.each_seat id me.0 there).worker view is in let st = now shape IsPublishable config s kept in
-      let e : x ≡ slice_index st.words place = ap (λ ws. slice_index ws place) kept.words in let f : WorkerView C → WorkerView C = after_fetch place x in let rule = rule_now shape IsPublishable config s kept in let ok = rule.each_worker view.number view mine.1 in
-      let word : (j m q : ℕ) → view.stage ≡ Inside j m q → IsWordIn shape view m q at.word x = λ j m q stage' i small is_place.
-      let held = held_is_kept shape st rule view.number m q (view, j, mine.1, stage') in
-      let bound : (0 < j) × (j ≤ m + 1) × (m ≤ number_after st.operator.log) × (m < Rattle.std.proofs.Common.length view.seen) × (get_elem? st.operator.version_rows m ≡ some q) × ((l : ℕ) → IsScannedClear view.number l st.operator.log → l < m) =
-      subst (Bounds view.number st.operator (Rattle.std.proofs.Common.length view.seen)) stage' ok.bounds in (
-        held.config,
-        elem_front view.seen ok.begins.0 m held.config bound.3 (sym (ap (λ l. get_elem? l m) ok.begins.1) ∙ held.published),
-        e ∙ (ap (λ (q : ℕ). get_or st.words q 0) (sym here ∙ is_place) ∙ held.holds i small),
-      ) in
-      let step = IsLeftByTrace-worker shape IsPublishable config s kept id me.0 view (Fetch view.number place) x f st.words there is no_spare refl ((view, mine.1, (k, n, r, stage, in_row)), e) refl in
+      let e : x ≡ slice_index st.words place = ap (λ ws. slice_index ws place) kept.words in let f : WorkerView C → WorkerView C = after_fetch place x in
+      let word : (j m q : ℕ) → view.stage ≡ Inside j m q → IsWordIn shape view j m q at.word x = λ j m q stage' held.
+      subst (λ (p : ℕ). IsSeenWord shape view m held.0 (slice_index s.words p)) (sym held.2 ∙ here) (held_word shape IsPublishable config s kept id me.0 view j m q held.0 there is stage' held.1) in
+      let step = IsLeftByTrace-worker shape IsPublishable config s kept id me.0 view (Fetch view.number place) x f st.words there is no_spare refl ((view, mine.1, (k, n, r, stage)), (view, mine.1, subst (λ q. IsHeldPlace shape q place) (sym stage) in_row), e) refl in
       let same : after_fetch place x view ≡ after_fetch at.word x view = ap (λ (q : ℕ). after_fetch q x view) (sym here) in (
         with_worker me.0 (f view),
         keeps,
         tt,
         loaded shape IsPublishable config s place (set s.views id (with_worker me.0 (f view)))
             (subst (λ ws. Kept record { words = ws; homes = s.homes; views = set s.views id (with_worker me.0 (f view)) }) (sym kept.words) step),
-        for_worker me.0 view is (λ b. WorkerKnows shape me (with_worker me.0 (f view), me.1) (after_fetch at.word x b) × ((j m q : ℕ) → b.stage ≡ Inside j m q → IsWordIn shape b m q at.word x))
+        for_worker me.0 view is (λ b. WorkerKnows shape me (with_worker me.0 (f view), me.1) (after_fetch at.word x b) × ((j m q : ℕ) → b.stage ≡ Inside j m q → IsWordIn shape b j m q at.word x))
             (ap (λ (y : WorkerView C). let u : Me S (SeatView C) = (with_worker me.0 y, me.1) in u) same, word),
       )
 
   pub allows_leave : (slots id : ℕ) (me : Me S (SeatView C)) (view : WorkerView C) (k n r : ℕ) (at : table.Step S) → me.0.worker ≡ Some view → shape.workers ≤ me.0.spare → view.stage ≡ Inside k n r → at.word ≡ 1 + view.number
       → Allows Kept slots id me (1 + view.number) (λ _. 0) (λ _. leaves shape at me 0)
   allows_leave slots id me view k n r at is no_spare stage here s kept deep there fits =
-      let mine = (kept.each_seat id me.0 there).worker view is in let f : WorkerView C → WorkerView C = after_leave in let words = (now shape IsPublishable config s kept).words in
+      let mine = (kept.each_seat id me.0 there).worker view is in let f : WorkerView C → WorkerView C = after_leave in let words = (now shape IsPublishable config s kept).words in let stored : ℕ = 0 in
       let step = IsLeftByTrace-worker shape IsPublishable config s kept id me.0 view (Leave view.number) 0 f (set words (1 + view.number) 0) there is no_spare refl (view, mine.1, (k, n, r, stage, refl)) refl in (
         with_worker me.0 (f view),
         keeps,
         tt,
         subst (λ ws. Kept record { words = set ws (1 + view.number) 0; homes = s.homes; views = set s.views id (with_worker me.0 (f view)) }) (sym kept.words) step,
-        for_worker me.0 view is (λ b. (at.word ≡ 1 + b.number) × IsOwnLog shape b.number b × WorkerKnows shape me (with_worker me.0 (f view), me.1) (after_leave b)) (here, ((rule_now shape IsPublishable config s kept).each_worker view.number view mine.1).own, refl),
+        for_worker me.0 view is (λ b. (at.word ≡ 1 + b.number) × (stored ≡ 0) × IsOwnLog shape b.number b × WorkerKnows shape me (with_worker me.0 (f view), me.1) (after_leave b)) (here, refl, ((rule_now shape IsPublishable config s kept).each_worker view.number view mine.1).own, refl),
       )

@@ -18,7 +18,7 @@ use Rattle.versions.proofs.ShapeLemmas.{row_words_is, rows_is, workers_is}
 use Rattle.read_section.specs.declared.versions_rule.SeatView.{SeatView}
 use Rattle.read_section.specs.Layout.{IsPublishable}
 use Rattle.read_section.specs.body.Plays.{IsWordIn, ShowsSeat, announces, fetches, leaves, peeks, pins}
-use Rattle.read_section.specs.body.VersionsRule.{IsLeftByTrace}
+use Rattle.read_section.specs.VersionsRule.{IsLeftByTrace}
 use Rattle.read_section.specs.body.Seat.{IsSeatAt, IsWorkerSeat}
 use Rattle.read_section.specs.body.Steps.{FetchesWord, Sees}
 use Rattle.read_section.specs.body.SeatView.{with_worker}
@@ -86,7 +86,7 @@ module _ (v : View) (number : ℕ) (h : IsWorkerSeat v number) where
   stage_is seat worker is stage e = ap (λ (w : WorkerValue). w.view.stage) is ∙ e
 
   pub sees : (seat : TableId) (seen : List (List Group)) (x : ℕ) (worker : WorkerValue) → worker_at seat v ≡ worker → ShowsSeat the_shape IsPublishable v view x seen → Sees worker x seen
-  sees seat seen x worker is told = subst (λ (w : WorkerValue). Sees w x seen) is record { shows = told.shows; publishable = told.publishable }
+  sees seat seen x worker is told = subst (λ (w : WorkerValue). Sees w x seen) is record { shows = told.shows; publishable = told.publishable; own_log = told.own }
 
   module _ (slots : List (ℕ × ℕ)) (seat : TableId) (config : List Group) (slots' id : ℕ) (worker : WorkerValue) (is : worker_at seat v ≡ worker) where
     pub may_peek : MayPeek worker.view.stage → Allows (Kept config) slots' id (v, slots) 0 (λ n. n) (peeks the_shape IsPublishable (step slots' 0 0 0 none) (v, slots))
@@ -107,6 +107,6 @@ module _ (v : View) (number : ℕ) (h : IsWorkerSeat v number) where
     may_fetch n r i place stage small e = allows_fetch the_shape IsPublishable config slots' id (v, slots) view (read_word_of worker.view.stage) n r place (step slots' place 0 0 none) h.knows h.no_spare (stage_is seat worker is (Inside (read_word_of worker.view.stage) n r) stage) (i, small, e) refl
 
   pub fetched_word : (seat : TableId) (worker : WorkerValue) → worker_at seat v ≡ worker → (n r i place x : ℕ) → IsInside worker.view.stage n r → i < the_shape.row_words → place ≡ row_begin the_shape r + i
-      → ((k m q : ℕ) → view.stage ≡ Inside k m q → IsWordIn the_shape view m q place x) → FetchesWord worker n i x
-  fetched_word seat worker is n r i place x stage small e told = let t = told (read_word_of worker.view.stage) n r (stage_is seat worker is (Inside (read_word_of worker.view.stage) n r) stage) i small e in
+      → ((k m q : ℕ) → view.stage ≡ Inside k m q → IsWordIn the_shape view k m q place x) → FetchesWord worker n i x
+  fetched_word seat worker is n r i place x stage small e told = let t = told (read_word_of worker.view.stage) n r (stage_is seat worker is (Inside (read_word_of worker.view.stage) n r) stage) (i, small, e) in
       t.2 ∙ (ap (λ (c : List Group). get_or (the_shape.row c) i 0) (sym (get_elem_or view.seen n t.0 [] t.1)) ∙ ap (λ (w : WorkerValue). get_or (the_shape.row (slice_index_or w.view.seen n [])) i 0) is)

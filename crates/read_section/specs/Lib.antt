@@ -1,5 +1,7 @@
 pub mod Layout
 pub mod View
+pub mod VersionsRule
+pub mod Held
 pub mod Worker
 pub mod Section
 pub mod Operator

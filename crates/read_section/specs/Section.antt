@@ -9,9 +9,10 @@ use Rattle.versions.specs.declared.step.Step.TheVariants.{Fetch, Leave}
 use Rattle.versions.specs.declared.step.Entry.{Entry}
 use Rattle.versions.specs.declared.view.Stage.{Stage}
 use Rattle.versions.specs.declared.view.Stage.TheVariants.{Inside, Outside}
-use Rattle.versions.specs.Layout.{IsInRow, row_begin}
+use Rattle.versions.specs.Layout.{row_begin}
 use Rattle.versions.specs.Step.{entry}
 use Rattle.versions.specs.View.{after_fetch}
+use Rattle.versions.specs.Legal.{IsHeldPlace}
 use Rattle.versions.specs.Table.{the_shape}
 use Rattle.read_section.specs.declared.section.Section.{Section}
 use Rattle.read_section.specs.Layout.{IsPublishable}
@@ -50,7 +51,7 @@ abbrev pub before_fetches : List Entry → List Entry
 before_fetches [] = []
 before_fetches (newest ∷ older) = before_fetch newest.step (newest ∷ older) (before_fetches older)
 
--- a worker as it was at the pin of its section
+-- a worker without the fetches that its log ends with: in a section, as it was at the pin, since no peek comes there
 abbrev pub at_pin : WorkerValue → WorkerValue
 at_pin worker = record worker { view = record worker.view { log = before_fetches worker.view.log } }
 
@@ -70,15 +71,15 @@ fetched_in _ i x worker = worker
 abbrev pub fetched : ℕ → ℕ → WorkerValue → WorkerValue
 fetched i x worker = fetched_in worker.view.stage i x worker
 
--- the step is a fetch of worker w, in row r
-abbrev pub IsFetchIn : ℕ → ℕ → Step → Type 0
-IsFetchIn w r step = (place : ℕ) × (step ≡ Fetch w place) × IsInRow the_shape r place
+-- the step is a fetch of worker w, of a word of the version that it holds at this stage
+abbrev pub IsFetchIn : ℕ → Stage → Step → Type 0
+IsFetchIn w stage step = (place : ℕ) × (step ≡ Fetch w place) × IsHeldPlace the_shape stage place
 
--- the fetches that a worker's log ends with are in the row that it holds
+-- the fetches that a worker's log ends with are of words of the version that it holds
 pub record EndsInFetches (worker : WorkerValue) : Type 0 where
   pub fetches : List Entry
   pub log : worker.view.log ≡ fetches ++ (at_pin worker).view.log
-  pub each : (read_word n r : ℕ) (entry : Entry) → worker.view.stage ≡ Inside read_word n r → Contains fetches entry → IsFetchIn worker.view.number r entry.step
+  pub each : (read_word n r : ℕ) (entry : Entry) → worker.view.stage ≡ Inside read_word n r → Contains fetches entry → IsFetchIn worker.view.number (Inside read_word n r) entry.step
 
 -- a worker holds the version that it has seen last, which is a configuration; its row begins with the image of that
 pub record HoldsLastSeen (worker : WorkerValue) : Type 0 where
@@ -90,11 +91,11 @@ pub record HoldsLastSeen (worker : WorkerValue) : Type 0 where
   pub row : held_words worker ≡ the_shape.row config
   pub image : BeginsWithImage (held_words worker) config
 
--- a worker entered, which left it inside, made fetches in the row that it held, and left: these steps and no others
+-- a worker entered, which left it inside, made fetches of words of the version that it held, and left: these steps and no others
 pub record IsWholeSection (before inside after : WorkerValue) : Type 0 where
   pub entered : Enters before inside
   pub fetches : List Entry
-  pub each : (read_word n r : ℕ) (entry : Entry) → inside.view.stage ≡ Inside read_word n r → Contains fetches entry → IsFetchIn inside.view.number r entry.step
+  pub each : (read_word n r : ℕ) (entry : Entry) → inside.view.stage ≡ Inside read_word n r → Contains fetches entry → IsFetchIn inside.view.number (Inside read_word n r) entry.step
   pub log : after.view.log ≡ entry (Leave inside.view.number) 0 ∷ (fetches ++ inside.view.log)
   pub outside : after.view.stage ≡ Outside
   pub seen : after.view.seen ≡ inside.view.seen

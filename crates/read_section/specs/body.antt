@@ -1,5 +1,4 @@
 pub mod SeatView
-pub mod VersionsRule
 pub mod Plays
 pub mod Steps
 pub mod Seat

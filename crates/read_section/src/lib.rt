@@ -30,7 +30,7 @@ pub use operator::{Operator, Reclaimed};
 pub use section::{Section, sections_are_whole};
 use versions::opening_words;
 pub use versions::{CHARGE_LIMIT, LAST_NUMBER, ROWS, WORKERS};
-pub use versions_rule::{SeatView, VersionsRule};
+pub use versions_rule::{SeatView, VersionsRule, held_words_stand};
 pub use worker::Worker;
 
 /// Opens a table at version 0, which is `config`, with its operator and its workers. Takes their memory from the

@@ -10,6 +10,7 @@ ghost use Rattle.versions.specs.Legal.{MayPeek};
 ghost use Rattle.versions.specs.Table.{the_shape};
 ghost use Rattle.read_section.specs.Layout.{HoldsConfig, IsPublishable, IsZeroFrom};
 ghost use Rattle.read_section.specs.body.OperatorKept.{KeepsZeros};
+ghost use Rattle.read_section.specs.body.Steps.{IsOwnLogOf};
 ghost use Rattle.read_section.specs.Operator.{IsCurrent, IsReport, Meets, filled, opened_operator, published_from, scanned};
 ghost use Rattle.read_section.specs.View.{TellsLog};
 
@@ -168,7 +169,8 @@ impl Operator {
     pub(crate) fn meet(&mut self, worker: &mut WorkerSeat)
         requires table { worker.old.table ≡ self.old.table }
         requires stage { MayPeek worker.old.view.stage }
-        ensures { Meets worker.old worker.new self.old self.new }
+        ensures meets { Meets worker.old worker.new self.old self.new }
+        ensures own_log { IsOwnLogOf worker.old }
     {
         let number = worker.number();
         let word = self.seat.meet(worker);

@@ -1,5 +1,7 @@
 //! The table that the workers and the operator share, and the rule on it (docs/TABLE.md, "The rule").
 
+ghost use Rattle.read_section.specs.Held.{FetchesHeldWord, HeldWordsStand, HeldWordsStay, HeldWordsUnfilled};
+
 use atomic_table::{Seat, Table, TableRule};
 use member_group::Config;
 use std::alloc::Global;
@@ -18,17 +20,16 @@ pub struct SeatView<C> {
     pub told: LinkedList<C>,
 }
 
-/// The rule on the table: its words are what a legal trace of `versions` left.
+/// The rule on the table: its words are what a legal trace of `versions` left. It holds between any two accesses.
 pub struct VersionsRule;
 
 impl TableRule<u8, SeatView<Config>, Config> for VersionsRule {
-    ghost use Rattle.read_section.specs.Layout.{IsPublishable};
-    ghost use Rattle.read_section.specs.body.VersionsRule.{IsLeftByTrace};
+    ghost use Rattle.read_section.specs.VersionsRule.{IsAllowedState};
     ghost use Rattle.read_section.specs.body.SeatView.{first_seat};
     ghost use Rattle.versions.specs.Table.{the_shape};
     ghost use Rattle.versions.specs.World.{opening_rows};
 
-    ghost holds = { λ config. IsLeftByTrace the_shape IsPublishable config };
+    ghost holds = { IsAllowedState };
 
     ghost first = { λ config. first_seat the_shape config (opening_rows config) };
 }
@@ -37,3 +38,14 @@ impl TableRule<u8, SeatView<Config>, Config> for VersionsRule {
 pub(crate) type SharedTable = Table<u8, SeatView<Config>, Config, VersionsRule, Global>;
 
 pub(crate) type TableSeat = Seat<u8, SeatView<Config>>;
+
+/// Law: no word of a version is overwritten while a worker holds it. The rule holds between any two accesses of the table, so
+/// each state that the table is ever in is one that it allows. In each of them, from the worker's pin to its leave, the words
+/// of the version's row are those of its configuration, a fetch of any of them loads just that word, and none may be filled.
+/// It runs nothing.
+pub fn held_words_stand()
+    ensures words_stand { HeldWordsStand }
+    ensures words_stay { HeldWordsStay }
+    ensures fetch_exact { FetchesHeldWord }
+    ensures not_filled { HeldWordsUnfilled }
+{}

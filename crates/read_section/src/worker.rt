@@ -53,8 +53,8 @@ impl Worker {
     /// Begins a read-side critical section on the version that is current at its pin.
     ///
     /// Makes three steps and no other: peek, announce, pin; where an abandoned section left the worker inside, a leave comes
-    /// before them. It never waits, never retries and takes no memory. Until the section's leave its version is not
-    /// reclaimed (`versions::every_trace`).
+    /// before them. It never waits, never retries and takes no memory. Until the section's leave no word of its version is
+    /// overwritten (`held_words_stand`).
     pub fn enter(&mut self) -> Section<'_>
         ensures same_worker { borrow_of result ≡ self.entry.ghost_name }
         ensures entered_by_three_steps { Enters self.old (worker_of result) }
@@ -80,6 +80,7 @@ impl Worker {
         requires { self.old.table ≡ operator.old.table }
         ensures meets_by_two_steps { Meets self.old self.new operator.old operator.new }
         ensures told_all { self.new.view.seen ≡ operator.old.view.published }
+        ensures ends_in_fetches { EndsInFetches self.old }
     {
         operator.meet(&mut self.seat);
     }
@@ -90,6 +91,7 @@ impl Worker {
         requires { self.old.table ≡ other.old.table }
         ensures meets_by_one_step { (x : ℕ) × (seen : List (List Group)) × Shows the_shape x seen self.old.view.seen × (self.new ≡ steps (after_peek the_shape.rows x seen) self.old) }
         ensures told_by_worker { IsTold other.old.view.seen self.new.view }
+        ensures ends_in_fetches { EndsInFetches self.old }
         ensures other_kept { other.new ≡ other.old }
     {
         self.seat.peek_told(&mut other.seat);

@@ -15,7 +15,7 @@ use Rattle.versions.specs.Step.{IsStepOf, LoadsCurrent}
 use Rattle.versions.specs.View.{BeginsWith, BeginsWithLog, last_seen, read_word_after, read_word_of, stage_after, stage_after_peek, up_to}
 use Rattle.versions.specs.Free.{IsFree, IsScannedClear, number_after}
 use Rattle.versions.specs.State.{State, change, log_of}
-use Rattle.versions.specs.Legal.{IsInOrder, IsLogOf, MayPeek}
+use Rattle.versions.specs.Legal.{FetchesHeld, HoldsPlace, IsHeldPlace, IsInOrder, IsLogOf, MayPeek}
 use Rattle.versions.specs.Safety.{IsOwnLog}
 use Rattle.versions.proofs.ListLemmas.{change_at, change_length, contains_first, elem_below, elem_same}
 
@@ -101,13 +101,17 @@ module _ {C : Type 0} (shape : Shape C) where
   holds-on words words' r config same h i l = same i l ∙ h i l
 
   -- a log of worker w, one step longer
-  pub own_log-on : (w : ℕ) (view view' : WorkerView C) (step : Step) (x : ℕ) → IsOwnLog shape w view → view'.number ≡ view.number → IsStepOf w step → IsInOrder shape view.stage step x
+  pub own_log-on : (w : ℕ) (view view' : WorkerView C) (step : Step) (x : ℕ) → IsOwnLog shape w view → view'.number ≡ view.number → IsStepOf w step → IsInOrder view.stage step x → FetchesHeld shape view.stage step
       → view'.log ≡ record { step = step; word = x } ∷ view.log → view'.stage ≡ stage_after shape.rows (record { step = step; word = x } ∷ view.log) → IsOwnLog shape w view'
-  own_log-on w view view' step x h number mine order log stage = record {
+  own_log-on w view view' step x h number mine order place log stage = record {
     number = number ∙ h.number;
-    order = subst (IsLogOf shape w) (sym log) (h.order, mine, subst (λ q. IsInOrder shape q step x) h.stage order);
+    order = subst (IsLogOf shape w) (sym log) (h.order, mine, subst (λ q. IsInOrder q step x) h.stage order, subst (λ q. FetchesHeld shape q step) h.stage place);
     stage = stage ∙ ap (stage_after shape.rows) (sym log);
   }
+
+  -- the place of a fetch is one of the version that its worker holds
+  pub held_place : (s : State C) (w place : ℕ) (view : WorkerView C) → get_elem? s.workers w ≡ some view → HoldsPlace shape s w place → IsHeldPlace shape view.stage place
+  held_place s w place view at holds = subst (λ (v : WorkerView C). IsHeldPlace shape v.stage place) (elem_same s.workers w holds.0 view holds.1 at) holds.2
 
   -- a step of worker w
   pub worker_keeps : (s : State C) → Coheres s → (w : ℕ) (view : WorkerView C) (f : WorkerView C → WorkerView C) (words' : List ℕ) → get_elem? s.workers w ≡ some view

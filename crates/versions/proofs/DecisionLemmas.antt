@@ -3,27 +3,25 @@ use Rattle.std.proofs.Common.{◌≡◌, ℕ, ◌+◌, ◌*◌, ◌<◌, ◌≤�
 use Rattle.config_image.specs.Image.{Group}
 use Rattle.versions.specs.declared.layout.TheConstants.{LAST_NUMBER, ROWS, TABLE_WORDS}
 use Rattle.versions.specs.declared.progress.Progress.{Progress}
-use Rattle.versions.specs.declared.step.Step.TheVariants.{Announce, Fetch, Fill}
+use Rattle.versions.specs.declared.step.Step.TheVariants.{Announce, Fill}
 use Rattle.versions.specs.declared.view.Stage.TheVariants.{Inside, Peeked}
 use Rattle.versions.specs.Layout.{HoldsRow, IsInRow, current_word}
 use Rattle.versions.specs.Free.{IsFreeRow, number_after}
 use Rattle.versions.specs.State.{State}
-use Rattle.versions.specs.Legal.{CanPublish, IsLegalStep, IsNextOf, IsReached}
+use Rattle.versions.specs.Legal.{CanPublish, HoldsPlace, IsHeldPlace, IsLegalStep, IsNextOf, IsReached}
 use Rattle.versions.specs.body.Mirror.{IsDecided, IsMirror}
 use Rattle.versions.specs.Table.{the_shape}
-use Rattle.versions.proofs.MirrorLemmas.{Coheres-reached, in_order, next_of, some_same}
+use Rattle.versions.proofs.MirrorLemmas.{next_of, some_same}
+use Rattle.versions.proofs.TraceLemmas.{Coheres-reached}
 use Rattle.versions.proofs.Coherence.{Bounds}
 use Rattle.versions.proofs.ShapeLemmas.{last_number_is, place_below, row_by_division, rows_is}
 
 peeked_same : (m n : ℕ) → Peeked m ≡ Peeked n → m ≡ n
 peeked_same m n e = cc
 
-pub inside_same : (k m q l n r : ℕ) → Inside k m q ≡ Inside l n r → q ≡ r
-inside_same k m q l n r e = cc
-
 module _ (s : State (List Group)) (reached : IsReached the_shape s) (words : List ℕ) (progress : Progress) (m : IsMirror the_shape s words progress) where
   -- the version of a peek is not above the last number
-  peeked_low : (w n : ℕ) (x : ℕ) → slice_get progress.stages w ≡ Some (Peeked n) → IsNextOf the_shape s w (Announce w) x → n ≤ LAST_NUMBER
+  peeked_low : (w n : ℕ) (x : ℕ) → slice_get progress.stages w ≡ Some (Peeked n) → IsNextOf s w (Announce w) x → n ≤ LAST_NUMBER
   peeked_low w n x at next =
       let h = Coheres-reached the_shape s reached in let view = next.0 in let is : view.stage ≡ Peeked n = some_same _ _ (sym (m.stages w view next.1) ∙ at) in
       let low : n ≤ number_after s.operator.log = subst (Bounds w s.operator (length view.seen)) is (h.each_worker w view next.1).bounds in let all = h.numbered in omega (arith, last_number_is)
@@ -32,15 +30,14 @@ module _ (s : State (List Group)) (reached : IsReached the_shape s) (words : Lis
   decided_announce w n (Some x) at e = next_of the_shape s words progress m (Coheres-reached the_shape s reached) w (Peeked n) (Announce w) x at (n, refl, e)
   decided_announce w n None at above = λ x next. let low = peeked_low w n x at next in omega arith
 
-  pub fetch_in_row : (w k n r place x : ℕ) → slice_get progress.stages w ≡ Some (Inside k n r) → IsNextOf the_shape s w (Fetch w place) x → IsInRow the_shape r place
-  fetch_in_row w k n r place x at next = let t = in_order the_shape s words progress m w (Inside k n r) (Fetch w place) x at next in
-      subst (λ q. IsInRow the_shape q place) (sym (inside_same k n r t.0 t.1 t.2 t.3)) t.4
+  pub fetch_in_row : (w k n r place : ℕ) → slice_get progress.stages w ≡ Some (Inside k n r) → HoldsPlace the_shape s w place → IsInRow the_shape r place
+  fetch_in_row w k n r place at holds = let is : holds.0.stage ≡ Inside k n r = some_same _ _ (sym (m.stages w holds.0 holds.1) ∙ at) in subst (λ q. IsHeldPlace the_shape q place) is holds.2
 
-  pub fetch_below : (w k n r place x : ℕ) → slice_get progress.stages w ≡ Some (Inside k n r) → IsNextOf the_shape s w (Fetch w place) x → place < TABLE_WORDS
-  fetch_below w k n r place x at next =
-      let h = Coheres-reached the_shape s reached in let view = next.0 in let is : view.stage ≡ Inside k n r = some_same _ _ (sym (m.stages w view next.1) ∙ at) in
-      let held = subst (Bounds w s.operator (length view.seen)) is (h.each_worker w view next.1).bounds in
-      place_below r place (h.rows_below n r held.4) (fetch_in_row w k n r place x at next)
+  pub fetch_below : (w k n r place : ℕ) → slice_get progress.stages w ≡ Some (Inside k n r) → HoldsPlace the_shape s w place → place < TABLE_WORDS
+  fetch_below w k n r place at holds =
+      let h = Coheres-reached the_shape s reached in let view = holds.0 in let is : view.stage ≡ Inside k n r = some_same _ _ (sym (m.stages w view holds.1) ∙ at) in
+      let held = subst (Bounds w s.operator (length view.seen)) is (h.each_worker w view holds.1).bounds in
+      place_below r place (h.rows_below n r held.4) (fetch_in_row w k n r place at holds)
 
   -- the row of a fill is the one that its place is in
   pub fill_row : (place word x r : ℕ) → IsInRow the_shape r place → IsLegalStep the_shape s (Fill place word) x → IsFreeRow the_shape s.operator r

@@ -19,11 +19,12 @@ use Rattle.versions.specs.body.Mirror.{IsMirror, moved}
 use Rattle.versions.proofs.BookLemmas.{IsBook-filled, IsBook-published, IsBook-scanned}
 use Rattle.versions.specs.Table.{the_shape}
 use Rattle.versions.proofs.ListLemmas.{elem_below}
-use Rattle.versions.proofs.MirrorLemmas.{IsMirror-moved, IsMirror-operator, Coheres-reached, stage_there}
+use Rattle.versions.proofs.MirrorLemmas.{IsMirror-moved, IsMirror-operator, stage_there}
+use Rattle.versions.proofs.TraceLemmas.{Coheres-reached}
 use Rattle.versions.proofs.ShapeLemmas.{last_number_is, place_below, rows_is, workers_is}
 
 module _ (s : State (List Group)) (reached : IsReached the_shape s) (words : List ℕ) (progress : Progress) (m : IsMirror the_shape s words progress) where
-  pub worker_below : (w : ℕ) (step : Step) (x : ℕ) → IsNextOf the_shape s w step x → w < WORKERS
+  pub worker_below : (w : ℕ) (step : Step) (x : ℕ) → IsNextOf s w step x → w < WORKERS
   worker_below w step x next = let h = Coheres-reached the_shape s reached in let low = elem_below s.workers w next.0 next.1 in omega (arith, workers_is, h.workers_length)
 
   moved_on : (w : ℕ) (view : WorkerView (List Group)) (f : WorkerView (List Group) → WorkerView (List Group)) (words' kept' : List ℕ) (step : Step) (x : ℕ) → get_elem? s.workers w ≡ some view

@@ -10,13 +10,12 @@ use Rattle.versions.specs.declared.view.Stage.TheVariants.{Announced, Inside, Ou
 use Rattle.versions.specs.declared.view.WorkerView.{WorkerView}
 use Rattle.versions.specs.declared.view.OperatorView.{OperatorView}
 use Rattle.versions.specs.Layout.{Shape}
-use Rattle.versions.specs.State.{State, change, start_of}
-use Rattle.versions.specs.Legal.{IsInOrder, IsNextOf, IsReached, MayPeek}
+use Rattle.versions.specs.State.{State, change}
+use Rattle.versions.specs.Legal.{HoldsPlace, IsHeldPlace, IsInOrder, IsNextOf, MayPeek}
 use Rattle.versions.specs.Book.{IsBook}
 use Rattle.versions.specs.body.Mirror.{IsMirror}
 use Rattle.versions.proofs.ListLemmas.{change_at, elem_same, elem_there}
 use Rattle.versions.proofs.Coherence.{Coheres}
-use Rattle.versions.proofs.TraceLemmas.{Coheres-start, Coheres-trace}
 
 pub may_peek : (stage : Stage) → ((k : ℕ) → stage ≡ Announced k → ⊥) → MayPeek stage
 may_peek Outside h = tt
@@ -43,22 +42,23 @@ slice_get-set_other (y ∷ ys) (suc i) zero x ne = refl
 slice_get-set_other (y ∷ ys) (suc i) (suc j) x ne = slice_get-set_other ys i j x (λ e. ne (ap suc e))
 
 module _ {C : Type 0} (shape : Shape C) where
-  pub Coheres-reached : (s : State C) → IsReached shape s → Coheres shape s
-  Coheres-reached s h = subst (Coheres shape) h.reached (Coheres-trace shape (start_of shape h.config h.rows) (Coheres-start shape h.config h.rows h.opening) h.trace h.legal)
-
   module _ (s : State C) (words : List ℕ) (progress : Progress) (m : IsMirror shape s words progress) where
     -- a worker that is where its stage tells
-    pub next_of : Coheres shape s → (w : ℕ) (stage : Stage) (step : Step) (x : ℕ) → slice_get progress.stages w ≡ Some stage → IsInOrder shape stage step x → IsNextOf shape s w step x
+    pub next_of : Coheres shape s → (w : ℕ) (stage : Stage) (step : Step) (x : ℕ) → slice_get progress.stages w ≡ Some stage → IsInOrder stage step x → IsNextOf s w step x
     next_of h w stage step x at order =
         let below = slice_get_within progress.stages w stage at in let many = m.stages_length in let all = h.workers_length in
         let view = elem_there s.workers w (omega arith) in
         let is : stage ≡ view.0.stage = some_same _ _ (sym at ∙ m.stages w view.0 view.1) in
-        (view.0, view.1, subst (λ q. IsInOrder shape q step x) is order)
+        (view.0, view.1, subst (λ q. IsInOrder q step x) is order)
 
-    pub in_order : (w : ℕ) (stage : Stage) (step : Step) (x : ℕ) → slice_get progress.stages w ≡ Some stage → IsNextOf shape s w step x → IsInOrder shape stage step x
-    in_order w stage step x at next = let is : next.0.stage ≡ stage = some_same _ _ (sym (m.stages w next.0 next.1) ∙ at) in subst (λ q. IsInOrder shape q step x) is next.2
+    pub holds_place : Coheres shape s → (w : ℕ) (stage : Stage) (place : ℕ) → slice_get progress.stages w ≡ Some stage → IsHeldPlace shape stage place → HoldsPlace shape s w place
+    holds_place h w stage place at held =
+        let below = slice_get_within progress.stages w stage at in let many = m.stages_length in let all = h.workers_length in
+        let view = elem_there s.workers w (omega arith) in
+        let is : stage ≡ view.0.stage = some_same _ _ (sym at ∙ m.stages w view.0 view.1) in
+        (view.0, view.1, subst (λ q. IsHeldPlace shape q place) is held)
 
-    pub no_worker : (w : ℕ) (step : Step) (x : ℕ) → slice_get progress.stages w ≡ None → IsNextOf shape s w step x → ⊥
+    pub no_worker : (w : ℕ) (step : Step) (x : ℕ) → slice_get progress.stages w ≡ None → IsNextOf s w step x → ⊥
     no_worker w step x none next = none_some next.0.stage (sym none ∙ m.stages w next.0 next.1)
 
     pub stage_there : (w : ℕ) (view : WorkerView C) → get_elem? s.workers w ≡ some view → slice_index_or progress.stages w Outside ≡ view.stage

@@ -7,18 +7,18 @@ use Rattle.versions.specs.declared.step.Step.TheVariants.{Announce, Fetch, Fill,
 use Rattle.versions.specs.declared.step.Event.{Event}
 use Rattle.versions.specs.declared.step.Event.TheVariants.{Proposed, Stepped}
 use Rattle.versions.specs.declared.view.Stage.TheVariants.{Inside}
-use Rattle.versions.specs.Layout.{HoldsRow, Shape}
+use Rattle.versions.specs.Layout.{HoldsRow, IsInRow, Shape}
 use Rattle.versions.specs.Step.{LoadsCurrent}
 use Rattle.versions.specs.Free.{IsFree}
 use Rattle.versions.specs.State.{HoldsVersion, State, start_of, state_after}
-use Rattle.versions.specs.Legal.{IsLegal, IsLegalEvent, IsLegalStep, IsWordAt}
+use Rattle.versions.specs.Legal.{IsHeldPlace, IsLegal, IsLegalEvent, IsLegalStep, IsWordAt}
 use Rattle.versions.specs.Reclaimed.{IsReclaimed, IsWordOf, Reclaims}
-use Rattle.versions.specs.Safety.{FetchesPublished, InEveryTrace, IsNewest, KeepsHeld, ListsVersions, LoadsNewest, ScansTell, SeesUpToLastLoad, StepsOnOneWord, ViewsTellTable}
+use Rattle.versions.specs.Safety.{FetchesPublished, InEveryTrace, IsNewest, KeepsHeld, ListsVersions, LoadsNewest, OfEveryTrace, ReclaimsNoneHeld, ScansTell, SeesUpToLastLoad, StepsOnOneWord, ViewsTellTable}
 use Rattle.versions.proofs.ListLemmas.{elem_below, elem_there, same_row}
 use Rattle.versions.proofs.LogLemmas.{IsFree-of_row}
-use Rattle.versions.proofs.Coherence.{Bounds, Coheres, current_is}
-use Rattle.versions.proofs.TraceLemmas.{Coheres-start, Coheres-trace, free_on, one_word, rule_of}
-use Rattle.versions.proofs.ReuseLemmas.{last_scan_kept, reused_is_free}
+use Rattle.versions.proofs.Coherence.{Bounds, Coheres, current_is, held_place}
+use Rattle.versions.proofs.TraceLemmas.{Coheres-reached, Coheres-start, Coheres-trace, free_on, one_word, rule_of}
+use Rattle.versions.proofs.ReuseLemmas.{IsFreeBefore, IsLastScanKept, last_scan_kept, reused_is_free}
 
 module _ {C : Type 0} (shape : Shape C) where
   -- a held version is not free, so its row holds it
@@ -85,31 +85,34 @@ module _ {C : Type 0} (shape : Shape C) where
   newest_load s h (Scan p) x load may = absurd load
 
   pub loads_newest : InEveryTrace shape (LoadsNewest shape)
-  loads_newest config rows trace opening legal = let h = rule_of shape config rows trace opening legal in record {
-    loads = newest_load (state_after shape (start_of shape config rows) trace) h;
+  loads_newest s reached = let h = Coheres-reached shape s reached in record {
+    loads = newest_load s h;
     logged = λ w view e at c load. let low = (h.each_worker w view at).loads e c load in let long = h.published_length in omega arith;
   }
 
   pub sees_up_to_last_load : InEveryTrace shape (SeesUpToLastLoad shape)
-  sees_up_to_last_load config rows trace opening legal = let h = rule_of shape config rows trace opening legal in record {
+  sees_up_to_last_load s reached = let h = Coheres-reached shape s reached in record {
     seen = λ w view at. let ok = h.each_worker w view at in record { begins = ok.begins; up_to_last = ok.up_to_last };
   }
 
+  pub reclaims_none_held : OfEveryTrace shape (ReclaimsNoneHeld shape)
+  reclaims_none_held config rows trace opening legal = let s = state_after shape (start_of shape config rows) trace in let h = rule_of shape config rows trace opening legal in record {
+    not_reclaimed = λ w n r holds t. (held_is_kept s h w n r holds).not_free (reclaimed_is_free (start_of shape config rows) (Coheres-start shape config rows opening) trace legal n t);
+  }
+
   pub keeps_held : InEveryTrace shape (KeepsHeld shape)
-  keeps_held config rows trace opening legal =
-      let s = state_after shape (start_of shape config rows) trace in let h = rule_of shape config rows trace opening legal in record {
-        not_reclaimed = λ w n r holds t. (held_is_kept s h w n r holds).not_free (reclaimed_is_free (start_of shape config rows) (Coheres-start shape config rows opening) trace legal n t);
-        not_filled = λ w n r p y x holds may word. (held_is_kept s h w n r holds).not_free (fill_is_free s h p y x n may word);
-        not_free = λ w n r holds. (held_is_kept s h w n r holds).not_free;
-        clear_below = λ w n r m holds. (held_bounds s h w n r holds).5 m;
-        last_in_row = λ w n r holds. let kept = held_is_kept s h w n r holds in
-            (kept.in_row, λ later up at. kept.not_free (reused_is_free shape config rows trace legal n later r up kept.in_row at));
-      }
+  keeps_held s reached = let h = Coheres-reached shape s reached in let reused = subst (IsFreeBefore shape) reached.reached (reused_is_free shape reached.config reached.rows reached.trace reached.legal) in record {
+    words_stand = λ w n r holds. let kept = held_is_kept s h w n r holds in (kept.config, kept.published, kept.holds);
+    not_filled = λ w n r p y x holds may word. (held_is_kept s h w n r holds).not_free (fill_is_free s h p y x n may word);
+    not_free = λ w n r holds. (held_is_kept s h w n r holds).not_free;
+    clear_below = λ w n r m holds. (held_bounds s h w n r holds).5 m;
+    last_in_row = λ w n r holds. let kept = held_is_kept s h w n r holds in (kept.in_row, λ later up at. kept.not_free (reused n later r up kept.in_row at));
+  }
 
   pub fetches_published : InEveryTrace shape (FetchesPublished shape)
-  fetches_published config rows trace opening legal =
-      let s = state_after shape (start_of shape config rows) trace in let h = rule_of shape config rows trace opening legal in record {
-        fetches = λ w p x may. let order = may.0.2 in let held : HoldsVersion s w order.1 order.2 = (may.0.0, order.0, may.0.1, order.3) in let kept = held_is_kept s h w order.1 order.2 held in let at = order.4 in record {
+  fetches_published s reached = let h = Coheres-reached shape s reached in record {
+    fetches = λ w p x may. let order = may.0.2 in let held : HoldsVersion s w order.1 order.2 = (may.0.0, order.0, may.0.1, order.3) in let kept = held_is_kept s h w order.1 order.2 held in
+        let at : IsInRow shape order.2 p = subst (λ stage. IsHeldPlace shape stage p) order.3 (held_place shape s w p may.0.0 may.0.1 may.1) in record {
           version = order.1;
           row = order.2;
           i = at.0;
@@ -118,20 +121,20 @@ module _ {C : Type 0} (shape : Shape C) where
           inside = at.1;
           at = at.2;
           published = kept.published;
-          word = may.1 ∙ (ap (slice_index s.words) at.2 ∙ kept.holds at.0 at.1);
+          word = may.2 ∙ (ap (slice_index s.words) at.2 ∙ kept.holds at.0 at.1);
         };
-      }
+  }
 
   pub scans_tell : InEveryTrace shape (ScansTell shape)
-  scans_tell config rows trace opening legal = let h = rule_of shape config rows trace opening legal in record {
+  scans_tell s reached = let h = Coheres-reached shape s reached in record {
     own_log = λ w view at. (h.each_worker w view at).own;
     scanned = λ w x view at may. let ok = h.each_worker w view at in may.3 ∙ (ok.read_word ∙ ok.told);
     goes_on = λ w view log at told. (h.each_worker w view at).scanned log told;
-    kept = last_scan_kept shape config rows trace opening legal;
+    kept = subst (IsLastScanKept shape) reached.reached (last_scan_kept shape reached.config reached.rows reached.trace reached.opening reached.legal);
   }
 
   pub views_tell_table : InEveryTrace shape (ViewsTellTable shape)
-  views_tell_table config rows trace opening legal = let h = rule_of shape config rows trace opening legal in record {
+  views_tell_table s reached = let h = Coheres-reached shape s reached in record {
     words_length = h.words_length;
     current = h.current;
     workers_length = h.workers_length;
@@ -141,7 +144,7 @@ module _ {C : Type 0} (shape : Shape C) where
   }
 
   pub lists_versions : InEveryTrace shape (ListsVersions shape)
-  lists_versions config rows trace opening legal = let h = rule_of shape config rows trace opening legal in record {
+  lists_versions s reached = let h = Coheres-reached shape s reached in record {
     published_length = h.published_length;
     version_rows_length = h.version_rows_length;
     last_number = h.numbered;
@@ -149,4 +152,4 @@ module _ {C : Type 0} (shape : Shape C) where
   }
 
   pub steps_on_one_word : InEveryTrace shape (StepsOnOneWord shape)
-  steps_on_one_word config rows trace opening legal = record { one_word = one_word shape (state_after shape (start_of shape config rows) trace) }
+  steps_on_one_word s reached = record { one_word = one_word shape s }

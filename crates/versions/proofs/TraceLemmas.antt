@@ -14,7 +14,7 @@ use Rattle.versions.specs.Step.{entry, place_of}
 use Rattle.versions.specs.View.{new_worker}
 use Rattle.versions.specs.Free.{IsFree}
 use Rattle.versions.specs.State.{IsOpening, State, after_event, after_step, new_workers, start_of, state_after}
-use Rattle.versions.specs.Legal.{IsLegal, IsLegalEvent, IsLegalStep, IsWordAt}
+use Rattle.versions.specs.Legal.{IsLegal, IsLegalEvent, IsLegalStep, IsReached, IsWordAt}
 use Rattle.versions.proofs.ListLemmas.{elem_below, get_elem_or}
 use Rattle.versions.proofs.LogLemmas.{IsFree-on}
 use Rattle.versions.proofs.Coherence.{Coheres, WorkerRule}
@@ -93,6 +93,9 @@ module _ {C : Type 0} (shape : Shape C) where
   pub rule_of : (config : C) (rows : List ℕ) (trace : List (Event C)) → IsOpening shape config rows → IsLegal shape (start_of shape config rows) trace → Coheres shape (state_after shape (start_of shape config rows) trace)
   rule_of config rows trace opening legal = Coheres-trace (start_of shape config rows) (Coheres-start config rows opening) trace legal
 
+  pub Coheres-reached : (s : State C) → IsReached shape s → Coheres shape s
+  Coheres-reached s h = subst (Coheres shape) h.reached (rule_of h.config h.rows h.trace h.opening h.legal)
+
   -- free stays free
   pub free_on : (s : State C) (event : Event C) (n : ℕ) → IsFree shape n s.operator.log → IsFree shape n (after_event shape s event).operator.log
   free_on s (Stepped (Peek w) x) n h = h
@@ -113,7 +116,7 @@ module _ {C : Type 0} (shape : Shape C) where
   one_word s (Peek w) x may = loaded_word s 0 x may.1
   one_word s (Announce w) x may = refl
   one_word s (Pin w) x may = loaded_word s 0 x may.1
-  one_word s (Fetch w p) x may = loaded_word s p x may.1
+  one_word s (Fetch w p) x may = loaded_word s p x may.2
   one_word s (Leave w) x may = ap (set s.words (1 + w)) (sym may.2.4)
   one_word s (Fill p y) x may = refl
   one_word s (Publish r) x may = refl

@@ -10,7 +10,7 @@ use Rattle.versions.specs.State.{State, after_step}
 use Rattle.versions.specs.Legal.{IsLegalStep}
 use Rattle.versions.proofs.ListLemmas.{elem_below}
 use Rattle.versions.proofs.LogLemmas.{IsReplaced-scanned_clear}
-use Rattle.versions.proofs.Coherence.{Bounds, Coheres, begins_further, bounds-peek, current_is, loads-on, own_log-on, read_word-peek, seen_below, seen_is, worker_keeps}
+use Rattle.versions.proofs.Coherence.{Bounds, Coheres, begins_further, bounds-peek, current_is, held_place, loads-on, own_log-on, read_word-peek, seen_below, seen_is, worker_keeps}
 
 module _ {C : Type 0} (shape : Shape C) where
   pub Coheres-after_peek : (s : State C) → Coheres shape s → (w x : ℕ) → IsLegalStep shape s (Peek w) x → Coheres shape (after_step shape s (Peek w) x)
@@ -23,7 +23,7 @@ module _ {C : Type 0} (shape : Shape C) where
         begins = seen.0;
         up_to_last = seen.1;
         told = read_word-peek view.stage (x / shape.rows) may.0.2 ∙ ok.told;
-        own = own_log-on shape w view _ (Peek view.number) x ok.own refl ok.own.number may.0.2 refl (ap (λ q. stage_after_peek q (x / shape.rows)) ok.own.stage);
+        own = own_log-on shape w view _ (Peek view.number) x ok.own refl ok.own.number may.0.2 tt refl (ap (λ q. stage_after_peek q (x / shape.rows)) ok.own.stage);
         loads = loads-on shape (number_after s.operator.log) (entry (Peek view.number) x) view.log (λ t. omega arith) ok.loads;
         scanned = λ l e. begins_further (entry (Peek view.number) x) (ok.scanned l e);
       }
@@ -38,7 +38,7 @@ module _ {C : Type 0} (shape : Shape C) where
         begins = ok.begins;
         up_to_last = ok.up_to_last;
         told = refl;
-        own = own_log-on shape w view _ (Announce view.number) x ok.own refl ok.own.number may.2 refl refl;
+        own = own_log-on shape w view _ (Announce view.number) x ok.own refl ok.own.number may.2 tt refl refl;
         loads = loads-on shape (number_after s.operator.log) (entry (Announce view.number) x) view.log (λ t. absurd t) ok.loads;
         scanned = λ l e. begins_further (entry (Announce view.number) x) (ok.scanned l e);
       }
@@ -54,7 +54,7 @@ module _ {C : Type 0} (shape : Shape C) where
         begins = seen.0;
         up_to_last = seen.1;
         told = ok.told;
-        own = own_log-on shape w view _ (Pin view.number) x ok.own refl ok.own.number may.0.2 refl (ap (λ q. stage_after_pin q (x / shape.rows) (x % shape.rows)) ok.own.stage);
+        own = own_log-on shape w view _ (Pin view.number) x ok.own refl ok.own.number may.0.2 tt refl (ap (λ q. stage_after_pin q (x / shape.rows) (x % shape.rows)) ok.own.stage);
         loads = loads-on shape (number_after s.operator.log) (entry (Pin view.number) x) view.log (λ t. omega arith) ok.loads;
         scanned = λ l e. begins_further (entry (Pin view.number) x) (ok.scanned l e);
       }
@@ -68,7 +68,7 @@ module _ {C : Type 0} (shape : Shape C) where
         begins = ok.begins;
         up_to_last = ok.up_to_last;
         told = ok.told;
-        own = own_log-on shape w view _ (Fetch view.number p) x ok.own refl ok.own.number may.0.2 refl ok.own.stage;
+        own = own_log-on shape w view _ (Fetch view.number p) x ok.own refl ok.own.number may.0.2 (held_place shape s w p view may.0.1 may.1) refl ok.own.stage;
         loads = loads-on shape (number_after s.operator.log) (entry (Fetch view.number p) x) view.log (λ t. absurd t) ok.loads;
         scanned = λ l e. begins_further (entry (Fetch view.number p) x) (ok.scanned l e);
       }
@@ -82,7 +82,7 @@ module _ {C : Type 0} (shape : Shape C) where
         begins = ok.begins;
         up_to_last = ok.up_to_last;
         told = refl;
-        own = own_log-on shape w view _ (Leave view.number) 0 ok.own refl ok.own.number (may.2.0, may.2.1, may.2.2, may.2.3, refl) refl refl;
+        own = own_log-on shape w view _ (Leave view.number) 0 ok.own refl ok.own.number (may.2.0, may.2.1, may.2.2, may.2.3, refl) tt refl refl;
         loads = loads-on shape (number_after s.operator.log) (entry (Leave view.number) 0) view.log (λ t. absurd t) ok.loads;
         scanned = λ l e. begins_further (entry (Leave view.number) 0) (ok.scanned l e);
       }

@@ -21,31 +21,45 @@ abbrev pub MayPeek : Stage → Type 0
 MayPeek (Announced read_word) = ⊥
 MayPeek _ = Unit {0}
 
+-- the order of a worker's steps: peek, announce of the last peek's version plus 1, pin, fetches, leave. Each announce has a
+-- peek of its own, since a leave forgets the last one
+abbrev pub IsInOrder : Stage → Step → ℕ → Type 0
+IsInOrder stage (Peek w) x = MayPeek stage
+IsInOrder stage (Announce w) x = (n : ℕ) × (stage ≡ Peeked n) × (x ≡ n + 1)
+IsInOrder stage (Pin w) x = (read_word : ℕ) × (stage ≡ Announced read_word)
+IsInOrder stage (Fetch w place) x = (read_word : ℕ) × (n : ℕ) × (r : ℕ) × (stage ≡ Inside read_word n r)
+IsInOrder stage (Leave w) x = (read_word : ℕ) × (n : ℕ) × (r : ℕ) × (stage ≡ Inside read_word n r) × (x ≡ 0)
+IsInOrder stage _ x = ⊥
+
 module _ {C : Type 0} where
   -- the word at a place is x: a load of it gives that
   abbrev pub IsWordAt : State C → ℕ → ℕ → Type 0
   IsWordAt state place x = x ≡ slice_index state.words place
 
-module _ {C : Type 0} (shape : Shape C) where
-  -- the order of a worker's steps: peek, announce of the last peek's version plus 1, pin, fetches in the row of the held
-  -- version, leave. Each announce has a peek of its own, since a leave forgets the last one
-  abbrev pub IsInOrder : Stage → Step → ℕ → Type 0
-  IsInOrder stage (Peek w) x = MayPeek stage
-  IsInOrder stage (Announce w) x = (n : ℕ) × (stage ≡ Peeked n) × (x ≡ n + 1)
-  IsInOrder stage (Pin w) x = (read_word : ℕ) × (stage ≡ Announced read_word)
-  IsInOrder stage (Fetch w place) x = (read_word : ℕ) × (n : ℕ) × (r : ℕ) × (stage ≡ Inside read_word n r) × IsInRow shape r place
-  IsInOrder stage (Leave w) x = (read_word : ℕ) × (n : ℕ) × (r : ℕ) × (stage ≡ Inside read_word n r) × (x ≡ 0)
-  IsInOrder stage _ x = ⊥
-
-  -- a log of worker w alone, in the order of a worker's steps
-  abbrev pub IsLogOf : ℕ → List Entry → Type 0
-  IsLogOf w [] = Unit {0}
-  IsLogOf w (newest ∷ older) =
-      IsLogOf w older × IsStepOf w newest.step × IsInOrder (stage_after shape.rows older) newest.step newest.word
-
   -- there is a worker w, and the step is next in its order
   abbrev pub IsNextOf : State C → ℕ → Step → ℕ → Type 0
   IsNextOf state w step x = (view : WorkerView C) × (get_elem? state.workers w ≡ some view) × IsInOrder view.stage step x
+
+module _ {C : Type 0} (shape : Shape C) where
+  -- a word of the version held: the one rule on where a fetch may go, whatever its order
+  abbrev pub IsHeldPlace : Stage → ℕ → Type 0
+  IsHeldPlace (Inside read_word n r) place = IsInRow shape r place
+  IsHeldPlace _ place = ⊥
+
+  -- the step is a fetch of a word of the version held, or no fetch
+  abbrev pub FetchesHeld : Stage → Step → Type 0
+  FetchesHeld stage (Fetch w place) = IsHeldPlace stage place
+  FetchesHeld stage _ = Unit {0}
+
+  -- a log of worker w alone, in the order of a worker's steps, each fetch of a word of the version held then
+  abbrev pub IsLogOf : ℕ → List Entry → Type 0
+  IsLogOf w [] = Unit {0}
+  IsLogOf w (newest ∷ older) =
+      IsLogOf w older × IsStepOf w newest.step × IsInOrder (stage_after shape.rows older) newest.step newest.word × FetchesHeld (stage_after shape.rows older) newest.step
+
+  -- the place is a word of the version that worker w holds
+  abbrev pub HoldsPlace : State C → ℕ → ℕ → Type 0
+  HoldsPlace state w place = (view : WorkerView C) × (get_elem? state.workers w ≡ some view) × IsHeldPlace view.stage place
 
   -- the operator publishes its last proposal, from a free row that holds that configuration's row, while numbers last
   pub record CanPublish (state : State C) (r : ℕ) : Type 0 where
@@ -60,7 +74,7 @@ module _ {C : Type 0} (shape : Shape C) where
   IsLegalStep state (Peek w) x = IsNextOf state w (Peek w) x × IsWordAt state 0 x
   IsLegalStep state (Announce w) x = IsNextOf state w (Announce w) x
   IsLegalStep state (Pin w) x = IsNextOf state w (Pin w) x × IsWordAt state 0 x
-  IsLegalStep state (Fetch w place) x = IsNextOf state w (Fetch w place) x × IsWordAt state place x
+  IsLegalStep state (Fetch w place) x = IsNextOf state w (Fetch w place) x × HoldsPlace state w place × IsWordAt state place x
   IsLegalStep state (Leave w) x = IsNextOf state w (Leave w) x
   IsLegalStep state (Fill place word) x = (r : ℕ) × IsFreeRow shape state.operator r × IsInRow shape r place × (word < 2 ^ 64) × (x ≡ word)
   IsLegalStep state (Publish r) x = CanPublish state r × (x ≡ current_word shape (number_after state.operator.log + 1) r)

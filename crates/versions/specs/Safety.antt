@@ -1,5 +1,6 @@
--- What holds in every legal trace: the promises of `every_trace`. Since each beginning of a legal trace is legal, what is said
--- of the next step after a trace is said of every step of every trace.
+-- What holds in every legal trace: the promises of `every_trace`. Each is a fact of one state, and holds of each state that a
+-- legal trace leads to. Since each beginning of a legal trace is legal, what is said of the next step there is said of every
+-- step of every trace. Only what is reclaimed is told of a trace.
 use Rattle.std.specs.Prelude.{◌≡◌, ◌+◌, ◌*◌, ◌/◌, ◌%◌, ◌<◌, ◌≤◌, Contains, List, length, slice_index, slice_set, suc, ℕ}
 use mathlib.Core.Option.{some}
 use lib.ListN.{get_elem?}
@@ -8,18 +9,22 @@ use Rattle.versions.specs.declared.step.Step.TheVariants.{Fetch, Fill, Scan}
 use Rattle.versions.specs.declared.step.Entry.{Entry}
 use Rattle.versions.specs.declared.step.Event.{Event}
 use Rattle.versions.specs.declared.view.WorkerView.{WorkerView}
-use Rattle.versions.specs.Layout.{Shape, current_word, row_begin, rows_begin}
+use Rattle.versions.specs.Layout.{HoldsRow, Shape, current_word, row_begin, rows_begin}
 use Rattle.versions.specs.Step.{LoadsCurrent, place_of}
 use Rattle.versions.specs.View.{BeginsWith, BeginsWithLog, last_seen, read_word_after, read_word_of, stage_after}
 use Rattle.versions.specs.Free.{IsFree, IsLastIn, IsLastScan, IsScannedClear, number_after}
 use Rattle.versions.specs.State.{HoldsVersion, IsOpening, State, after_step, start_of, state_after}
-use Rattle.versions.specs.Legal.{IsLegal, IsLegalStep, IsLogOf}
+use Rattle.versions.specs.Legal.{IsLegal, IsLegalStep, IsLogOf, IsReached}
 use Rattle.versions.specs.Reclaimed.{IsReclaimed, IsWordOf}
 
 module _ {C : Type 0} (shape : Shape C) where
+  -- a fact of each state that a legal trace from an opening of a table leads to
+  abbrev pub InEveryTrace : (State C → Type 0) → Type 0
+  InEveryTrace Fact = (state : State C) → IsReached shape state → Fact state
+
   -- a fact of each legal trace from each opening of a table
-  abbrev pub InEveryTrace : (State C → List (Event C) → Type 0) → Type 0
-  InEveryTrace Fact =
+  abbrev pub OfEveryTrace : (State C → List (Event C) → Type 0) → Type 0
+  OfEveryTrace Fact =
       (config : C) (rows : List ℕ) (trace : List (Event C)) → IsOpening shape config rows → IsLegal shape (start_of shape config rows) trace
       → Fact (start_of shape config rows) trace
 
@@ -38,25 +43,29 @@ module _ {C : Type 0} (shape : Shape C) where
     pub up_to_last : length view.seen ≡ suc (last_seen shape.rows view.log)
 
   -- each peek and each pin gives the newest version, and each one in a log gave a published version
-  pub record LoadsNewest (start : State C) (trace : List (Event C)) : Type 0 where
-    pub loads : (step : Step) (x : ℕ) → LoadsCurrent step → IsLegalStep shape (state_after shape start trace) step x → IsNewest (state_after shape start trace) x
-    pub logged : (w : ℕ) (view : WorkerView C) (e : Entry) → get_elem? (state_after shape start trace).workers w ≡ some view → Contains view.log e → LoadsCurrent e.step
-        → e.word / shape.rows < length (state_after shape start trace).operator.published
+  pub record LoadsNewest (state : State C) : Type 0 where
+    pub loads : (step : Step) (x : ℕ) → LoadsCurrent step → IsLegalStep shape state step x → IsNewest state x
+    pub logged : (w : ℕ) (view : WorkerView C) (e : Entry) → get_elem? state.workers w ≡ some view → Contains view.log e → LoadsCurrent e.step
+        → e.word / shape.rows < length state.operator.published
 
   -- each worker has seen the published versions up to its last load of `current`
-  pub record SeesUpToLastLoad (start : State C) (trace : List (Event C)) : Type 0 where
-    pub seen : (w : ℕ) (view : WorkerView C) → get_elem? (state_after shape start trace).workers w ≡ some view → IsSeen (state_after shape start trace) w view
+  pub record SeesUpToLastLoad (state : State C) : Type 0 where
+    pub seen : (w : ℕ) (view : WorkerView C) → get_elem? state.workers w ≡ some view → IsSeen state w view
 
-  -- no version is reclaimed while a worker holds it
-  pub record KeepsHeld (start : State C) (trace : List (Event C)) : Type 0 where
+  -- no version that a worker holds was reclaimed
+  pub record ReclaimsNoneHeld (start : State C) (trace : List (Event C)) : Type 0 where
     pub not_reclaimed : (w n r : ℕ) → HoldsVersion (state_after shape start trace) w n r → IsReclaimed shape start trace n → ⊥
-    pub not_filled : (w n r place word x : ℕ) → HoldsVersion (state_after shape start trace) w n r → IsLegalStep shape (state_after shape start trace) (Fill place word) x
-        → IsWordOf shape (state_after shape start trace) n place → ⊥
-    pub not_free : (w n r : ℕ) → HoldsVersion (state_after shape start trace) w n r → IsFree shape n (state_after shape start trace).operator.log → ⊥
+
+  -- the version that a worker holds stands in its row, and may not be overwritten
+  pub record KeepsHeld (state : State C) : Type 0 where
+    -- the words of the row are those of the published configuration
+    pub words_stand : (w n r : ℕ) → HoldsVersion state w n r → (config : C) × (get_elem? state.operator.published n ≡ some config) × HoldsRow shape state.words r config
+    pub not_filled : (w n r place word x : ℕ) → HoldsVersion state w n r → IsLegalStep shape state (Fill place word) x → IsWordOf shape state n place → ⊥
+    pub not_free : (w n r : ℕ) → HoldsVersion state w n r → IsFree shape n state.operator.log → ⊥
     -- a scan that shows a replaced version clear of the worker shows that the worker holds a later one: what a grace period rests on
-    pub clear_below : (w n r m : ℕ) → HoldsVersion (state_after shape start trace) w n r → IsScannedClear w m (state_after shape start trace).operator.log → m < n
+    pub clear_below : (w n r m : ℕ) → HoldsVersion state w n r → IsScannedClear w m state.operator.log → m < n
     -- the row is the one in which the version was published, and no later version was published in it
-    pub last_in_row : (w n r : ℕ) → HoldsVersion (state_after shape start trace) w n r → IsLastIn r n (state_after shape start trace).operator.version_rows
+    pub last_in_row : (w n r : ℕ) → HoldsVersion state w n r → IsLastIn r n state.operator.version_rows
 
   -- worker w holds a published version, and x is the word of its configuration's row at the place's place in the row
   pub record IsPublishedWord (state : State C) (w place x : ℕ) : Type 0 where
@@ -71,8 +80,8 @@ module _ {C : Type 0} (shape : Shape C) where
     pub word : x ≡ slice_index (shape.row config) i
 
   -- each fetch gives the word of the published configuration
-  pub record FetchesPublished (start : State C) (trace : List (Event C)) : Type 0 where
-    pub fetches : (w place x : ℕ) → IsLegalStep shape (state_after shape start trace) (Fetch w place) x → IsPublishedWord (state_after shape start trace) w place x
+  pub record FetchesPublished (state : State C) : Type 0 where
+    pub fetches : (w place x : ℕ) → IsLegalStep shape state (Fetch w place) x → IsPublishedWord state w place x
 
   -- each worker's log is its own, in the order of a worker's steps, and leaves the worker where it is
   pub record IsOwnLog (w : ℕ) (view : WorkerView C) : Type 0 where
@@ -82,36 +91,36 @@ module _ {C : Type 0} (shape : Shape C) where
 
   -- a scan gives the read word after its worker's log, which begins with the log at the operator's scan before; that log is
   -- kept, and the read word after it is the word that the scan gave
-  pub record ScansTell (start : State C) (trace : List (Event C)) : Type 0 where
-    pub own_log : (w : ℕ) (view : WorkerView C) → get_elem? (state_after shape start trace).workers w ≡ some view → IsOwnLog w view
-    pub scanned : (w x : ℕ) (view : WorkerView C) → get_elem? (state_after shape start trace).workers w ≡ some view
-        → IsLegalStep shape (state_after shape start trace) (Scan (1 + w)) x → x ≡ read_word_after view.log
-    pub goes_on : (w : ℕ) (view : WorkerView C) (log : List Entry) → get_elem? (state_after shape start trace).workers w ≡ some view
-        → get_elem? (state_after shape start trace).operator.scanned_logs w ≡ some log → BeginsWithLog view.log log
-    pub kept : (w x : ℕ) (log : List Entry) → get_elem? (state_after shape start trace).operator.scanned_logs w ≡ some log
-        → IsLastScan w x (state_after shape start trace).operator.log → x ≡ read_word_after log
+  pub record ScansTell (state : State C) : Type 0 where
+    pub own_log : (w : ℕ) (view : WorkerView C) → get_elem? state.workers w ≡ some view → IsOwnLog w view
+    pub scanned : (w x : ℕ) (view : WorkerView C) → get_elem? state.workers w ≡ some view
+        → IsLegalStep shape state (Scan (1 + w)) x → x ≡ read_word_after view.log
+    pub goes_on : (w : ℕ) (view : WorkerView C) (log : List Entry) → get_elem? state.workers w ≡ some view
+        → get_elem? state.operator.scanned_logs w ≡ some log → BeginsWithLog view.log log
+    pub kept : (w x : ℕ) (log : List Entry) → get_elem? state.operator.scanned_logs w ≡ some log
+        → IsLastScan w x state.operator.log → x ≡ read_word_after log
 
   -- each word of the table is as the one actor knows who stores it
-  pub record ViewsTellTable (start : State C) (trace : List (Event C)) : Type 0 where
-    pub words_length : length (state_after shape start trace).words ≡ rows_begin shape + shape.rows * shape.row_words
+  pub record ViewsTellTable (state : State C) : Type 0 where
+    pub words_length : length state.words ≡ rows_begin shape + shape.rows * shape.row_words
     -- the word of the version published last, which stands in this row
-    pub current : (r : ℕ) × (get_elem? (state_after shape start trace).operator.version_rows (number_after (state_after shape start trace).operator.log) ≡ some r)
-        × (slice_index (state_after shape start trace).words 0 ≡ current_word shape (number_after (state_after shape start trace).operator.log) r)
-    pub workers_length : length (state_after shape start trace).workers ≡ shape.workers
-    pub read_words : (w : ℕ) (view : WorkerView C) → get_elem? (state_after shape start trace).workers w ≡ some view
-        → slice_index (state_after shape start trace).words (1 + w) ≡ read_word_of view.stage
-    pub row_words_length : length (state_after shape start trace).operator.row_words ≡ shape.rows * shape.row_words
+    pub current : (r : ℕ) × (get_elem? state.operator.version_rows (number_after state.operator.log) ≡ some r)
+        × (slice_index state.words 0 ≡ current_word shape (number_after state.operator.log) r)
+    pub workers_length : length state.workers ≡ shape.workers
+    pub read_words : (w : ℕ) (view : WorkerView C) → get_elem? state.workers w ≡ some view
+        → slice_index state.words (1 + w) ≡ read_word_of view.stage
+    pub row_words_length : length state.operator.row_words ≡ shape.rows * shape.row_words
     pub row_words : (i : ℕ) → i < shape.rows * shape.row_words
-        → slice_index (state_after shape start trace).words (rows_begin shape + i) ≡ slice_index (state_after shape start trace).operator.row_words i
+        → slice_index state.words (rows_begin shape + i) ≡ slice_index state.operator.row_words i
 
   -- the operator's lists go up to the number of the current version, which is in range
-  pub record ListsVersions (start : State C) (trace : List (Event C)) : Type 0 where
-    pub published_length : length (state_after shape start trace).operator.published ≡ suc (number_after (state_after shape start trace).operator.log)
-    pub version_rows_length : length (state_after shape start trace).operator.version_rows ≡ suc (number_after (state_after shape start trace).operator.log)
-    pub last_number : number_after (state_after shape start trace).operator.log ≤ shape.last_number
-    pub a_row : (n r : ℕ) → get_elem? (state_after shape start trace).operator.version_rows n ≡ some r → r < shape.rows
+  pub record ListsVersions (state : State C) : Type 0 where
+    pub published_length : length state.operator.published ≡ suc (number_after state.operator.log)
+    pub version_rows_length : length state.operator.version_rows ≡ suc (number_after state.operator.log)
+    pub last_number : number_after state.operator.log ≤ shape.last_number
+    pub a_row : (n r : ℕ) → get_elem? state.operator.version_rows n ≡ some r → r < shape.rows
 
   -- each legal step loads or stores the word at its place, and changes no other
-  pub record StepsOnOneWord (start : State C) (trace : List (Event C)) : Type 0 where
-    pub one_word : (step : Step) (x : ℕ) → IsLegalStep shape (state_after shape start trace) step x
-        → (after_step shape (state_after shape start trace) step x).words ≡ slice_set (state_after shape start trace).words (place_of step) x
+  pub record StepsOnOneWord (state : State C) : Type 0 where
+    pub one_word : (step : Step) (x : ℕ) → IsLegalStep shape state step x
+        → (after_step shape state step x).words ≡ slice_set state.words (place_of step) x

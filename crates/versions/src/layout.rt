@@ -28,6 +28,15 @@ pub const ROWS_BEGIN: usize = 1 + WORKERS;
 /// The number of words of the whole table.
 pub const TABLE_WORDS: usize = ROWS_BEGIN + ROWS * ROW_WORDS;
 
+/// Law: the limits, as numbers. It runs nothing.
+pub fn limits_as_numbers()
+    ensures workers { WORKERS ≡ 64 }
+    ensures rows { ROWS ≡ 16 }
+    ensures charge { CHARGE_LIMIT ≡ 8192 }
+    ensures last_number { LAST_NUMBER ≡ 281474976710656 }
+    ensures table_words { TABLE_WORDS ≡ 131137 }
+{}
+
 pub(crate) fn row_of_place(place: usize) -> Option<usize>
     ensures row { MatchOption result ((r : ℕ) → IsInRow the_shape r place → ⊥) (λ r. IsInRow the_shape r place) }
 {

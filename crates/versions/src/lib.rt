@@ -7,7 +7,7 @@
 #![tactic(auto)]
 
 ghost use Rattle.versions.specs.Table.{the_shape};
-ghost use Rattle.versions.specs.Safety.{FetchesPublished, InEveryTrace, KeepsHeld, ListsVersions, LoadsNewest, ScansTell, SeesUpToLastLoad, StepsOnOneWord, ViewsTellTable};
+ghost use Rattle.versions.specs.Safety.{FetchesPublished, InEveryTrace, KeepsHeld, ListsVersions, LoadsNewest, OfEveryTrace, ReclaimsNoneHeld, ScansTell, SeesUpToLastLoad, StepsOnOneWord, ViewsTellTable};
 
 mod book;
 mod fault;
@@ -21,18 +21,22 @@ mod world;
 pub use book::Book;
 pub use fault::StepFault;
 pub use freedom::free_versions;
-pub use layout::{CHARGE_LIMIT, LAST_NUMBER, ROWS, ROWS_BEGIN, TABLE_WORDS, WORKERS, row_word};
+pub use layout::{
+    CHARGE_LIMIT, LAST_NUMBER, ROWS, ROWS_BEGIN, TABLE_WORDS, WORKERS, limits_as_numbers, row_word,
+};
 pub use step::{Entry, Event, Step};
 pub use view::{OperatorView, Stage, WorkerView};
 pub use world::{World, opening_words};
 
-/// Law: in every legal trace each load of `current` gives the version published last, each worker has seen the versions up to
-/// its last load, no version that a worker holds is reclaimed, each fetch gives the published word, each scan tells a log of its
-/// worker, the words of the table are as the actors know them, and each step is on one word. It runs nothing.
+/// Law: in each state that a legal trace leads to, each load of `current` gives the version published last, each worker has
+/// seen the versions up to its last load, a version that a worker holds stands in its row and may not be overwritten, each
+/// fetch gives the published word, each scan tells a log of its worker, the words of the table are as the actors know them,
+/// and each step is on one word. No legal trace reclaims a version that a worker holds. It runs nothing.
 pub fn every_trace()
     ensures pin_is_newest { InEveryTrace the_shape (LoadsNewest the_shape) }
     ensures seen_up_to_last_load { InEveryTrace the_shape (SeesUpToLastLoad the_shape) }
     ensures held_version_kept { InEveryTrace the_shape (KeepsHeld the_shape) }
+    ensures not_reclaimed { OfEveryTrace the_shape (ReclaimsNoneHeld the_shape) }
     ensures fetch_is_published { InEveryTrace the_shape (FetchesPublished the_shape) }
     ensures scan_tells_log { InEveryTrace the_shape (ScansTell the_shape) }
     ensures views_tell_table { InEveryTrace the_shape (ViewsTellTable the_shape) }

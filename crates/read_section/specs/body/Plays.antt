@@ -1,17 +1,17 @@
 -- What each single step tells the seat that makes it: the word that it is on, what it gave, and what its actor knows then.
-use Rattle.std.specs.Prelude.{◌≡◌, ◌+◌, ◌%◌, ◌<◌, List, Some, slice_index, ℕ}
+use Rattle.std.specs.Prelude.{◌≡◌, ◌+◌, ◌%◌, List, Some, ℕ}
 use Rattle.std.specs.List.{Contains}
-use mathlib.Core.Option.{some}
-use lib.ListN.{get_elem?}
 use Rattle.atomic_table.specs.Table.{Me, Step}
 use Rattle.versions.specs.declared.step.Entry.{Entry}
 use Rattle.versions.specs.declared.view.Stage.TheVariants.{Inside}
 use Rattle.versions.specs.declared.view.WorkerView.{WorkerView}
 use Rattle.versions.specs.declared.view.OperatorView.{OperatorView}
-use Rattle.versions.specs.Layout.{Shape, row_begin, rows_begin}
+use Rattle.versions.specs.Layout.{Shape, rows_begin}
 use Rattle.versions.specs.View.{BeginsWith, after_announce, after_fetch, after_fill, after_leave, after_peek, after_pin, after_proposal, after_publish, after_scan}
+use Rattle.versions.specs.Legal.{IsHeldPlace}
 use Rattle.versions.specs.Safety.{IsOwnLog}
 use Rattle.read_section.specs.declared.versions_rule.SeatView.{SeatView}
+use Rattle.read_section.specs.Held.{IsSeenWord}
 use Rattle.read_section.specs.View.{Shows, TellsLog}
 use Rattle.read_section.specs.body.SeatView.{with_operator, with_worker}
 
@@ -33,6 +33,8 @@ module _ {C : Type 0} (shape : Shape C) where
     pub told : BeginsWith seen seat.told
     pub all : (operator : OperatorView C) → seat.operator ≡ Some operator → seen ≡ operator.published
     pub publishable : (config : C) → Contains seen config → IsPublishable config
+    -- the log up to there is the worker's own, in the order of a worker's steps
+    pub own : IsOwnLog shape view.number view
 
   abbrev pub peeks : (C → Type 0) → {S : Type 0} → Step S → Seated S → ℕ → Seated S → Type 0
   peeks IsPublishable at me x after = (view : WorkerView C) → me.0.worker ≡ Some view → (at.word ≡ 0)
@@ -45,18 +47,17 @@ module _ {C : Type 0} (shape : Shape C) where
   pins IsPublishable at me x after = (view : WorkerView C) → me.0.worker ≡ Some view → (at.word ≡ 0)
       × ((seen : List C) × ShowsSeat IsPublishable me.0 view x seen × WorkerKnows me after (after_pin shape.rows x seen view))
 
-  -- x is the word that the row of version n has, at the place's place in row r
-  abbrev pub IsWordIn : WorkerView C → ℕ → ℕ → ℕ → ℕ → Type 0
-  IsWordIn view n r place x = (i : ℕ) → i < shape.row_words → place ≡ row_begin shape r + i
-      → (config : C) × (get_elem? view.seen n ≡ some config) × (x ≡ slice_index (shape.row config) i)
+  -- x is the word of version n at the place, where that is a word of the version held
+  abbrev pub IsWordIn : WorkerView C → ℕ → ℕ → ℕ → ℕ → ℕ → Type 0
+  IsWordIn view read_word n r place x = (held : IsHeldPlace shape (Inside read_word n r) place) → IsSeenWord shape view n held.0 x
 
   abbrev pub fetches : {S : Type 0} → Step S → Seated S → ℕ → Seated S → Type 0
   fetches at me x after = (view : WorkerView C) → me.0.worker ≡ Some view → WorkerKnows me after (after_fetch at.word x view)
-      × ((read_word n r : ℕ) → view.stage ≡ Inside read_word n r → IsWordIn view n r at.word x)
+      × ((read_word n r : ℕ) → view.stage ≡ Inside read_word n r → IsWordIn view read_word n r at.word x)
 
-  -- the log up to there is the worker's own, in the order of a worker's steps
+  -- it stores 0; the log up to there is the worker's own, in the order of a worker's steps
   abbrev pub leaves : {S : Type 0} → Step S → Seated S → ℕ → Seated S → Type 0
-  leaves at me x after = (view : WorkerView C) → me.0.worker ≡ Some view → (at.word ≡ 1 + view.number) × IsOwnLog shape view.number view × WorkerKnows me after (after_leave view)
+  leaves at me x after = (view : WorkerView C) → me.0.worker ≡ Some view → (at.word ≡ 1 + view.number) × (x ≡ 0) × IsOwnLog shape view.number view × WorkerKnows me after (after_leave view)
 
   abbrev pub fills : {S : Type 0} → Step S → Seated S → ℕ → Seated S → Type 0
   fills at me x after = (view : OperatorView C) → me.0.operator ≡ Some view → OperatorKnows me after (after_fill (rows_begin shape) at.word x view)

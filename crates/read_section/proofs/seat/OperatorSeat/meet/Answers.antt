@@ -68,7 +68,7 @@ returns-clause-worker c = let h = c.self.invariant in let k = c.worker.invariant
     let e = c.split_seat-moved.ensures in let j = c.join_seat.ensures in let one = taken _ _ c.worker.inside.number c.join_seat.new.seat.me c.split_seat-moved.result.me _ h.0 k.0 (ap (λ (m : Seated). m.0) e.4) j.2 in let t = (c.load.ensures.2 _ one.worker_known).1 in let two = peeked _ c.load.new.seat.me _ _ _ one t.2 in let u = c.load-word.ensures.2 _ two.operator_known c.worker.inside.number refl in let three = scanned_both _ c.load-word.new.seat.me _ _ _ two u.3 in let same = c.load-word.ensures.0 ∙ (c.load.ensures.0 ∙ j.0) in let q = c.split_seat.ensures in let left = ap (λ (m : Seated). m.0) q.2 in let back = ap (λ (m : Seated). m.0) q.4 in
     let published = ap (λ (o : OperatorSeatValue). o.view.published) c.self.view_is in let all = t.1.all _ one.operator_known ∙ published in (
       c.load.result,
-      subst (Sees c.args.worker.now c.load.result) all (subst (λ (w : WorkerValue). Sees w c.load.result t.0) c.worker.view_is record { shows = t.1.shows; publishable = t.1.publishable }),
+      subst (Sees c.args.worker.now c.load.result) all (subst (λ (w : WorkerValue). Sees w c.load.result t.0) c.worker.view_is record { shows = t.1.shows; publishable = t.1.publishable; own_log = t.1.own }),
       worker_met c.worker.inside.seat.table_id c.split_seat.result.table_id c.split_seat.result.me.0 _ _ c.load.result t.0 _ c.args.worker.now (q.3 ∙ (same ∙ (own ∙ sym worker_own))) (worker_is _ c.split_seat.result.me _ _ three back) refl all c.worker.view_is,
     )
 

@@ -13,10 +13,10 @@ store-requires c = let h = c.self.invariant in let shared = c.deref.result.now.s
     (own, subst (λ (t : TableId). 1 + c.self.inside.number < t.words) own (read_word_inside _ _ _ h.1 c.self.inside.number h.0.below), may_leave _ _ h.0 _ _ shared.key shared.table_id.slots c.self.inside.seat.id c.args.self.now c.self.view_is c.requires.0 c.requires.1 c.requires.2)
 
 pub invariant_of-self : goal.invariant_of-self
-invariant_of-self c = let h = c.self.invariant in let t = c.store.ensures.2 _ h.0.knows in (IsWorkerSeat-on _ _ h.0 _ _ _ refl t.2, IsSeatAt-on _ _ _ h.1 _ _ _ c.store.ensures.0 t.2)
+invariant_of-self c = let h = c.self.invariant in let t = c.store.ensures.2 _ h.0.knows in (IsWorkerSeat-on _ _ h.0 _ _ _ refl t.3, IsSeatAt-on _ _ _ h.1 _ _ _ c.store.ensures.0 t.3)
 
 pub returns-clause-one_step : goal.returns-clause-one_step
-returns-clause-one_step c = let h = c.self.invariant in let t = c.store.ensures.2 _ h.0.knows in worker_after _ _ h.0 _ _ after_leave _ _ c.args.self.now c.self.view_is c.store.ensures.0 t.2
+returns-clause-one_step c = let h = c.self.invariant in let t = c.store.ensures.2 _ h.0.knows in worker_after _ _ h.0 _ _ after_leave _ _ c.args.self.now c.self.view_is c.store.ensures.0 t.3
 
 pub returns-clause-own_log : goal.returns-clause-own_log
-returns-clause-own_log c = subst IsOwnLogOf c.self.view_is (c.store.ensures.2 _ c.self.invariant.0.knows).1
+returns-clause-own_log c = subst IsOwnLogOf c.self.view_is (c.store.ensures.2 _ c.self.invariant.0.knows).2

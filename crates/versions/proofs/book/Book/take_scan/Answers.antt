@@ -1,4 +1,4 @@
-use Rattle.std.proofs.Common.{arith, inl, inr, refl, ⊎_elim}
+use Rattle.std.proofs.Common.{arith, inr, refl, ⊎_elim}
 use Rattle.versions.proofs.BookLemmas.{IsCleared-grown, least_kept}
 use Rattle.versions.proofs.book.Book.take_scan.Goals as goal
 

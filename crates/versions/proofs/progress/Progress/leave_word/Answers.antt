@@ -2,7 +2,8 @@ use Rattle.std.proofs.Common.{Some, ap, refl, sym, ◌∙◌}
 use Rattle.versions.specs.declared.step.Step.TheVariants.{Leave}
 use Rattle.versions.specs.declared.view.Stage.TheVariants.{Inside}
 use Rattle.versions.specs.Table.{the_shape}
-use Rattle.versions.proofs.MirrorLemmas.{Coheres-reached, next_of}
+use Rattle.versions.proofs.MirrorLemmas.{next_of}
+use Rattle.versions.proofs.TraceLemmas.{Coheres-reached}
 use Rattle.versions.proofs.progress.Progress.leave_word.Goals as goal
 
 pub returns-in-Inside : goal.returns-in-Inside

@@ -1,7 +1,8 @@
 use Rattle.std.proofs.Common.{ap, slice_index, sym, ◌∙◌}
 use Rattle.versions.specs.declared.step.Step.TheVariants.{Peek}
 use Rattle.versions.specs.Table.{the_shape}
-use Rattle.versions.proofs.MirrorLemmas.{Coheres-reached, may_peek, next_of}
+use Rattle.versions.proofs.MirrorLemmas.{may_peek, next_of}
+use Rattle.versions.proofs.TraceLemmas.{Coheres-reached}
 use Rattle.versions.proofs.progress.Progress.peek_word.Goals as goal
 
 pub returns-in_default : goal.returns-in_default

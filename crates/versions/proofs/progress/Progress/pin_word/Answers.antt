@@ -2,7 +2,8 @@ use Rattle.std.proofs.Common.{Some, ap, refl, slice_index, sym, ◌∙◌}
 use Rattle.versions.specs.declared.step.Step.TheVariants.{Pin}
 use Rattle.versions.specs.declared.view.Stage.TheVariants.{Announced}
 use Rattle.versions.specs.Table.{the_shape}
-use Rattle.versions.proofs.MirrorLemmas.{Coheres-reached, next_of}
+use Rattle.versions.proofs.MirrorLemmas.{next_of}
+use Rattle.versions.proofs.TraceLemmas.{Coheres-reached}
 use Rattle.versions.proofs.progress.Progress.pin_word.Goals as goal
 
 pub returns-in-Announced : goal.returns-in-Announced

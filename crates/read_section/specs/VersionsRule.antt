@@ -1,9 +1,11 @@
--- The rule that the table keeps, whatever the order of steps: it is what a legal trace left (docs/TABLE.md, "The rule").
+-- The rule that the table keeps between any two accesses, whatever their order: it is what a legal trace left (docs/TABLE.md,
+-- "The rule").
 use Rattle.std.specs.Prelude.{◌≡◌, ◌<◌, ◌≤◌, ◌⊎◌, List, Some, ℕ}
 use Rattle.std.specs.List.{Contains}
 use mathlib.Core.Option.{some}
 use lib.ListN.{get_elem?}
 use Rattle.atomic_table.specs.Table as table
+use Rattle.config_image.specs.Image.{Group}
 use Rattle.versions.specs.declared.step.Event.{Event}
 use Rattle.versions.specs.declared.view.WorkerView.{WorkerView}
 use Rattle.versions.specs.declared.view.OperatorView.{OperatorView}
@@ -11,7 +13,9 @@ use Rattle.versions.specs.Layout.{Shape}
 use Rattle.versions.specs.View.{BeginsWith, new_worker}
 use Rattle.versions.specs.State.{IsOpening, State, start_of, state_after}
 use Rattle.versions.specs.Legal.{IsLegal}
+use Rattle.versions.specs.Table.{the_shape}
 use Rattle.read_section.specs.declared.versions_rule.SeatView.{SeatView}
+use Rattle.read_section.specs.Layout.{IsPublishable}
 
 module _ {C : Type 0} (shape : Shape C) where
   -- what the seat knows is so, and no other seat knows it: `seat_of` names each worker's seat
@@ -42,3 +46,15 @@ module _ {C : Type 0} (shape : Shape C) where
     pub each_seat : (seat : ℕ) (view : SeatView C) → get_elem? state.views seat ≡ some view → IsViewOf config (state_after shape (start_of shape config rows) trace) seat_of operator_seat seat view
     pub each_worker : (w : ℕ) → w < shape.workers → (view : SeatView C) × (get_elem? state.views (seat_of w) ≡ some view) × KnowsWorker view w
     pub the_operator : (view : SeatView C) × (get_elem? state.views operator_seat ≡ some view) × KnowsOperator view
+
+  -- the state after that trace
+  abbrev pub state_left : {IsPublishable : C → Type 0} {S : Type 0} {config : C} {state : table.State S (SeatView C)} → IsLeftByTrace IsPublishable config state → State C
+  state_left {config = config} left = state_after shape (start_of shape config left.rows) left.trace
+
+-- the words of the switch's table, and what each of its seats knows
+abbrev pub TableState : Type 0
+TableState = table.State ℕ (SeatView (List Group))
+
+-- the rule of the switch's table, which opened with the configuration
+abbrev pub IsAllowedState : List Group → TableState → Type 0
+IsAllowedState config = IsLeftByTrace the_shape IsPublishable config
