@@ -36,6 +36,12 @@ pub const ACCEPTED: u32 = 65_535;
 /// Up to this size the program of an expression has only jumps of tests, which reach 255 instructions behind them.
 pub const SHORT: u32 = 257;
 
+/// Law: the constants, as numbers. It runs nothing.
+pub fn limits_as_numbers()
+    ensures accepted { ACCEPTED ≡ 65535 }
+    ensures short { SHORT ≡ 257 }
+{}
+
 /// Compiles an expression to a program in the memory of `alloc`, charged by the expression's size.
 ///
 /// On a packet the program answers `ACCEPTED` where the expression is true, and 0 where it is false or fails. Short

@@ -5,11 +5,13 @@ use Rattle.filter_tree.specs.Tree.{Tree}
 use Rattle.filter_parse.specs.declared.fault.ParseFault.{ParseFault}
 use Rattle.filter_parse.specs.declared.fault.ParseFault.TheVariants.{Syntax, TooDeep}
 use Rattle.filter_parse.specs.declared.token.Token.{Token}
-use Rattle.filter_parse.specs.Fault.{HasFault, IsFaultless, deep, faulty, own_fault, unexpected, unfinished}
+use Rattle.filter_parse.specs.Fault.{IsFaultOf, IsFaultless, deep, faulty, own_fault, unexpected, unfinished}
 use Rattle.filter_parse.specs.Grammar.{IsViable, Spells}
 use Rattle.filter_parse.specs.Laws.{HasOneFault}
-use Rattle.filter_parse.specs.Token.{Placed, kinds, tokens_of}
+use Rattle.filter_parse.specs.Token.{Placed, kinds}
+use Rattle.filter_parse.specs.body.Scan.{tokens_of}
 use Rattle.filter_parse.proofs.ParseLemmas.{faultless-at, kinds-split}
+use Rattle.filter_parse.proofs.ScanLemmas.{fault-by}
 
 viable-front : (front more : List Token) → IsViable (front ++ more) → IsViable front
 viable-front front more (rest, tree, d) = (more ++ rest, tree, subst (λ ts. Spells ts tree) (append_assoc front more rest) d)
@@ -95,7 +97,7 @@ AtEnd text fault =
     ⊎ (((tree : Tree) × Spells (kinds (tokens_of text)) tree) × (fault ≡ TooDeep (length text)))
 
 -- a fault is found at a token or at the end
-at-token-or-end : (text : List ℕ) (fault : ParseFault) → HasFault text fault → FoundAt text fault ⊎ (IsClean text × AtEnd text fault)
+at-token-or-end : (text : List ℕ) (fault : ParseFault) → IsFaultOf text (tokens_of text) fault → FoundAt text fault ⊎ (IsClean text × AtEnd text fault)
 at-token-or-end text fault (unexpected front more next whole f v bad) =
     inl (found front more next whole f v (λ good clear. bad good) (inl (bad, refl)))
 at-token-or-end text fault (faulty front more next whole f v own) =
@@ -112,9 +114,12 @@ same-end text first other a b =
       | inr x ↦ elim b [ inl y ↦ absurd (y.0 x.0.0 x.0.1) | inr y ↦ x.1 ∙ sym y.1 ]
     ]
 
-pub one-fault : HasOneFault
-one-fault text first other h k =
+same-fault : (text : List ℕ) (first other : ParseFault) → IsFaultOf text (tokens_of text) first → IsFaultOf text (tokens_of text) other → first ≡ other
+same-fault text first other h k =
     elim (at-token-or-end text first h) [
       | inl x ↦ elim (at-token-or-end text other k) [ inl y ↦ same-place text first other x y | inr y ↦ absurd (clean-nowhere text first y.0 x) ]
       | inr x ↦ elim (at-token-or-end text other k) [ inl y ↦ absurd (clean-nowhere text other x.0 y) | inr y ↦ same-end text first other x.1 y.1 ]
     ]
+
+pub one-fault : HasOneFault
+one-fault text first other h k = same-fault text first other (fault-by text first h) (fault-by text other k)

@@ -22,7 +22,9 @@ use Rattle.filter_tree.specs.Tree.{ArithTree, IsArithInRange, IsInRange, IsPrimi
 use Rattle.filter_parse.specs.Fault.{IsFaultless, bracket_fault, network_after, open_brackets, own_fault, prefix_fault}
 use Rattle.filter_parse.specs.Grammar.{Spells}
 use Rattle.filter_parse.specs.Laws.{ReadsBack}
-use Rattle.filter_parse.specs.Token.{Placed, kinds, tokens_of}
+use Rattle.filter_parse.specs.Token.{Placed, kinds}
+use Rattle.filter_parse.proofs.ScanLemmas.{tree-there}
+use Rattle.filter_parse.specs.body.Scan.{tokens_of}
 use Rattle.filter_parse.proofs.PrecedeLemmas.{IsFree, free-close, free-close_index, free-length, free-number}
 use Rattle.filter_parse.proofs.PrintedLemmas.{arith_tokens, direction_tokens, primitive_tokens, printed-tokens, size_token, tokens-spell, transport_tokens, tree_tokens}
 
@@ -245,9 +247,10 @@ sound-tree (disjunction left right) (range-left, range-right) before rest f room
 pub read-back : ReadsBack
 read-back tree range shallow =
     let tokens = printed-tokens tree range in
-    record {
+    tree-there (printed tree) tree
+    (record {
       spelt = subst (λ ts. Spells ts tree) (sym tokens) (tokens-spell tree);
       faultless = sound-faultless [] (tokens_of (printed tree))
           (subst (IsSound []) (sym tokens) (sound-tree tree range [] [] (refl, refl) (omega arith) tt));
       shallow = shallow;
-    }
+    })

@@ -5,11 +5,12 @@ use Rattle.filter_parse.specs.declared.fault.ParseFault.{ParseFault}
 use Rattle.filter_parse.specs.declared.item.Item.{Item}
 use Rattle.filter_parse.specs.declared.state.State.TheVariants.{Expects}
 use Rattle.filter_parse.specs.declared.token.Token.{Token}
-use Rattle.filter_parse.specs.Fault.{HasFault, IsFaultless, faulty, open_brackets, own_fault, unexpected, unfinished}
+use Rattle.filter_parse.specs.Fault.{IsFaultOf, IsFaultless, faulty, open_brackets, own_fault, unexpected, unfinished}
 use Rattle.filter_parse.specs.Grammar.{IsViable, Spells}
 use Rattle.filter_parse.specs.body.Parser.{Parsing, accepted, at_end, fault_in, judged_by, parsing, passed_on, postfix_from, reduced, shifted, state_of}
 use Rattle.filter_parse.proofs.Gathered.{and_then-same, and_then-twice, run, with_tree}
-use Rattle.filter_parse.specs.Token.{Placed, kinds, tokens_of}
+use Rattle.filter_parse.specs.Token.{Placed, kinds}
+use Rattle.filter_parse.specs.body.Scan.{tokens_of}
 use Rattle.filter_parse.proofs.RunLemmas.{run-spelt}
 use Rattle.filter_parse.proofs.SpeltLemmas.{spelt-run}
 use Rattle.filter_parse.proofs.CloseLemmas.{IsProper, IsProperIfAny, close, step-proper}
@@ -64,7 +65,7 @@ module _ (text : List ℕ) where
   -- what an outcome of the parser says of the text
   abbrev pub Says : Result (List Item) ParseFault → Type 0
   Says (Ok items) = IsFaultless [] (tokens_of text) × (run (kinds (tokens_of text)) beginning ≡ Some items)
-  Says (Err fault) = HasFault text fault
+  Says (Err fault) = IsFaultOf text (tokens_of text) fault
 
   ending-says : (front : List Placed) (parser : Parsing) → tokens_of text ≡ front → after (kinds front) beginning ≡ Some parser → IsProper parser →
       IsFaultless [] front → (found : Option (List Item)) → accepted (reduced None parser) ≡ found → Says (at_end (length text) found)

@@ -13,7 +13,8 @@ use Rattle.filter_parse.specs.declared.token.Lexeme.{Lexeme}
 use Rattle.filter_parse.specs.declared.token.TheConstants.{TOO_BIG}
 use Rattle.filter_parse.specs.declared.token.Token.{Token}
 use Rattle.filter_parse.specs.declared.token.Token.TheVariants.{Address, Number, Stray}
-use Rattle.filter_parse.specs.Token.{address_of, begins_word, capped, is_blank, is_decimal, is_dot, is_hexadecimal, is_number_part, is_word_part, kinds, lexeme, number_or_address, number_token, pair_sign, sign, sign_lexeme, sign_or, tokens_from, value_of, word_token}
+use Rattle.filter_parse.specs.Token.{address_of, begins_word, capped, is_blank, is_decimal, is_dot, is_hexadecimal, is_number_part, is_word_part, kinds, number_or_address, number_token, pair_sign, sign, value_of, word_token}
+use Rattle.filter_parse.specs.body.Scan.{lexeme, sign_lexeme, sign_or, tokens_from}
 use Rattle.filter_parse.proofs.TokenLemmas.{tokens_from-inside}
 
 -- the tokens of a text, wherever it stands
@@ -42,29 +43,37 @@ longest p w rest full apart =
     ∙ ap (λ t. cond t (length w + prefix_len p rest) (length w)) (eq-eqb (length w) (length w) refl)
     ∙ ap (λ n. length w + n) apart ∙ omega arith
 
+pub lexeme-word : (c : ℕ) (w rest : List ℕ) → begins_word c ≡ true → prefix_len is_word_part (c ∷ w) ≡ length (c ∷ w) → prefix_len is_word_part rest ≡ 0 →
+    lexeme c (w ++ rest) ≡ record { token = word_token (c ∷ w); len = length (c ∷ w) }
+lexeme-word c w rest begins full apart =
+    ap (λ t. cond t (record { token = word_token (take (prefix_len is_word_part (c ∷ w ++ rest)) (c ∷ w ++ rest)); len = prefix_len is_word_part (c ∷ w ++ rest) })
+    (cond (is_ascii_digit c) (record { token = number_or_address (take (prefix_len is_number_part (c ∷ w ++ rest)) (c ∷ w ++ rest)); len = prefix_len is_number_part (c ∷ w ++ rest) }) (sign_lexeme c (w ++ rest)))) begins
+    ∙ ap (λ n. record { token = word_token (take n (c ∷ w ++ rest)); len = n }) (longest is_word_part (c ∷ w) rest full apart)
+    ∙ ap (λ x. record { token = word_token x; len = length (c ∷ w) }) (take-append_seam (c ∷ w) rest)
+
 pub lexes-word : (c : ℕ) (w rest : List ℕ) (token : Token) (tokens : List Token) → is_blank c ≡ false → begins_word c ≡ true →
     prefix_len is_word_part (c ∷ w) ≡ length (c ∷ w) → word_token (c ∷ w) ≡ token → prefix_len is_word_part rest ≡ 0 →
     Lexes rest tokens → Lexes ((c ∷ w) ++ rest) (token ∷ tokens)
 lexes-word c w rest token tokens dark begins full is apart h =
     lexes-one c (w ++ rest) rest (record { token = token; len = length (c ∷ w) }) tokens dark
-    (ap (λ t. cond t (record { token = word_token (take (prefix_len is_word_part (c ∷ w ++ rest)) (c ∷ w ++ rest)); len = prefix_len is_word_part (c ∷ w ++ rest) })
-    (cond (is_ascii_digit c) (record { token = number_or_address (take (prefix_len is_number_part (c ∷ w ++ rest)) (c ∷ w ++ rest)); len = prefix_len is_number_part (c ∷ w ++ rest) }) (sign_lexeme c (w ++ rest)))) begins
-    ∙ ap (λ n. record { token = word_token (take n (c ∷ w ++ rest)); len = n }) (longest is_word_part (c ∷ w) rest full apart)
-    ∙ ap (λ x. record { token = word_token x; len = length (c ∷ w) }) (take-append_seam (c ∷ w) rest)
-    ∙ ap (λ k. record { token = k; len = length (c ∷ w) }) is)
+    (lexeme-word c w rest begins full apart ∙ ap (λ k. record { token = k; len = length (c ∷ w) }) is)
     (ap (λ n. drop n (w ++ rest)) (omega arith) ∙ drop-append_seam w rest) h
+
+pub lexeme-digits : (c : ℕ) (w rest : List ℕ) → begins_word c ≡ false → is_ascii_digit c ≡ true → prefix_len is_number_part (c ∷ w) ≡ length (c ∷ w) →
+    prefix_len is_number_part rest ≡ 0 → lexeme c (w ++ rest) ≡ record { token = number_or_address (c ∷ w); len = length (c ∷ w) }
+lexeme-digits c w rest no_word begins full apart =
+    ap (λ t. cond t (record { token = word_token (take (prefix_len is_word_part (c ∷ w ++ rest)) (c ∷ w ++ rest)); len = prefix_len is_word_part (c ∷ w ++ rest) })
+    (cond (is_ascii_digit c) (record { token = number_or_address (take (prefix_len is_number_part (c ∷ w ++ rest)) (c ∷ w ++ rest)); len = prefix_len is_number_part (c ∷ w ++ rest) }) (sign_lexeme c (w ++ rest)))) no_word
+    ∙ ap (λ t. cond t (record { token = number_or_address (take (prefix_len is_number_part (c ∷ w ++ rest)) (c ∷ w ++ rest)); len = prefix_len is_number_part (c ∷ w ++ rest) }) (sign_lexeme c (w ++ rest))) begins
+    ∙ ap (λ n. record { token = number_or_address (take n (c ∷ w ++ rest)); len = n }) (longest is_number_part (c ∷ w) rest full apart)
+    ∙ ap (λ x. record { token = number_or_address x; len = length (c ∷ w) }) (take-append_seam (c ∷ w) rest)
 
 pub lexes-digits : (c : ℕ) (w rest : List ℕ) (token : Token) (tokens : List Token) → is_blank c ≡ false → begins_word c ≡ false → is_ascii_digit c ≡ true →
     prefix_len is_number_part (c ∷ w) ≡ length (c ∷ w) → number_or_address (c ∷ w) ≡ token → prefix_len is_number_part rest ≡ 0 →
     Lexes rest tokens → Lexes ((c ∷ w) ++ rest) (token ∷ tokens)
 lexes-digits c w rest token tokens dark no_word begins full is apart h =
     lexes-one c (w ++ rest) rest (record { token = token; len = length (c ∷ w) }) tokens dark
-    (ap (λ t. cond t (record { token = word_token (take (prefix_len is_word_part (c ∷ w ++ rest)) (c ∷ w ++ rest)); len = prefix_len is_word_part (c ∷ w ++ rest) })
-    (cond (is_ascii_digit c) (record { token = number_or_address (take (prefix_len is_number_part (c ∷ w ++ rest)) (c ∷ w ++ rest)); len = prefix_len is_number_part (c ∷ w ++ rest) }) (sign_lexeme c (w ++ rest)))) no_word
-    ∙ ap (λ t. cond t (record { token = number_or_address (take (prefix_len is_number_part (c ∷ w ++ rest)) (c ∷ w ++ rest)); len = prefix_len is_number_part (c ∷ w ++ rest) }) (sign_lexeme c (w ++ rest))) begins
-    ∙ ap (λ n. record { token = number_or_address (take n (c ∷ w ++ rest)); len = n }) (longest is_number_part (c ∷ w) rest full apart)
-    ∙ ap (λ x. record { token = number_or_address x; len = length (c ∷ w) }) (take-append_seam (c ∷ w) rest)
-    ∙ ap (λ k. record { token = k; len = length (c ∷ w) }) is)
+    (lexeme-digits c w rest no_word begins full apart ∙ ap (λ k. record { token = k; len = length (c ∷ w) }) is)
     (ap (λ n. drop n (w ++ rest)) (omega arith) ∙ drop-append_seam w rest) h
 
 -- no sign of two bytes begins where this one stands
@@ -76,14 +85,17 @@ sign-alone : (c : ℕ) (rest : List ℕ) → IsAlone c rest → sign_lexeme c re
 sign-alone c [] alone = refl
 sign-alone c (d ∷ rest) alone = ap (sign_or c) alone
 
+pub lexeme-sign : (c : ℕ) (rest : List ℕ) → begins_word c ≡ false → is_ascii_digit c ≡ false → lexeme c rest ≡ sign_lexeme c rest
+lexeme-sign c rest no_word no_digit =
+    ap (λ t. cond t (record { token = word_token (take (prefix_len is_word_part (c ∷ rest)) (c ∷ rest)); len = prefix_len is_word_part (c ∷ rest) })
+    (cond (is_ascii_digit c) (record { token = number_or_address (take (prefix_len is_number_part (c ∷ rest)) (c ∷ rest)); len = prefix_len is_number_part (c ∷ rest) }) (sign_lexeme c rest))) no_word
+    ∙ ap (λ t. cond t (record { token = number_or_address (take (prefix_len is_number_part (c ∷ rest)) (c ∷ rest)); len = prefix_len is_number_part (c ∷ rest) }) (sign_lexeme c rest)) no_digit
+
 pub lexes-sign : (c : ℕ) (rest : List ℕ) (tokens : List Token) → is_blank c ≡ false → begins_word c ≡ false → is_ascii_digit c ≡ false → IsAlone c rest →
     Lexes rest tokens → Lexes (c ∷ rest) (sign c ∷ tokens)
 lexes-sign c rest tokens dark no_word no_digit alone h =
     lexes-one c rest rest (record { token = sign c; len = 1 }) tokens dark
-    (ap (λ t. cond t (record { token = word_token (take (prefix_len is_word_part (c ∷ rest)) (c ∷ rest)); len = prefix_len is_word_part (c ∷ rest) })
-    (cond (is_ascii_digit c) (record { token = number_or_address (take (prefix_len is_number_part (c ∷ rest)) (c ∷ rest)); len = prefix_len is_number_part (c ∷ rest) }) (sign_lexeme c rest))) no_word
-    ∙ ap (λ t. cond t (record { token = number_or_address (take (prefix_len is_number_part (c ∷ rest)) (c ∷ rest)); len = prefix_len is_number_part (c ∷ rest) }) (sign_lexeme c rest)) no_digit
-    ∙ sign-alone c rest alone)
+    (lexeme-sign c rest no_word no_digit ∙ sign-alone c rest alone)
     refl h
 
 -- a decimal digit

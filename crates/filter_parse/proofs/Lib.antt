@@ -6,6 +6,7 @@ mod StandardFacts
 mod PrecedeLemmas
 mod JudgeLemmas
 mod TokenLemmas
+pub mod ScanLemmas
 mod PostfixLemmas
 mod ParseLemmas
 mod LexLemmas

@@ -7,17 +7,19 @@ use Rattle.filter_parse.specs.declared.fault.ParseFault.{ParseFault}
 use Rattle.filter_parse.specs.declared.fault.ParseFault.TheVariants.{TooDeep}
 use Rattle.filter_parse.specs.declared.item.Item.{Item}
 use Rattle.filter_parse.specs.declared.token.Token.{Token}
-use Rattle.filter_parse.specs.Fault.{HasFault, HasTree, IsFaultless, deep, faulty, own_fault, unexpected, unfinished}
+use Rattle.filter_parse.specs.Fault.{HasFault, HasTree, IsFaultOf, IsFaultless, IsTreeOf, deep, faulty, own_fault, unexpected, unfinished}
 use Rattle.filter_parse.specs.Grammar.{Spells}
 use Rattle.filter_parse.specs.Laws.{IsUnambiguous}
 use Rattle.filter_parse.specs.body.Parser.{postfix_of}
 use Rattle.filter_parse.proofs.Gathered.{with_tree}
 use Rattle.filter_parse.specs.body.Postfix.{built, depths_of, first_depth, truth}
-use Rattle.filter_parse.specs.Token.{Placed, kinds, tokens_of}
+use Rattle.filter_parse.specs.Token.{Placed, kinds}
+use Rattle.filter_parse.specs.body.Scan.{tokens_of}
 use Rattle.filter_parse.proofs.RunLemmas.{run-spelt}
 use Rattle.filter_parse.proofs.SpeltLemmas.{IsSpelt, spelt-run}
 use Rattle.filter_parse.proofs.JudgeLemmas.{Says, postfix_of-says}
 use Rattle.filter_parse.proofs.PostfixLemmas.{built-tree, depths-tree, same-tree}
+use Rattle.filter_parse.proofs.ScanLemmas.{fault-by, fault-there, tree-by, tree-there}
 
 pub unambiguous : IsUnambiguous
 unambiguous tokens one other d e =
@@ -26,7 +28,7 @@ unambiguous tokens one other d e =
     same-tree one other same
 
 pub fault-says : (text : List ℕ) (fault : ParseFault) → postfix_of text ≡ Err fault → HasFault text fault
-fault-says text fault h = subst (Says text) h (postfix_of-says text)
+fault-says text fault h = fault-there text fault (subst (Says text) h (postfix_of-says text))
 
 -- no token of a faultless list is at fault
 pub faultless-at : (start : List Token) (front more : List Placed) (next : Placed) → IsFaultless start (front ++ next ∷ more) →
@@ -41,17 +43,20 @@ pub kinds-split : (front more : List Placed) (next : Placed) → kinds (front ++
 kinds-split front more next =
     map-append (λ (x : Placed). x.token) front (next ∷ more) ∙ sym (append_assoc (kinds front) (next.token ∷ []) (kinds more))
 
-pub tree-or-fault : (text : List ℕ) (tree : Tree) (fault : ParseFault) → HasTree text tree → HasFault text fault → ⊥
-tree-or-fault text tree fault t (unexpected front more next whole f v bad) =
+no-tree-at-fault : (text : List ℕ) (tokens : List Placed) (tree : Tree) (fault : ParseFault) → IsTreeOf tokens tree → IsFaultOf text tokens fault → ⊥
+no-tree-at-fault text tokens tree fault t (unexpected front more next whole f v bad) =
     bad (kinds more, tree, subst (λ ts. Spells ts tree) (ap kinds whole ∙ kinds-split front more next) t.spelt)
-tree-or-fault text tree fault t (faulty front more next whole f v own) =
+no-tree-at-fault text tokens tree fault t (faulty front more next whole f v own) =
     let none = faultless-at [] front more next (subst (IsFaultless []) whole t.faultless) in
     let same = ap (λ b. own_fault b next.token next.place) (append-nil (reverse (kinds front))) in
     cc
-tree-or-fault text tree fault t (unfinished f v bad) = bad tree t.spelt
-tree-or-fault text tree fault t (deep {tree = other} f d below) =
-    let same = ap depth_of (unambiguous (kinds (tokens_of text)) tree other t.spelt d) in
+no-tree-at-fault text tokens tree fault t (unfinished f v bad) = bad tree t.spelt
+no-tree-at-fault text tokens tree fault t (deep {tree = other} f d below) =
+    let same = ap depth_of (unambiguous (kinds tokens) tree other t.spelt d) in
     omega (arith, t.shallow)
+
+pub tree-or-fault : (text : List ℕ) (tree : Tree) (fault : ParseFault) → HasTree text tree → HasFault text fault → ⊥
+tree-or-fault text tree fault t f = no-tree-at-fault text (tokens_of text) tree fault (tree-by text tree t) (fault-by text fault f)
 
 -- the parts that the parser puts out are those of the text's tree
 parts-say : (text : List ℕ) (items : List Item) → postfix_of text ≡ Ok items → IsFaultless [] (tokens_of text) × IsSpelt (kinds (tokens_of text)) items
@@ -72,7 +77,7 @@ pub deep-says : (text : List ℕ) (items : List Item) (depth : ℕ) → postfix_
 deep-says text items depth h measured below =
     let s = parts-say text items h in
     let same = parts-depth s.1.0 items s.1.2 in
-    deep s.0 s.1.1 (omega arith)
+    fault-there text (TooDeep (length text)) (deep s.0 s.1.1 (omega arith))
 
 pub tree-says : (text : List ℕ) (items : List Item) (depth : ℕ) (tree : Tree) → postfix_of text ≡ Ok items → depth ≡ first_depth (depths_of items []) → depth ≤ 64 →
     built items [] ≡ Some (truth tree ∷ []) → HasTree text tree
@@ -81,8 +86,9 @@ tree-says text items depth tree h measured above b =
     let same = parts-depth s.1.0 items s.1.2 in
     let found : built items [] ≡ Some (truth s.1.0 ∷ []) = ap (λ is. built is []) s.1.2 ∙ built-tree s.1.0 [] [] in
     let one : s.1.0 ≡ tree = cc in
-    record {
+    tree-there text tree
+    (record {
       spelt = subst (λ t. Spells (kinds (tokens_of text)) t) one s.1.1;
       faultless = s.0;
       shallow = subst (λ t. depth_of t ≤ 64) one (omega arith);
-    }
+    })

@@ -25,7 +25,8 @@ use Rattle.filter_parse.specs.declared.token.Connective.TheVariants.{And, AndSig
 use Rattle.filter_parse.specs.declared.token.Token.{Token}
 use Rattle.filter_parse.specs.declared.token.Token.TheVariants.{Address, Close, CloseIndex, Colon, Compares, Connects, Destination, Greater, Host, Length, Less, Named, Net, Not, Number, Open, OpenIndex, Operates, Port, PortRange, Proto, Source}
 use Rattle.filter_parse.specs.Grammar.{Spells, SpellsDirection, SpellsOperand, SpellsPrimitive, SpellsSize, SpellsTransport, SpellsUnary, bracketed, bytes_at, combined, destination, enclosed, four, greater, host, junction, len, less, literal, negated, net, one, operand, port, portrange, proto, protocol, related, simple, source, source_and_destination, tcp, two, udp, unary, undirected, unnamed}
-use Rattle.filter_parse.specs.Token.{begins_word, is_blank, is_number_part, is_word_part, kinds, pair_sign, tokens_of, word_token}
+use Rattle.filter_parse.specs.Token.{begins_word, is_blank, is_number_part, is_word_part, kinds, pair_sign, word_token}
+use Rattle.filter_parse.specs.body.Scan.{tokens_of}
 use Rattle.filter_parse.proofs.AddressLemmas.{lexes-address}
 use Rattle.filter_parse.proofs.LexLemmas.{IsAlone, IsRun, Lexes, and-parts, decimal-run, lexes-decimal, lexes-digits, lexes-one, lexes-sign, lexes-space, lexes-word}
 

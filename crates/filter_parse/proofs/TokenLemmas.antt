@@ -2,7 +2,8 @@
 use Rattle.std.proofs.Common.{◌≡◌, ◌<◌, ◌≤◌, ◌+◌, ◌-◌, ◌∙◌, ◌∷◌, List, [], ap, arith, cond, drop, false, get_or, length, refl, suc, sym, take, true, zero, ℕ}
 use Rattle.std.proofs.lemmas.List.{drop-drop, length-drop, take_all}
 use Rattle.filter_parse.specs.declared.token.Lexeme.{Lexeme}
-use Rattle.filter_parse.specs.Token.{is_blank, lexeme, tokens_from}
+use Rattle.filter_parse.specs.Token.{is_blank}
+use Rattle.filter_parse.specs.body.Scan.{lexeme, tokens_from}
 
 -- the bytes of the token before are passed over
 pub tokens_from-inside : (inside place : ℕ) (text : List ℕ) → tokens_from inside place text ≡ tokens_from 0 (place + inside) (drop inside text)

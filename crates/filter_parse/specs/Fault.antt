@@ -9,7 +9,7 @@ use Rattle.filter_parse.specs.declared.fault.ParseFault.TheVariants.{BadAddress,
 use Rattle.filter_parse.specs.declared.token.Token.{Token}
 use Rattle.filter_parse.specs.declared.token.Token.TheVariants.{Address, Close, CloseIndex, Net, Number, Open, OpenIndex, Operates, Port, PortRange, Proto}
 use Rattle.filter_parse.specs.Grammar.{IsViable, Spells}
-use Rattle.filter_parse.specs.Token.{Placed, kinds, tokens_of}
+use Rattle.filter_parse.specs.Token.{AreTokens, Placed, kinds}
 
 -- The tokens before a place are named the last first.
 
@@ -62,24 +62,33 @@ IsFaultless before [] = Unit {0}
 IsFaultless before (placed ∷ more) =
     (own_fault before placed.token placed.place ≡ None) × IsFaultless (placed.token ∷ before) more
 
--- the text is an expression, and this is its tree
-pub record HasTree (text : List ℕ) (tree : Tree) : Type 0 where
-  pub spelt : Spells (kinds (tokens_of text)) tree
-  pub faultless : IsFaultless [] (tokens_of text)
+-- these tokens are an expression, and this is its tree
+pub record IsTreeOf (tokens : List Placed) (tree : Tree) : Type 0 where
+  pub spelt : Spells (kinds tokens) tree
+  pub faultless : IsFaultless [] tokens
   pub shallow : depth_of tree ≤ MAX_DEPTH
 
--- The text has this fault. Of all places the least is answered, and where both could be, that the token does not fit there.
-pub data HasFault : List ℕ → ParseFault → Type 0 where
+-- A text with these tokens has this fault. Of all places the least is answered, and where both could be, that the token does
+-- not fit there.
+pub data IsFaultOf (text : List ℕ) (tokens : List Placed) : ParseFault → Type 0 where
   -- no expression goes on with the next token
-  unexpected : {text : List ℕ} (front more : List Placed) (next : Placed) → tokens_of text ≡ front ++ next ∷ more →
-      IsFaultless [] front → IsViable (kinds front) → ¬ IsViable (kinds front ++ next.token ∷ []) → HasFault text (Syntax next.place)
+  unexpected : (front more : List Placed) (next : Placed) → tokens ≡ front ++ next ∷ more →
+      IsFaultless [] front → IsViable (kinds front) → ¬ IsViable (kinds front ++ next.token ∷ []) → IsFaultOf text tokens (Syntax next.place)
   -- one does, but the token has a fault of its own
-  faulty : {text : List ℕ} {fault : ParseFault} (front more : List Placed) (next : Placed) → tokens_of text ≡ front ++ next ∷ more →
+  faulty : {fault : ParseFault} (front more : List Placed) (next : Placed) → tokens ≡ front ++ next ∷ more →
       IsFaultless [] front → IsViable (kinds front ++ next.token ∷ []) → own_fault (reverse (kinds front)) next.token next.place ≡ Some fault →
-      HasFault text fault
+      IsFaultOf text tokens fault
   -- the tokens begin an expression and are none
-  unfinished : {text : List ℕ} → IsFaultless [] (tokens_of text) → IsViable (kinds (tokens_of text)) →
-      ((tree : Tree) → ¬ Spells (kinds (tokens_of text)) tree) → HasFault text (Syntax (length text))
+  unfinished : IsFaultless [] tokens → IsViable (kinds tokens) → ((tree : Tree) → ¬ Spells (kinds tokens) tree) →
+      IsFaultOf text tokens (Syntax (length text))
   -- the tree is too deep
-  deep : {text : List ℕ} {tree : Tree} → IsFaultless [] (tokens_of text) → Spells (kinds (tokens_of text)) tree → MAX_DEPTH < depth_of tree →
-      HasFault text (TooDeep (length text))
+  deep : {tree : Tree} → IsFaultless [] tokens → Spells (kinds tokens) tree → MAX_DEPTH < depth_of tree →
+      IsFaultOf text tokens (TooDeep (length text))
+
+-- the text is an expression, and this is its tree
+abbrev pub HasTree : List ℕ → Tree → Type 0
+HasTree text tree = (tokens : List Placed) × AreTokens 0 text tokens × IsTreeOf tokens tree
+
+-- the text is none, and this is its fault
+abbrev pub HasFault : List ℕ → ParseFault → Type 0
+HasFault text fault = (tokens : List Placed) × AreTokens 0 text tokens × IsFaultOf text tokens fault

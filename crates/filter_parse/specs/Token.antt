@@ -1,6 +1,5 @@
--- The tokens of a text (pcap-filter(7); docs/EXPRESSIONS.md, "Tokens").
-use Rattle.std.specs.Prelude.{◌+◌, ◌-◌, ◌*◌, ◌^◌, ◌==◌, ◌&&◌, ◌||◌, ◌∷◌, Bool, List, None, Option, Some, [], codes, drop, false, if◌then◌else◌, length, min, nat_le, nat_lt, option_and_then, option_map, suc, take, unwrap_or, map, ℕ}
-use Prim.Native.Nat.{zero}
+-- The tokens of a text (pcap-filter(7); docs/EXPRESSIONS.md, "Tokens"): spellings of words, numbers, addresses and signs.
+use Rattle.std.specs.Prelude.{◌≡◌, ◌+◌, ◌*◌, ◌^◌, ◌==◌, ◌&&◌, ◌||◌, ◌++◌, ◌∷◌, Bool, List, None, Option, Some, [], codes, drop, false, if◌then◌else◌, length, map, min, nat_le, nat_lt, option_and_then, option_map, take, true, unwrap_or, ℕ}
 use Rattle.std.specs.Char.{digit_value, is_ascii_alphabetic, is_ascii_alphanumeric, is_ascii_digit, is_ascii_hexdigit}
 use Rattle.std.specs.List.{fold, list_all, list_any, position_or_len, prefix_len}
 use Rattle.std.specs.Str.{bytes_eq}
@@ -9,7 +8,6 @@ use Rattle.filter_tree.specs.declared.arithmetic.Protocol.TheVariants.{Icmp, Ip,
 use Rattle.filter_tree.specs.declared.expression.Relation.TheVariants.{Equal, Greater as GreaterThan, GreaterOrEqual, Less as LessThan, LessOrEqual, NotEqual}
 use Rattle.filter_parse.specs.declared.token.TheConstants.{TOO_BIG}
 use Rattle.filter_parse.specs.declared.token.Connective.TheVariants.{And, AndSign, Or, OrSign}
-use Rattle.filter_parse.specs.declared.token.Lexeme.{Lexeme}
 use Rattle.filter_parse.specs.declared.token.Token.{Token}
 use Rattle.filter_parse.specs.declared.token.Token.TheVariants.{Address, Close, CloseIndex, Colon, Compares, Connects, Destination, Greater, Host, Length, Less, Named, Net, Not, Number, Open, OpenIndex, Operates, Port, PortRange, Proto, Source, Stray}
 
@@ -152,42 +150,48 @@ sign c =
     else (if c == 61 then Compares Equal
     else mark c))))))))))
 
--- a sign of two bytes where they are one, else the first byte alone
-abbrev pub sign_or : ℕ → Option Token → Lexeme
-sign_or c (Some token) = record { token = token; len = 2 }
-sign_or c None = record { token = sign c; len = 1 }
+-- ---- the spellings
 
--- a sign: of two bytes where they are one
-abbrev pub sign_lexeme : ℕ → List ℕ → Lexeme
-sign_lexeme c [] = record { token = sign c; len = 1 }
-sign_lexeme c (d ∷ rest) = sign_or c (pair_sign c d)
+-- a longest run of bytes: each may go on in it, and none of the rest does
+pub record IsLongestRun (part : ℕ → Bool) (run rest : List ℕ) : Type 0 where
+  pub all : list_all part run ≡ true
+  pub ends : prefix_len part rest ≡ 0
 
--- the token that begins with a byte that is no blank, and its number of bytes
-abbrev pub lexeme : ℕ → List ℕ → Lexeme
-lexeme c rest =
-    if begins_word c then
-    record { token = word_token (take (prefix_len is_word_part (c ∷ rest)) (c ∷ rest)); len = prefix_len is_word_part (c ∷ rest) }
-    else (if is_ascii_digit c then
-    record { token = number_or_address (take (prefix_len is_number_part (c ∷ rest)) (c ∷ rest)); len = prefix_len is_number_part (c ∷ rest) }
-    else sign_lexeme c rest)
+-- a byte that is no blank and begins no word and no number
+pub record BeginsSign (c : ℕ) : Type 0 where
+  pub word : begins_word c ≡ false
+  pub digit : is_ascii_digit c ≡ false
+  pub blank : is_blank c ≡ false
+
+-- it begins no sign of two bytes
+abbrev pub StandsAlone : ℕ → List ℕ → Type 0
+StandsAlone c [] = Unit {0}
+StandsAlone c (d ∷ rest) = pair_sign c d ≡ None
+
+-- these bytes, with this rest behind them, are the spelling of a token
+pub data IsSpelling : List ℕ → List ℕ → Token → Type 0 where
+  a_word : (c : ℕ) (more rest : List ℕ) → begins_word c ≡ true → IsLongestRun is_word_part (c ∷ more) rest →
+      IsSpelling (c ∷ more) rest (word_token (c ∷ more))
+  a_number : (c : ℕ) (more rest : List ℕ) → is_ascii_digit c ≡ true → IsLongestRun is_number_part (c ∷ more) rest →
+      IsSpelling (c ∷ more) rest (number_or_address (c ∷ more))
+  two_signs : (c d : ℕ) (rest : List ℕ) (it : Token) → BeginsSign c → pair_sign c d ≡ Some it → IsSpelling (c ∷ d ∷ []) rest it
+  one_sign : (c : ℕ) (rest : List ℕ) → BeginsSign c → StandsAlone c rest → IsSpelling (c ∷ []) rest (sign c)
 
 -- a token and the place of its first byte
 pub record Placed : Type 0 where
   pub token : Token
   pub place : ℕ
 
--- the tokens of a text whose first byte is at a place, behind so many bytes that belong to the token before them
-abbrev pub tokens_from : ℕ → ℕ → List ℕ → List Placed
-tokens_from inside place [] = []
-tokens_from (suc inside) place (c ∷ text) = tokens_from inside (place + 1) text
-tokens_from zero place (c ∷ text) =
-    if is_blank c then tokens_from zero (place + 1) text
-    else record { token = (lexeme c text).token; place = place } ∷ tokens_from ((lexeme c text).len - 1) (place + 1) text
+-- these are the tokens of a text whose first byte is at a place: spellings, one behind the other, with blanks before, between
+-- and behind them
+pub data AreTokens : ℕ → List ℕ → List Placed → Type 0 where
+  no_more : (place : ℕ) → AreTokens place [] []
+  blank_first : (place c : ℕ) (text : List ℕ) (tokens : List Placed) → is_blank c ≡ true → AreTokens (place + 1) text tokens →
+      AreTokens place (c ∷ text) tokens
+  token_first : (place : ℕ) (text spelling rest : List ℕ) (it : Token) (tokens : List Placed) → text ≡ spelling ++ rest →
+      IsSpelling spelling rest it → AreTokens (place + length spelling) rest tokens →
+      AreTokens place text (record { token = it; place = place } ∷ tokens)
 
--- the tokens of a text
-abbrev pub tokens_of : List ℕ → List Placed
-tokens_of text = tokens_from 0 0 text
-
--- the same without their places
+-- tokens without their places
 abbrev pub kinds : List Placed → List Token
 kinds tokens = map (λ placed. placed.token) tokens

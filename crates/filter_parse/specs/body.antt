@@ -2,3 +2,4 @@
 pub mod Parser
 pub mod Postfix
 pub mod Stack
+pub mod Scan

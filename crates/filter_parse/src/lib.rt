@@ -42,6 +42,11 @@ pub use std::alloc::AllocError as OutOfMemory;
 /// The greatest depth of a tree that is read, and the most brackets that may be open.
 pub const MAX_DEPTH: u32 = 64;
 
+/// Law: the limit, as a number. It runs nothing.
+pub fn limits_as_numbers()
+    ensures { MAX_DEPTH ≡ 64 }
+{}
+
 /// Reads a filter expression: the tree that the grammar gives the text, with its parts placed by clones of `alloc`.
 ///
 /// `Err` is the fault at the least place, of those at one place first that the token does not fit there; a tree that is too

@@ -2,7 +2,8 @@
 
 ghost use Rattle.std.specs.Prelude.{◌≡◌, ◌≤◌, ◌+◌, ◌∷◌, ◌<◌, IfSome, MatchOption, [], drop, length};
 ghost use Rattle.std.specs.List.{prefix_len};
-ghost use Rattle.filter_parse.specs.Token.{begins_word, is_blank, is_number_part, is_word_part, lexeme, sign_lexeme, tokens_from};
+ghost use Rattle.filter_parse.specs.Token.{begins_word, is_blank, is_number_part, is_word_part};
+ghost use Rattle.filter_parse.specs.body.Scan.{lexeme, sign_lexeme, tokens_from};
 
 use crate::number::number_or_address;
 use crate::sign::{pair_sign, sign, word_token};

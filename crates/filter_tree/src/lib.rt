@@ -5,6 +5,8 @@
 //! without its allocator.
 #![tactic(auto)]
 
+ghost use Rattle.std.specs.Prelude.{◌≡◌};
+
 mod arithmetic;
 mod copies;
 mod expression;
@@ -27,6 +29,11 @@ pub use truth::Truth;
 
 /// The most bytes of a packet: an IPv4 header's total length has 16 bits (RFC 791, section 3.1).
 pub const MAX_PACKET: usize = 65_535;
+
+/// Law: the limit, as a number. It runs nothing.
+pub fn limits_as_numbers()
+    ensures { MAX_PACKET ≡ 65535 }
+{}
 
 /// The answer of a call that was refused memory.
 pub use std::alloc::AllocError as OutOfMemory;

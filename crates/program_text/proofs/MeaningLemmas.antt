@@ -15,8 +15,10 @@ use Rattle.bpf_verify.specs.declared.fault.Fault.TheVariants.{Ancillary, BadCell
 use Rattle.bpf_verify.proofs.FaultLemmas.{fault_refutes}
 use Rattle.filter_compile.specs.declared.fault.CompileFault.TheVariants as compile
 use Rattle.filter_parse.specs.Fault.{HasFault as HasParseFault, HasTree}
+use Rattle.filter_parse.proofs.ScanLemmas.{tree-by}
 use Rattle.filter_parse.specs.Laws.{ExcludesFaults, HasOneFault as HasOneParseFault, IsUnambiguous}
-use Rattle.filter_parse.specs.Token.{kinds, tokens_of}
+use Rattle.filter_parse.specs.Token.{kinds}
+use Rattle.filter_parse.specs.body.Scan.{tokens_of}
 use Rattle.filter_parse.specs.declared.fault.ParseFault.{ParseFault}
 use Rattle.filter_parse.specs.declared.fault.ParseFault.TheVariants as parse
 use Rattle.filter_tree.specs.Measure.{cells_of, size_of}
@@ -173,7 +175,8 @@ as_expression text (Compiling compile.OutOfMemory) fault = absurd fault
 as_expression text OutOfMemory fault = absurd fault
 
 one_tree : GrammarLaws → (text : List ℕ) (one other : Tree) → HasTree text one → HasTree text other → one ≡ other
-one_tree laws text one other has also = laws.one_tree (kinds (tokens_of text)) one other has.spelt also.spelt
+one_tree laws text one other has also =
+    laws.one_tree (kinds (tokens_of text)) one other (tree-by text one has).spelt (tree-by text other also).spelt
 
 two_expression_faults : GrammarLaws → (text : List ℕ) (one other : TextFault) → ExpressionWhy text one → ExpressionWhy text other → one ≡ other
 two_expression_faults laws text one other (unparsed fault is) (unparsed another also) = ap Expression (laws.one_fault text fault another is also)

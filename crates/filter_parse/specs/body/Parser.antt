@@ -28,7 +28,8 @@ use Rattle.filter_parse.specs.declared.token.Token.TheVariants.{Address, Close, 
 use Rattle.filter_parse.specs.Fault.{bracket_fault, open_after, prefix_fault}
 use Rattle.filter_parse.specs.Grammar.{named, precedence_of}
 use Rattle.filter_parse.specs.body.Stack.{from_top}
-use Rattle.filter_parse.specs.Token.{Placed, tokens_of}
+use Rattle.filter_parse.specs.Token.{Placed}
+use Rattle.filter_parse.specs.body.Scan.{tokens_of}
 
 -- the state, the stack and the output
 pub data Parsing : Type 0 where

@@ -1,7 +1,7 @@
 use Rattle.std.proofs.Common.{◌≡◌, ◌≤◌, ◌-◌, drop, length}
 use Rattle.filter_parse.specs.declared.TheConstants.{MAX_DEPTH}
 use Rattle.filter_parse.specs.body.Parser.{parsing_of, postfix_from, postfix_of}
-use Rattle.filter_parse.specs.Token.{tokens_from}
+use Rattle.filter_parse.specs.body.Scan.{tokens_from}
 use Rattle.filter_parse.proofs.parser.postfix_of.Given as goal
 
 abbrev pub invariant-loop-found : goal.invariant-loop-found

@@ -1,5 +1,5 @@
 use Rattle.std.proofs.Common.{◌≡◌, ◌≤◌, ◌-◌, drop, length}
-use Rattle.filter_parse.specs.Token.{tokens_from}
+use Rattle.filter_parse.specs.body.Scan.{tokens_from}
 use Rattle.filter_parse.proofs.scan.next_token.Given as goal
 
 abbrev pub invariant-loop-place : goal.invariant-loop-place
