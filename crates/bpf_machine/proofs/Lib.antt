@@ -1,3 +1,4 @@
+pub mod StandardFacts
 pub mod RunLemmas
 pub mod SafeLemmas
 pub mod ArrayLemmas

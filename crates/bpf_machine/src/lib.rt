@@ -18,6 +18,11 @@ use bpf_insn::{Insn, Words};
 /// The greatest number of bytes of a packet.
 pub const MAX_PACKET: usize = 65_535;
 
+/// Law: the limit, as a number. It runs nothing.
+pub fn limits_as_numbers()
+    ensures { MAX_PACKET ≡ 65535 }
+{}
+
 /// How a program ended.
 #[derive(Clone, Copy, Debug, PartialEq, Eq)]
 pub struct Outcome {
@@ -51,6 +56,7 @@ pub fn run<W: Words>(words: &mut W, from: usize, len: usize, packet: &[u8]) -> O
     requires packet { length packet.now ≤ MAX_PACKET }
     ensures value { ending_of (program_at (W.words words.old) from len) packet.now ≡ Ret result.value }
     ensures steps { result.steps ≡ cost_of (program_at (W.words words.old) from len) packet.now }
+    ensures within_length { result.steps ≤ len }
     ensures words_kept { W.words words.new ≡ W.words words.old }
     ensures rest_kept { W.rest words.new ≡ W.rest words.old }
 {

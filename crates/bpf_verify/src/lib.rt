@@ -1,5 +1,5 @@
-//! The verifier: which lists of words are classic BPF programs that never get stuck (networking/filter.rst, "BPF engine
-//! and instruction set"; docs/MACHINE.md, "Verifier").
+//! The verifier: which lists of words are classic BPF programs (networking/filter.rst, "BPF engine and instruction set";
+//! docs/MACHINE.md, "Verifier"). That such a program never gets stuck is a law of bpf_machine, `sound`.
 //!
 //! `verify` tests words where they stand; a `Program` keeps words that passed. Only a `Program` holds memory, and only its `clone_in` takes any.
 #![tactic(auto)]
@@ -29,6 +29,13 @@ pub const CELLS: u32 = 16;
 /// The least `k` that an absolute load may not have: from here on the kernel reads it as a negative offset, of ancillary
 /// data or of a place relative to the link or network header.
 pub const ANCILLARY_FROM: u32 = 1 << 31;
+
+/// Law: the limits, as numbers. It runs nothing.
+pub fn limits_as_numbers()
+    ensures instructions { MAX_INSTRUCTIONS ≡ 4096 }
+    ensures cells { CELLS ≡ 16 }
+    ensures ancillary { ANCILLARY_FROM ≡ 2147483648 }
+{}
 
 // Sets of cells for a long program take longer to make than a short program takes to check.
 const SHORT: usize = 64;
@@ -121,9 +128,9 @@ fn check_program<W: Words>(words: &mut W, from: usize, len: usize) -> Result<(),
     }
 }
 
-/// Tests whether the `len` words from place `from` on are a program that never gets stuck: the checks of the kernel's
-/// classic BPF checker (networking/filter.rst), with exact jump targets, and the additions that docs/DECISIONS.md lists
-/// under "Verifier".
+/// Tests whether the `len` words from place `from` on are a program: the checks of the kernel's classic BPF checker
+/// (networking/filter.rst), with exact jump targets, and the additions that docs/DECISIONS.md lists under "Verifier".
+/// They ask for more than that no run gets stuck: also code that no run reaches is tested.
 ///
 /// `from` and `len` count words, a fault's `pc` counts instructions from `from`. `Err` is the fault of the length, else
 /// of the first instruction at fault, else `NoReturn`, else the first `UnstoredCell`. Takes no memory.

@@ -2,6 +2,7 @@
 //! (docs/SWITCH.md, "Image"). No call takes memory.
 #![tactic(auto)]
 
+ghost use Rattle.std.specs.Prelude.{◌≡◌};
 ghost use Rattle.config_image.specs.Image.{NoImageBeginsAnother};
 ghost use Rattle.config_image.specs.Lookup.{RowHoldsImage};
 
@@ -20,6 +21,11 @@ pub use writing::{WordSink, write_image};
 
 /// The number of words of a row of the table.
 pub const ROW_WORDS: usize = 8192;
+
+/// Law: the limit, as a number. It runs nothing.
+pub fn limits_as_numbers()
+    ensures { ROW_WORDS ≡ 8192 }
+{}
 
 /// Law: no image begins another, as lists of words. It runs nothing.
 #[tactic(auto, using(crate::proofs::ImageLemmas::image_begins_none))]

@@ -15,8 +15,8 @@ use member_group::{
 };
 use std::alloc::Allocator;
 
-// Places of an image are less than a quarter of this, also of one that no row has room for; on the way to the last
-// group or member places grow by less than that again.
+// Places of an image are less than half of this, also of an image that no row has room for: 64 groups with 65 programs of
+// 4096 words each, and their records. On the way to the last group or member places grow by less than that again.
 pub(crate) const PLACE_LIMIT: usize = 1 << 26;
 
 pub(crate) fn program_reference<A: Allocator>(place: usize, program: Option<&Program<A>>) -> u64

@@ -1,8 +1,7 @@
 -- What a configuration makes of a packet does not look into its programs: it is the same over programs that answer it the same.
-use Rattle.std.proofs.Common.{◌≡◌, ◌∙◌, List, None, Option, Some, ap, length, map, refl, slice_get, sym, ℕ}
+use Rattle.std.proofs.Common.{◌≡◌, ◌∙◌, ◌∷◌, List, None, Option, Some, [], ap, get_or, length, map, refl, suc, sym, zero, ℕ}
 use Rattle.std.specs.Option.{option_map}
 use Rattle.std.proofs.lemmas.List.{length-map}
-use Rattle.std.proofs.lemmas.Option.{slice_get-map}
 use Rattle.config_image.specs.Image.{Group}
 use Rattle.filter_compile.specs.Answer.{IsPacket}
 use Rattle.ipv4_fields.specs.declared.endpoint.Endpoint.{Endpoint}
@@ -10,7 +9,7 @@ use Rattle.ipv4_fields.specs.declared.endpoint.Flow.{Flow}
 use Rattle.ipv4_fields.specs.Dispatchable.{flow_of}
 use Rattle.member_group.specs.declared.member.Member.{Member}
 use Rattle.member_group.specs.Group.{GroupOf, group_of}
-use Rattle.dispatch.specs.Verdict.{choice, flow_verdict, group_verdict, kept, member_verdict, returned, value_of, verdict}
+use Rattle.dispatch.specs.Verdict.{choice, flow_verdict, group_verdict, kept, member_verdict, members_verdict, returned, value_of, verdict}
 use Rattle.control_line.specs.Agrees.{Agrees, TextConfig, config_over, group_over, member_over}
 use Rattle.control.specs.Script.{text_value}
 use Rattle.control_line.proofs.OverLemmas.{group-over}
@@ -20,18 +19,27 @@ module _ {P Q : Type 0} (over : P → Q) (f : Q → List ℕ → ℕ) (g : P →
   answer-over None = refl
   answer-over (Some program) = ap Some (same program)
 
-  member_verdict-over : (key : Endpoint) (member : Option (Member P)) → member_verdict f key packet (option_map (member_over over) member) ≡ member_verdict g key packet member
-  member_verdict-over key None = refl
-  member_verdict-over key (Some member) = ap (λ answer. kept key member.id member.to answer (length packet)) (answer-over member.filter)
+  member_verdict-over : (key : Endpoint) (member : Member P) → member_verdict f key packet (member_over over member) ≡ member_verdict g key packet member
+  member_verdict-over key member = ap (λ answer. kept key member.id member.to answer (length packet)) (answer-over member.filter)
+
+  get_or-over : (members : List (Member P)) (index : ℕ) (other : Member P) → get_or (map (member_over over) members) index (member_over over other) ≡ member_over over (get_or members index other)
+  get_or-over [] index other = refl
+  get_or-over (member ∷ rest) zero other = refl
+  get_or-over (member ∷ rest) (suc index) other = get_or-over rest index other
+
+  members_verdict-over : (flow : Flow) (selector : Option P) (members : List (Member P))
+      → members_verdict f flow packet (option_map over selector) (map (member_over over) members) ≡ members_verdict g flow packet selector members
+  members_verdict-over flow selector [] = refl
+  members_verdict-over flow selector (first ∷ rest) =
+      let members : List (Member Q) = map (member_over over) (first ∷ rest) in
+      ap (λ answer. member_verdict f flow.destination packet (get_or members (choice answer flow (length members)) (member_over over first))) (answer-over selector)
+      ∙ ap (λ count. member_verdict f flow.destination packet (get_or members (choice (option_map (λ p. g p packet) selector) flow count) (member_over over first))) (length-map (first ∷ rest) (member_over over))
+      ∙ ap (member_verdict f flow.destination packet) (get_or-over (first ∷ rest) (choice (option_map (λ p. g p packet) selector) flow (length (first ∷ rest))) first)
+      ∙ member_verdict-over flow.destination (get_or (first ∷ rest) (choice (option_map (λ p. g p packet) selector) flow (length (first ∷ rest))) first)
 
   group_verdict-over : (flow : Flow) (group : Option (GroupOf P)) → group_verdict f flow packet (option_map (group_over over) group) ≡ group_verdict g flow packet group
   group_verdict-over flow None = refl
-  group_verdict-over flow (Some group) =
-      let members : List (Member Q) = map (member_over over) group.members in
-      ap (λ answer. member_verdict f flow.destination packet (slice_get members (choice answer flow (length members)))) (answer-over group.selector)
-      ∙ ap (λ count. member_verdict f flow.destination packet (slice_get members (choice (option_map (λ p. g p packet) group.selector) flow count))) (length-map group.members (member_over over))
-      ∙ ap (member_verdict f flow.destination packet) (slice_get-map (member_over over) group.members (choice (option_map (λ p. g p packet) group.selector) flow (length group.members)))
-      ∙ member_verdict-over flow.destination (slice_get group.members (choice (option_map (λ p. g p packet) group.selector) flow (length group.members)))
+  group_verdict-over flow (Some group) = members_verdict-over flow group.selector group.members
 
   flow_verdict-over : (config : List (GroupOf P)) (flow : Option Flow) → flow_verdict f (config_over over config) packet flow ≡ flow_verdict g config packet flow
   flow_verdict-over config None = refl

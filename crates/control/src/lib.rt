@@ -25,7 +25,7 @@ pub use fault::ReplayFault;
 pub use judged::judged_reply;
 pub use packet_line::{PacketLine, read_packet_line};
 pub use replaying::replay;
-pub use std_streams::{FromRead, READ_LIMIT, ToWrite};
+pub use std_streams::{FromRead, READ_LIMIT, ToWrite, limits_as_numbers};
 pub use streams::{Input, Output};
 
 /// Law: a script has one text. It runs nothing.

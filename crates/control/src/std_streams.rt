@@ -12,6 +12,11 @@ use std::marker::Model;
 /// How many bytes an input over a reader gives at most.
 pub const READ_LIMIT: u64 = 1 << 63;
 
+/// Law: the limit, as a number. It runs nothing.
+pub fn limits_as_numbers()
+    ensures { READ_LIMIT ≡ 9223372036854775808 }
+{}
+
 /// The bytes of a reader. It fails where a read of the reader does, also where one was interrupted; and after `READ_LIMIT` bytes.
 ///
 /// Contracts see how often it failed; what it reads is no longer told where 2^64 - 1 reads failed, and then it reads no more, and

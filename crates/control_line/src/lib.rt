@@ -38,6 +38,13 @@ pub use std::alloc::AllocError as OutOfMemory;
 /// The most bytes of a control line.
 pub const LINE_LIMIT: usize = 262_144;
 
+/// Law: the limits, as numbers. It runs nothing.
+pub fn limits_as_numbers()
+    ensures line { LINE_LIMIT ≡ 262144 }
+    ensures reply { REPLY_LIMIT ≡ 128 }
+    ensures number { NUMBER_LIMIT ≡ 20 }
+{}
+
 fn shown(operator: &Operator) -> LineAnswer
     ensures { IsShown operator.now.view result }
 {

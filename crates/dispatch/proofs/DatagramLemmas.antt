@@ -1,5 +1,5 @@
 -- A verdict keeps no more bytes than the packet has, and what is known of a result under one of its cases.
-use Rattle.std.proofs.Common.{◌==◌, ◌≡◌, Err, List, None, Ok, OnErr, OnOk, Option, Result, Some, arith, false, if◌then◌else◌, length, min, option_map, slice_get, subst, sym, true, ℕ}
+use Rattle.std.proofs.Common.{◌==◌, ◌≡◌, ◌∷◌, Err, List, None, Ok, OnErr, OnOk, Option, Result, Some, [], arith, false, get_or, if◌then◌else◌, length, min, option_map, subst, sym, true, ℕ}
 use Rattle.config_image.specs.Image.{Group}
 use Rattle.bpf_verify.specs.Program.{ProgramValue}
 use Rattle.ipv4_fields.specs.declared.endpoint.Endpoint.{Endpoint}
@@ -10,21 +10,24 @@ use Rattle.member_group.specs.Group.{group_of}
 use Rattle.packet_verdict.specs.declared.verdict.Verdict.{Verdict}
 use Rattle.packet_verdict.specs.declared.verdict.Verdict.TheVariants.{Deliver, Dropped}
 use Rattle.dispatch.specs.body.Datagram.{KeepsNoMore}
-use Rattle.packet_verdict.specs.Verdict.{choice, flow_verdict, group_verdict, kept, member_verdict, value_of, verdict}
+use Rattle.packet_verdict.specs.Verdict.{choice, flow_verdict, group_verdict, kept, member_verdict, members_verdict, value_of, verdict}
 
 kept_no_more : (key : Endpoint) (id : ℕ) (to : Endpoint) (answer : Option ℕ) (packet : List ℕ) → KeepsNoMore (kept key id to answer (length packet)) packet
 kept_no_more key id to None packet = omega arith
 kept_no_more key id to (Some answer) packet =
     elim (answer == 0) as (λ b. KeepsNoMore (if b then Dropped key id else Deliver key id to (min answer (length packet))) packet) [ true ↦ tt | false ↦ omega arith ]
 
-at_member : (key : Endpoint) (packet : List ℕ) (member : Option (Member ProgramValue)) → KeepsNoMore (member_verdict value_of key packet member) packet
-at_member key packet None = tt
-at_member key packet (Some member) = kept_no_more key member.id member.to (option_map (λ filter. value_of filter packet) member.filter) packet
+at_member : (key : Endpoint) (packet : List ℕ) (member : Member ProgramValue) → KeepsNoMore (member_verdict value_of key packet member) packet
+at_member key packet member = kept_no_more key member.id member.to (option_map (λ filter. value_of filter packet) member.filter) packet
+
+among : (flow : Flow) (packet : List ℕ) (selector : Option ProgramValue) (members : List (Member ProgramValue)) → KeepsNoMore (members_verdict value_of flow packet selector members) packet
+among flow packet selector [] = tt
+among flow packet selector (first ∷ rest) =
+    at_member flow.destination packet (get_or (first ∷ rest) (choice (option_map (λ program. value_of program packet) selector) flow (length (first ∷ rest))) first)
 
 in_group : (flow : Flow) (packet : List ℕ) (group : Option Group) → KeepsNoMore (group_verdict value_of flow packet group) packet
 in_group flow packet None = tt
-in_group flow packet (Some group) =
-    at_member flow.destination packet (slice_get group.members (choice (option_map (λ selector. value_of selector packet) group.selector) flow (length group.members)))
+in_group flow packet (Some group) = among flow packet group.selector group.members
 
 in_flow : (config : List Group) (packet : List ℕ) (flow : Option Flow) → KeepsNoMore (flow_verdict value_of config packet flow) packet
 in_flow config packet None = tt

@@ -56,15 +56,15 @@ module _ (before inside : WorkerValue) (entered : Enters before inside) where
   inside_stage : inside.view.stage ≡ Inside (entered.peeked / the_shape.rows + 1) (entered.pinned / the_shape.rows) (entered.pinned % the_shape.rows)
   inside_stage = ap (λ (v : WorkerValue). v.view.stage) entered.three_steps
 
-fetch_is_own : (w r : ℕ) (step : Step) → IsFetchIn w r step → IsStepOf w step
-fetch_is_own w r step fetch = subst (IsStepOf w) (sym fetch.1) refl
+fetch_is_own : (w : ℕ) (stage : Stage) (step : Step) → IsFetchIn w stage step → IsStepOf w step
+fetch_is_own w stage step fetch = subst (IsStepOf w) (sym fetch.1) refl
 
 -- in one whole section
 section_adds : (before inside after : WorkerValue) → IsWholeSection before inside after → AddsOwnSteps before after
 section_adds before inside after section =
-    let w = inside.view.number in let r = section.entered.pinned % the_shape.rows in
+    let w = inside.view.number in let stage = Inside (section.entered.peeked / the_shape.rows + 1) (section.entered.pinned / the_shape.rows) (section.entered.pinned % the_shape.rows) in
     let fetched : (newest : Entry) → Contains section.fetches newest → IsOwn w newest =
-    λ newest among. fetch_is_own w r newest.step (section.each _ _ r newest (inside_stage before inside section.entered) among) in
+    λ newest among. fetch_is_own w stage newest.step (section.each _ _ _ newest (inside_stage before inside section.entered) among) in
     adds_more before inside after (enters before inside section.entered) (record {
       number = section.number;
       newer = entry (Leave w) 0 ∷ section.fetches;

@@ -14,6 +14,7 @@ use Rattle.packet_verdict.specs.declared.verdict.Verdict.TheVariants.{Deliver}
 use Rattle.dispatch.specs.Device.{Gives, IsAtEnd, OutboxValue, Sent, SourceValue, Takes}
 use Rattle.dispatch.specs.Tally.{CounterValue, counted, place_of}
 pub use Rattle.packet_verdict.specs.Kind.{kind_of}
+use Rattle.packet_verdict.specs.Sound.{ProgramsAreSound}
 use Rattle.packet_verdict.specs.Verdict.{value_of, verdict}
 
 -- what a verdict sends: the first bytes of the packet
@@ -30,12 +31,14 @@ pub record Judged : Type 0 where
   pub verdict : Verdict
   pub failed : Bool
 
--- it was judged in a section of its own, by the newest version that its worker had seen at the section's pin
+-- it was judged in a section of its own, by the newest version that its worker had seen at the section's pin, whose programs
+-- never get stuck on it
 pub record IsJudged (before : WorkerValue) (judged : Judged) : Type 0 where
   pub own_section : IsWholeSection before judged.inside judged.after
   pub seen_grows : IsTold before.view.seen judged.inside.view
   pub last_seen : HoldsLastSeen judged.inside
   pub verdict_of_seen : judged.verdict ≡ verdict value_of last_seen.config judged.packet
+  pub programs_sound : ProgramsAreSound last_seen.config judged.packet
 
 -- the datagrams were judged one after the other, and the worker did nothing else
 abbrev pub AreJudged : WorkerValue → List Judged → WorkerValue → Type 0

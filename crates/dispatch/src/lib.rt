@@ -20,7 +20,7 @@ pub use job::{Gate, run_job};
 pub use kind::{KINDS, Totals};
 pub use memory::{Datagrams, Sends};
 pub use packet_verdict::{Kind, Verdict, judge};
-pub use tally::{COUNT_LIMIT, COUNTERS, CountFull, Counter, Tally, gather};
+pub use tally::{COUNT_LIMIT, COUNTERS, CountFull, Counter, Tally, gather, limits_as_numbers};
 pub use tally_rule::{CountView, Load, TallyRule};
 pub use worker_job::{Done, Job, finish};
 pub use workers::{RunFault, run_workers};

@@ -22,6 +22,12 @@ pub const COUNTERS: usize = WORKERS;
 /// How often a counter may count.
 pub const COUNT_LIMIT: u64 = 1 << 48;
 
+/// Law: the limits, as numbers. It runs nothing.
+pub fn limits_as_numbers()
+    ensures counters { COUNTERS ≡ 64 }
+    ensures counts { COUNT_LIMIT ≡ 281474976710656 }
+{}
+
 /// N1: the counter has counted `COUNT_LIMIT` times.
 #[derive(Clone, Copy, Debug, PartialEq, Eq)]
 pub struct CountFull;

@@ -111,6 +111,7 @@ fn run_in<
     requires side { F.pre side }
     ensures one_done_a_job { IfOk result (λ dones. vec_len dones ≡ vec_len jobs) }
     ensures done { IfOk result (λ dones. AreDone S.Source O.Outbox jobs.items dones.items) }
+    ensures side_was_run { IfOk result (λ dones. F.post side tt) }
     ensures spawn_failed { result ≡ Err SpawnFailed → 0 < vec_len jobs }
 {
     let Ok(mut handles) = Vec::with_capacity(alloc, jobs.len()) else {
@@ -156,6 +157,7 @@ pub fn run_workers<
     requires side { F.pre side }
     ensures one_done_a_job { IfOk result (λ dones. vec_len dones ≡ vec_len jobs) }
     ensures done_by_batches { IfOk result (λ dones. AreDone S.Source O.Outbox jobs.items dones.items) }
+    ensures side_was_run { IfOk result (λ dones. F.post side tt) }
     ensures spawn_failed { result ≡ Err SpawnFailed → 0 < vec_len jobs }
 {
     thread::scope(
@@ -165,6 +167,7 @@ pub fn run_workers<
             requires { F.pre side }
             ensures one_done_a_job { IfOk result (λ dones. vec_len dones ≡ vec_len jobs) }
             ensures done { IfOk result (λ dones. AreDone S.Source O.Outbox jobs.items dones.items) }
+            ensures side_was_run { IfOk result (λ dones. F.post side tt) }
             ensures spawn_failed { result ≡ Err SpawnFailed → 0 < vec_len jobs }
         { run_in(rt, scope, alloc, jobs, gate, side) },
     )

@@ -4,6 +4,8 @@
 //! A `Config` never changes: `Config::apply` makes the next one of it. Only `apply` takes memory.
 #![tactic(auto)]
 
+ghost use Rattle.std.specs.Prelude.{◌≡◌};
+
 mod command;
 mod config;
 mod group;
@@ -31,3 +33,12 @@ pub const GROUP_WORDS: usize = 4;
 
 /// What a configuration counts for a member, beside its filter.
 pub const MEMBER_WORDS: usize = 4;
+
+/// Law: the limits and what is counted, as numbers. It runs nothing.
+pub fn limits_as_numbers()
+    ensures groups { GROUP_LIMIT ≡ 64 }
+    ensures members { MEMBER_LIMIT ≡ 64 }
+    ensures head_words { HEAD_WORDS ≡ 2 }
+    ensures group_words { GROUP_WORDS ≡ 4 }
+    ensures member_words { MEMBER_WORDS ≡ 4 }
+{}

@@ -1,3 +1,4 @@
 mod FloodLemmas
+mod PublicationLemmas
 mod StandardFacts
 mod TrafficLemmas

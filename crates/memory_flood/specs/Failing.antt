@@ -1,7 +1,7 @@
 -- How the command `flood` fails (docs/COMMANDS.md, "flood").
 use Rattle.std.specs.Prelude.{◌≡◌, ◌≢◌, List, Option, ℕ}
 use Rattle.command_line.specs.declared.ending.Failure.{Failure}
-use Rattle.command_line.specs.declared.ending.Failure.TheVariants.{BindFailed, PollFailed, ReadFailed, WriteFailed}
+use Rattle.command_line.specs.declared.ending.Failure.TheVariants.{BindFailed, NoAnswer, PollFailed, ReadFailed, WriteFailed}
 use Rattle.command_line.specs.Ending.{AppendsBeginning, line_of}
 
 -- a write failed, memory was refused, or a thread could not be started; where no write failed nothing was written, and a beginning
@@ -10,5 +10,6 @@ pub record EndsInFloodFailure (before after told_before told_after : Option (Lis
   pub failure : Failure
   pub no_read : failure ≢ ReadFailed
   pub no_socket : (failure ≢ BindFailed) × (failure ≢ PollFailed)
+  pub no_reply_awaited : failure ≢ NoAnswer
   pub written : failure ≢ WriteFailed → after ≡ before
   pub told : AppendsBeginning told_before told_after (line_of failure)

@@ -1,4 +1,5 @@
 pub mod Failing
 pub mod Flood
 pub mod FloodVersions
+pub mod Publications
 pub mod Traffic

@@ -5,6 +5,7 @@ ghost use Rattle.std.specs.List.{All};
 ghost use Rattle.versions.specs.declared.layout.TheConstants.{WORKERS};
 ghost use Rattle.memory_flood.specs.Flood.{IsFlooded, WritesFlood};
 ghost use Rattle.memory_flood.specs.FloodVersions.{opening_version, successor_at};
+ghost use Rattle.memory_flood.specs.Publications.{AreTried};
 ghost use Rattle.memory_flood.specs.Traffic.{numbers_below};
 ghost use Rattle.memory_flood.specs.declared.flood_versions.TheConstants.{PUBLICATIONS};
 ghost use Rattle.worker_threads.specs.Counted.{IsNewWorker};
@@ -38,7 +39,9 @@ fn open_versions(alloc: Global) -> Result<(Operator, Vec<Worker>, Vec<Config>), 
 }
 
 // Tries to publish each; where no row is free it goes on with the next.
-fn publish_each(mut operator: Operator, successors: Vec<Config>) {
+fn publish_each(operator: &mut Operator, successors: Vec<Config>)
+    ensures tried { AreTried successors.items operator.old operator.new }
+{
     for successor in successors {
         let _ = operator.publish(successor);
     }
@@ -56,12 +59,12 @@ fn count_all<R: Threads + Wait + Sync, G: Gate + Sync>(
     ensures totals { IfOk result (IsFlooded workers datagrams) }
     ensures run_fault { IfErr result IsRunFault }
 {
-    let (operator, mut seats, successors) = open_versions(alloc)?;
+    let (mut operator, mut seats, successors) = open_versions(alloc)?;
     let (tally, mut spare) = Tally::open(alloc)?;
     spread(&mut seats);
     let jobs = jobs(alloc, &mut seats, &mut spare, workers, datagrams)?;
     let counters = run_counted(rt, alloc, jobs, spare, gate, move || {
-        publish_each(operator, successors)
+        publish_each(&mut operator, successors);
     })?;
     Ok(gather(tally, counters))
 }

@@ -6,6 +6,8 @@
 ghost use Rattle.std.specs.Prelude.{◌≡◌, ℕ};
 ghost use Rattle.memory_flood.specs.Failing.{EndsInFloodFailure};
 ghost use Rattle.memory_flood.specs.Flood.{WritesFlood};
+ghost use Rattle.memory_flood.specs.declared.flood_jobs.TheConstants.{LIMIT};
+ghost use Rattle.memory_flood.specs.declared.flood_versions.TheConstants.{PUBLICATIONS};
 ghost use Rattle.worker_threads.specs.Workers.{IsWorkers};
 
 mod flood_jobs;
@@ -23,6 +25,13 @@ use worker_threads::{OpenGate, refuse_count, worker_count};
 
 /// How many datagrams the command `flood` judges.
 pub const DATAGRAMS: usize = 4096;
+
+/// Law: the numbers of `flood`, written out, as numbers. It runs nothing.
+pub fn limits_as_numbers()
+    ensures datagrams { DATAGRAMS ≡ 4096 }
+    ensures publications { PUBLICATIONS ≡ 64 }
+    ensures batch { LIMIT ≡ 64 }
+{}
 
 /// Runs `flood` with so many workers, 1 to 64 in decimal digits, and answers the exit status.
 pub fn run_flood<R: Threads + Wait + Sync, W: Write, E: Write>(

@@ -1,6 +1,6 @@
 -- What a configuration makes of a packet (docs/SWITCH.md, "Verdicts"). Its programs may be of any kind of which it is known what
 -- they answer a packet.
-use Rattle.std.specs.Prelude.{◌==◌, ◌+◌, ◌*◌, ◌%◌, if◌then◌else◌, List, None, Option, Some, bit_xor, length, min, nat_lt, option_map, slice_get, ℕ}
+use Rattle.std.specs.Prelude.{◌==◌, ◌+◌, ◌*◌, ◌%◌, ◌∷◌, if◌then◌else◌, List, None, Option, Some, [], bit_xor, get_or, length, min, nat_lt, option_map, ℕ}
 use Rattle.bpf_machine.specs.Meaning.{Ending, Ret, Stuck, ending_of}
 use Rattle.bpf_verify.specs.Program.{ProgramValue}
 use Rattle.ipv4_fields.specs.declared.endpoint.Endpoint.{Endpoint}
@@ -36,18 +36,22 @@ kept key id to None bytes = Deliver key id to bytes
 kept key id to (Some answer) bytes = if answer == 0 then Dropped key id else Deliver key id to (min answer bytes)
 
 module _ {P : Type 0} (answers : P → List ℕ → ℕ) where
-  -- at the member of a group, if it is there
-  abbrev pub member_verdict : Endpoint → List ℕ → Option (Member P) → Verdict
-  member_verdict key packet None = NoMembers
-  member_verdict key packet (Some member) =
+  -- at a member of a group
+  abbrev pub member_verdict : Endpoint → List ℕ → Member P → Verdict
+  member_verdict key packet member =
       kept key member.id member.to (option_map (λ filter. answers filter packet) member.filter) (length packet)
 
-  -- in a group, if there is one: the selector chooses the member
+  -- among the members of a group, if it has any: the selector, if there is one, chooses the member
+  abbrev pub members_verdict : Flow → List ℕ → Option P → List (Member P) → Verdict
+  members_verdict flow packet selector [] = NoMembers
+  members_verdict flow packet selector (first ∷ rest) =
+      member_verdict flow.destination packet
+      (get_or (first ∷ rest) (choice (option_map (λ program. answers program packet) selector) flow (length (first ∷ rest))) first)
+
+  -- in a group, if there is one
   abbrev pub group_verdict : Flow → List ℕ → Option (GroupOf P) → Verdict
   group_verdict flow packet None = NoGroup
-  group_verdict flow packet (Some group) =
-      member_verdict flow.destination packet
-      (slice_get group.members (choice (option_map (λ selector. answers selector packet) group.selector) flow (length group.members)))
+  group_verdict flow packet (Some group) = members_verdict flow packet group.selector group.members
 
   -- of a packet that goes from one endpoint to another, if it is one whole datagram
   abbrev pub flow_verdict : List (GroupOf P) → List ℕ → Option Flow → Verdict

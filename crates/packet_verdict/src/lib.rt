@@ -6,6 +6,7 @@ ghost use Rattle.std.specs.Prelude.{◌≡◌, ◌≤◌, List, length};
 ghost use Rattle.bpf_machine.specs.declared.TheConstants.{MAX_PACKET};
 ghost use Rattle.config_image.specs.Image.{Group};
 ghost use Rattle.config_image.specs.Lookup.{BeginsWithImage};
+ghost use Rattle.packet_verdict.specs.Sound.{ProgramsAreSound};
 ghost use Rattle.packet_verdict.specs.Verdict.{value_of, verdict};
 
 mod kind;
@@ -23,10 +24,12 @@ pub use verdict::Verdict;
 ///
 /// `packet` begins with the first byte of its IPv4 header. Takes no memory; reads each header field once, and of the words
 /// those that find the group and the member, and the two programs as far as they run.
+#[tactic(auto, using(crate::proofs::VerdictLemmas::programs_are_sound))]
 pub fn judge<W: Words>(words: &mut W, packet: &[u8]) -> Verdict
     requires image { (config : List Group) × BeginsWithImage (W.words words.old) config }
     requires packet { length packet.now ≤ MAX_PACKET }
     ensures verdict { (config : List Group) → BeginsWithImage (W.words words.old) config → result ≡ verdict value_of config packet.now }
+    ensures sound { (config : List Group) → BeginsWithImage (W.words words.old) config → ProgramsAreSound config packet.now }
     ensures words_kept { W.words words.new ≡ W.words words.old }
     ensures rest_kept { W.rest words.new ≡ W.rest words.old }
 {

@@ -10,6 +10,7 @@ ghost use Rattle.std.specs.List.{All};
 ghost use Rattle.dispatch.specs.declared.tally.TheConstants.{COUNTERS};
 ghost use Rattle.versions.specs.declared.layout.TheConstants.{WORKERS};
 ghost use Rattle.worker_threads.specs.Counted.{IsNew, IsNewWorker};
+ghost use Rattle.udp_service.specs.declared.jobs.TheConstants.{LIMIT};
 ghost use Rattle.udp_service.specs.Service.{HasNewDevices, HasRoom, IsServed, WritesReadyOrNothing, WritesServed};
 
 mod jobs;
@@ -34,6 +35,12 @@ use std::sync::Wait;
 use std::thread::Threads;
 pub use worker_threads::ServeFault;
 use worker_threads::{NamedTally, TallyName, run_counted, write_totals};
+
+/// Law: the limits, as numbers. It runs nothing.
+pub fn limits_as_numbers()
+    ensures datagram { LONGEST_DATAGRAM ≡ 65535 }
+    ensures batch { LIMIT ≡ 64 }
+{}
 
 // Receives beside the jobs until it is asked to stop, and then counts what they judged.
 fn count_served<N: TallyName, R: Threads + Wait + Sync, G: Gate + Sync>(

@@ -15,4 +15,4 @@ pub use channel::{ChannelReceiver, ChannelSender, open_channel};
 pub use channel_source::{ChannelSource, RECEIVE_LIMIT};
 pub use received::Received;
 pub use socket_outbox::{SocketOutbox, socket_address};
-pub use worker_queues::{QUEUE_PLACES, WorkerQueue, WorkerQueues, open_queue};
+pub use worker_queues::{QUEUE_PLACES, WorkerQueue, WorkerQueues, limits_as_numbers, open_queue};

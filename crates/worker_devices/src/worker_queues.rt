@@ -4,6 +4,7 @@ ghost use Rattle.std.specs.Prelude.{◌≡◌, ◌<◌, IfOk, vec_len};
 ghost use Rattle.std.specs.Option.{option_map};
 ghost use Rattle.worker_devices.specs.Devices.{new_source};
 ghost use Rattle.worker_devices.specs.Queues.{next_turn};
+ghost use Rattle.worker_devices.specs.declared.channel_source.TheConstants.{RECEIVE_LIMIT};
 
 use crate::channel::{ChannelReceiver, ChannelSender, open_channel};
 use crate::channel_source::ChannelSource;
@@ -14,6 +15,12 @@ use std::sync::Wait;
 
 /// How many receives wait for a worker at most, and how many that were opened wait to be used again.
 pub const QUEUE_PLACES: usize = 64;
+
+/// Law: the limits, as numbers. It runs nothing.
+pub fn limits_as_numbers()
+    ensures receives { RECEIVE_LIMIT ≡ 140737488355327 }
+    ensures places { QUEUE_PLACES ≡ 64 }
+{}
 
 /// The way to one worker's source, and the way back of what that has opened.
 #[derive(Drop)]

@@ -52,6 +52,7 @@ pub fn run_counted<
 ) -> Result<Vec<Counter>, ServeFault>
     requires side { F.pre side }
     ensures counters_back { IfOk result (λ counters. AreCountersBack S.Source O.Outbox jobs.items spare.items counters.items) }
+    ensures side_was_run { IfOk result (λ counters. F.post side tt) }
     ensures spawn_failed { result ≡ Err ServeFault.SpawnFailed → 0 < vec_len jobs }
     ensures run_fault { IfErr result IsRunFault }
 {

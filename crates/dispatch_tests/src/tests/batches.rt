@@ -1,9 +1,9 @@
 //! Batches of four datagrams: two for the third of three members, one for no group, and one cut short.
 
-use super::devices::{FailsAfter, FailsFirst};
+use super::devices::{FailsAfter, FailsFirst, Looks};
 use super::verdicts::{PACKET, socket, with_members};
 use dispatch::{
-    BatchDone, BatchFault, Counter, Datagrams, KINDS, Kind, Sends, Source, Tally, batch,
+    BatchDone, BatchFault, Counter, Datagrams, KINDS, Kind, Outbox, Sends, Source, Tally, batch,
 };
 use read_section::{Worker, open};
 use std::alloc::Global;
@@ -115,6 +115,48 @@ fn batch_of_none_asks_nothing(rt: HostRuntime) -> Result<(), Fail> {
     let mut bench = new_bench(rt.alloc())?;
     assert!(rt; batch_of(&mut bench, &mut source, 0) == judged(0, true));
     assert!(rt; !source.failed);
+    Ok(())
+}
+
+// The last worker of a table, and an outbox that looks at it and at a tally, with a counter of that.
+fn looking(alloc: Global) -> Result<(Worker, Counter, Looks), Fail> {
+    let (operator, mut workers) = open(with_members(alloc, &[1, 2, 3])?)?;
+    let worker = workers.pop().ok_or("no worker")?;
+    let (tally, counter) = new_tally(alloc)?;
+    let sends = Sends::with_room(alloc, 2, 58)?;
+    let outbox = Looks {
+        operator,
+        tally,
+        inside: 0,
+        delivered: 0,
+        sends,
+    };
+    Ok((worker, counter, outbox))
+}
+
+// A send that blocks holds no version, and its datagram is in the totals. A section that is abandoned shows that the outbox would
+// see a worker that is inside.
+#[test]
+fn sent_after_leaving_and_counting(rt: HostRuntime) -> Result<(), Fail> {
+    let (mut worker, mut counter, mut outbox) = looking(rt.alloc())?;
+    let mut source = four_datagrams(rt.alloc())?;
+    let mut buf = [0; 64];
+    let done = batch(
+        &mut worker,
+        &mut counter,
+        &mut source,
+        &mut outbox,
+        &mut buf,
+        4,
+    );
+    assert!(rt; done == judged(4, true));
+    assert_eq!(rt;
+        (outbox.sends.count(), outbox.inside, outbox.delivered),
+        (2, 0, 2)
+    );
+    worker.enter().abandon();
+    let _ = outbox.send(socket(1), &[]);
+    assert_eq!(rt; outbox.inside, 1);
     Ok(())
 }
 

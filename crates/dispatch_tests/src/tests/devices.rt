@@ -2,8 +2,9 @@
 
 ghost use Rattle.std.specs.Prelude.{Some};
 
-use dispatch::{Datagrams, Failed, Outbox, Sends, Source};
+use dispatch::{Datagrams, Failed, Kind, Outbox, Sends, Source, Tally};
 use ipv4_fields::Endpoint;
+use read_section::{Operator, WORKERS};
 use std::alloc::Global;
 use std::test::Fail;
 
@@ -50,6 +51,32 @@ impl Outbox for FailsFirst {
             self.failed = true;
             return Err(Failed);
         }
+        self.sends.send(to, bytes)
+    }
+}
+
+/// An outbox that looks, at each send, whether the last worker of a table is outside, and how often was counted as delivered.
+#[derive(Drop)]
+pub struct Looks {
+    pub operator: Operator,
+    pub tally: Tally,
+    /// At how many sends the worker's read word was not 0.
+    pub inside: u8,
+    /// What the tally told at the last send.
+    pub delivered: u64,
+    pub sends: Sends,
+}
+
+impl Outbox for Looks {
+    ghost use Rattle.dispatch.specs.Memory.{told};
+
+    ghost state = { λ s. record { failures = s.sends.failures; taken = told s.sends } };
+
+    fn send(&mut self, to: Endpoint, bytes: &[u8]) -> Result<(), Failed> {
+        if self.operator.scan(WORKERS - 1) != 0 {
+            self.inside = self.inside.saturating_add(1);
+        }
+        self.delivered = self.tally.read(Kind::Delivered);
         self.sends.send(to, bytes)
     }
 }

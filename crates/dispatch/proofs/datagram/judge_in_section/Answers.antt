@@ -14,6 +14,7 @@ returns-clause-judged c =
         seen_grows = c.enter-section.ensures.seen_grows;
         last_seen = newest;
         verdict_of_seen = c.judge-verdict.ensures.verdict newest.config newest.image;
+        programs_sound = c.judge-verdict.ensures.sound newest.config newest.image;
       },
     )
 
