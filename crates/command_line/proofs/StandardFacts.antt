@@ -2,7 +2,7 @@
 use Rattle.std.proofs.Common.{◌≡◌, ◌∷◌, [], Some, codes, refl}
 use Rattle.clap.proofs.OnLiterals.{clap_on_literals}
 use Rattle.clap.specs.declared.error.kind.ErrorKind.TheVariants.{DisplayHelp, DisplayVersion, InvalidSubcommand, MissingRequiredArgument, MissingSubcommand, UnknownArgument, ValueValidation}
-use Rattle.command_line.specs.CommandLine.{faults_in, flood, request_in, serve}
+use Rattle.command_line.specs.CommandLine.{explain, faults_in, flood, request_in, serve, tell}
 
 in_first : faults_in (codes "first" ∷ []) ≡ []
 unfolding clap_on_literals
@@ -73,3 +73,36 @@ in_serve_of_too_many : faults_in (codes "serve" ∷ codes "--front" ∷ codes "0
     ≡ ValueValidation ∷ []
 unfolding clap_on_literals
 in_serve_of_too_many = refl
+
+in_explain : request_in (codes "explain" ∷ codes "G3" ∷ []) ≡ Some (explain (codes "G3"))
+unfolding clap_on_literals
+in_explain = refl
+
+in_explain_of_nothing : faults_in (codes "explain" ∷ []) ≡ MissingRequiredArgument ∷ []
+unfolding clap_on_literals
+in_explain_of_nothing = refl
+
+in_tell : faults_in (codes "tell" ∷ codes "--control" ∷ codes "0.0.0.0:2" ∷ codes "show" ∷ codes "--timeout" ∷ codes "3600" ∷ codes "--" ∷ codes "-" ∷ []) ≡ []
+unfolding clap_on_literals
+in_tell = refl
+
+in_tell_request : request_in (codes "tell" ∷ codes "--control" ∷ codes "0.0.0.0:2" ∷ codes "show" ∷ codes "--timeout" ∷ codes "3600" ∷ codes "--" ∷ codes "-" ∷ [])
+    ≡ Some (tell (codes "0.0.0.0:2") (codes "3600") (codes "show" ∷ codes "-" ∷ []))
+unfolding clap_on_literals
+in_tell_request = refl
+
+in_tell_of_no_line : request_in (codes "tell" ∷ codes "--control" ∷ codes "0.0.0.0:2" ∷ []) ≡ Some (tell (codes "0.0.0.0:2") (codes "1") [])
+unfolding clap_on_literals
+in_tell_of_no_line = refl
+
+in_tell_of_no_time : faults_in (codes "tell" ∷ codes "--control" ∷ codes "0.0.0.0:2" ∷ codes "--timeout" ∷ codes "0" ∷ []) ≡ ValueValidation ∷ []
+unfolding clap_on_literals
+in_tell_of_no_time = refl
+
+in_tell_of_too_long_a_time : faults_in (codes "tell" ∷ codes "--control" ∷ codes "0.0.0.0:2" ∷ codes "--timeout" ∷ codes "3601" ∷ []) ≡ ValueValidation ∷ []
+unfolding clap_on_literals
+in_tell_of_too_long_a_time = refl
+
+in_tell_without_control : faults_in (codes "tell" ∷ codes "show" ∷ []) ≡ MissingRequiredArgument ∷ []
+unfolding clap_on_literals
+in_tell_without_control = refl

@@ -1,8 +1,9 @@
 -- The program's command line, as the contracts of `clap` see it.
-use Rattle.std.specs.Prelude.{◌≡◌, ◌≢◌, ◌⊎◌, [], List, None, Option, Some, codes, if◌then◌else◌, option_and_then, true, unwrap_or}
+use Rattle.std.specs.Prelude.{◌≡◌, ◌≢◌, ◌⊎◌, [], List, None, Option, Some, codes, if◌then◌else◌, map, option_and_then, true, unwrap_or}
 use Rattle.std.specs.Str.{bytes_eq}
-use Rattle.clap.specs.Walk.{first_of}
+use Rattle.clap.specs.Walk.{all_of, first_of}
 use Rattle.clap.specs.Words.{App, IsAmong, Kinds, Row, Rule, Shape, Text, fault_of, new_app, new_rule, subcommand_of, with_rule, with_subcommand}
+use Rattle.clap.specs.declared.builder.action.ArgAction.TheVariants.{Append}
 use Rattle.clap.specs.declared.builder.value_parser.ValueParser.TheVariants.{Unsigned}
 use Rattle.clap.specs.declared.error.kind.ErrorKind.{ErrorKind}
 use Rattle.clap.specs.declared.error.kind.ErrorKind.TheVariants.{DisplayHelp, DisplayVersion}
@@ -10,6 +11,7 @@ use Rattle.command_line.specs.declared.command.Query.{Query}
 use Rattle.command_line.specs.declared.command.Query.TheVariants as query
 use Rattle.command_line.specs.declared.command.Subcommand.{Subcommand}
 use Rattle.command_line.specs.declared.command.Subcommand.TheVariants as subcommand
+use Rattle.command_line.specs.declared.command.TheConstants.{MAX_TIMEOUT}
 use Rattle.versions.specs.declared.layout.TheConstants.{WORKERS}
 
 -- a required argument by place, one by name, and a required one by name
@@ -21,6 +23,10 @@ named_argument id = record (new_rule id) { long = Some id; value_names = 1 }
 
 abbrev pub required_named_argument : Text → Rule
 required_named_argument id = record (named_argument id) { required = true }
+
+-- any number of arguments by place
+abbrev pub any_number_of : Text → Rule
+any_number_of id = record (new_rule id) { action = Some Append }
 
 -- ---- the commands
 
@@ -38,6 +44,10 @@ compile_line = with_rule (new_app (codes "compile")) (required_argument (codes "
 abbrev pub run_line : App
 run_line =
     with_rule (with_rule (new_app (codes "run")) (required_named_argument (codes "packet"))) (named_argument (codes "expr"))
+
+-- `explain CODE`
+abbrev pub explain_line : App
+explain_line = with_rule (new_app (codes "explain")) (required_argument (codes "CODE"))
 
 abbrev pub replay_line : App
 replay_line = new_app (codes "replay")
@@ -57,6 +67,16 @@ serve_line =
     (with_rule (with_rule (new_app (codes "serve")) (required_named_argument (codes "front"))) (required_named_argument (codes "control")))
     workers_argument
 
+-- `--timeout SECONDS`, from 1 on
+abbrev pub timeout_argument : Rule
+timeout_argument = record (named_argument (codes "timeout")) { parser = Some (Unsigned 1 MAX_TIMEOUT) }
+
+-- `tell --control A`, a timeout or none, and lines
+abbrev pub tell_line : App
+tell_line =
+    with_rule (with_rule (with_rule (new_app (codes "tell")) (required_named_argument (codes "control"))) timeout_argument)
+    (any_number_of (codes "LINE"))
+
 abbrev pub bare : Shape
 bare = (new_app (codes "dswitch")).top
 
@@ -72,11 +92,15 @@ command_line =
     with_subcommand
     (with_subcommand
     (with_subcommand
+    (with_subcommand
+    (with_subcommand
     (with_subcommand (with_subcommand (with_subcommand (with_subcommand without_commands first_line.top) check_line.top) compile_line.top)
     run_line.top)
+    explain_line.top)
     replay_line.top)
     flood_line.top)
-    serve_line.top
+    serve_line.top)
+    tell_line.top
 
 -- what `clap` finds in the words after the program's name: nothing, where they name a command
 abbrev pub faults_in : List Text → Kinds
@@ -99,9 +123,11 @@ pub data Request : Type 0 where
   compile : (expression : Text) → Request
   run : (packet : Text) → Request
   judge : (packet expression : Text) → Request
+  explain : (code : Text) → Request
   replay : Request
   flood : (workers : Text) → Request
   serve : (front control workers : Text) → Request
+  tell : (control timeout : Text) (lines : List Text) → Request
 
 abbrev pub query_request : Query → Request
 query_request query.First = first
@@ -109,12 +135,14 @@ query_request query.Check = check
 query_request (query.Compile expression) = compile expression.now
 query_request (query.Run packet) = run packet.now
 query_request (query.Judge packet expression) = judge packet.now expression.now
+query_request (query.Explain code) = explain code.now
 
 abbrev pub request_of : Subcommand → Request
 request_of (subcommand.Query asked) = query_request asked
 request_of subcommand.Replay = replay
 request_of (subcommand.Flood workers) = flood workers.now
 request_of (subcommand.Serve front control workers) = serve front.now control.now workers.now
+request_of (subcommand.Tell control timeout lines) = tell control.now timeout.now (map (λ line. line.now) lines.items)
 
 -- `run`, with an expression or without
 abbrev pub run_or_judge : Text → Option Text → Request
@@ -124,6 +152,14 @@ run_or_judge packet (Some expression) = judge packet expression
 -- the value of an argument, which a required one has
 abbrev pub value_in : List Row → Text → Text
 value_in rows id = unwrap_or (first_of id rows) []
+
+-- the values of an argument that may have any number of them, in order
+abbrev pub values_in : List Row → Text → List Text
+values_in rows id = unwrap_or (all_of id rows) []
+
+-- a second, where no other number is given
+abbrev pub timeout_in : List Row → Text
+timeout_in rows = unwrap_or (first_of (codes "timeout") rows) (codes "1")
 
 abbrev pub request_named : Text → List Row → Option Request
 request_named name rows =
@@ -135,12 +171,16 @@ request_named name rows =
     then Some (compile (value_in rows (codes "EXPR")))
     else if bytes_eq name (codes "run")
     then Some (run_or_judge (value_in rows (codes "packet")) (first_of (codes "expr") rows))
+    else if bytes_eq name (codes "explain")
+    then Some (explain (value_in rows (codes "CODE")))
     else if bytes_eq name (codes "replay")
     then Some replay
     else if bytes_eq name (codes "flood")
     then Some (flood (value_in rows (codes "workers")))
     else if bytes_eq name (codes "serve")
     then Some (serve (value_in rows (codes "front")) (value_in rows (codes "control")) (value_in rows (codes "workers")))
+    else if bytes_eq name (codes "tell")
+    then Some (tell (value_in rows (codes "control")) (timeout_in rows) (values_in rows (codes "LINE")))
     else None
 
 -- the command that the words name, with the values that they give its arguments
@@ -149,10 +189,11 @@ request_in words = option_and_then (λ named. request_named named.0 named.1) (su
 
 -- ---- commands that may wait
 
--- a command that may wait, which runs worker threads
+-- a command that may wait: it runs worker threads, or awaits replies
 abbrev pub MayWait : Request → Type 0
 MayWait (flood workers) = Unit {0}
 MayWait (serve front control workers) = Unit {0}
+MayWait (tell control timeout lines) = Unit {0}
 MayWait _ = ⊥
 
 -- the words ask for a command that may wait

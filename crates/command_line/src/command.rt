@@ -5,13 +5,16 @@ ghost use Rattle.std.specs.Option.{option_map};
 ghost use Rattle.clap.specs.Walk.{first_of};
 ghost use Rattle.clap.specs.Words.{FailsBy, app_of, found_of, new_app, rows_of, rule_of};
 ghost use Rattle.clap.specs.declared.builder.command.Command.TheViews.{out-Command};
-ghost use Rattle.command_line.specs.CommandLine.{command_line, compile_line, faults_in, flood_line, query_request, request_in, request_named, request_of, required_named_argument, run_line, run_or_judge, serve_line, value_in, workers_argument};
+ghost use Rattle.command_line.specs.CommandLine.{any_number_of, command_line, compile_line, explain_line, faults_in, flood_line, query_request, request_in, request_named, request_of, required_named_argument, run_line, run_or_judge, serve_line, tell_line, timeout_argument, timeout_in, value_in, values_in, workers_argument};
 
 use crate::help;
 use clap::builder::ValueParser;
-use clap::{Arg, ArgMatches, Command, Error};
+use clap::{Arg, ArgAction, ArgMatches, Command, Error};
 use std::alloc::{AllocError, Global};
 use versions::WORKERS;
+
+/// The longest wait for a reply, in seconds.
+pub const MAX_TIMEOUT: u64 = 3600;
 
 /// A command that has one result.
 #[derive(Clone, Copy, Debug, PartialEq, Eq)]
@@ -29,10 +32,13 @@ pub enum Query<'a> {
         packet: &'a str,
         expression: &'a str,
     },
+    Explain {
+        code: &'a str,
+    },
 }
 
 /// A command of the program, with its arguments.
-#[derive(Clone, Copy, Debug, PartialEq, Eq)]
+#[derive(Debug, Drop)]
 pub enum Subcommand<'a> {
     Query(Query<'a>),
     Replay,
@@ -45,6 +51,13 @@ pub enum Subcommand<'a> {
         front: &'a str,
         control: &'a str,
         workers: &'a str,
+    },
+    /// `timeout` is a number of seconds from 1 to `MAX_TIMEOUT` as it is written, and `"1"` where none is. `lines` are in the
+    /// order of the words.
+    Tell {
+        control: &'a str,
+        timeout: &'a str,
+        lines: Vec<&'a str>,
     },
 }
 
@@ -79,6 +92,19 @@ fn run_command<'a>(alloc: Global) -> Result<Command<'a>, AllocError>
         .after_help(help::RUN_MORE)
         .arg(packet)?
         .arg(expression)
+}
+
+fn explain_command<'a>(alloc: Global) -> Result<Command<'a>, AllocError>
+    ensures app { IfOk result (λ command. app_of command ≡ explain_line) }
+    ensures local { IfOk result (λ command. (out-Command command).has_globals ≡ false) }
+{
+    let code = Arg::new(alloc, "CODE")
+        .required(true)
+        .help(help::EXPLAIN_CODE);
+    Command::new(alloc, "explain")
+        .about(help::EXPLAIN)
+        .after_help(help::EXPLAIN_MORE)
+        .arg(code)
 }
 
 // `--workers N`
@@ -132,6 +158,43 @@ fn serve_command<'a>(alloc: Global) -> Result<Command<'a>, AllocError>
         .arg(workers)
 }
 
+// `--timeout SECONDS`
+fn timeout_argument<'a>(alloc: Global) -> Arg<'a>
+    ensures rule { rule_of result ≡ timeout_argument }
+    ensures local { result.global ≡ false }
+{
+    Arg::new(alloc, "timeout")
+        .long("timeout")
+        .value_name("SECONDS")
+        .value_parser(ValueParser::unsigned(1, MAX_TIMEOUT))
+        .help(help::TELL_TIMEOUT)
+}
+
+// `LINE..`
+fn lines_argument<'a>(alloc: Global) -> Arg<'a>
+    ensures rule { rule_of result ≡ any_number_of (codes "LINE") }
+    ensures local { result.global ≡ false }
+{
+    Arg::new(alloc, "LINE")
+        .action(ArgAction::Append)
+        .help(help::TELL_LINES)
+}
+
+fn tell_command<'a>(alloc: Global) -> Result<Command<'a>, AllocError>
+    ensures app { IfOk result (λ command. app_of command ≡ tell_line) }
+    ensures local { IfOk result (λ command. (out-Command command).has_globals ≡ false) }
+{
+    let control = address_argument(alloc, "control", help::TELL_CONTROL);
+    let timeout = timeout_argument(alloc);
+    let lines = lines_argument(alloc);
+    Command::new(alloc, "tell")
+        .about(help::TELL)
+        .after_help(help::TELL_MORE)
+        .arg(control)?
+        .arg(timeout)?
+        .arg(lines)
+}
+
 // A command without arguments.
 fn plain_command<'a>(alloc: Global, name: &'a str, about: &'a str, more: &'a str) -> Command<'a>
     ensures app { app_of result ≡ new_app name.entry.now }
@@ -148,16 +211,18 @@ fn program<'a>(alloc: Global) -> Result<Command<'a>, AllocError>
         .bin_name("dswitch")?
         .about(help::PROGRAM)
         .after_help(help::STATUSES)
-        .version("0.1.0")
+        .version("0.2.0")
         .no_binary_name(true)
         .subcommand_required(true)
         .subcommand(plain_command(alloc, "first", help::FIRST, help::FIRST_MORE))?
         .subcommand(plain_command(alloc, "check", help::CHECK, help::CHECK_MORE))?
         .subcommand(compile_command(alloc)?)?
         .subcommand(run_command(alloc)?)?
+        .subcommand(explain_command(alloc)?)?
         .subcommand(plain_command(alloc, "replay", help::REPLAY, help::REPLAY_MORE))?
         .subcommand(flood_command(alloc)?)?
-        .subcommand(serve_command(alloc)?)
+        .subcommand(serve_command(alloc)?)?
+        .subcommand(tell_command(alloc)?)
 }
 
 // The value of an argument, which a required one has.
@@ -165,6 +230,26 @@ fn value_of<'a>(found: &ArgMatches<'a>, id: &str) -> &'a str
     ensures { result.now ≡ value_in (rows_of (found_of found.now)) id.now }
 {
     found.get_str(id).unwrap_or("")
+}
+
+// The values of an argument that may have any number of them.
+fn values_of<'a>(
+    alloc: Global,
+    found: &ArgMatches<'a>,
+    id: &str,
+) -> Result<Vec<&'a str>, AllocError>
+    ensures { IfOk result (λ values. map (λ value. value.now) values.items ≡ values_in (rows_of (found_of found.now)) id.now) }
+{
+    match found.get_raw(id) {
+        None => Ok(Vec::new(alloc)),
+        Some(values) => Vec::from_slice(alloc, values),
+    }
+}
+
+fn timeout_of<'a>(found: &ArgMatches<'a>) -> &'a str
+    ensures { result.now ≡ timeout_in (rows_of (found_of found.now)) }
+{
+    found.get_str("timeout").unwrap_or("1")
 }
 
 fn run_or_judge<'a>(found: &ArgMatches<'a>) -> Query<'a>
@@ -179,16 +264,23 @@ fn run_or_judge<'a>(found: &ArgMatches<'a>) -> Query<'a>
 }
 
 // The command of that name, with its arguments as `clap` found them.
-fn subcommand_of<'a>(name: &str, found: &ArgMatches<'a>) -> Option<Subcommand<'a>>
-    ensures { option_map request_of result ≡ request_named name.now (rows_of (found_of found.now)) }
+fn subcommand_of<'a>(
+    alloc: Global,
+    name: &str,
+    found: &ArgMatches<'a>,
+) -> Result<Option<Subcommand<'a>>, AllocError>
+    ensures { IfOk result (λ command. option_map request_of command ≡ request_named name.now (rows_of (found_of found.now))) }
 {
-    match name {
+    let command = match name {
         "first" => Some(Subcommand::Query(Query::First)),
         "check" => Some(Subcommand::Query(Query::Check)),
         "compile" => Some(Subcommand::Query(Query::Compile {
             expression: value_of(found, "EXPR"),
         })),
         "run" => Some(Subcommand::Query(run_or_judge(found))),
+        "explain" => Some(Subcommand::Query(Query::Explain {
+            code: value_of(found, "CODE"),
+        })),
         "replay" => Some(Subcommand::Replay),
         "flood" => Some(Subcommand::Flood {
             workers: value_of(found, "workers"),
@@ -198,8 +290,14 @@ fn subcommand_of<'a>(name: &str, found: &ArgMatches<'a>) -> Option<Subcommand<'a
             control: value_of(found, "control"),
             workers: value_of(found, "workers"),
         }),
+        "tell" => Some(Subcommand::Tell {
+            control: value_of(found, "control"),
+            timeout: timeout_of(found),
+            lines: values_of(alloc, found, "LINE")?,
+        }),
         _ => None,
-    }
+    };
+    Ok(command)
 }
 
 /// Reads the words after the program's name. `Err` is a fault of the words, or the help or the version that they ask for.
@@ -212,7 +310,7 @@ pub fn read_words<'a>(alloc: Global, words: &'a [String]) -> Result<Subcommand<'
     let Some((name, found)) = matches.subcommand() else {
         unreachable!();
     };
-    match subcommand_of(name, found) {
+    match subcommand_of(alloc, name, found)? {
         Some(command) => Ok(command),
         None => unreachable!(),
     }

@@ -33,6 +33,8 @@ pub enum Failure {
     BindFailed,
     /// Waiting for the sockets failed.
     PollFailed,
+    /// A line had no reply.
+    NoAnswer,
 }
 
 impl Failure {
@@ -46,6 +48,7 @@ impl Failure {
             Failure::SpawnFailed => "failed J1\n",
             Failure::BindFailed => "failed S1\n",
             Failure::PollFailed => "failed S2\n",
+            Failure::NoAnswer => "failed E4\n",
         }
     }
 

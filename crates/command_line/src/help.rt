@@ -6,14 +6,16 @@ pub const PROGRAM: &str =
 pub const STATUSES: &str = "\
 Results go to standard output. Exit status:
   0  done
-  1  refused: one line `refused CODE` or `refused CODE NUMBER` on standard output
+  1  refused: `refused CODE` or `refused CODE NUMBER` on standard output
   2  wrong arguments: a message on standard error
   3  failed: one line on standard error, `failed E1` where standard input could not be read,
      `failed E2` where results could not be written, `failed E3` where memory ran out,
-     `failed J1` where a worker's thread could not be started, `failed S1` where a socket
-     could not be bound, `failed S2` where waiting for the sockets failed
+     `failed E4` where a line had no reply, `failed J1` where a worker's thread could not be
+     started, `failed S1` where a socket could not be bound, `failed S2` where waiting for the
+     sockets failed
 
-`dswitch help COMMAND` says what a command reads and prints, and gives an example.";
+`dswitch help COMMAND` says what a command reads and prints, and gives an example.
+`dswitch explain CODE` says what a code means, and what to do.";
 
 pub const FIRST: &str = "Run one program on a packet, replace it, and run the next one";
 
@@ -47,7 +49,7 @@ pub const COMPILE_MORE: &str = "\
 Reads no input. Prints `charge C`, the most instructions that such an expression comes to, and
 then the program as assembly text, which `check` and `run` read. Else prints, with status 1:
   refused P1 PLACE to refused P5 PLACE, the byte counted from 0 where it is no expression
-  refused F1 where it needs more than 16 scratch cells, refused F2 where C would be above 4096
+  refused F1 where its measure of scratch cells is above 16, refused F2 where C would be above 4096
 
 Example:
   $ dswitch compile 'less 28'
@@ -76,6 +78,21 @@ Examples:
   value 4 steps 2 kept 4
   $ dswitch run --packet 45000014 --expr 'ip and less 28'
   accept";
+
+pub const EXPLAIN: &str = "Say what a code means, what causes it and what to do";
+
+pub const EXPLAIN_CODE: &str =
+    "The code of a refusal or a failure, as it was printed: a capital letter and a number";
+
+pub const EXPLAIN_MORE: &str = "\
+Reads no input. Prints what the code means, the usual mistake or cause behind it, and what to do.
+Else prints `refused C1`, with status 1, where CODE is no code; `g3` is none.
+
+Example:
+  $ dswitch explain G3
+  G3: The group has no member with this number.
+  Usual mistake: the member left before, or belongs to another group.
+  What to do: `join` the member first, or name the group that it belongs to.";
 
 pub const REPLAY: &str = "Answer a script of control lines and packets";
 
@@ -134,3 +151,25 @@ Else prints `refused C1`, with status 1, where FRONT or CONTROL is no address, o
 Example:
   $ dswitch serve --front 127.0.0.1:5300 --control 127.0.0.1:5301 --workers 4
   ready 127.0.0.1:5300 127.0.0.1:5301";
+
+pub const TELL: &str = "Send control lines to a running switch and print its replies";
+
+pub const TELL_CONTROL: &str = "The control address of the switch, as ADDRESS:PORT";
+
+pub const TELL_TIMEOUT: &str =
+    "How many seconds each reply may take, from 1 to 3600; without it one second";
+
+pub const TELL_LINES: &str = "Control lines, each as one argument";
+
+pub const TELL_MORE: &str = "\
+Sends each LINE to the CONTROL of `dswitch serve`, or each line of standard input where there is
+no LINE. Prints the reply to one line before it sends the next. Ends with status 0 where no
+reply is `refused ..` or `failed ..`, else with status 1; it goes on after such a reply.
+Prints `refused C1`, with status 1, where CONTROL is no address. Fails with status 3 and
+`failed E4` where a line has no reply; then no later line is sent.
+
+Examples:
+  $ dswitch tell --control 127.0.0.1:5301 'add 10.0.0.2:53' show
+  ok version 1
+  version 1 groups 1 members 0 charge 6
+  $ dswitch tell --control 127.0.0.1:5301 <rules.txt";

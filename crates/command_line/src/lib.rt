@@ -3,9 +3,16 @@
 //! `read_words` reads the words by `clap`. `Status` is the exit status, and `Failure` why a command failed, with the line that tells it.
 #![tactic(auto)]
 
+ghost use Rattle.std.specs.Prelude.{◌≡◌};
+
 mod command;
 mod ending;
 mod help;
 
-pub use command::{Query, Subcommand, read_words};
+pub use command::{MAX_TIMEOUT, Query, Subcommand, read_words};
 pub use ending::{Failure, Status, refuse_arguments};
+
+/// Law: the limit, as a number. It runs nothing.
+pub fn limits_as_numbers()
+    ensures timeout { MAX_TIMEOUT ≡ 3600 }
+{}

@@ -3,6 +3,7 @@
 mod example_files;
 mod example_scripts;
 mod examples;
+mod explaining;
 mod expressions;
 mod failures;
 mod flood;
@@ -10,6 +11,7 @@ mod packets;
 mod programs;
 mod replay;
 mod streams;
+mod tell;
 mod words;
 
 use std::alloc::Global;

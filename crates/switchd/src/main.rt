@@ -32,7 +32,14 @@ fn main(rt: HostRuntime) -> ExitCode {
     );
     let status = match ended {
         Some(status) => status,
-        None => run_waiting(&rt, rt.alloc(), words.as_slice(), &mut out, &mut errs) as u8,
+        None => run_waiting(
+            &rt,
+            rt.alloc(),
+            words.as_slice(),
+            rt.stdin(),
+            &mut out,
+            &mut errs,
+        ) as u8,
     };
     ExitCode::from(status)
 }

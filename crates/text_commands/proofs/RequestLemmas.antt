@@ -11,17 +11,17 @@ use Rattle.control_line.specs.declared.reason.Reason.{Reason}
 use Rattle.filter_compile.specs.Answer.{IsPacket}
 use Rattle.text_commands.specs.declared.command_result.CommandResult.{CommandResult}
 use Rattle.command_line.specs.declared.ending.Failure.{Failure}
-use Rattle.command_line.specs.declared.ending.Failure.TheVariants.{BindFailed, OutOfMemory, PollFailed, ReadFailed, SpawnFailed, WriteFailed}
+use Rattle.command_line.specs.declared.ending.Failure.TheVariants.{BindFailed, NoAnswer, OutOfMemory, PollFailed, ReadFailed, SpawnFailed, WriteFailed}
 use Rattle.text_commands.specs.declared.stop.Stop.{Stop}
 use Rattle.text_commands.specs.declared.stop.Stop.TheVariants.{Failed, Refused}
-use Rattle.text_commands.specs.CommandResult.{IsCompileAnswer, IsJudgeAnswer}
-use Rattle.command_line.specs.CommandLine.{Request, compile, faults_in, first, judge, run}
+use Rattle.text_commands.specs.CommandResult.{IsCompileAnswer, IsExplainAnswer, IsJudgeAnswer}
+use Rattle.command_line.specs.CommandLine.{Request, compile, explain, faults_in, first, judge, run}
 use Rattle.text_commands.specs.FirstPath.{first_lines}
 use Rattle.text_commands.specs.declared.first_path.Line.{Line}
 use Rattle.text_commands.proofs.WriteLemmas.{first_text_of, versions_of}
 use Rattle.text_commands.specs.Input.{IsInput}
 use Rattle.text_commands.specs.body.Stop.{IsStopBy}
-use Rattle.text_commands.specs.Request.{IsFailureOf, IsRefusalReason, IsResultOf, IsStopOf, MayFailBy}
+use Rattle.text_commands.specs.Request.{IsFailureOf, IsRefusalOfCode, IsRefusalReason, IsResultOf, IsStopOf, MayFailBy}
 
 -- the bytes that digits write are a packet
 pub packet_of_spelt : (digits packet : List ℕ) → SpellsPacket digits packet → IsPacket packet
@@ -37,6 +37,7 @@ text_may_fail words fault ReadFailed kinds either memory = elim either [ inl e �
 text_may_fail words fault SpawnFailed kinds either memory = elim either [ inl e ↦ cc | inr e ↦ cc ]
 text_may_fail words fault BindFailed kinds either memory = elim either [ inl e ↦ cc | inr e ↦ cc ]
 text_may_fail words fault PollFailed kinds either memory = elim either [ inl e ↦ cc | inr e ↦ cc ]
+text_may_fail words fault NoAnswer kinds either memory = elim either [ inl e ↦ cc | inr e ↦ cc ]
 text_may_fail words fault OutOfMemory kinds either memory = tt
 text_may_fail words fault WriteFailed kinds either memory = λ ask. elim kinds [
   | inl no_memory ↦ let bad : ◌≡◌ {A = Failure} WriteFailed OutOfMemory = memory no_memory in cc
@@ -77,6 +78,9 @@ module _ (known : Option (List ℕ)) where
   compile_stops expression stop =
       stops_before (compile expression) (IsRefusalOfExpression expression) stop (λ reason why. why)
 
+  pub explain_stops : (code : List ℕ) (stop : Stop) → IsStopBy (IsRefusalOfCode code) stop → IsStopOf (explain code) known stop
+  explain_stops code stop = stops_before (explain code) (IsRefusalOfCode code) stop (λ reason why. why)
+
   pub judge_stops : (digits expression packet : List ℕ) (stop : Stop) → SpellsPacket digits packet
       → IsStopBy (IsRefusalOfExpression expression) stop → IsStopOf (judge digits expression) known stop
   judge_stops digits expression packet stop spelt =
@@ -84,6 +88,9 @@ module _ (known : Option (List ℕ)) where
 
   pub compile_found : (expression : List ℕ) (answer : CommandResult) → IsCompileAnswer expression answer → IsResultOf (compile expression) known answer
   compile_found expression answer found = (some_input, is_input, found)
+
+  pub explain_found : (code : List ℕ) (answer : CommandResult) → IsExplainAnswer code answer → IsResultOf (explain code) known answer
+  explain_found code answer found = (some_input, is_input, found)
 
   pub judge_found : (digits expression packet : List ℕ) (answer : CommandResult) → SpellsPacket digits packet
       → IsJudgeAnswer packet expression answer → IsResultOf (judge digits expression) known answer

@@ -7,7 +7,8 @@ use Rattle.filter_tree.specs.Tree.{Tree}
 use Rattle.filter_tree.specs.Truth.{accepts}
 use Rattle.program_text.specs.Program.{IsAssembledTo, IsCompilable, IsProgramOfExpression}
 use Rattle.text_commands.specs.declared.command_result.CommandResult.{CommandResult}
-use Rattle.text_commands.specs.declared.command_result.CommandResult.TheVariants.{Accepted, Compiled, Judged, Ran, Versions}
+use Rattle.text_commands.specs.declared.command_result.CommandResult.TheVariants.{Accepted, Compiled, Explained, Judged, Ran, Versions}
+use Rattle.refusal_text.specs.Explanation.{IsExplanation}
 use Rattle.text_commands.specs.FirstPath.{line_text}
 
 -- the lines of a result
@@ -19,6 +20,7 @@ answer_text (Ran value steps kept) =
 answer_text (Compiled charge listing) = codes "charge " ++ decimal charge ++ codes "\n" ++ string_bytes listing
 answer_text (Judged true) = codes "accept\n"
 answer_text (Judged false) = codes "reject\n"
+answer_text (Explained text) = text.now ++ codes "\n"
 
 -- ---- programs, given as assembly text
 
@@ -54,3 +56,10 @@ abbrev pub IsJudgeAnswer : List ℕ → List ℕ → CommandResult → Type 0
 IsJudgeAnswer packet text (Judged is_accepted) =
     (tree : Tree) × IsCompilable text tree × (IsTrue is_accepted ↔ accepts tree packet)
 IsJudgeAnswer packet text _ = ⊥
+
+-- ---- codes
+
+-- the explanation of the code
+abbrev pub IsExplainAnswer : List ℕ → CommandResult → Type 0
+IsExplainAnswer code (Explained text) = IsExplanation code text.now
+IsExplainAnswer code _ = ⊥

@@ -1,22 +1,24 @@
 -- What a command makes of its arguments and its input: a result, or why there is none (docs/COMMANDS.md).
-use Rattle.std.specs.Prelude.{◌≡◌, ◌++◌, ◌⊎◌, List, Option, Some, [], codes, ℕ}
+use Rattle.std.specs.Prelude.{◌≡◌, ◌++◌, ◌⊎◌, Contains, List, Option, Some, [], codes, ℕ}
 use Rattle.std.specs.Io.KnownBytes.{Appends}
 use Rattle.clap.specs.Words.{Text}
 use Rattle.control.specs.Packet.{IsRefusalOfHex, SpellsPacket}
 use Rattle.control.specs.Reason.{IsRefusalOfAssembly, IsRefusalOfExpression, refusal_text}
 use Rattle.control.specs.Script.{AreAnswered, IsScriptText, Standing}
 use Rattle.control_line.specs.declared.reason.Reason.{Reason}
+use Rattle.control_line.specs.declared.reason.Reason.TheVariants.{BadForm}
 use Rattle.text_commands.specs.declared.command_result.CommandResult.{CommandResult}
 use Rattle.text_commands.specs.declared.command_result.CommandResult.TheVariants.{Versions}
 use Rattle.command_line.specs.declared.ending.Failure.{Failure}
-use Rattle.command_line.specs.declared.ending.Failure.TheVariants.{BindFailed, OutOfMemory, PollFailed, ReadFailed, SpawnFailed, WriteFailed}
+use Rattle.command_line.specs.declared.ending.Failure.TheVariants.{BindFailed, NoAnswer, OutOfMemory, PollFailed, ReadFailed, SpawnFailed, WriteFailed}
 use Rattle.command_line.specs.declared.ending.Status.{Status}
 use Rattle.command_line.specs.declared.ending.Status.TheVariants.{Done, Refused}
 use Rattle.text_commands.specs.declared.stop.Stop.{Stop}
 use Rattle.text_commands.specs.declared.stop.Stop.TheVariants as stop
-use Rattle.text_commands.specs.CommandResult.{IsCheckAnswer, IsCompileAnswer, IsJudgeAnswer, IsRunAnswer, answer_text}
-use Rattle.command_line.specs.CommandLine.{AskToWait, MayWait, Request, check, compile, faults_in, first, flood, judge, replay, request_in, run, serve}
+use Rattle.text_commands.specs.CommandResult.{IsCheckAnswer, IsCompileAnswer, IsExplainAnswer, IsJudgeAnswer, IsRunAnswer, answer_text}
+use Rattle.command_line.specs.CommandLine.{AskToWait, MayWait, Request, check, compile, explain, faults_in, first, flood, judge, replay, request_in, run, serve, tell}
 use Rattle.command_line.specs.Ending.{AppendsBeginning, line_of}
+use Rattle.refusal_text.specs.Explanation.{codes_explained}
 use Rattle.text_commands.specs.FirstPath.{first_text}
 use Rattle.text_commands.specs.Input.{BeginsInput, IsInput}
 
@@ -33,9 +35,15 @@ IsResult (compile expression) input answer = IsCompileAnswer expression answer
 IsResult (run digits) input answer = (packet : List ℕ) × SpellsPacket digits packet × IsRunAnswer packet input answer
 IsResult (judge digits expression) input answer =
     (packet : List ℕ) × SpellsPacket digits packet × IsJudgeAnswer packet expression answer
+IsResult (explain code) input answer = IsExplainAnswer code answer
 IsResult replay input answer = ⊥
 IsResult (flood workers) input answer = ⊥
 IsResult (serve front control workers) input answer = ⊥
+IsResult (tell control timeout lines) input answer = ⊥
+
+-- a text that is no code
+abbrev pub IsRefusalOfCode : List ℕ → Reason → Type 0
+IsRefusalOfCode code reason = (reason ≡ BadForm) × (Contains codes_explained code → ⊥)
 
 -- why it has none; the packet is looked at before the program or the expression
 abbrev pub IsRefusalReason : Request → List ℕ → Reason → Type 0
@@ -46,9 +54,11 @@ IsRefusalReason (run digits) input reason =
     IsRefusalOfHex digits reason ⊎ ((packet : List ℕ) × SpellsPacket digits packet × IsRefusalOfAssembly input reason)
 IsRefusalReason (judge digits expression) input reason =
     IsRefusalOfHex digits reason ⊎ ((packet : List ℕ) × SpellsPacket digits packet × IsRefusalOfExpression expression reason)
+IsRefusalReason (explain code) input reason = IsRefusalOfCode code reason
 IsRefusalReason replay input reason = ⊥
 IsRefusalReason (flood workers) input reason = ⊥
 IsRefusalReason (serve front control workers) input reason = ⊥
+IsRefusalReason (tell control timeout lines) input reason = ⊥
 
 -- the input is read by `check` and `replay`, and by `run` without an expression where the packet is good
 abbrev pub ReadsInput : Request → Type 0
@@ -65,6 +75,7 @@ IsFailureOf request OutOfMemory = Unit {0}
 IsFailureOf request SpawnFailed = ⊥
 IsFailureOf request BindFailed = ⊥
 IsFailureOf request PollFailed = ⊥
+IsFailureOf request NoAnswer = ⊥
 
 -- the same of an input of which the bytes may be known
 
@@ -113,6 +124,7 @@ MayFail request OutOfMemory = Unit {0}
 MayFail request SpawnFailed = ⊥
 MayFail request BindFailed = ⊥
 MayFail request PollFailed = ⊥
+MayFail request NoAnswer = ⊥
 
 -- the same of words, which may also ask for a text
 abbrev pub MayFailBy : List Text → Failure → Type 0
@@ -122,6 +134,7 @@ MayFailBy words OutOfMemory = Unit {0}
 MayFailBy words SpawnFailed = ⊥
 MayFailBy words BindFailed = ⊥
 MayFailBy words PollFailed = ⊥
+MayFailBy words NoAnswer = ⊥
 
 -- ---- what a command that failed has written
 
@@ -152,6 +165,7 @@ WritesBefore replay OutOfMemory known before after = RepliesToFirstLines known b
 WritesBefore replay SpawnFailed known before after = ⊥
 WritesBefore replay BindFailed known before after = ⊥
 WritesBefore replay PollFailed known before after = ⊥
+WritesBefore replay NoAnswer known before after = ⊥
 WritesBefore request WriteFailed known before after = Unit {0}
 WritesBefore request _ known before after = after ≡ before
 

@@ -19,6 +19,8 @@ pub enum CommandResult {
     Compiled { charge: u32, listing: String },
     /// `run --expr`: whether the expression is true of the packet.
     Judged { accepts: bool },
+    /// `explain`: what the code means.
+    Explained { text: &'static str },
 }
 
 impl fmt::Display for CommandResult {
@@ -34,6 +36,7 @@ impl fmt::Display for CommandResult {
             CommandResult::Compiled { charge, listing } => write!(f, "charge {charge}\n{listing}"),
             CommandResult::Judged { accepts: true } => writeln!(f, "accept"),
             CommandResult::Judged { accepts: false } => writeln!(f, "reject"),
+            CommandResult::Explained { text } => writeln!(f, "{text}"),
         }
     }
 }

@@ -1,7 +1,7 @@
 //! The commands of words and texts, from the words to the output and the exit status (docs/COMMANDS.md).
 //!
-//! `tool` reads the words, runs `first`, `check`, `compile`, `run` or `replay` over any input and outputs, and leaves a command that
-//! runs worker threads to its caller.
+//! `tool` reads the words, runs `first`, `check`, `compile`, `run`, `explain` or `replay` over any input and outputs, and leaves a
+//! command that may wait to its caller.
 #![tactic(auto)]
 
 ghost use Rattle.std.specs.Prelude.{◌≡◌, ◌≢◌, ◌⊎◌, [], IfErr, IfOk, IfSome, None, OnErr, Ok, Err, Some, map, string_bytes};
@@ -11,6 +11,7 @@ ghost use Rattle.command_line.specs.Ending.{IsStatus, code_of};
 ghost use Rattle.text_commands.specs.Request.{EndsInFailure, MayFail, MayFailBy, Writes, WritesAnswerTo, WritesBefore, WritesBeforeBy};
 
 mod command_result;
+mod explaining;
 mod expression_commands;
 mod first_path;
 mod input;
@@ -123,6 +124,7 @@ fn run_subcommand<R: Read + Drop, W: Write>(
         Subcommand::Replay => Ok(Some(run_replay(alloc, input, out)?)),
         Subcommand::Flood { .. } => Ok(None),
         Subcommand::Serve { .. } => Ok(None),
+        Subcommand::Tell { .. } => Ok(None),
     }
 }
 

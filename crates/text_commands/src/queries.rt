@@ -10,6 +10,7 @@ ghost use Rattle.text_commands.specs.Request.{IsResultOf, IsStopOf, MayFail, Wri
 ghost use Rattle.text_commands.specs.body.Stop.{IsStopBy};
 
 use crate::command_result::CommandResult;
+use crate::explaining::explain;
 use crate::expression_commands::{compile, judge};
 use crate::first_path;
 use crate::input::read_whole;
@@ -63,6 +64,7 @@ fn find_answer<R: Read + Drop>(
             let packet = read_packet(alloc, packet)?;
             judge(alloc, &packet, expression.as_bytes())
         }
+        Query::Explain { code } => explain(code),
     }
 }
 

@@ -1,6 +1,6 @@
-//! The commands that run worker threads, so that they may wait (docs/COMMANDS.md, "flood", "serve").
+//! The commands that run worker threads or await replies, so that they may wait (docs/COMMANDS.md, "flood", "serve", "tell").
 //!
-//! `run_waiting` runs the one that the words ask for: `flood` of memory_flood, or `serve` of udp_service.
+//! `run_waiting` runs the one that the words ask for: `flood` of memory_flood, `serve` of udp_service, or `tell` of control_client.
 #![tactic(auto)]
 
 ghost use Rattle.std.specs.Prelude.{◌≡◌, ◌⊎◌, OnOk, codes, map, string_bytes, ℕ};
@@ -9,8 +9,10 @@ ghost use Rattle.command_line.specs.CommandLine.{AskToWait};
 ghost use Rattle.command_line.specs.Ending.{AppendsBeginning, line_of};
 ghost use Rattle.command_line.specs.declared.ending.Failure.TheVariants as failure;
 ghost use Rattle.udp_service.specs.Service.{WritesServed};
-ghost use Rattle.worker_commands.specs.Waiting.{EndsInServeFailure, EndsInWaitingFailure, IsAddress, IsNoAddress, LackWorkers, RefusesAddress, WritesFor};
+ghost use Rattle.worker_commands.specs.Waiting.{EndsInServeFailure, EndsInWaitingFailure, IsAddress, IsNoAddress, LackTimeout, LackWorkers, WritesFor, WritesRefusal};
 ghost use Rattle.worker_threads.specs.Workers.{IsWorkers};
+
+mod telling;
 
 use command_line::{Failure, Status, Subcommand, read_words};
 use ipv4_fields::Endpoint;
@@ -18,10 +20,12 @@ use memory_flood::run_flood;
 pub use memory_flood::{DATAGRAMS, flood};
 use std::alloc::Global;
 use std::io;
-use std::io::Write;
+use std::io::{Read, Write};
 use std::net::Net;
 use std::sync::Wait;
 use std::thread::Threads;
+use std::time::Clock;
+use telling::run_tell;
 pub use udp_service::serve;
 pub use worker_threads::ServeFault;
 use worker_threads::{OpenGate, refuse_count, worker_count};
@@ -83,22 +87,23 @@ fn run_serve<R: Threads + Wait + Net + Sync, W: Write, E: Write>(
     }
 }
 
-/// Runs the command that may wait, for which the words ask, and answers the exit status.
-pub fn run_waiting<R: Threads + Wait + Net + Sync, W: Write, E: Write>(
+/// Runs the command that may wait, for which the words ask, and answers the exit status. `tell` without lines reads the input.
+pub fn run_waiting<R: Threads + Wait + Net + Clock + Sync, I: Read + Drop, W: Write, E: Write>(
     rt: &R,
     alloc: Global,
     words: &[String],
+    input: I,
     out: &mut W,
     errs: &mut E,
 ) -> Status
     requires { AskToWait (map string_bytes words.now) }
-    ensures done { result ≡ Status.Done → WritesFor (map string_bytes words.now) (W.contents out.old) (W.contents out.new) }
-    ensures refused { result ≡ Status.Refused → RefusesAddress (map string_bytes words.now) (W.contents out.old) (W.contents out.new) }
+    ensures done { result ≡ Status.Done → WritesFor (map string_bytes words.now) (I.remaining input) (W.contents out.old) (W.contents out.new) }
+    ensures refused { result ≡ Status.Refused → WritesRefusal (map string_bytes words.now) (I.remaining input) (W.contents out.old) (W.contents out.new) }
     ensures no_errors { (result ≡ Status.Done) ⊎ (result ≡ Status.Refused) → errs.new ≡ errs.old }
-    ensures misused { result ≡ Status.Misused → LackWorkers (map string_bytes words.now) }
+    ensures misused { result ≡ Status.Misused → LackWorkers (map string_bytes words.now) ⊎ LackTimeout (map string_bytes words.now) }
     ensures nothing_written { result ≡ Status.Misused → out.new ≡ out.old }
     ensures failed { result ≡ Status.Failed
-        → EndsInWaitingFailure (map string_bytes words.now) (W.contents out.old) (W.contents out.new)
+        → EndsInWaitingFailure (map string_bytes words.now) (I.remaining input) (W.contents out.old) (W.contents out.new)
         (E.contents errs.old) (E.contents errs.new) }
 {
     match read_words(alloc, words) {
@@ -110,6 +115,21 @@ pub fn run_waiting<R: Threads + Wait + Net + Sync, W: Write, E: Write>(
                 workers,
             },
         ) => run_serve(rt, alloc, (front, control), workers, out, errs),
+        Ok(
+            Subcommand::Tell {
+                control,
+                timeout,
+                lines,
+            },
+        ) => run_tell(
+            rt,
+            alloc,
+            (control, timeout),
+            lines.as_slice(),
+            input,
+            out,
+            errs,
+        ),
         Ok(Subcommand::Query(_) | Subcommand::Replay) => unreachable!(),
         Err(_) => Failure::OutOfMemory.report(errs),
     }

@@ -7,10 +7,16 @@ use std::io::{ErrorKind, Read};
 use std::process::Abort;
 use std::test::Fail;
 
+const G8: &str = "\
+G8: Memory for the new configuration was refused.
+No command prints this code: a call of the libraries answers it. Where memory
+is refused the program says `failed E3` in its place.
+";
+
 const PROGRAM: &[u8] = b"ldb [9]; jeq #17,0,1; ret #65535; ret #0";
 
 // Of each command a result, and of each that refuses a refusal.
-const COMMANDS: [(&[&str], &[u8]); 11] = [
+const COMMANDS: [(&[&str], &[u8]); 13] = [
     (&["first"], b""),
     (&["--help"], b""),
     (&["--version"], b""),
@@ -21,6 +27,8 @@ const COMMANDS: [(&[&str], &[u8]); 11] = [
     (&["run", "--packet", SAMPLE_PACKET], PROGRAM),
     (&["run", "--packet", "0"], PROGRAM),
     (&["run", "--packet", SAMPLE_PACKET, "--expr", "ip"], b""),
+    (&["explain", "G3"], b""),
+    (&["explain", "g3"], b""),
     (&["replay"], b"add 10.0.0.2:53\nshow\n"),
 ];
 
@@ -105,11 +113,12 @@ fn read_without_memory_is_e3(rt: HostRuntime) -> Result<(), Fail> {
 }
 
 // What commands that read no input print.
-const UNREAD: [(&[&str], &str); 4] = [
+const UNREAD: [(&[&str], &str); 5] = [
     (&["first"], FIRST),
-    (&["--version"], "dswitch 0.1.0\n"),
+    (&["--version"], "dswitch 0.2.0\n"),
     (&["compile", ""], "refused P1 0\n"),
     (&["run", "--packet", "", "--expr", "ip"], "reject\n"),
+    (&["explain", "G8"], G8),
 ];
 
 #[test]

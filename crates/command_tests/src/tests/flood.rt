@@ -148,7 +148,14 @@ fn flood_is_left_to_main(rt: HostRuntime) -> Result<(), Fail> {
         match status {
             Some(status) => assert!(rt; false, "{words:?}: {status}"),
             None => {
-                let ended = run_waiting(&rt, rt.alloc(), words.as_slice(), &mut out, &mut errs);
+                let ended = run_waiting(
+                    &rt,
+                    rt.alloc(),
+                    words.as_slice(),
+                    b"".as_slice(),
+                    &mut out,
+                    &mut errs,
+                );
                 assert_eq!(rt; ended, Status::Done, "{words:?}");
                 assert_eq!(rt; out.text(), Some(TOTALS), "{words:?}");
                 assert_eq!(rt; errs.text(), Some(""), "{words:?}");

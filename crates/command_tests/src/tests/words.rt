@@ -1,4 +1,4 @@
-//! Words that name no command, help and the version, the command `first`, and the words of `serve`.
+//! Words that name no command, help and the version, the command `first`, and the words of `serve` and `tell`.
 
 use super::streams::Sink;
 use super::{FIRST, assert_told, told};
@@ -30,7 +30,7 @@ fn assert_misused(rt: &impl Abort, alloc: Global, words: &[&str]) -> Result<(), 
 
 #[test]
 fn wrong_words_are_refused(rt: HostRuntime) -> Result<(), Fail> {
-    let cases: [&[&str]; 19] = [
+    let cases: [&[&str]; 22] = [
         &[],
         &[""],
         &["second"],
@@ -50,6 +50,9 @@ fn wrong_words_are_refused(rt: HostRuntime) -> Result<(), Fail> {
         &["run", "--expr", "ip"],
         &["run", "--packet", "00", "--packet", "00"],
         &["run", "--packet", "00", "--expr"],
+        &["explain"],
+        &["explain", "G3", "G4"],
+        &["explain", "-G3"],
     ];
     for words in cases {
         assert_misused(&rt, rt.alloc(), words)?;
@@ -107,9 +110,56 @@ fn serve_of_wrong_words_is_misused(rt: HostRuntime) -> Result<(), Fail> {
     Ok(())
 }
 
+// With lines, options between them, and none.
+#[test]
+fn tell_is_left_to_main(rt: HostRuntime) -> Result<(), Fail> {
+    let cases: [&[&str]; 4] = [
+        &["tell", "--control", "127.0.0.1:5301"],
+        &["tell", "--control", "x", "show", ""],
+        &[
+            "tell",
+            "show",
+            "--timeout",
+            "3600",
+            "sweep",
+            "--control",
+            "x",
+        ],
+        &["tell", "--control", "x", "--timeout", "1", "--", "--", "-x"],
+    ];
+    for words in cases {
+        let (status, out, errs) = told(rt.alloc(), words, b"show")?;
+        assert_eq!(rt; status, None, "{words:?}");
+        assert_eq!(rt; (out.writes, errs.writes), (0, 0), "{words:?}");
+    }
+    Ok(())
+}
+
+#[test]
+fn tell_of_wrong_words_is_misused(rt: HostRuntime) -> Result<(), Fail> {
+    let cases: [&[&str]; 5] = [
+        &["tell"],
+        &["tell", "show"],
+        &["tell", "--control"],
+        &["tell", "--control", "x", "--wait", "1"],
+        &["tell", "--control", "x", "--timeout"],
+    ];
+    for words in cases {
+        assert_misused(&rt, rt.alloc(), words)?;
+    }
+    for timeout in ["0", "3601", "-1", "x", "1.5", ""] {
+        assert_misused(
+            &rt,
+            rt.alloc(),
+            &["tell", "--control", "x", "--timeout", timeout],
+        )?;
+    }
+    Ok(())
+}
+
 #[test]
 fn help_and_version_are_results(rt: HostRuntime) -> Result<(), Fail> {
-    let cases: [(&[&str], &str); 15] = [
+    let cases: [(&[&str], &str); 18] = [
         (&["--help"], "Usage: dswitch <COMMAND>\n"),
         (&["-h"], "Usage: dswitch <COMMAND>\n"),
         (&["help"], "Usage: dswitch <COMMAND>\n"),
@@ -125,6 +175,12 @@ fn help_and_version_are_results(rt: HostRuntime) -> Result<(), Fail> {
             &["serve", "--help"],
             "Usage: dswitch serve --front <A> --control <A> --workers <N>\n",
         ),
+        (&["help", "explain"], "Usage: dswitch explain <CODE>\n"),
+        (
+            &["tell", "--help"],
+            "Usage: dswitch tell [OPTIONS] --control <A> [LINE]...\n",
+        ),
+        (&["explain", "-h"], "\n  $ dswitch explain G3\n"),
         (&["check", "-h"], "\n  accepted 4\n"),
         (&["compile", "-h"], "\n  charge 6\n"),
         (&["run", "-h"], "\n  value 4 steps 2 kept 4\n"),
@@ -132,8 +188,8 @@ fn help_and_version_are_results(rt: HostRuntime) -> Result<(), Fail> {
             &["serve", "-h"],
             "\n  ready 127.0.0.1:5300 127.0.0.1:5301\n",
         ),
-        (&["--version"], "dswitch 0.1.0\n"),
-        (&["-V"], "dswitch 0.1.0\n"),
+        (&["--version"], "dswitch 0.2.0\n"),
+        (&["-V"], "dswitch 0.2.0\n"),
     ];
     for (words, part) in cases {
         let (status, out, errs) = told(rt.alloc(), words, b"")?;

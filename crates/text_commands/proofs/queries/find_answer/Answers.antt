@@ -6,7 +6,7 @@ use Rattle.text_commands.specs.CommandResult.{IsCompileAnswer, IsJudgeAnswer}
 use Rattle.command_line.specs.CommandLine.{query_request}
 use Rattle.text_commands.specs.Request.{IsResultOf, IsStopOf}
 use Rattle.text_commands.specs.body.Stop.{IsStopBy}
-use Rattle.text_commands.proofs.RequestLemmas.{compile_found, compile_stops, judge_found, judge_stops, judge_stops_by_hex, packet_of_spelt, result_of_first, run_stops_by_hex}
+use Rattle.text_commands.proofs.RequestLemmas.{compile_found, compile_stops, explain_found, explain_stops, judge_found, judge_stops, judge_stops_by_hex, packet_of_spelt, result_of_first, run_stops_by_hex}
 use Rattle.text_commands.proofs.WriteLemmas.{versions_of}
 use Rattle.text_commands.proofs.StopLemmas.{stopped_as}
 use Rattle.text_commands.proofs.queries.find_answer.Goals as goal
@@ -70,3 +70,15 @@ returns-in_ok-packet-in-Judge-clause-stopped g c =
     let refused = subst (λ read. IfErr c.judge.result (IsStopBy (IsRefusalOfExpression read))) c.as_bytes-in-Judge.ensures.value c.judge.ensures.refused in
     subst (λ request. IfErr c.judge.result (IsStopOf request known)) (sym (ap query_request c.in-Judge.is))
     (IfErr-weaker c.judge.result _ _ (λ stop. judge_stops known _ text packet stop c.in_ok-packet-in-Judge.ensures.spelt) refused)
+
+pub returns-in-Explain-clause-found : goal.returns-in-Explain-clause-found
+returns-in-Explain-clause-found g c =
+    let known = g.R.Read.remaining c.args.input in
+    subst (λ request. IfOk c.explain.result (IsResultOf request known)) (sym (ap query_request c.in-Explain.is))
+    (IfOk-weaker c.explain.result _ _ (explain_found known c.in-Explain.code.now) c.explain.ensures.answer)
+
+pub returns-in-Explain-clause-stopped : goal.returns-in-Explain-clause-stopped
+returns-in-Explain-clause-stopped g c =
+    let known = g.R.Read.remaining c.args.input in
+    subst (λ request. IfErr c.explain.result (IsStopOf request known)) (sym (ap query_request c.in-Explain.is))
+    (IfErr-weaker c.explain.result _ _ (explain_stops known c.in-Explain.code.now) c.explain.ensures.refused)

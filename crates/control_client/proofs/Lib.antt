@@ -1,0 +1,7 @@
+mod ResultLemmas
+mod WireLemmas
+mod LinesLemmas
+mod PrintingLemmas
+mod ExchangeLemmas
+mod TellLemmas
+mod StandardFacts

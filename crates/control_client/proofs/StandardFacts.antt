@@ -1,0 +1,34 @@
+-- Worked examples of the definitions.
+use Rattle.std.proofs.Common.{[], codes, false, refl, true, ◌∷◌, ◌≡◌}
+use Rattle.control_client.specs.Exchange.{Exchange, has_refusal, is_refusal, text_of}
+use Rattle.control_client.specs.Lines.{lines_in}
+
+no_bytes_no_line : lines_in (codes "") ≡ []
+no_bytes_no_line = refl
+
+ended_and_unended : lines_in (codes "show\nsweep") ≡ codes "show" ∷ codes "sweep" ∷ []
+ended_and_unended = refl
+
+all_ended : lines_in (codes "show\nsweep\n") ≡ codes "show" ∷ codes "sweep" ∷ []
+all_ended = refl
+
+empty_lines : lines_in (codes "\n\nshow") ≡ [] ∷ [] ∷ codes "show" ∷ []
+empty_lines = refl
+
+refused_line : is_refusal (codes "refused G3") ≡ true
+refused_line = refl
+
+want_of_memory : is_refusal (codes "failed E3") ≡ true
+want_of_memory = refl
+
+done_line : is_refusal (codes "ok version 1") ≡ false
+done_line = refl
+
+shorter_than_a_refusal : is_refusal (codes "refused") ≡ false
+shorter_than_a_refusal = refl
+
+text_of_two : text_of (record { line = codes "stop"; reply = codes "ok stop" } ∷ record { line = []; reply = [] } ∷ []) ≡ codes "ok stop\n\n"
+text_of_two = refl
+
+one_refused : has_refusal (record { line = codes "stop"; reply = codes "ok stop" } ∷ record { line = []; reply = codes "refused C1" } ∷ []) ≡ true
+one_refused = refl

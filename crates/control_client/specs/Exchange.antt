@@ -1,0 +1,112 @@
+-- A line and its reply, and what happens on the wire for them (docs/COMMANDS.md, "tell").
+use Rattle.std.specs.Prelude.{◌≡◌, ◌≢◌, ◌<◌, ◌≤◌, ◌++◌, ◌∷◌, ◌||◌, Bool, List, Option, [], codes, flat_map, length, map, nat_eq, ℕ}
+use Rattle.std.specs.List.{All, list_any, starts_with}
+use Rattle.std.specs.Io.KnownBytes.{Appends}
+use Rattle.ipv4_fields.specs.declared.endpoint.Endpoint.{Endpoint}
+use Rattle.control_client.specs.declared.asking.TheConstants.{FOREIGN_LIMIT, LONGEST_LINE}
+use Rattle.control_client.specs.declared.fault.TellFault.{TellFault}
+use Rattle.control_client.specs.declared.fault.TellFault.TheVariants.{BindFailed, NoAnswer, OutOfMemory, ReadFailed, WaitFailed, WriteFailed}
+use Rattle.control_client.specs.Wire.{Event, Logs, came, none_came, sent}
+
+-- a line, and what it was replied
+pub record Exchange : Type 0 where
+  pub line : List ℕ
+  pub reply : List ℕ
+
+-- a datagram that came from elsewhere
+abbrev pub IsForeign : Endpoint → Event → Type 0
+IsForeign switch (came from bytes) = from ≢ switch
+IsForeign switch (sent to bytes) = ⊥
+IsForeign switch none_came = ⊥
+
+-- the line was sent once; then datagrams from elsewhere came, fewer than end the wait, and then one from the switch, which is the reply
+pub record IsAnswered (switch : Endpoint) (line reply : List ℕ) (events : List Event) : Type 0 where
+  pub passed : List Event
+  pub are_foreign : All (IsForeign switch) passed
+  pub few : length passed < FOREIGN_LIMIT
+  pub events_are : events ≡ sent switch line ∷ (passed ++ came switch reply ∷ [])
+
+-- a line that no datagram can carry is not sent, and is replied as the switch replies to a line that is too long
+pub data IsExchange (switch : Endpoint) (line : List ℕ) : List ℕ → List Event → Type 0 where
+  too_long : LONGEST_LINE < length line → IsExchange switch line (codes "refused C2") []
+  answered : (reply : List ℕ) (events : List Event) → length line ≤ LONGEST_LINE → IsAnswered switch line reply events →
+      IsExchange switch line reply events
+
+-- the lines were exchanged one after the other
+pub data AreExchanged (switch : Endpoint) : List Exchange → List Event → Type 0 where
+  no_line : AreExchanged switch [] []
+  one_more : (told : List Exchange) (events more : List Event) (line reply : List ℕ) → AreExchanged switch told events →
+      IsExchange switch line reply more → AreExchanged switch (told ++ record { line = line; reply = reply } ∷ []) (events ++ more)
+
+-- no reply came: the line could not be sent, or its time was out, or too many datagrams came from elsewhere
+pub data IsUnanswered (switch : Endpoint) (line : List ℕ) : List Event → Type 0 where
+  not_sent : IsUnanswered switch line []
+  timed_out : (passed : List Event) → All (IsForeign switch) passed → length passed < FOREIGN_LIMIT →
+      IsUnanswered switch line (sent switch line ∷ (passed ++ none_came ∷ []))
+  outnumbered : (passed : List Event) → All (IsForeign switch) passed → length passed ≡ FOREIGN_LIMIT → IsUnanswered switch line (sent switch line ∷ passed)
+
+-- the line was sent, and no reply had come where waiting failed
+pub record IsCutOff (switch : Endpoint) (line : List ℕ) (events : List Event) : Type 0 where
+  pub passed : List Event
+  pub are_foreign : All (IsForeign switch) passed
+  pub few : length passed < FOREIGN_LIMIT
+  pub events_are : events ≡ sent switch line ∷ passed
+
+-- ---- what is printed
+
+-- a reply with its LF
+abbrev pub reply_line : List ℕ → List ℕ
+reply_line reply = reply ++ 10 ∷ []
+
+-- the replies, each with its LF
+abbrev pub text_of : List Exchange → List ℕ
+text_of told = flat_map (λ (one : Exchange). reply_line one.reply) told
+
+abbrev pub lines_of : List Exchange → List (List ℕ)
+lines_of told = map (λ (one : Exchange). one.line) told
+
+-- a reply that tells that its line was not done
+abbrev pub is_refusal : List ℕ → Bool
+is_refusal reply = starts_with nat_eq reply (codes "refused ") || starts_with nat_eq reply (codes "failed ")
+
+abbrev pub has_refusal : List Exchange → Bool
+has_refusal told = list_any (λ (one : Exchange). is_refusal one.reply) told
+
+-- a beginning of the text was written, possibly none of it or the whole
+abbrev pub WritesBeginning : Option (List ℕ) → Option (List ℕ) → List ℕ → Type 0
+WritesBeginning before after text = (told left : List ℕ) × Appends before after told × (text ≡ told ++ left)
+
+-- ---- one line
+
+-- the line was exchanged and its reply printed
+pub record LineTold (switch : Endpoint) (line : List ℕ) (log log' : Option (List Event)) (out out' : Option (List ℕ)) (refused : Bool) : Type 0 where
+  pub reply : List ℕ
+  pub events : List Event
+  pub is_exchange : IsExchange switch line reply events
+  pub logged : Logs log log' events
+  pub printed : Appends out out' (reply_line reply)
+  pub refused_is : refused ≡ is_refusal reply
+
+-- it was sent and had no reply, and nothing was printed
+pub record LineUnheard (IsLast : List Event → Type 0) (log log' : Option (List Event)) (out out' : Option (List ℕ)) : Type 0 where
+  pub events : List Event
+  pub is_last : IsLast events
+  pub logged : Logs log log' events
+  pub not_printed : out' ≡ out
+
+-- it was exchanged, and of its reply a beginning was printed
+pub record LineUnprinted (switch : Endpoint) (line : List ℕ) (log log' : Option (List Event)) (out out' : Option (List ℕ)) : Type 0 where
+  pub reply : List ℕ
+  pub events : List Event
+  pub is_exchange : IsExchange switch line reply events
+  pub logged : Logs log log' events
+  pub printed : WritesBeginning out out' (reply_line reply)
+
+-- how a line ends by a fault
+abbrev pub LineEndsBy : TellFault → Endpoint → List ℕ → Option (List Event) → Option (List Event) → Option (List ℕ) → Option (List ℕ) → Type 0
+LineEndsBy NoAnswer switch line log log' out out' = LineUnheard (IsUnanswered switch line) log log' out out'
+LineEndsBy WaitFailed switch line log log' out out' = LineUnheard (IsCutOff switch line) log log' out out'
+LineEndsBy WriteFailed switch line log log' out out' = LineUnprinted switch line log log' out out'
+LineEndsBy ReadFailed switch line log log' out out' = ⊥
+LineEndsBy OutOfMemory switch line log log' out out' = ⊥
+LineEndsBy BindFailed switch line log log' out out' = ⊥

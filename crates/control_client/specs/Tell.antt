@@ -1,0 +1,48 @@
+-- What `tell` leaves: which lines were exchanged, and what was printed (docs/COMMANDS.md, "tell").
+use Rattle.std.specs.Prelude.{◌≡◌, ◌++◌, ◌∷◌, ◌⊎◌, Bool, List, None, Option, [], ℕ}
+use Rattle.std.specs.Io.KnownBytes.{Appends}
+use Rattle.ipv4_fields.specs.declared.endpoint.Endpoint.{Endpoint}
+use Rattle.control_client.specs.declared.fault.TellFault.{TellFault}
+use Rattle.control_client.specs.declared.fault.TellFault.TheVariants.{BindFailed, OutOfMemory, ReadFailed, WaitFailed}
+use Rattle.control_client.specs.Exchange.{AreExchanged, Exchange, LineEndsBy, has_refusal, lines_of, text_of}
+use Rattle.control_client.specs.Lines.{AreAll, AreFirst}
+use Rattle.control_client.specs.Wire.{Event, Logs}
+
+-- all lines were exchanged, in order, and their replies were printed, and nothing else
+pub record TellsAll (switch : Endpoint) (coming : Option (List (List ℕ))) (log log' : Option (List Event)) (out out' : Option (List ℕ)) (refused : Bool) : Type 0 where
+  pub told : List Exchange
+  pub events : List Event
+  pub all_lines : AreAll coming (lines_of told)
+  pub are_exchanged : AreExchanged switch told events
+  pub logged : Logs log log' events
+  pub printed : Appends out out' (text_of told)
+  pub refused_is : refused ≡ has_refusal told
+
+-- how it ends by a fault behind these lines: no further line was given, or one was, and that ended so
+abbrev pub StopsBehind : TellFault → Endpoint → Option (List (List ℕ)) → List (List ℕ) → Option (List Event) → Option (List Event)
+    → Option (List ℕ) → Option (List ℕ) → Type 0
+StopsBehind ReadFailed switch coming lines log log' out out' = AreFirst coming lines × (log' ≡ log) × (out' ≡ out)
+StopsBehind OutOfMemory switch coming lines log log' out out' = AreFirst coming lines × (log' ≡ log) × (out' ≡ out)
+StopsBehind fault switch coming lines log log' out out' =
+    (line : List ℕ) × AreFirst coming (lines ++ line ∷ []) × LineEndsBy fault switch line log log' out out'
+
+-- the first lines were exchanged and their replies printed, then it ended by a fault; no line was sent behind that
+pub record TellsFirst (fault : TellFault) (switch : Endpoint) (coming : Option (List (List ℕ))) (log log' : Option (List Event)) (out out' : Option (List ℕ)) : Type 0 where
+  pub told : List Exchange
+  pub events : List Event
+  pub log_then : Option (List Event)
+  pub out_then : Option (List ℕ)
+  pub are_exchanged : AreExchanged switch told events
+  pub logged : Logs log log_then events
+  pub printed : Appends out out_then (text_of told)
+  pub stopped : StopsBehind fault switch coming (lines_of told) log_then log' out_then out'
+
+-- why a socket is not made
+abbrev pub IsMakingFault : TellFault → Type 0
+IsMakingFault fault = (fault ≡ BindFailed) ⊎ (fault ≡ WaitFailed) ⊎ (fault ≡ OutOfMemory)
+
+-- over a socket it ended by a fault: where the socket was made, and nothing was printed, or behind the first lines. What happens on
+-- the socket is not told
+pub data StopsOverSocket (fault : TellFault) (switch : Endpoint) (coming : Option (List (List ℕ))) (out out' : Option (List ℕ)) : Type 0 where
+  not_made : IsMakingFault fault → out' ≡ out → StopsOverSocket fault switch coming out out'
+  stopped_behind : TellsFirst fault switch coming None None out out' → StopsOverSocket fault switch coming out out'

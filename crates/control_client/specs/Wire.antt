@@ -1,0 +1,27 @@
+-- What contracts see of the wire to a switch: what was sent, what came, and where nothing came in time.
+use Rattle.std.specs.Prelude.{◌≡◌, ◌++◌, ◌∷◌, Err, List, None, Ok, Option, Result, Some, [], take, ℕ}
+use Rattle.ipv4_fields.specs.declared.endpoint.Endpoint.{Endpoint}
+use Rattle.control_client.specs.declared.device.Came.{Came}
+
+-- one thing that happened: a datagram was sent, one came, or none came in time
+pub data Event : Type 0 where
+  sent : (to : Endpoint) (bytes : List ℕ) → Event
+  came : (from : Endpoint) (bytes : List ℕ) → Event
+  none_came : Event
+
+-- what a wire tells is what it told before, and then these; a wire may tell nothing
+abbrev pub Logs : Option (List Event) → Option (List Event) → List Event → Type 0
+Logs None later events = Unit {0}
+Logs (Some log) None events = ⊥
+Logs (Some log) (Some later) events = later ≡ log ++ events
+
+-- what happened in a send that ended so
+abbrev pub sent_by : {E : Type 0} → Result (Unit {0}) E → Endpoint → List ℕ → List Event
+sent_by (Ok done) to bytes = sent to bytes ∷ []
+sent_by (Err fault) to bytes = []
+
+-- what happened in a receive that ended so, and whose buffer then has these bytes
+abbrev pub came_by : {E : Type 0} → Result (Option Came) E → List ℕ → List Event
+came_by (Ok (Some one)) buffer = came one.from (take one.len buffer) ∷ []
+came_by (Ok None) buffer = none_came ∷ []
+came_by (Err fault) buffer = []

@@ -1,0 +1,114 @@
+//! The lines to tell: those of an input, or words that are a line each (docs/COMMANDS.md, "tell").
+
+ghost use Rattle.std.specs.Prelude.{◌≡◌, ◌⊎◌, IfErr, IfOk, List, Option, Some, map, ℕ};
+ghost use Rattle.control_client.specs.Lines.{GivesNext, lines_known};
+ghost use Rattle.control_client.specs.body.LineEnd.{without_end};
+
+use crate::fault::TellFault;
+use std::io::{BufRead, Error, ErrorKind};
+use std::marker::Model;
+
+/// Where lines come from.
+pub trait Lines {
+    ghost coming: { Self → Option (List (List ℕ)) };
+
+    /// Puts the next line, without LF, in place of what `line` has. False where there is none.
+    fn next(&mut self, line: &mut Vec<u8>) -> Result<bool, TellFault>
+        ensures next_line { IfOk result (GivesNext (coming self.old) (coming self.new) line.new.items) }
+        ensures faults { IfErr result (λ fault. (fault ≡ TellFault.ReadFailed) ⊎ (fault ≡ TellFault.OutOfMemory)) };
+}
+
+/// The lines of an input. LF ends a line, and what stands behind the last LF is a line too, where it has a byte. A line takes as much
+/// memory as it has bytes.
+#[derive(Drop)]
+pub struct InputLines<B: BufRead> {
+    input: B,
+}
+
+impl<B: BufRead> Model for InputLines<B> {
+    ghost use Rattle.std.specs.Prelude.{List, Option, ℕ};
+    ghost use Rattle.control_client.specs.Lines.{lines_known};
+
+    ghost Value = { Option (List (List ℕ)) };
+
+    ghost view = { λ lines. lines_known (B.remaining lines.input) };
+}
+
+impl<B: BufRead> InputLines<B> {
+    pub fn new(input: B) -> InputLines<B>
+        ensures lines { result ≡ lines_known (B.remaining input) }
+    {
+        InputLines { input }
+    }
+}
+
+// Takes the LF off the end, where there is one.
+fn drop_end(line: &mut Vec<u8>)
+    ensures { line.new.items ≡ without_end line.old.items }
+{
+    if line.ends_with(b"\n".as_slice()) {
+        line.truncate(line.len() - 1);
+    }
+}
+
+fn read_fault(error: &Error) -> TellFault
+    ensures { (result ≡ TellFault.ReadFailed) ⊎ (result ≡ TellFault.OutOfMemory) }
+{
+    match error.kind() {
+        ErrorKind::OutOfMemory => TellFault::OutOfMemory,
+        _ => TellFault::ReadFailed,
+    }
+}
+
+impl<B: BufRead> Lines for InputLines<B> {
+    ghost coming = { λ lines. lines };
+
+    fn next(&mut self, line: &mut Vec<u8>) -> Result<bool, TellFault> {
+        line.clear();
+        match self.input.read_until(b'\n', line) {
+            Ok(0) => Ok(false),
+            Ok(_) => {
+                drop_end(line);
+                Ok(true)
+            }
+            Err(error) => Err(read_fault(&error)),
+        }
+    }
+}
+
+/// Words that are a line each.
+#[derive(Drop)]
+pub struct WordLines<'a> {
+    words: &'a [&'a str],
+    given: usize,
+}
+
+impl<'a> Model for WordLines<'a> {
+    ghost use Rattle.std.specs.Prelude.{List, drop, map, ℕ};
+
+    ghost Value = { List (List ℕ) };
+
+    ghost view = { λ lines. map (λ word. word.now) (drop lines.given lines.words.now) };
+}
+
+impl<'a> WordLines<'a> {
+    pub fn new(words: &'a [&'a str]) -> WordLines<'a>
+        ensures lines { result ≡ map (λ word. word.now) words.now }
+    {
+        WordLines { words, given: 0 }
+    }
+}
+
+impl Lines for WordLines<'_> {
+    ghost coming = { λ lines. Some lines };
+
+    fn next(&mut self, line: &mut Vec<u8>) -> Result<bool, TellFault> {
+        let Some(word) = self.words.get(self.given) else {
+            return Ok(false);
+        };
+        line.clear();
+        line.extend_from_slice(word.as_bytes())?;
+        self.given += 1;
+        Ok(true)
+    }
+}

@@ -1,0 +1,133 @@
+//! The wire over a UDP socket, which waits for an answer until the time for it is out.
+
+ghost use Rattle.std.specs.Prelude.{IfErr};
+ghost use Rattle.control_client.specs.Tell.{IsMakingFault};
+
+use crate::device::{Came, Wire, WireFailed};
+use crate::fault::TellFault;
+use ipv4_fields::Endpoint;
+use mio::net::UdpSocket;
+use mio::{Events, Interest, Poll, Token};
+use std::alloc::Global;
+use std::io::ErrorKind;
+use std::net::{IpAddr, Ipv4Addr, Net, SocketAddr};
+use std::time::{Clock, Duration, Instant};
+
+// A socket at any address of the system, at a port that it picks.
+const ANY_PORT: Endpoint = Endpoint {
+    address: 0,
+    port: 0,
+};
+
+fn socket_address(of: Endpoint) -> SocketAddr {
+    SocketAddr::new(IpAddr::V4(Ipv4Addr::from(of.address)), of.port)
+}
+
+/// A wire over a socket of its own. Of what happens on it contracts see nothing.
+#[derive(Drop)]
+pub struct UdpWire<'a, R: Clock> {
+    clock: &'a R,
+    poll: Poll,
+    events: Events,
+    socket: UdpSocket,
+    timeout: Duration,
+    // When the time for the answer is out. None before a line was sent.
+    deadline: Option<Instant>,
+}
+
+impl<'a, R: Clock + Net> UdpWire<'a, R> {
+    /// Binds a socket by which a line is given so many seconds for its answer.
+    pub fn bind(rt: &'a R, alloc: Global, seconds: u64) -> Result<UdpWire<'a, R>, TellFault>
+        ensures faults { IfErr result IsMakingFault }
+    {
+        let events = Events::with_capacity(alloc, 1)?;
+        let Ok(mut socket) = UdpSocket::bind(rt, socket_address(ANY_PORT)) else {
+            return Err(TellFault::BindFailed);
+        };
+        let Ok(poll) = Poll::new(rt) else {
+            return Err(TellFault::WaitFailed);
+        };
+        let registered = poll
+            .registry()
+            .register(&mut socket, Token(0), Interest::READABLE);
+        if registered.is_err() {
+            return Err(TellFault::WaitFailed);
+        }
+        Ok(UdpWire {
+            clock: rt,
+            poll,
+            events,
+            socket,
+            timeout: Duration::from_secs(seconds),
+            deadline: None,
+        })
+    }
+}
+
+impl<R: Clock> UdpWire<'_, R> {
+    // How much of the time for the answer is left.
+    fn left(&self) -> Result<Duration, WireFailed> {
+        let Some(deadline) = self.deadline else {
+            return Err(WireFailed);
+        };
+        match Instant::now(self.clock) {
+            Ok(now) => Ok(deadline.saturating_duration_since(now)),
+            Err(_) => Err(WireFailed),
+        }
+    }
+
+    // Waits until something may have come, or the time is out. True where it was out before.
+    fn wait(&mut self) -> Result<bool, WireFailed> {
+        let left = self.left()?;
+        if left.is_zero() {
+            return Ok(true);
+        }
+        match self.poll.poll(&mut self.events, Some(left)) {
+            Ok(()) => Ok(false),
+            Err(_) => Err(WireFailed),
+        }
+    }
+}
+
+impl<R: Clock> Wire for UdpWire<'_, R> {
+    ghost use Rattle.std.specs.Prelude.{None};
+
+    ghost log = { λ _. None };
+
+    fn send(&mut self, to: Endpoint, bytes: &[u8]) -> Result<(), WireFailed> {
+        let Ok(now) = Instant::now(self.clock) else {
+            return Err(WireFailed);
+        };
+        self.deadline = now.checked_add(self.timeout);
+        match self.socket.send_to(bytes, socket_address(to)) {
+            Ok(size) if size == bytes.len() => Ok(()),
+            _ => Err(WireFailed),
+        }
+    }
+
+    fn receive(&mut self, buf: &mut [u8]) -> Result<Option<Came>, WireFailed> {
+        for _turn in 0..u64::MAX {
+            match self.socket.recv_from(buf) {
+                Ok((len, SocketAddr::V4(from))) => {
+                    let from = Endpoint {
+                        address: u32::from(*from.ip()),
+                        port: from.port(),
+                    };
+                    return Ok(Some(Came { from, len }));
+                }
+                Err(error) if error.kind() == ErrorKind::WouldBlock => {
+                    if self.wait()? {
+                        return Ok(None);
+                    }
+                }
+                // That an earlier datagram was refused is passed over.
+                _ => {
+                    if self.left()?.is_zero() {
+                        return Ok(None);
+                    }
+                }
+            }
+        }
+        Err(WireFailed)
+    }
+}

@@ -1,0 +1,435 @@
+//! The codes with their explanations: the meanings, usual mistakes and causes of docs/COMMANDS.md, and what to do.
+
+pub const EXPLANATIONS: [(&str, &str); 56] = [
+    (
+        "A1",
+        "\
+A1: A line of the program is no label and no instruction.
+Usual mistake: a missing `#` before a constant (`jeq 17,0,1`), a comment, or a
+mnemonic that is left out, as `jne`.
+What to do: correct the line that NUMBER tells, counted from 1.",
+    ),
+    (
+        "A2",
+        "\
+A2: A jump goes to a label that no line defines.
+Usual mistake: a misspelt label; names differ by case.
+What to do: define the label on a line below the jump, or correct its
+spelling.",
+    ),
+    (
+        "A3",
+        "\
+A3: A label is defined a second time.
+Usual mistake: a block that was pasted twice.
+What to do: take one of the two labels away, or give it another name.",
+    ),
+    (
+        "A4",
+        "\
+A4: A jump goes back, or to its own instruction.
+Usual mistake: a loop: BPF has none, so jumps go forward only.
+What to do: turn the test round, so that the program goes on below it.",
+    ),
+    (
+        "A5",
+        "\
+A5: A jump goes too far. A conditional jump skips at most 255 instructions,
+`ja` at most 4294967295.
+Usual mistake: a test before a long block; jump to a `ja` that is near.
+What to do: jump to a `ja` that is near, and from there to the far place.",
+    ),
+    (
+        "A6",
+        "\
+A6: Memory for the program's text was refused.
+No command prints this code: a call of the libraries answers it. Where memory
+is refused the program says `failed E3` in its place.",
+    ),
+    (
+        "B1",
+        "\
+B1: The new configuration is too large to be published. Its charge is above
+8192.
+Usual mistake: too many or too large programs; `show` tells the charge, and a
+shorter expression lowers it.
+What to do: clear programs that are not used, or write them shorter, and send
+the line again.",
+    ),
+    (
+        "B2",
+        "\
+B2: No row of the version table is free at the moment. Each worker was
+scanned.
+Usual mistake: none in the line: a worker is held up inside an old version, so
+that sixteen are in use.
+What to do: send the line again; `sweep` tells how many versions have become
+free.",
+    ),
+    (
+        "B3",
+        "\
+B3: The switch has used up its version numbers. The last one is 2^48.
+Usual mistake: none in the line: the switch has run for very long.
+What to do: restart the switch, and send its rules again.",
+    ),
+    (
+        "C1",
+        "\
+C1: The text is not one that was asked for. HEX has an odd number of digits or
+another character; a control line is none of its table; an address is no
+`a.b.c.d:p`; the CODE of `explain` is none of this page.
+Usual mistake: `0x` before HEX, a digit lost in copying, or HEX with the
+spaces of `tcpdump -x`; two spaces in a line, a space at its end, a CR or an
+LF in a control datagram (`echo` adds an LF, `printf` does not), a leading
+zero as in `010.0.0.2:53`, a host name for an address, `packet` sent to
+`serve`, a code in small letters.
+What to do: write it in the form that `dswitch help COMMAND` shows;
+`dswitch help replay` shows the control lines.",
+    ),
+    (
+        "C2",
+        "\
+C2: The line is too long. It has more than 262,144 bytes, or more than 65,507
+where it is told to a running switch.
+Usual mistake: a script without line ends, or a program generated as one huge
+line.
+What to do: end each line with a line feed, and write a long program shorter.",
+    ),
+    (
+        "C3",
+        "\
+C3: The packet is too long. It has more than 65,535 bytes.
+Usual mistake: a whole capture in place of one packet.
+What to do: give one packet, from its IPv4 header to the end that this header
+tells.",
+    ),
+    (
+        "E1",
+        "\
+E1: The input could not be read.
+Reading standard input failed, or a script has 2^63 bytes. Standard input is a
+directory, or the file's device failed; give a file or a pipe, as in
+`dswitch replay <FILE`.",
+    ),
+    (
+        "E2",
+        "\
+E2: Results could not be written.
+A write of results failed, a `refused` line included. The disk is full
+(`dswitch first >/dev/full` shows it); make room and run the command again.",
+    ),
+    (
+        "E3",
+        "\
+E3: Memory ran out.
+An allocation was refused, also while the words were read; as a reply to a
+control datagram: nothing was changed. The process is at its memory limit;
+raise it (`ulimit -v`), or make the input shorter, and try again.",
+    ),
+    (
+        "E4",
+        "\
+E4: A line had no reply.
+No reply came in the seconds of `--timeout`, the line could not be sent, or 4096
+datagrams came from elsewhere first. `tell` sent no later line. No switch runs
+at that address (`ss -ulpn` shows who listens; one at 0.0.0.0 is told by an
+address of its machine, as 127.0.0.1), a firewall drops the datagrams, or the
+switch is busy; start it, correct the address, or raise `--timeout`. The line
+may have been carried out all the same: `show` tells the version.",
+    ),
+    (
+        "F1",
+        "\
+F1: The expression needs too many scratch cells. There are 16.
+Usual mistake: arithmetic nested to the right, as `1+(1+(..))`; nest it to the
+left.
+What to do: nest the arithmetic to the left, or write the program in assembly.",
+    ),
+    (
+        "F2",
+        "\
+F2: The expression is too large. Its size is above 4096.
+Usual mistake: a long list of hosts or ports; use `net` and `portrange`, or
+write assembly.
+What to do: write the expression shorter, or the program in assembly.",
+    ),
+    (
+        "F3",
+        "\
+F3: Memory for the expression's program was refused.
+No command prints this code: a call of the libraries answers it. Where memory
+is refused the program says `failed E3` in its place.",
+    ),
+    (
+        "G1",
+        "\
+G1: No group has this key.
+Usual mistake: `add` forgotten, or another address or port.
+What to do: `add` the group, or correct the key.",
+    ),
+    (
+        "G2",
+        "\
+G2: A group with this key is there already.
+Usual mistake: a script that was sent twice.
+What to do: go on where the group is as it is to be; else `remove` it first.",
+    ),
+    (
+        "G3",
+        "\
+G3: The group has no member with this number.
+Usual mistake: the member left before, or belongs to another group.
+What to do: `join` the member first, or name the group that it belongs to.",
+    ),
+    (
+        "G4",
+        "\
+G4: The group has a member with this number already.
+Usual mistake: a member that is to move: `leave` first.
+What to do: `leave` first and then `join`, or take another number.",
+    ),
+    (
+        "G5",
+        "\
+G5: There are 64 groups already.
+Usual mistake: groups are kept that nobody uses.
+What to do: `remove` a group, and send the line again.",
+    ),
+    (
+        "G6",
+        "\
+G6: The group has 64 members already.
+Usual mistake: members are kept that have ended.
+What to do: let a member `leave`, and send the line again.",
+    ),
+    (
+        "G7",
+        "\
+G7: There is no program to clear.
+Usual mistake: `none` sent twice.
+What to do: go on: there is nothing to clear.",
+    ),
+    (
+        "G8",
+        "\
+G8: Memory for the new configuration was refused.
+No command prints this code: a call of the libraries answers it. Where memory
+is refused the program says `failed E3` in its place.",
+    ),
+    (
+        "G9",
+        "\
+G9: The member's filter is locked. It stays as it is.
+Usual mistake: a rule that somebody locked on purpose; the lock ends only when
+the member leaves (`leave`, then `join`) or its group is removed.
+What to do: leave the rule as it is, or let the member `leave` and `join`
+again.",
+    ),
+    (
+        "I1",
+        "\
+I1: The word is no instruction: no instruction has its code.
+No command prints this code: a call of the libraries answers it.",
+    ),
+    (
+        "I2",
+        "\
+I2: The word is no instruction: a field that it does not use is not 0.
+No command prints this code: a call of the libraries answers it.",
+    ),
+    (
+        "J1",
+        "\
+J1: A worker's thread could not be started.
+The user's or the unit's limit of threads is reached (`ulimit -u`,
+`TasksMax=`); raise it, or take fewer `--workers`.",
+    ),
+    (
+        "J2",
+        "\
+J2: Memory for the workers' threads was refused.
+No command prints this code: a call of the libraries answers it. Where memory
+is refused the program says `failed E3` in its place.",
+    ),
+    (
+        "N1",
+        "\
+N1: A counter is full.
+No command prints this code: a call of the libraries answers it.",
+    ),
+    (
+        "O1",
+        "\
+O1: The opening configuration is too large.
+No command prints this code: a call of the libraries answers it.",
+    ),
+    (
+        "O2",
+        "\
+O2: Memory for the version table was refused.
+No command prints this code: a call of the libraries answers it. Where memory
+is refused the program says `failed E3` in its place.",
+    ),
+    (
+        "P1",
+        "\
+P1: The text is no filter expression.
+Usual mistake: a host name, a port's name or `ether`, which are left out;
+`port 53 or 54` for `port 53 or port 54`; the expression without quotes, so
+that the shell cut it.
+What to do: look at the byte that NUMBER tells, counted from 0, and give the
+expression in quotes.",
+    ),
+    (
+        "P2",
+        "\
+P2: A number in the expression is too great.
+Usual mistake: a port above 65535, a protocol above 255.
+What to do: write a number that its field can have.",
+    ),
+    (
+        "P3",
+        "\
+P3: An address in the expression is misspelt. It is not four numbers of 0 to
+255.
+Usual mistake: `10.0.0`, or a leading zero as in `10.0.0.01`.
+What to do: write four numbers from 0 to 255 with dots between, without
+leading zeros.",
+    ),
+    (
+        "P4",
+        "\
+P4: A network's prefix does not fit. Its length is above 32, or the address
+has a bit set past it.
+Usual mistake: `net 10.0.0.1/8` for `net 10.0.0.0/8`.
+What to do: clear the bits past the prefix, or write a longer prefix.",
+    ),
+    (
+        "P5",
+        "\
+P5: The expression is nested too deeply. More than 64 brackets are open, or
+the tree is deeper than 64.
+Usual mistake: a list of 65 and more parts joined by `or`; put halves in
+brackets.
+What to do: put halves of the list in brackets, so that no part lies deep.",
+    ),
+    (
+        "P6",
+        "\
+P6: Memory for the expression was refused.
+No command prints this code: a call of the libraries answers it. Where memory
+is refused the program says `failed E3` in its place.",
+    ),
+    (
+        "S1",
+        "\
+S1: A socket could not be had.
+A socket could not be bound. Another process has the port (`ss -ulpn`), the
+address is none of this machine's, both addresses are the same, the port is
+below 1024 and needs a privilege, or the process may open no more files
+(`ulimit -n`): each worker has a socket.",
+    ),
+    (
+        "S2",
+        "\
+S2: The sockets could not be waited for.
+The process may open no more files (`ulimit -n`); raise the limit and run the
+command again. A switch that told it has ended.",
+    ),
+    (
+        "V1",
+        "\
+V1: The program has no instruction.
+Usual mistake: an empty file, or labels alone.
+What to do: write an instruction; `ret #0` alone is a program.",
+    ),
+    (
+        "V2",
+        "\
+V2: The program is too long. It has more than 4096 instructions.
+Usual mistake: a generated list of tests; use ranges, or split it over
+members.
+What to do: write the program shorter, or split it.",
+    ),
+    (
+        "V3",
+        "\
+V3: An instruction has an unknown opcode.
+Usual mistake: no assembly text gives it: only calls of the library that pass
+words.
+What to do: pass an opcode of the instruction set.",
+    ),
+    (
+        "V4",
+        "\
+V4: An instruction has a field that it does not use, and that is not 0.
+Usual mistake: as V3: words of a kernel's or another tool's making.
+What to do: set the field to 0.",
+    ),
+    (
+        "V5",
+        "\
+V5: An instruction divides by 0.
+Usual mistake: a constant that was computed wrongly.
+What to do: divide by another constant.",
+    ),
+    (
+        "V6",
+        "\
+V6: An instruction shifts by 32 or more.
+Usual mistake: a width in bits that was taken for a shift.
+What to do: shift by 0 to 31.",
+    ),
+    (
+        "V7",
+        "\
+V7: An instruction names a scratch cell that is not there. There are M[0] to
+M[15].
+Usual mistake: cells counted from 1.
+What to do: take a cell from M[0] to M[15].",
+    ),
+    (
+        "V8",
+        "\
+V8: A jump goes past the end of the program.
+Usual mistake: an offset counted from the jump itself; offsets count from the
+next instruction.
+What to do: let the jump end at an instruction of the program.",
+    ),
+    (
+        "V9",
+        "\
+V9: An absolute load is at 2^31 or above.
+Usual mistake: an offset of the kernel's ancillary data, such as -4096 written
+as 4294963200; there is none here.
+What to do: load from a place in the packet, counted from the IPv4 header's
+first byte.",
+    ),
+    (
+        "V10",
+        "\
+V10: The program does not end in a return.
+Usual mistake: `ret` forgotten at the end of the last branch.
+What to do: put `ret #0`, or another return, at the end.",
+    ),
+    (
+        "V11",
+        "\
+V11: A scratch cell is loaded that may not have been stored.
+Usual mistake: `st M[k]` in one branch only.
+What to do: store the cell on every path that comes to the load.",
+    ),
+    (
+        "X1",
+        "\
+X1: A receive failed.
+No command prints this code: a call of the libraries answers it.",
+    ),
+    (
+        "X2",
+        "\
+X2: A worker's counter is full.
+No command prints this code: a call of the libraries answers it.",
+    ),
+];
