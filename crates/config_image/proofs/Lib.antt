@@ -1,4 +1,5 @@
 mod StandardFacts
+mod PooledFacts
 pub mod LengthLemmas
 pub mod WordLemmas
 pub mod ImageLemmas
@@ -8,3 +9,9 @@ pub mod LookupLemmas
 pub mod SearchLemmas
 pub mod WritingLemmas
 pub mod RowLemmas
+pub mod PartsLemmas
+pub mod PooledLemmas
+pub mod NameLemmas
+pub mod ProgramLemmas
+pub mod PooledRowLemmas
+pub mod FormLemmas

@@ -11,7 +11,7 @@ use Rattle.config_image.proofs.ImageLemmas.{length_word}
 use Rattle.config_image.proofs.LengthLemmas.{within_charge}
 use Rattle.config_image.proofs.LookupLemmas.{word_of_image}
 
-row-padded : (config : List Group) → length (image config) ≤ ROW_WORDS → row config ≡ image config ++ replicate (ROW_WORDS - length (image config)) 0
+pub row-padded : (config : List Group) → length (image config) ≤ ROW_WORDS → row config ≡ image config ++ replicate (ROW_WORDS - length (image config)) 0
 unfolding row
 row-padded config fits =
     let rest = ROW_WORDS - length (image config) in

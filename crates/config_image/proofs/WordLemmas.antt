@@ -16,7 +16,7 @@ slice_get-append_left [] ys i inside = absurd (omega arith)
 slice_get-append_left (x ∷ xs) ys zero inside = refl
 slice_get-append_left (x ∷ xs) ys (suc i) inside = slice_get-append_left xs ys i (omega arith)
 
-slice_get-append_add : (xs ys : List ℕ) (i : ℕ) → slice_get (xs ++ ys) (length xs + i) ≡ slice_get ys i
+pub slice_get-append_add : (xs ys : List ℕ) (i : ℕ) → slice_get (xs ++ ys) (length xs + i) ≡ slice_get ys i
 slice_get-append_add [] ys i = let same : 0 + i ≡ i = omega arith in ap (slice_get ys) same
 slice_get-append_add (x ∷ xs) ys i =
     let next : suc (length xs) + i ≡ suc (length xs + i) = omega arith in ap (slice_get (x ∷ (xs ++ ys))) next ∙ slice_get-append_add xs ys i

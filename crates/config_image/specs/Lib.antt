@@ -1,5 +1,7 @@
 pub mod Image
 pub mod Lookup
+pub mod Pooled
+pub mod Walk
 pub use Rattle.bpf_insn.specs.Word
 pub use Rattle.bpf_verify.specs.Path
 pub use Rattle.bpf_verify.specs.Accepted

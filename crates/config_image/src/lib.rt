@@ -5,9 +5,15 @@
 ghost use Rattle.std.specs.Prelude.{◌≡◌};
 ghost use Rattle.config_image.specs.Image.{NoImageBeginsAnother};
 ghost use Rattle.config_image.specs.Lookup.{RowHoldsImage};
+ghost use Rattle.config_image.specs.Pooled.{EachImageHasItsParts, EachProgramIsCut, PooledFormTellsRow, RowTellsItsParts, RowTellsItsPartsWithRoom};
+
+use member_group::HEAD_WORDS;
 
 mod lookup;
+mod pages;
+mod pooled;
 mod size;
+mod walk;
 mod word;
 mod writing;
 
@@ -15,16 +21,27 @@ pub use lookup::{
     FoundGroup, MemberEntry, ProgramPlace, filter_of, find_group, member_at, member_with_filter,
     selector_of,
 };
+pub use pages::page_count;
+pub use pooled::{stored_word, write_pooled};
 pub use size::image_len;
+pub use walk::Programs;
 pub use word::image_word;
 pub use writing::{WordSink, write_image};
 
 /// The number of words of a row of the table.
 pub const ROW_WORDS: usize = 8192;
 
-/// Law: the limit, as a number. It runs nothing.
+/// The number of words of a page of the pool.
+pub const PAGE_WORDS: usize = 16;
+
+/// The greatest number of pages that a version names: a page costs at least four words of the charge.
+pub const PAGE_LIMIT: usize = (ROW_WORDS - HEAD_WORDS) / 4;
+
+/// Law: the limits, as numbers. It runs nothing.
 pub fn limits_as_numbers()
-    ensures { ROW_WORDS ≡ 8192 }
+    ensures row { ROW_WORDS ≡ 8192 }
+    ensures page { PAGE_WORDS ≡ 16 }
+    ensures pages { PAGE_LIMIT ≡ 2047 }
 {}
 
 /// Law: no image begins another, as lists of words. It runs nothing.
@@ -37,4 +54,23 @@ pub fn no_image_begins_another()
 #[tactic(auto, using(crate::proofs::RowLemmas::row_holds))]
 pub fn row_holds_image()
     ensures { RowHoldsImage }
+{}
+
+/// Law: how programs are cut in parts, and where the parts stand in the image of each configuration. It runs nothing.
+pub fn parts_stand()
+    ensures cut { EachProgramIsCut }
+    ensures in_image { EachImageHasItsParts }
+{}
+
+/// Law: what the row of a configuration in the pooled form tells of its programs and of the pages where they stand, where a row has
+/// room for the image, and so where the configuration is charged for at most `ROW_WORDS` words. It runs nothing.
+pub fn row_tells_its_parts()
+    ensures room { RowTellsItsPartsWithRoom }
+    ensures charged { RowTellsItsParts }
+{}
+
+/// Law: the row that holds the image, word by word, as a row in the pooled form and the pages that hold its parts tell it. It runs
+/// nothing.
+pub fn pooled_form_tells_row()
+    ensures { PooledFormTellsRow }
 {}

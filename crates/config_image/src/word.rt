@@ -5,7 +5,7 @@ ghost use Rattle.std.specs.List.{All};
 ghost use Rattle.std.specs.Option.{option_map};
 ghost use Rattle.member_group.specs.Charge.{members_of};
 ghost use Rattle.member_group.specs.Group.{IsConfig, IsGroup};
-ghost use Rattle.config_image.specs.Image.{all_member_records, filter_words, group_program_words, group_records, image, lock_word, member_records, program_words, reference};
+ghost use Rattle.config_image.specs.Image.{all_member_records, filter_words, group_program_words, group_records, image, lock_word, member_records, members_begin, program_words, programs_begin, reference};
 
 use crate::size::{members_in, programs_len, words, words_in};
 use bpf_verify::{MAX_INSTRUCTIONS, Program};
@@ -159,6 +159,30 @@ fn program_word<A: Allocator>(groups: &[Group<A>], word: usize) -> u64
     unreachable!()
 }
 
+// Word `i` of an image, behind the first and before the programs, where member records begin at `members_at` and programs at
+// `programs_at`.
+pub(crate) fn record_word<A: Allocator>(
+    groups: &[Group<A>],
+    i: usize,
+    members_at: usize,
+    programs_at: usize,
+) -> u64
+    requires config { IsConfig groups.now }
+    requires members { members_at ≡ members_begin groups.now }
+    requires programs { programs_at ≡ programs_begin groups.now }
+    requires behind { 0 < i }
+    requires before { i < programs_at }
+    ensures { slice_get (image groups.now) i ≡ Some result }
+{
+    if i == 1 {
+        groups.len() as u64
+    } else if i < members_at {
+        group_word(groups, i - HEAD_WORDS, members_at, programs_at)
+    } else {
+        members_word(groups, i - members_at, programs_at)
+    }
+}
+
 fn word<A: Allocator>(groups: &[Group<A>], i: usize) -> u64
     requires config { IsConfig groups.now }
     requires inside { i < length (image groups.now) }
@@ -168,12 +192,8 @@ fn word<A: Allocator>(groups: &[Group<A>], i: usize) -> u64
     let programs_at = members_at + MEMBER_WORDS * members_in(groups);
     if i == 0 {
         words_in(groups) as u64
-    } else if i == 1 {
-        groups.len() as u64
-    } else if i < members_at {
-        group_word(groups, i - HEAD_WORDS, members_at, programs_at)
     } else if i < programs_at {
-        members_word(groups, i - members_at, programs_at)
+        record_word(groups, i, members_at, programs_at)
     } else {
         program_word(groups, i - programs_at)
     }

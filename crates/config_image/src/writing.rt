@@ -28,7 +28,7 @@ pub trait WordSink {
         ensures room { room self.new + 1 ≡ room self.old };
 }
 
-fn write_words<S: WordSink>(words: &[u64], sink: &mut S)
+pub(crate) fn write_words<S: WordSink>(words: &[u64], sink: &mut S)
     requires room { length words.now ≤ S.room sink.old }
     ensures taken { S.taken sink.new ≡ S.taken sink.old ++ words.now }
     ensures room { S.room sink.new + length words.now ≡ S.room sink.old }
@@ -39,7 +39,7 @@ fn write_words<S: WordSink>(words: &[u64], sink: &mut S)
 }
 
 // The groups' records, where member records begin at `members_at` and programs at `programs_at`.
-fn write_group_records<A: Allocator, S: WordSink>(
+pub(crate) fn write_group_records<A: Allocator, S: WordSink>(
     groups: &[Group<A>],
     members_at: usize,
     programs_at: usize,
@@ -88,7 +88,11 @@ fn write_member_records<A: Allocator, S: WordSink>(
 }
 
 // All member records, where the programs begin at `programs_at`.
-fn write_members<A: Allocator, S: WordSink>(groups: &[Group<A>], programs_at: usize, sink: &mut S)
+pub(crate) fn write_members<A: Allocator, S: WordSink>(
+    groups: &[Group<A>],
+    programs_at: usize,
+    sink: &mut S,
+)
     requires few { length groups.now ≤ GROUP_LIMIT }
     requires groups { All IsGroup groups.now }
     requires programs { programs_at ≤ PLACE_LIMIT / 4 }

@@ -1,4 +1,6 @@
-//! Tests of configurations and of their images.
+//! Tests of configurations, of their images and rows, and of the search for a part.
 
 mod commands;
 mod images;
+mod pooled;
+mod searching;

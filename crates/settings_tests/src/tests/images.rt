@@ -15,29 +15,29 @@ use std::alloc::Global;
 use std::test::Fail;
 
 // 10.0.0.2:53
-const SAMPLE_GROUP: Endpoint = Endpoint {
+pub(super) const SAMPLE_GROUP: Endpoint = Endpoint {
     address: 0x0a00_0002,
     port: 53,
 };
 
 // 127.0.0.1:9001
-const SAMPLE_MEMBER: Endpoint = Endpoint {
+pub(super) const SAMPLE_MEMBER: Endpoint = Endpoint {
     address: 0x7f00_0001,
     port: 9001,
 };
 
-const RET_ZERO: u64 = 0x0006_0000_0000_0000;
+pub(super) const RET_ZERO: u64 = 0x0006_0000_0000_0000;
 
-const RET_ONE: u64 = 0x0006_0000_0000_0001;
+pub(super) const RET_ONE: u64 = 0x0006_0000_0000_0001;
 
-fn applied(config: &Config, command: Command) -> Result<Config, Fail> {
+pub(super) fn applied(config: &Config, command: Command) -> Result<Config, Fail> {
     match config.apply(&command) {
         Ok(next) => Ok(next),
         Err(_) => Err(Fail::from("the command is applied")),
     }
 }
 
-fn program(alloc: Global, words: &[u64]) -> Result<Program<Global>, Fail> {
+pub(super) fn program(alloc: Global, words: &[u64]) -> Result<Program<Global>, Fail> {
     match Program::new(words.to_vec(alloc)?) {
         Ok(program) => Ok(program),
         Err(_) => Err(Fail::from("the words are accepted")),
@@ -56,7 +56,7 @@ fn words_of(alloc: Global, config: &Config) -> Result<Vec<u64>, Fail>
 }
 
 // The group 10.0.0.2:53, its selector `ret #0`.
-fn with_selector(alloc: Global) -> Result<Config, Fail> {
+pub(super) fn with_selector(alloc: Global) -> Result<Config, Fail> {
     let added = applied(&Config::new(alloc), Command::AddGroup { key: SAMPLE_GROUP })?;
     let selector = program(alloc, &[RET_ZERO])?;
     applied(
@@ -84,7 +84,7 @@ fn two_images(rt: HostRuntime) -> Result<(), Fail> {
 
 // Two groups, the first without members: both name one place of member records. Programs go group by group, the selector
 // before the filters.
-fn two_groups(alloc: Global) -> Result<Config, Fail> {
+pub(super) fn two_groups(alloc: Global) -> Result<Config, Fail> {
     let next = Endpoint {
         address: 0x0a00_0002,
         port: 54,
@@ -161,7 +161,7 @@ fn image_of_two_groups(rt: HostRuntime) -> Result<(), Fail> {
 }
 
 // The group 10.0.0.2:53 with member 1 at 127.0.0.1:9001, without programs.
-fn with_member(alloc: Global) -> Result<Config, Fail> {
+pub(super) fn with_member(alloc: Global) -> Result<Config, Fail> {
     let added = applied(&Config::new(alloc), Command::AddGroup { key: SAMPLE_GROUP })?;
     applied(
         &added,
@@ -217,7 +217,7 @@ impl WordSink for ArraySink {
 }
 
 // The configurations of these tests: without groups, with one group, with two, and with a locked member.
-fn sample(alloc: Global, number: usize) -> Result<Config, Fail> {
+pub(super) fn sample(alloc: Global, number: usize) -> Result<Config, Fail> {
     match number {
         0 => Ok(Config::new(alloc)),
         1 => with_selector(alloc),

@@ -1,0 +1,36 @@
+use Rattle.std.proofs.Common.{◌≡◌, ◌∷◌, ◌+◌, [], List, ap, ℕ, length}
+use Rattle.std.specs.List.{flat_map}
+use Rattle.config_image.specs.Pooled.{parts_of}
+use Rattle.config_image.proofs.PartsLemmas.{size_of}
+use Rattle.config_image.proofs.NameLemmas.{names_enough, names_first, names_last, names_room, names_step, size_step}
+use Rattle.config_image.proofs.pooled.write_names.Goals as goal
+
+pub loop-words-init : goal.loop-words-init
+loop-words-init g c =
+    let same : c.into_iter-words-iterator.result ≡ c.args.programs = c.into_iter-words-iterator.ensures.into_iter_gives in (
+      names_first _ _ _ _ _ _ same c.requires.pages c.requires.room,
+      rw same c.requires.pages,
+      ap (λ (some : List (List ℕ)). c.args.programs_at + size_of some) same,
+    )
+
+pub write_program_names-left-requires-clause-enough : goal.write_program_names-left-requires-clause-enough
+write_program_names-left-requires-clause-enough g c =
+    let step : c.loop-words.words-iterator ≡ c.in-Some.words.now ∷ c.next.new.self = c.in-Some.ensures.steps in
+    names_enough _ _ _ step c.loop-words.left.now c.loop-words.invariant.1
+
+pub write_program_names-left-requires-clause-room : goal.write_program_names-left-requires-clause-room
+write_program_names-left-requires-clause-room g c =
+    let step : c.loop-words.words-iterator ≡ c.in-Some.words.now ∷ c.next.new.self = c.in-Some.ensures.steps in
+    names_room _ _ _ step _ _ _ _ _ c.loop-words.left.now _ c.loop-words.invariant.1 c.loop-words.invariant.0
+
+pub loop-words-preserved : goal.loop-words-preserved
+loop-words-preserved g c =
+    let step : c.loop-words.words-iterator ≡ c.in-Some.words.now ∷ c.next.new.self = c.in-Some.ensures.steps in
+    let written = c.write_program_names-left.ensures in
+    let next = names_step _ _ _ step _ _ _ _ _ c.loop-words.left.now _ c.loop-words.invariant.1 c.loop-words.invariant.0 _ _ _ written.left written.taken written.room in
+    (next.0, next.1, size_step _ _ _ step c.loop-words.place _ c.loop-words.invariant.2)
+
+pub returns-clause-room : goal.returns-clause-room
+returns-clause-room g c =
+    let none : c.loop-words.words-iterator ≡ [] = c.in-None.ensures.steps.0 in
+    (names_last _ _ _ _ c.args.programs_at c.loop-words.place c.args.programs c.loop-words.words-iterator c.loop-words.left.now c.args.pages.now none c.requires.pages c.loop-words.invariant.0).1

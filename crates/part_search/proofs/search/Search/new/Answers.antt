@@ -1,0 +1,9 @@
+use Rattle.std.proofs.Common.{arith}
+use Rattle.part_search.proofs.SearchLemmas.{reads_at_most, reads_least}
+use Rattle.part_search.proofs.search.Search.new.Goals as goal
+
+pub returns-clause-few_reads : goal.returns-clause-few_reads
+returns-clause-few_reads c n below = reads_least _ n (omega arith)
+
+pub returns-clause-at_most : goal.returns-clause-at_most
+returns-clause-at_most c = reads_at_most _

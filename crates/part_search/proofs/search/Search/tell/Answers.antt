@@ -1,0 +1,9 @@
+use Rattle.std.proofs.Common.{arith}
+use Rattle.part_search.proofs.SearchLemmas.{reads_fall}
+use Rattle.part_search.proofs.search.Search.tell.Goals as goal
+
+pub returns-then-name-self-clause-fewer : goal.returns-then-name-self-clause-fewer
+returns-then-name-self-clause-fewer c = reads_fall _ _ c.requires (omega arith)
+
+pub returns-else-name-self-clause-fewer : goal.returns-else-name-self-clause-fewer
+returns-else-name-self-clause-fewer c = reads_fall _ _ c.requires (omega arith)

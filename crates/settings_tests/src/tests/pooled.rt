@@ -1,0 +1,214 @@
+//! Rows in pooled form that were written down by hand, and the walk over programs.
+
+ghost use Rattle.std.specs.Prelude.{◌≡◌, ◌+◌, ◌<◌, ◌≤◌, ◌-◌, IfOk, OnOk, length, take};
+ghost use Rattle.member_group.specs.Charge.{charge_of};
+ghost use Rattle.config_image.specs.declared.TheConstants.{ROW_WORDS};
+ghost use Rattle.config_image.specs.Image.{programs_begin};
+ghost use Rattle.config_image.specs.Pooled.{ArePages, parts};
+
+use super::images::{
+    RET_ONE, RET_ZERO, SAMPLE_GROUP, SAMPLE_MEMBER, applied, program, sample, two_groups,
+    with_member, with_selector,
+};
+use config_image::{
+    PAGE_LIMIT, Programs, ROW_WORDS, WordSink, page_count, row_tells_its_parts, stored_word,
+    write_pooled,
+};
+use member_group::{Command, Config};
+use std::alloc::Global;
+use std::test::Fail;
+
+// The greatest first page of these tests.
+const LAST_FIRST: u32 = 1000;
+
+// A page for each part, from this page on.
+fn pages_from(alloc: Global, config: &Config, first: u32) -> Result<Vec<u32>, Fail>
+    requires { first ≤ LAST_FIRST }
+    ensures pages { IfOk result (λ pages. ArePages config.now pages.items) }
+    ensures charge { OnOk result (charge_of config.now ≤ ROW_WORDS) }
+    ensures room { OnOk result (programs_begin config.now + length (parts config.now) ≤ ROW_WORDS) }
+{
+    row_tells_its_parts();
+    if config.charge() > ROW_WORDS as u64 {
+        return Err(Fail::from("the row has room for the configuration"));
+    }
+    let mut pages = Vec::new(alloc);
+    for part in 0..page_count(config) {
+        pages.push(first + part)?;
+    }
+    Ok(pages)
+}
+
+// So many words from place `from` on, of the row with the pages from 0 on.
+fn row_words(alloc: Global, config: &Config, from: usize, count: usize) -> Result<Vec<u64>, Fail>
+    requires from { from < ROW_WORDS }
+    requires count { count ≤ ROW_WORDS - from }
+{
+    let pages = pages_from(alloc, config, 0)?;
+    let mut words = Vec::new(alloc);
+    for i in from..from + count {
+        words.push(stored_word(config, pages.as_slice(), i))?;
+    }
+    Ok(words)
+}
+
+// A walk lends these programs and no other.
+fn lends(config: &Config, programs: &[&[u64]]) -> bool {
+    let mut walk = Programs::of(config);
+    for program in programs {
+        if walk.next() != Some(*program) {
+            return false;
+        }
+    }
+    walk.next().is_none()
+}
+
+#[test]
+fn pooled_empty_row(rt: HostRuntime) -> Result<(), Fail> {
+    let alloc = rt.alloc();
+    let config = Config::new(alloc);
+    assert_eq!(rt; page_count(&config), 0);
+    assert_eq!(rt;
+        row_words(alloc, &config, 0, 3)?.as_slice(),
+        [0x2_0002_0000, 0, 0].as_slice()
+    );
+    assert!(rt; lends(&config, &[]));
+    Ok(())
+}
+
+#[test]
+fn pooled_selector_row(rt: HostRuntime) -> Result<(), Fail> {
+    let alloc = rt.alloc();
+    let config = with_selector(alloc)?;
+    assert_eq!(rt; page_count(&config), 1);
+    assert_eq!(rt;
+        row_words(alloc, &config, 0, 8)?.as_slice(),
+        [
+            0x7_0006_0001,
+            1,
+            0x0a00_0002_0035,
+            6,
+            0,
+            0x6_0001,
+            0x6_0000,
+            0
+        ]
+        .as_slice()
+    );
+    assert!(rt; lends(&config, &[&[RET_ZERO]]));
+    Ok(())
+}
+
+// The selector before the filters; a member without filter adds nothing.
+#[test]
+fn walk_in_image_order(rt: HostRuntime) -> Result<(), Fail> {
+    let config = two_groups(rt.alloc())?;
+    assert_eq!(rt; page_count(&config), 3);
+    assert!(rt; lends(&config, &[&[RET_ZERO], &[RET_ZERO, RET_ONE], &[RET_ONE]]));
+    Ok(())
+}
+
+// One group, one member, a filter of 4096 instructions.
+fn with_long_filter(alloc: Global) -> Result<Config, Fail> {
+    // Each but the last is `ld #0`.
+    let mut words = vec![in alloc; 0; 4095]?;
+    words.push(RET_ZERO)?;
+    let filter = program(alloc, words.as_slice())?;
+    applied(
+        &with_member(alloc)?,
+        Command::SetFilter {
+            key: SAMPLE_GROUP,
+            member: 1,
+            program: filter,
+        },
+    )
+}
+
+fn with_second_member(alloc: Global) -> Result<Config, Fail> {
+    applied(
+        &with_long_filter(alloc)?,
+        Command::Join {
+            key: SAMPLE_GROUP,
+            member: 2,
+            to: SAMPLE_MEMBER,
+        },
+    )
+}
+
+#[test]
+fn pooled_long_filter(rt: HostRuntime) -> Result<(), Fail> {
+    let alloc = rt.alloc();
+    let config = with_long_filter(alloc)?;
+    assert_eq!(rt; page_count(&config), 256);
+    assert_eq!(rt;
+        row_words(alloc, &config, 0, 1)?.as_slice(),
+        [0x100a_000a_0100].as_slice()
+    );
+    assert_eq!(rt;
+        row_words(alloc, &config, 10, 1)?.as_slice(),
+        [0xa_0000].as_slice()
+    );
+    assert_eq!(rt;
+        row_words(alloc, &config, 265, 2)?.as_slice(),
+        [0xffa_00ff, 0].as_slice()
+    );
+    let joined = with_second_member(alloc)?;
+    assert_eq!(rt; page_count(&joined), 256);
+    assert_eq!(rt;
+        row_words(alloc, &joined, 0, 1)?.as_slice(),
+        [0x100e_000e_0100].as_slice()
+    );
+    assert_eq!(rt;
+        row_words(alloc, &joined, 14, 1)?.as_slice(),
+        [0xe_0000].as_slice()
+    );
+    Ok(())
+}
+
+// Room for a row.
+#[derive(Drop)]
+struct RowSink {
+    words: [u64; ROW_WORDS],
+    count: usize,
+}
+
+impl WordSink for RowSink {
+    ghost taken = { λ sink. take sink.count sink.words };
+
+    ghost room = { λ sink. ROW_WORDS - sink.count };
+
+    #[tactic(auto, using(std::proofs::lemmas::List::take_more_set))]
+    fn put(&mut self, word: u64) {
+        self.words[self.count] = word;
+        self.count += 1;
+    }
+}
+
+// The row is written as its words are told by their places, up to its last zeros.
+fn is_written(alloc: Global, config: &Config, first: u32) -> Result<bool, Fail>
+    requires { first ≤ LAST_FIRST }
+{
+    let pages = pages_from(alloc, config, first)?;
+    let mut sink = RowSink {
+        words: [0; ROW_WORDS],
+        count: 0,
+    };
+    write_pooled(config, pages.as_slice(), &mut sink);
+    for (i, word) in sink.words.iter().enumerate() {
+        if *word != stored_word(config, pages.as_slice(), i) {
+            return Ok(false);
+        }
+    }
+    Ok(true)
+}
+
+#[test]
+fn rows_are_written(rt: HostRuntime) -> Result<(), Fail> {
+    for number in 0..4 {
+        let config = sample(rt.alloc(), number)?;
+        assert!(rt; is_written(rt.alloc(), &config, 0)?);
+        assert!(rt; is_written(rt.alloc(), &config, LAST_FIRST)?);
+    }
+    assert!(rt; is_written(rt.alloc(), &with_second_member(rt.alloc())?, 7)?);
+    Ok(())
+}

@@ -1,0 +1,109 @@
+//! The search for a part, beside a walk from part to part.
+
+ghost use Rattle.std.specs.Prelude.{◌≡◌, ◌<◌, ◌≤◌, ◌^◌, IfOk, length, vec_len};
+
+use part_search::{FoundPart, NAME_LIMIT, search_slice};
+use std::alloc::Global;
+use std::test::Fail;
+
+// The parts of 10, 16 and 1 words from image place 7 on, in pages 65535, 0 and 3.
+const THREE: [u64; 3] = [0x7_ffff, 0x11_0000, 0x21_0003];
+
+const THREE_END: usize = 34;
+
+// A place, and the index, the start, the end and the page of the part that is found.
+const ROWS: [(usize, Option<(usize, usize, usize, usize)>); 8] = [
+    (0, None),
+    (6, None),
+    (7, Some((0, 7, 17, 65535))),
+    (16, Some((0, 7, 17, 65535))),
+    (17, Some((1, 17, 33, 0))),
+    (32, Some((1, 17, 33, 0))),
+    (33, Some((2, 33, 34, 3))),
+    (34, None),
+];
+
+#[test]
+fn three_parts(rt: HostRuntime) {
+    for (place, want) in ROWS {
+        let found = search_slice(&THREE, THREE_END, place);
+        let told = found.map(|(part, _)| (part.index, part.start(), part.end(), part.page()));
+        assert!(rt; told == want);
+    }
+}
+
+// The place of the first part.
+const FIRST: u64 = 260;
+
+// The names of so many parts of 1 to 16 words, in pages from 65535 down, and the place behind the last part.
+fn row(alloc: Global, count: usize) -> Result<(Vec<u64>, usize), Fail>
+    requires { count ≤ NAME_LIMIT }
+    ensures names { IfOk result (λ row. vec_len row.0 ≡ count) }
+    ensures end { IfOk result (λ row. row.1 < 2 ^ 32) }
+{
+    let mut names = Vec::new(alloc);
+    let mut start = FIRST;
+    for i in 0..count as u64 {
+        names.push(start * 65536 + (65535 - i))?;
+        start += 1 + i * 7 % 16;
+    }
+    Ok((names, start as usize))
+}
+
+// The greatest number of reads of the searches for all places of all parts, where each finds the part whose turn it is, and the
+// place before the first is in none.
+fn most_reads(names: &[u64], end: usize) -> Option<usize>
+    requires names_fit { length names.now ≤ NAME_LIMIT }
+    requires end_fits { end < 2 ^ 32 }
+{
+    if search_slice(names, end, FIRST as usize - 1).is_some() {
+        return None;
+    }
+    let mut most = 0;
+    for (index, name) in names.iter().enumerate() {
+        let next = match names.get(index + 1) {
+            Some(next) => *next,
+            None => end as u64 * 65536,
+        };
+        let part = FoundPart {
+            index,
+            name: *name,
+            next,
+        };
+        for place in part.start()..part.end() {
+            let (found, reads) = search_slice(names, end, place)?;
+            if found != part {
+                return None;
+            }
+            if reads > most {
+                most = reads;
+            }
+        }
+    }
+    Some(most)
+}
+
+// Numbers of names, and the greatest number of reads.
+const READS: [(usize, usize); 10] = [
+    (0, 0),
+    (1, 1),
+    (2, 2),
+    (3, 2),
+    (4, 3),
+    (1022, 10),
+    (1023, 10),
+    (1024, 11),
+    (2046, 11),
+    (NAME_LIMIT, 11),
+];
+
+#[test]
+fn each_place_is_found(rt: HostRuntime) -> Result<(), Fail> {
+    for (count, want) in READS {
+        if count <= NAME_LIMIT {
+            let (names, end) = row(rt.alloc(), count)?;
+            assert!(rt; most_reads(names.as_slice(), end) == Some(want));
+        }
+    }
+    Ok(())
+}
