@@ -1,23 +1,25 @@
 -- The rule that each legal step keeps: how the words of the table, the workers' views and the operator's view go together.
-use Rattle.std.proofs.Common.{Contains, ◌≡◌, ◌≢◌, ◌⊎◌, ℕ, zero, suc, ◌+◌, ◌*◌, ◌/◌, ◌%◌, ◌<◌, ◌≤◌, List, [], ◌∷◌, drop, get_or, inl, inr, length, length-append, refl, slice_index, sym, ap, ◌∙◌, subst, ⊎_elim, arith}
+use Rattle.std.proofs.Common.{Contains, ◌≡◌, ◌≢◌, ◌⊎◌, ℕ, zero, suc, ◌+◌, ◌*◌, ◌/◌, ◌%◌, ◌<◌, ◌≤◌, List, [], ◌∷◌, Some, drop, get_or, get_or-set_other, inl, inr, length, length-append, refl, set, slice_get, slice_index, sym, ap, ◌∙◌, subst, ⊎_elim, arith}
 use Rattle.std.proofs.lemmas.List.{length-take-le, take-append-drop}
 use Rattle.std.proofs.lemmas.Nat.{div-mul-add, mod-mul-add}
+use Rattle.std.proofs.lemmas.Option.{slice_get_within}
 use mathlib.Core.Option.{some, some-injective, some-ne-none}
 use lib.ListN.{get_elem?}
 use Rattle.versions.specs.declared.step.Step.{Step}
+use Rattle.versions.specs.declared.step.Step.TheVariants.{Announce, Fetch, Fill, Leave, Peek, Pin, Publish, Scan}
 use Rattle.versions.specs.declared.step.Entry.{Entry}
 use Rattle.versions.specs.declared.view.Stage.{Stage}
 use Rattle.versions.specs.declared.view.Stage.TheVariants.{Announced, Inside, Outside, Peeked}
 use Rattle.versions.specs.declared.view.WorkerView.{WorkerView}
 use Rattle.versions.specs.declared.view.OperatorView.{OperatorView}
-use Rattle.versions.specs.Layout.{HoldsRow, Shape, current_word, row_begin}
+use Rattle.versions.specs.Layout.{HoldsForm, Shape, all_rows, current_word, pages_named, rows_begin, stored_words}
 use Rattle.versions.specs.Step.{IsStepOf, LoadsCurrent}
-use Rattle.versions.specs.View.{BeginsWith, BeginsWithLog, last_seen, read_word_after, read_word_of, stage_after, stage_after_peek, up_to}
-use Rattle.versions.specs.Free.{IsFree, IsScannedClear, number_after}
+use Rattle.versions.specs.View.{BeginsWith, BeginsWithLog, OfFetches, last_pinned, last_seen, next_stage, pinned_by, read_word_after, read_word_of, stage_after, stage_after_peek, up_to}
+use Rattle.versions.specs.Free.{IsFree, IsScannedClear, Names, number_after}
 use Rattle.versions.specs.State.{State, change, log_of}
-use Rattle.versions.specs.Legal.{FetchesHeld, HoldsPlace, IsHeldPlace, IsInOrder, IsLogOf, MayPeek}
-use Rattle.versions.specs.Safety.{IsOwnLog}
-use Rattle.versions.proofs.ListLemmas.{change_at, change_length, contains_first, elem_below, elem_same}
+use Rattle.versions.specs.Legal.{FetchesThere, IsInOrder, IsLogOf, MayPeek}
+use Rattle.versions.specs.Safety.{IsHeldPlace, IsOwnLog}
+use Rattle.versions.proofs.ListLemmas.{change_at, change_length, contains_first, elem_below, elem_same, row_inside}
 
 pub read_word-peek : (stage : Stage) (n : ℕ) → MayPeek stage → read_word_of (stage_after_peek stage n) ≡ read_word_of stage
 read_word-peek Outside n h = refl
@@ -25,8 +27,38 @@ read_word-peek (Peeked m) n h = refl
 read_word-peek (Announced k) n h = absurd h
 read_word-peek (Inside k m r) n h = refl
 
+peeked_inside : (m k n r : ℕ) → Peeked m ≡ Inside k n r → ⊥
+peeked_inside m k n r e = cc
+
+announced_inside : (m k n r : ℕ) → Announced m ≡ Inside k n r → ⊥
+announced_inside m k n r e = cc
+
+outside_inside : (k n r : ℕ) → Outside ≡ Inside k n r → ⊥
+outside_inside k n r e = cc
+
+pub version_inside : (j m q k n r : ℕ) → Inside j m q ≡ Inside k n r → m ≡ n
+version_inside j m q k n r e = cc
+
 pub begins_further : (e : Entry) {log older : List Entry} → BeginsWithLog log older → BeginsWithLog (e ∷ log) older
 begins_further e h = (e ∷ h.0, ap (λ l. e ∷ l) h.1)
+
+pinned_by_step : (rows k n r x before : ℕ) (stage : Stage) (step : Step) → ((j m q : ℕ) → stage ≡ Inside j m q → before ≡ m) → next_stage rows stage step x ≡ Inside k n r → pinned_by rows step x before ≡ n
+pinned_by_step rows k n r x before Outside (Peek w) h e = absurd (peeked_inside (x / rows) k n r e)
+pinned_by_step rows k n r x before (Peeked m) (Peek w) h e = absurd (peeked_inside (x / rows) k n r e)
+pinned_by_step rows k n r x before (Announced m) (Peek w) h e = absurd (peeked_inside (x / rows) k n r e)
+pinned_by_step rows k n r x before (Inside j m q) (Peek w) h e = h k n r e
+pinned_by_step rows k n r x before stage (Announce w) h e = absurd (announced_inside x k n r e)
+pinned_by_step rows k n r x before stage (Pin w) h e = version_inside _ _ _ _ _ _ e
+pinned_by_step rows k n r x before stage (Fetch w p) h e = h k n r e
+pinned_by_step rows k n r x before stage (Leave w) h e = absurd (outside_inside k n r e)
+pinned_by_step rows k n r x before stage (Fill p y) h e = h k n r e
+pinned_by_step rows k n r x before stage (Publish q) h e = h k n r e
+pinned_by_step rows k n r x before stage (Scan p) h e = h k n r e
+
+-- a worker that is inside holds the version of its last pin
+pub pinned_stage : (rows : ℕ) (log : List Entry) (k n r : ℕ) → stage_after rows log ≡ Inside k n r → last_pinned rows log ≡ n
+pinned_stage rows [] k n r e = absurd (outside_inside k n r e)
+pinned_stage rows (newest ∷ older) k n r e = pinned_by_step rows k n r newest.word (last_pinned rows older) (stage_after rows older) newest.step (pinned_stage rows older) e
 
 module _ {C : Type 0} where
   pub log_of_is : (views : List (WorkerView C)) (w : ℕ) (view : WorkerView C) → get_elem? views w ≡ some view → log_of views w ≡ view.log
@@ -68,24 +100,32 @@ module _ {C : Type 0} (shape : Shape C) where
     pub bounds : Bounds w operator (length view.seen) view.stage
     pub begins : BeginsWith operator.published view.seen
     pub up_to_last : length view.seen ≡ suc (last_seen shape.rows view.log)
+    pub pages : get_elem? operator.version_pages (last_pinned shape.rows view.log) ≡ some view.pages
     pub told : read_word_of view.stage ≡ read_word_after view.log
     pub own : IsOwnLog shape w view
     pub loads : (e : Entry) → Contains view.log e → LoadsCurrent e.step → e.word / shape.rows ≤ number_after operator.log
     pub scanned : (log : List Entry) → get_elem? operator.scanned_logs w ≡ some log → BeginsWithLog view.log log
 
-  -- each version that is not free stands in its row
+  -- row r and these pages hold the configuration, and the row names the pages
+  abbrev pub Stands : List ℕ → OperatorView C → ℕ → C → List ℕ → Type 0
+  Stands words operator r config pages = HoldsForm shape (rows_begin shape) words r config pages × (pages_named shape operator.stored r ≡ pages)
+
+  -- each version that is not free stands in its row and its pages
   pub record Coheres (s : State C) : Type 0 where
-    pub words_length : length s.words ≡ (1 + shape.workers) + shape.rows * shape.row_words
+    pub words_length : length s.words ≡ (1 + shape.workers) + stored_words shape
     pub workers_length : length s.workers ≡ shape.workers
-    pub row_words_length : length s.operator.row_words ≡ shape.rows * shape.row_words
-    pub row_words : (i : ℕ) → i < shape.rows * shape.row_words → slice_index s.words ((1 + shape.workers) + i) ≡ slice_index s.operator.row_words i
+    pub stored_length : length s.operator.stored ≡ stored_words shape
+    pub stored : (i : ℕ) → i < stored_words shape → slice_index s.words ((1 + shape.workers) + i) ≡ slice_index s.operator.stored i
     pub published_length : length s.operator.published ≡ suc (number_after s.operator.log)
     pub version_rows_length : length s.operator.version_rows ≡ suc (number_after s.operator.log)
+    pub version_pages_length : length s.operator.version_pages ≡ suc (number_after s.operator.log)
     pub current : (r : ℕ) × (get_elem? s.operator.version_rows (number_after s.operator.log) ≡ some r) × (slice_index s.words 0 ≡ current_word shape (number_after s.operator.log) r)
     pub numbered : number_after s.operator.log ≤ shape.last_number
     pub rows_below : (m r : ℕ) → get_elem? s.operator.version_rows m ≡ some r → r < shape.rows
     pub each_worker : (w : ℕ) (view : WorkerView C) → get_elem? s.workers w ≡ some view → WorkerRule s.words s.operator w view
-    pub each_version : (m : ℕ) (config : C) (r : ℕ) → get_elem? s.operator.published m ≡ some config → get_elem? s.operator.version_rows m ≡ some r → IsFree shape m s.operator.log ⊎ HoldsRow shape s.words r config
+    pub pages_below : (m page : ℕ) → Names s.operator m page → page < shape.pages
+    pub each_version : (m : ℕ) (config : C) (r : ℕ) (pages : List ℕ) → get_elem? s.operator.published m ≡ some config → get_elem? s.operator.version_rows m ≡ some r
+        → get_elem? s.operator.version_pages m ≡ some pages → IsFree shape m s.operator.log ⊎ Stands s.words s.operator r config pages
 
   -- what a load of `current` gives
   pub current_is : (s : State C) → Coheres s → (x : ℕ) → x ≡ slice_index s.words 0
@@ -96,22 +136,43 @@ module _ {C : Type 0} (shape : Shape C) where
         h.current.1 ∙ ap some (sym (ap (λ (k : ℕ). k % shape.rows) is ∙ mod-mul-add (number_after s.operator.log) shape.rows r low)),
       )
 
-  pub holds-on : (words words' : List ℕ) (r : ℕ) (config : C) → ((i : ℕ) → i < shape.row_words → get_or words' (row_begin shape r + i) 0 ≡ get_or words (row_begin shape r + i) 0)
-      → HoldsRow shape words r config → HoldsRow shape words' r config
-  holds-on words words' r config same h i l = same i l ∙ h i l
-
-  -- a log of worker w, one step longer
-  pub own_log-on : (w : ℕ) (view view' : WorkerView C) (step : Step) (x : ℕ) → IsOwnLog shape w view → view'.number ≡ view.number → IsStepOf w step → IsInOrder view.stage step x → FetchesHeld shape view.stage step
-      → view'.log ≡ record { step = step; word = x } ∷ view.log → view'.stage ≡ stage_after shape.rows (record { step = step; word = x } ∷ view.log) → IsOwnLog shape w view'
-  own_log-on w view view' step x h number mine order place log stage = record {
-    number = number ∙ h.number;
-    order = subst (IsLogOf shape w) (sym log) (h.order, mine, subst (λ q. IsInOrder q step x) h.stage order, subst (λ q. FetchesHeld shape q step) h.stage place);
-    stage = stage ∙ ap (stage_after shape.rows) (sym log);
+  -- words that are the same in rows and pool hold the same
+  pub holds-on : (from from' : ℕ) (words words' : List ℕ) (r : ℕ) (config : C) (pages : List ℕ) → r < shape.rows
+      → ((i : ℕ) → i < stored_words shape → get_or words' (from' + i) 0 ≡ get_or words (from + i) 0)
+      → HoldsForm shape from words r config pages → HoldsForm shape from' words' r config pages
+  holds-on from from' words words' r config pages low same h = record {
+    counted = h.counted;
+    below = h.below;
+    fits = h.fits;
+    row = λ i small. let inside = row_inside r shape.rows i shape.row_words low small in same (r * shape.row_words + i) (omega arith) ∙ h.row i small;
+    standing = λ index page k x part at cut word.
+        let small = slice_get_within part k x word in let fit = h.fits index part cut in let inside = row_inside page shape.pages k shape.page_words (h.below index page at) (omega arith) in
+        same (all_rows shape + (page * shape.page_words + k)) (omega arith) ∙ h.standing index page k x part at cut word;
   }
 
-  -- the place of a fetch is one of the version that its worker holds
-  pub held_place : (s : State C) (w place : ℕ) (view : WorkerView C) → get_elem? s.workers w ≡ some view → HoldsPlace shape s w place → IsHeldPlace shape view.stage place
-  held_place s w place view at holds = subst (λ (v : WorkerView C). IsHeldPlace shape v.stage place) (elem_same s.workers w holds.0 view holds.1 at) holds.2
+  -- what is set beside the row and the parts changes neither
+  pub holds-set : (words : List ℕ) (p x r : ℕ) (config : C) (pages : List ℕ) → ((i : ℕ) → i < shape.row_words → rows_begin shape + (r * shape.row_words + i) ≢ p)
+      → ((index page k : ℕ) → slice_get pages index ≡ Some page → k < shape.page_words → rows_begin shape + (all_rows shape + (page * shape.page_words + k)) ≢ p)
+      → HoldsForm shape (rows_begin shape) words r config pages → HoldsForm shape (rows_begin shape) (set words p x) r config pages
+  holds-set words p x r config pages beside_row beside_parts h = record {
+    counted = h.counted;
+    below = h.below;
+    fits = h.fits;
+    row = λ i small. get_or-set_other words p (rows_begin shape + (r * shape.row_words + i)) x 0 (beside_row i small) ∙ h.row i small;
+    standing = λ index page k y part at cut word.
+        let small = slice_get_within part k y word in let fit = h.fits index part cut in
+        get_or-set_other words p (rows_begin shape + (all_rows shape + (page * shape.page_words + k))) x 0 (beside_parts index page k at (omega arith)) ∙ h.standing index page k y part at cut word;
+  }
+
+  -- a log of worker w, one step longer
+  pub own_log-on : (w : ℕ) (view view' : WorkerView C) (step : Step) (x : ℕ) → IsOwnLog shape w view → view'.number ≡ view.number → IsStepOf w step → IsInOrder view.stage step x → FetchesThere shape view.stage step
+      → OfFetches (IsHeldPlace shape view') (record { step = step; word = x } ∷ view.log) → view'.log ≡ record { step = step; word = x } ∷ view.log → view'.stage ≡ stage_after shape.rows (record { step = step; word = x } ∷ view.log) → IsOwnLog shape w view'
+  own_log-on w view view' step x h number mine order place fetched log stage = record {
+    number = number ∙ h.number;
+    order = subst (IsLogOf shape w) (sym log) (h.order, mine, subst (λ q. IsInOrder q step x) h.stage order, subst (λ q. FetchesThere shape q step) h.stage place);
+    stage = stage ∙ ap (stage_after shape.rows) (sym log);
+    fetched = subst (OfFetches (IsHeldPlace shape view')) (sym log) fetched;
+  }
 
   -- a step of worker w
   pub worker_keeps : (s : State C) → Coheres s → (w : ℕ) (view : WorkerView C) (f : WorkerView C → WorkerView C) (words' : List ℕ) → get_elem? s.workers w ≡ some view
@@ -120,10 +181,11 @@ module _ {C : Type 0} (shape : Shape C) where
   worker_keeps s h w view f words' at long same ok = let many = h.workers_length in let below = elem_below s.workers w view at in record {
     words_length = long ∙ h.words_length;
     workers_length = change_length f s.workers w ∙ h.workers_length;
-    row_words_length = h.row_words_length;
-    row_words = λ i l. same ((1 + shape.workers) + i) (λ e. omega arith) ∙ h.row_words i l;
+    stored_length = h.stored_length;
+    stored = λ i l. same ((1 + shape.workers) + i) (λ e. omega arith) ∙ h.stored i l;
     published_length = h.published_length;
     version_rows_length = h.version_rows_length;
+    version_pages_length = h.version_pages_length;
     current = (h.current.0, h.current.1, same 0 (λ e. omega arith) ∙ h.current.2);
     numbered = h.numbered;
     rows_below = h.rows_below;
@@ -132,9 +194,11 @@ module _ {C : Type 0} (shape : Shape C) where
         let is : b ≡ f view = t.1.2 ∙ ap f (elem_same s.workers w t.1.0 view t.1.1 at) in
         subst (λ (v : ℕ). WorkerRule words' s.operator v b) (sym t.0) (subst (λ (y : WorkerView C). WorkerRule words' s.operator w y) (sym is) ok))
         (λ (t : (j ≢ w) × (get_elem? s.workers j ≡ some b)). let was = h.each_worker j b t.1 in let k = t.0 in
-        record { read_word = same (1 + j) (λ e. k (omega arith)) ∙ was.read_word; bounds = was.bounds; begins = was.begins; up_to_last = was.up_to_last; told = was.told; own = was.own; loads = was.loads; scanned = was.scanned })
+        record { read_word = same (1 + j) (λ e. k (omega arith)) ∙ was.read_word; bounds = was.bounds; begins = was.begins; up_to_last = was.up_to_last; pages = was.pages; told = was.told; own = was.own; loads = was.loads; scanned = was.scanned })
         (change_at f s.workers w j b there);
-    each_version = λ m config r p q. ⊎_elim inl (λ t. inr (holds-on s.words words' r config (λ i l. same (row_begin shape r + i) (λ e. omega arith)) t)) (h.each_version m config r p q);
+    pages_below = h.pages_below;
+    each_version = λ m config r pages p q u. ⊎_elim inl
+        (λ t. inr (holds-on (rows_begin shape) (rows_begin shape) s.words words' r config pages (h.rows_below m r q) (λ i l. same (rows_begin shape + i) (λ e. omega arith)) t.0, t.1)) (h.each_version m config r pages p q u);
   }
 
   -- what a worker sees when a load of `current` gives x

@@ -2,6 +2,7 @@ pub mod StandardFacts
 pub mod ListLemmas
 pub mod LogLemmas
 pub mod Coherence
+pub mod HeldVersions
 pub mod WorkerSteps
 pub mod OperatorSteps
 pub mod TraceLemmas

@@ -1,5 +1,9 @@
 -- Lists: elements by place, and what changes at one place.
-use Rattle.std.proofs.Common.{Contains, ◌≡◌, ◌≢◌, ◌⊎◌, ℕ, zero, suc, ◌+◌, ◌*◌, ◌/◌, ◌<◌, ◌≤◌, List, [], ◌∷◌, ◌++◌, length, get_or, set, refl, sym, ap, ◌∙◌, inl, inr, ⊎_elim, arith}
+use Rattle.std.proofs.Common.{Contains, ◌≡◌, ◌≢◌, ◌⊎◌, ℕ, zero, suc, ◌+◌, ◌*◌, ◌-◌, ◌/◌, ◌<◌, ◌≤◌, List, [], ◌∷◌, ◌++◌, Some, drop, length, get_or, set, slice_get, take, refl, sym, ap, ◌∙◌, inl, inr, ⊎_elim, arith}
+use Rattle.std.proofs.lemmas.List.{drop-set-add, drop-set-lt, take-set-le}
+use Rattle.std.proofs.lemmas.Bool.{cases_lt}
+use mathlib.Core.Logic.{dite}
+use native.Mathlib.Decide.{ℕ_discrete}
 use Rattle.std.proofs.lemmas.Nat.{div-mul-add}
 use Rattle.std.proofs.Common.{mul-le-mul_right, suc-mul}
 use mathlib.Core.Option.{some, some-injective, some-ne-none}
@@ -86,6 +90,38 @@ same_row size r q i j small low e = sym (div-mul-add r size i small) ∙ (ap (λ
 
 pub row_inside : (r rows i size : ℕ) → r < rows → i < size → r * size + i < rows * size
 row_inside r rows i size low small = let h : suc r * size ≤ rows * size = mul-le-mul_right size low in omega (arith, suc-mul r size)
+
+some_number : (x y : ℕ) → Some x ≡ Some y → x ≡ y
+some_number x y e = cc
+
+pub none_at : (p q : ℕ) (l : List ℕ) → p ≢ q → ((j : ℕ) → slice_get l j ≡ Some q → ⊥) → (j : ℕ) → slice_get (p ∷ l) j ≡ Some q → ⊥
+none_at p q l other none zero e = other (some_number p q e)
+none_at p q l other none (suc j) e = none j e
+
+pub none_of_none : (q j : ℕ) → slice_get [] j ≡ Some q → ⊥
+none_of_none q j e = cc
+
+-- a list has the number at some place, or at none
+pub has_or_not : (l : List ℕ) (q : ℕ) → ((j : ℕ) × (slice_get l j ≡ Some q)) ⊎ ((j : ℕ) → slice_get l j ≡ Some q → ⊥)
+has_or_not [] q = inr (none_of_none q)
+has_or_not (p ∷ l) q = dite (ℕ_discrete p q) (λ e. inl (zero, ap Some e))
+    (λ other. ⊎_elim (λ (t : (j : ℕ) × (slice_get l j ≡ Some q)). inl (suc t.0, t.1)) (λ none. inr (none_at p q l other none)) (has_or_not l q))
+
+-- what stands beside a place that is set stays
+pub beside_set : (l : List ℕ) (b n i x : ℕ) → (i < b) ⊎ (b + n ≤ i) → take n (drop b (set l i x)) ≡ take n (drop b l)
+beside_set l b n i x (inl low) = ap (take n) (drop-set-lt b l i x low)
+beside_set l b n i x (inr up) = ap (λ (k : ℕ). take n (drop b (set l k x))) (let g : i ≡ b + (i - b) = omega arith in g)
+    ∙ (ap (take n) (drop-set-add b l (i - b) x) ∙ take-set-le n (drop b l) (i - b) x (omega arith))
+
+-- a place of one row is beside another row
+pub beside_row : (q r i size : ℕ) → i < size → q ≢ r → (r * size + i < q * size) ⊎ (q * size + size ≤ r * size + i)
+beside_row q r i size small other = ⊎_elim
+    (λ (low : r < q). inl (let under : suc r * size ≤ q * size = mul-le-mul_right size low in omega (arith, suc-mul r size)))
+    (λ (up : q ≤ r). inr (let above : suc q * size ≤ r * size = mul-le-mul_right size (strictly q r other up) in omega (arith, suc-mul q size)))
+    (cases_lt r q)
+  where
+    strictly : (q r : ℕ) → q ≢ r → q ≤ r → suc q ≤ r
+    strictly q r other up = dite (ℕ_discrete q r) (λ e. absurd (other e)) (λ ne. omega arith)
 
 module _ {A : Type 0} where
   pub contains_first : (x y : A) (xs : List A) → Contains (x ∷ xs) y → (x ≡ y) ⊎ Contains xs y

@@ -10,18 +10,21 @@ use Rattle.versions.specs.declared.view.Stage.TheVariants.{Announced, Inside, Ou
 use Rattle.versions.specs.declared.view.WorkerView.{WorkerView}
 use Rattle.versions.specs.declared.view.OperatorView.{OperatorView}
 use Rattle.versions.specs.Layout.{Shape}
-use Rattle.versions.specs.State.{State, change}
-use Rattle.versions.specs.Legal.{HoldsPlace, IsHeldPlace, IsInOrder, IsNextOf, MayPeek}
+use Rattle.versions.specs.State.{HoldsVersion, State, change}
+use Rattle.versions.specs.Legal.{IsInOrder, IsNextOf, MayPeek}
 use Rattle.versions.specs.Book.{IsBook}
 use Rattle.versions.specs.body.Mirror.{IsMirror}
 use Rattle.versions.proofs.ListLemmas.{change_at, elem_same, elem_there}
-use Rattle.versions.proofs.Coherence.{Coheres}
+use Rattle.versions.proofs.Coherence.{Coheres, version_inside}
 
 pub may_peek : (stage : Stage) → ((k : ℕ) → stage ≡ Announced k → ⊥) → MayPeek stage
 may_peek Outside h = tt
 may_peek (Peeked n) h = tt
 may_peek (Announced k) h = h k refl
 may_peek (Inside k n r) h = tt
+
+row_inside_same : (j m q k n r : ℕ) → Inside j m q ≡ Inside k n r → q ≡ r
+row_inside_same j m q k n r e = cc
 
 pub some_same : {A : Type 0} → (x y : A) → Some x ≡ Some y → x ≡ y
 some_same x y e = cc
@@ -42,7 +45,7 @@ slice_get-set_other (y ∷ ys) (suc i) zero x ne = refl
 slice_get-set_other (y ∷ ys) (suc i) (suc j) x ne = slice_get-set_other ys i j x (λ e. ne (ap suc e))
 
 module _ {C : Type 0} (shape : Shape C) where
-  module _ (s : State C) (words : List ℕ) (progress : Progress) (m : IsMirror shape s words progress) where
+  module _ {A : Type 0} (s : State C) (words : List ℕ) (progress : Progress A) (m : IsMirror shape s words progress) where
     -- a worker that is where its stage tells
     pub next_of : Coheres shape s → (w : ℕ) (stage : Stage) (step : Step) (x : ℕ) → slice_get progress.stages w ≡ Some stage → IsInOrder stage step x → IsNextOf s w step x
     next_of h w stage step x at order =
@@ -51,12 +54,16 @@ module _ {C : Type 0} (shape : Shape C) where
         let is : stage ≡ view.0.stage = some_same _ _ (sym at ∙ m.stages w view.0 view.1) in
         (view.0, view.1, subst (λ q. IsInOrder q step x) is order)
 
-    pub holds_place : Coheres shape s → (w : ℕ) (stage : Stage) (place : ℕ) → slice_get progress.stages w ≡ Some stage → IsHeldPlace shape stage place → HoldsPlace shape s w place
-    holds_place h w stage place at held =
-        let below = slice_get_within progress.stages w stage at in let many = m.stages_length in let all = h.workers_length in
+    -- the version that a worker's stage tells
+    pub holds_version : Coheres shape s → (w k n r : ℕ) → slice_get progress.stages w ≡ Some (Inside k n r) → HoldsVersion s w n r
+    holds_version h w k n r at =
+        let below = slice_get_within progress.stages w (Inside k n r) at in let many = m.stages_length in let all = h.workers_length in
         let view = elem_there s.workers w (omega arith) in
-        let is : stage ≡ view.0.stage = some_same _ _ (sym at ∙ m.stages w view.0 view.1) in
-        (view.0, view.1, subst (λ q. IsHeldPlace shape q place) is held)
+        (view.0, k, view.1, sym (some_same _ _ (sym at ∙ m.stages w view.0 view.1)))
+
+    -- and the stage that the version tells
+    pub stage_of_held : (w k n r m' q : ℕ) → slice_get progress.stages w ≡ Some (Inside k n r) → HoldsVersion s w m' q → (n ≡ m') × (r ≡ q)
+    stage_of_held w k n r m' q at held = let is : Inside k n r ≡ Inside held.1 m' q = some_same _ _ (sym at ∙ m.stages w held.0 held.2) ∙ held.3 in (version_inside _ _ _ _ _ _ is, row_inside_same _ _ _ _ _ _ is)
 
     pub no_worker : (w : ℕ) (step : Step) (x : ℕ) → slice_get progress.stages w ≡ None → IsNextOf s w step x → ⊥
     no_worker w step x none next = none_some next.0.stage (sym none ∙ m.stages w next.0 next.1)
@@ -80,7 +87,7 @@ module _ {C : Type 0} (shape : Shape C) where
     }
 
     -- a step of the operator, or a proposal: the workers stay
-    pub IsMirror-operator : (operator : OperatorView C) (words' kept' : List ℕ) (progress' : Progress) → progress'.stages ≡ progress.stages → IsBook shape operator progress'.book → kept' ≡ words'
+    pub IsMirror-operator : (operator : OperatorView C) (words' kept' : List ℕ) (progress' : Progress A) → progress'.stages ≡ progress.stages → IsBook shape operator progress'.book → kept' ≡ words'
         → IsMirror shape (record s { words = words'; operator = operator }) kept' progress'
     IsMirror-operator operator words' kept' progress' stages book same_words = record {
       words_same = same_words;

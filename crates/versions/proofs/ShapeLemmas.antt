@@ -1,12 +1,12 @@
 -- The shape of the switch's table, in numbers.
-use Rattle.std.proofs.Common.{◌≡◌, ℕ, ◌+◌, ◌-◌, ◌*◌, ◌/◌, ◌%◌, ◌<◌, ◌≤◌, List, arith, refl, sym, ◌∙◌, ap}
+use Rattle.std.proofs.Common.{◌≡◌, ℕ, ◌+◌, ◌-◌, ◌*◌, ◌/◌, ◌%◌, ◌<◌, ◌≤◌, List, Some, [], arith, get_or, refl, slice_get, sym, ◌∙◌, ap}
 use Rattle.std.proofs.lemmas.Nat.{div-add-mod', div-mul-add}
 use Rattle.std.proofs.Math.Nat.{mod-lt}
-use Rattle.config_image.specs.declared.TheConstants.{ROW_WORDS}
+use Rattle.config_image.specs.declared.TheConstants.{PAGE_WORDS, ROW_WORDS}
 use Rattle.config_image.specs.Image.{Group, row}
 use Rattle.member_group.specs.Charge.{charge_of}
-use Rattle.versions.specs.declared.layout.TheConstants.{LAST_NUMBER, CHARGE_LIMIT, ROWS, ROWS_BEGIN, TABLE_WORDS, WORKERS}
-use Rattle.versions.specs.Layout.{HoldsRow, IsInRow}
+use Rattle.versions.specs.declared.layout.TheConstants.{LAST_NUMBER, CHARGE_LIMIT, PAGES, POOL_BEGIN, ROWS, ROWS_BEGIN, TABLE_WORDS, WORKERS}
+use Rattle.versions.specs.Layout.{HoldsForm, IsInPage, IsInRow, IsPartPlace, page_begin, pages_named, rows_begin, stored_words}
 use Rattle.versions.specs.Table.{the_shape}
 
 pub workers_is : the_shape.workers ≡ WORKERS
@@ -33,9 +33,32 @@ pub charge_is : (config : List Group) → the_shape.charge config ≡ charge_of 
 unfolding the_shape
 charge_is config = refl
 
-pub row_is : (config : List Group) → the_shape.row config ≡ row config
+pub pages_is : the_shape.pages ≡ PAGES
 unfolding the_shape
-row_is config = refl
+pages_is = refl
+
+pub page_words_is : the_shape.page_words ≡ PAGE_WORDS
+unfolding the_shape
+page_words_is = refl
+
+pub row_is : (config : List Group) (pages : List ℕ) → the_shape.form.row config pages ≡ row config
+unfolding the_shape
+row_is config pages = refl
+
+-- no version names a page, and nothing stands in pages
+pub names_none : (stored : List ℕ) (r : ℕ) → pages_named the_shape stored r ≡ []
+unfolding the_shape
+names_none stored r = refl
+
+pub no_parts : (config : List Group) → the_shape.form.parts config ≡ []
+unfolding the_shape
+no_parts config = refl
+
+pub none_there : (index : ℕ) {A : Type 0} (x : A) → slice_get [] index ≡ Some x → ⊥
+none_there index x e = cc
+
+pub no_part_place : (config : List Group) (pages : List ℕ) (place : ℕ) → IsPartPlace the_shape config pages place → ⊥
+no_part_place config pages place at = none_there at.index at.part (ap (λ l. slice_get l at.index) (sym (no_parts config)) ∙ at.part_is)
 
 -- a place of a row, in numbers
 pub in_row : (r place i : ℕ) → i < ROW_WORDS → place ≡ (ROWS_BEGIN + r * ROW_WORDS) + i → IsInRow the_shape r place
@@ -60,21 +83,53 @@ row_by_division r place h = let t = in_row_numbers r place h in let e = t.2 in
 pub place_below : (r place : ℕ) → r < the_shape.rows → IsInRow the_shape r place → place < TABLE_WORDS
 place_below r place low h = let t = in_row_numbers r place h in let inside = t.1 in let e = t.2 in omega (arith, rows_is)
 
--- the words of a row, in numbers
-pub holds_numbers : (words : List ℕ) (r : ℕ) (config : List Group) → HoldsRow the_shape words r config
-    → (i : ℕ) → i < ROW_WORDS → Rattle.std.proofs.Common.get_or words ((ROWS_BEGIN + r * ROW_WORDS) + i) 0 ≡ Rattle.std.proofs.Common.get_or (row config) i 0
+page_place : (q place k : ℕ) → place ≡ (POOL_BEGIN + q * PAGE_WORDS) + k → place ≡ page_begin the_shape q + k
 unfolding the_shape
-holds_numbers words r config h = h
+page_place q place k e = omega arith
 
-pub holds : (words : List ℕ) (r : ℕ) (config : List Group) → ((i : ℕ) → i < ROW_WORDS → Rattle.std.proofs.Common.get_or words ((ROWS_BEGIN + r * ROW_WORDS) + i) 0 ≡ Rattle.std.proofs.Common.get_or (row config) i 0)
-    → HoldsRow the_shape words r config
-unfolding the_shape
-holds words r config h = h
+-- a place of a page, in numbers
+pub in_page : (q place k : ℕ) → k < PAGE_WORDS → place ≡ (POOL_BEGIN + q * PAGE_WORDS) + k → IsInPage the_shape q place
+in_page q place k inside e = (k, omega (arith, page_words_is), page_place q place k e)
 
-pub other_rows_is : (the_shape.rows - 1) * the_shape.row_words ≡ (ROWS - 1) * ROW_WORDS
+pub in_page_numbers : (q place : ℕ) → IsInPage the_shape q place → (k : ℕ) × (k < PAGE_WORDS) × (place ≡ (POOL_BEGIN + q * PAGE_WORDS) + k)
 unfolding the_shape
-other_rows_is = refl
+in_page_numbers q place h = let e = h.2 in (h.0, h.1, omega arith)
 
-pub all_rows_is : the_shape.rows * the_shape.row_words ≡ ROWS * ROW_WORDS
+pub page_at_place : (place : ℕ) → POOL_BEGIN ≤ place → IsInPage the_shape ((place - POOL_BEGIN) / PAGE_WORDS) place
+page_at_place place low = let e = div-add-mod' (place - POOL_BEGIN) PAGE_WORDS in
+    in_page ((place - POOL_BEGIN) / PAGE_WORDS) place ((place - POOL_BEGIN) % PAGE_WORDS) (mod-lt (place - POOL_BEGIN) (omega arith)) (omega arith)
+
+pub behind_pool_begin : (q place : ℕ) → IsInPage the_shape q place → POOL_BEGIN ≤ place
+behind_pool_begin q place h = let t = in_page_numbers q place h in let e = t.2 in omega arith
+
+pub page_by_division : (q place : ℕ) → IsInPage the_shape q place → (place - POOL_BEGIN) / PAGE_WORDS ≡ q
+page_by_division q place h = let t = in_page_numbers q place h in let e = t.2 in
+    let off : place - POOL_BEGIN ≡ q * PAGE_WORDS + t.0 = omega arith in ap (λ (k : ℕ). k / PAGE_WORDS) off ∙ div-mul-add q PAGE_WORDS t.0 t.1
+
+pub row_below_pool : (r place : ℕ) → r < the_shape.rows → IsInRow the_shape r place → place < POOL_BEGIN
+row_below_pool r place low h = let t = in_row_numbers r place h in let inside = t.1 in let e = t.2 in omega (arith, rows_is)
+
+pub page_below : (q place : ℕ) → q < the_shape.pages → IsInPage the_shape q place → place < TABLE_WORDS
+page_below q place low h = let t = in_page_numbers q place h in let inside = t.1 in let e = t.2 in omega (arith, pages_is)
+
+-- a row of the table holds a configuration where it has the words of the configuration's row
+pub holds_numbers : (words : List ℕ) (r : ℕ) (config : List Group) → HoldsForm the_shape (rows_begin the_shape) words r config []
+    → (i : ℕ) → i < ROW_WORDS → get_or words ((ROWS_BEGIN + r * ROW_WORDS) + i) 0 ≡ get_or (row config) i 0
 unfolding the_shape
-all_rows_is = refl
+holds_numbers words r config h i low = ap (λ (k : ℕ). get_or words k 0) (let g : (ROWS_BEGIN + r * ROW_WORDS) + i ≡ ROWS_BEGIN + (r * ROW_WORDS + i) = omega arith in g) ∙ h.row i low
+
+-- in words in which the rows begin at the place `from`
+pub holds : (from : ℕ) (words : List ℕ) (r : ℕ) (config : List Group) → ((i : ℕ) → i < ROW_WORDS → get_or words (from + (r * ROW_WORDS + i)) 0 ≡ get_or (row config) i 0)
+    → HoldsForm the_shape from words r config []
+unfolding the_shape
+holds from words r config h = record {
+  counted = refl;
+  below = λ index page at. absurd (none_there index page at);
+  fits = λ index part at. absurd (none_there index part at);
+  row = h;
+  standing = λ index page k x part at cut word. absurd (none_there index page at);
+}
+
+pub stored_is : stored_words the_shape ≡ ROWS * ROW_WORDS + PAGES * PAGE_WORDS
+unfolding the_shape
+stored_is = refl

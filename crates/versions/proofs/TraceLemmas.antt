@@ -1,5 +1,5 @@
 -- Each legal trace keeps the rule, and what keeps the rule is safe.
-use Rattle.std.proofs.Common.{◌≡◌, ℕ, zero, suc, ◌+◌, ◌-◌, ◌*◌, List, [], ◌∷◌, ◌++◌, ap, arith, get_or, get_or-append-add, inr, length, length-append, refl, replicate, set, slice_index, subst, sym, ◌∙◌}
+use Rattle.std.proofs.Common.{◌≡◌, ℕ, zero, suc, ◌+◌, ◌-◌, ◌*◌, List, [], ◌∷◌, ◌++◌, ap, arith, get_or, get_or-append-add, inr, length, length-append, refl, replicate, set, slice_get, slice_index, subst, sym, ◌∙◌}
 use Rattle.std.proofs.lemmas.List.{get_or-replicate, get_or_append_left, length-replicate, set-get_or}
 use mathlib.Core.Option.{some, some-injective, some-ne-none}
 use lib.ListN.{get_elem?}
@@ -9,7 +9,7 @@ use Rattle.versions.specs.declared.step.Entry.{Entry}
 use Rattle.versions.specs.declared.step.Event.{Event}
 use Rattle.versions.specs.declared.step.Event.TheVariants.{Proposed, Stepped}
 use Rattle.versions.specs.declared.view.WorkerView.{WorkerView}
-use Rattle.versions.specs.Layout.{Shape, row_begin}
+use Rattle.versions.specs.Layout.{HoldsForm, Shape, pages_named, rows_begin}
 use Rattle.versions.specs.Step.{entry, place_of}
 use Rattle.versions.specs.View.{new_worker}
 use Rattle.versions.specs.Free.{IsFree}
@@ -17,7 +17,7 @@ use Rattle.versions.specs.State.{IsOpening, State, after_event, after_step, new_
 use Rattle.versions.specs.Legal.{IsLegal, IsLegalEvent, IsLegalStep, IsReached, IsWordAt}
 use Rattle.versions.proofs.ListLemmas.{elem_below, get_elem_or}
 use Rattle.versions.proofs.LogLemmas.{IsFree-on}
-use Rattle.versions.proofs.Coherence.{Coheres, WorkerRule}
+use Rattle.versions.proofs.Coherence.{Coheres, WorkerRule, holds-on}
 use Rattle.versions.proofs.WorkerSteps.{Coheres-after_announce, Coheres-after_fetch, Coheres-after_leave, Coheres-after_peek, Coheres-after_pin}
 use Rattle.versions.proofs.OperatorSteps.{Coheres-after_fill, Coheres-after_proposal, Coheres-after_publish, Coheres-after_scan}
 
@@ -26,14 +26,14 @@ only x y zero e = (refl, sym (some-injective x y e))
 only x y (suc m) e = absurd (some-ne-none y (sym e))
 
 module _ {C : Type 0} where
-  pub length-new_workers : (config : C) (k n : ℕ) → length (new_workers config k n) ≡ n
-  length-new_workers config k zero = refl
-  length-new_workers config k (suc n) = ap suc (length-new_workers config (suc k) n)
+  pub length-new_workers : (config : C) (pages : List ℕ) (k n : ℕ) → length (new_workers config pages k n) ≡ n
+  length-new_workers config pages k zero = refl
+  length-new_workers config pages k (suc n) = ap suc (length-new_workers config pages (suc k) n)
 
-  pub new_worker_at : (config : C) (k n w : ℕ) (view : WorkerView C) → get_elem? (new_workers config k n) w ≡ some view → view ≡ new_worker config (k + w)
-  new_worker_at config k zero w view e = absurd (some-ne-none view (sym e))
-  new_worker_at config k (suc n) zero view e = sym (some-injective _ view e) ∙ ap (new_worker config) (let g : k ≡ k + 0 = omega arith in g)
-  new_worker_at config k (suc n) (suc w) view e = new_worker_at config (suc k) n w view e ∙ ap (new_worker config) (let g : suc k + w ≡ k + suc w = omega arith in g)
+  pub new_worker_at : (config : C) (pages : List ℕ) (k n w : ℕ) (view : WorkerView C) → get_elem? (new_workers config pages k n) w ≡ some view → view ≡ new_worker config pages (k + w)
+  new_worker_at config pages k zero w view e = absurd (some-ne-none view (sym e))
+  new_worker_at config pages k (suc n) zero view e = sym (some-injective _ view e) ∙ ap (new_worker config pages) (let g : k ≡ k + 0 = omega arith in g)
+  new_worker_at config pages k (suc n) (suc w) view e = new_worker_at config pages (suc k) n w view e ∙ ap (new_worker config pages) (let g : suc k + w ≡ k + suc w = omega arith in g)
 
 module _ {C : Type 0} (shape : Shape C) where
   -- the words after the read words
@@ -44,31 +44,39 @@ module _ {C : Type 0} (shape : Shape C) where
   replicate_at : (n w : ℕ) (l : List Entry) → get_elem? (replicate n []) w ≡ some l → l ≡ []
   replicate_at n w l e = let below = elem_below (replicate n []) w l e in sym (get_elem_or (replicate n []) w l [] e) ∙ get_or-replicate n w [] [] (omega (arith, length-replicate {A = List Entry} n []))
 
-  pub Coheres-start : (config : C) (rows : List ℕ) → IsOpening shape config rows → Coheres shape (start_of shape config rows)
-  Coheres-start config rows h = record {
-    words_length = omega (arith, length-append (replicate shape.workers 0) rows, length-replicate {A = ℕ} shape.workers 0, h.whole);
-    workers_length = length-new_workers config 0 shape.workers;
-    row_words_length = h.whole;
-    row_words = λ i l. words_at rows i;
+  pub Coheres-start : (config : C) (stored : List ℕ) → IsOpening shape config stored → Coheres shape (start_of shape config stored)
+  Coheres-start config stored h = let named = pages_named shape stored 0 in record {
+    words_length = omega (arith, length-append (replicate shape.workers 0) stored, length-replicate {A = ℕ} shape.workers 0, h.whole);
+    workers_length = length-new_workers config named 0 shape.workers;
+    stored_length = h.whole;
+    stored = λ i l. words_at stored i;
     published_length = refl;
     version_rows_length = refl;
+    version_pages_length = refl;
     current = (0, refl, omega arith);
     numbered = omega arith;
     rows_below = λ m r e. let t = (only 0 r m e).1 in let some_row = h.some_row in omega arith;
-    each_worker = λ w view at. let is = new_worker_at config 0 shape.workers w view at in let below = elem_below (new_workers config 0 shape.workers) w view at in let many = length-new_workers config 0 shape.workers in
-        subst (λ (v : WorkerView C). WorkerRule shape (start_of shape config rows).words (start_of shape config rows).operator w v) (sym is) record {
-          read_word = let e : 1 + w ≡ suc w = omega arith in ap (λ (k : ℕ). get_or (0 ∷ (replicate shape.workers 0 ++ rows)) k 0) e
-              ∙ (get_or_append_left (replicate shape.workers 0) rows 0 w (omega (arith, length-replicate {A = ℕ} shape.workers 0)) ∙ get_or-replicate shape.workers w 0 0 (omega arith));
+    pages_below = λ m page names. h.held.below names.2.0 page (ap (λ l. slice_get l names.2.0) (sym (only named names.0 m names.1).1) ∙ names.2.1);
+    each_worker = λ w view at. let is = new_worker_at config named 0 shape.workers w view at in let below = elem_below (new_workers config named 0 shape.workers) w view at in let many = length-new_workers config named 0 shape.workers in
+        subst (λ (v : WorkerView C). WorkerRule shape (start_of shape config stored).words (start_of shape config stored).operator w v) (sym is) record {
+          read_word = let e : 1 + w ≡ suc w = omega arith in ap (λ (k : ℕ). get_or (0 ∷ (replicate shape.workers 0 ++ stored)) k 0) e
+              ∙ (get_or_append_left (replicate shape.workers 0) stored 0 w (omega (arith, length-replicate {A = ℕ} shape.workers 0)) ∙ get_or-replicate shape.workers w 0 0 (omega arith));
           bounds = tt;
           begins = ([], refl);
           up_to_last = refl;
+          pages = refl;
           told = refl;
-          own = record { number = (let g : 0 + w ≡ w = omega arith in g); order = tt; stage = refl };
+          own = record { number = (let g : 0 + w ≡ w = omega arith in g); order = tt; stage = refl; fetched = tt };
           loads = λ e c load. let none = c.1 in absurd (omega arith);
           scanned = λ l e. ([], sym (replicate_at shape.workers w l e));
         };
-    each_version = λ m b r e f. inr (λ i l. let r_is = (only 0 r m f).1 in let same : row_begin shape r + i ≡ (1 + shape.workers) + i = ap (λ (k : ℕ). row_begin shape k + i) r_is ∙ (let g : ((1 + shape.workers) + 0 * shape.row_words) + i ≡ (1 + shape.workers) + i = omega arith in g) in
-        ap (λ (k : ℕ). get_or (start_of shape config rows).words k 0) same ∙ (words_at rows i ∙ (h.first_row i l ∙ ap (λ (y : C). get_or (shape.row y) i 0) (sym (only config b m e).1))));
+    each_version = λ m b r pages e f g.
+        let held : HoldsForm shape (rows_begin shape) (start_of shape config stored).words 0 config named = holds-on shape 0 (rows_begin shape) stored (start_of shape config stored).words 0 config named h.some_row (λ i l. words_at stored i ∙ ap (λ (k : ℕ). get_or stored k 0) (let g : i ≡ 0 + i = omega arith in g)) h.held in
+        inr (
+          subst (HoldsForm shape (rows_begin shape) (start_of shape config stored).words r b) (sym (only named pages m g).1) (subst (λ (y : C). HoldsForm shape (rows_begin shape) (start_of shape config stored).words r y named) (sym (only config b m e).1)
+              (subst (λ (k : ℕ). HoldsForm shape (rows_begin shape) (start_of shape config stored).words k config named) (sym (only 0 r m f).1) held)),
+          ap (pages_named shape stored) (only 0 r m f).1 ∙ sym (only named pages m g).1,
+        );
   }
 
   Coheres-scanned : (s : State C) → Coheres shape s → (place x : ℕ) → IsLegalStep shape s (Scan place) x → Coheres shape (after_step shape s (Scan place) x)
@@ -90,11 +98,11 @@ module _ {C : Type 0} (shape : Shape C) where
   Coheres-trace s h [] legal = h
   Coheres-trace s h (newest ∷ older) legal = Coheres-after_event (state_after shape s older) (Coheres-trace s h older legal.0) newest legal.1
 
-  pub rule_of : (config : C) (rows : List ℕ) (trace : List (Event C)) → IsOpening shape config rows → IsLegal shape (start_of shape config rows) trace → Coheres shape (state_after shape (start_of shape config rows) trace)
-  rule_of config rows trace opening legal = Coheres-trace (start_of shape config rows) (Coheres-start config rows opening) trace legal
+  pub rule_of : (config : C) (stored : List ℕ) (trace : List (Event C)) → IsOpening shape config stored → IsLegal shape (start_of shape config stored) trace → Coheres shape (state_after shape (start_of shape config stored) trace)
+  rule_of config stored trace opening legal = Coheres-trace (start_of shape config stored) (Coheres-start config stored opening) trace legal
 
   pub Coheres-reached : (s : State C) → IsReached shape s → Coheres shape s
-  Coheres-reached s h = subst (Coheres shape) h.reached (rule_of h.config h.rows h.trace h.opening h.legal)
+  Coheres-reached s h = subst (Coheres shape) h.reached (rule_of h.config h.stored h.trace h.opening h.legal)
 
   -- free stays free
   pub free_on : (s : State C) (event : Event C) (n : ℕ) → IsFree shape n s.operator.log → IsFree shape n (after_event shape s event).operator.log

@@ -1,7 +1,8 @@
 -- A world at its opening, and after one event more.
-use Rattle.std.proofs.Common.{◌≡◌, ℕ, zero, suc, ◌+◌, ◌-◌, ◌*◌, ◌<◌, ◌≤◌, List, None, Option, Some, [], ◌∷◌, ◌++◌, ap, append_assoc, arith, length, length-append, refl, replicate, reverse, slice_get, subst, sym, ◌∙◌}
+use Rattle.std.proofs.Common.{◌≡◌, ℕ, zero, suc, ◌+◌, ◌-◌, ◌*◌, ◌<◌, ◌≤◌, List, None, Option, Some, [], ◌∷◌, ◌++◌, ap, append_assoc, arith, get_or, length, length-append, refl, replicate, reverse, slice_get, subst, sym, ◌∙◌}
 use Rattle.std.proofs.lemmas.List.{get_or-replicate, get_or_append_left, length-replicate, reverse-append}
 use Rattle.std.proofs.lemmas.Option.{slice_get-get_or}
+use Rattle.config_image.specs.declared.TheConstants.{ROW_WORDS}
 use Rattle.config_image.specs.Image.{Group, row}
 use Rattle.member_group.specs.Charge.{charge_of}
 use Rattle.versions.specs.declared.layout.TheConstants.{CHARGE_LIMIT, ROWS_BEGIN, TABLE_WORDS}
@@ -13,36 +14,43 @@ use Rattle.versions.specs.declared.step.Event.TheVariants.{Proposed, Stepped}
 use Rattle.versions.specs.declared.view.Stage.TheVariants.{Outside}
 use Rattle.versions.specs.declared.view.WorkerView.{WorkerView}
 use Rattle.versions.specs.View.{after_proposal}
-use Rattle.versions.specs.State.{IsOpening, State, after_event, after_step, new_workers, state_after}
+use Rattle.versions.specs.Layout.{HoldsForm, pages_named, stored_words}
+use Rattle.versions.specs.State.{IsOpening, State, after_event, after_step, new_operator, new_workers, state_after}
 use Rattle.versions.specs.Legal.{IsLegal, IsLegalEvent, IsLegalStep, IsReached}
 use Rattle.versions.specs.Table.{the_shape}
-use Rattle.versions.specs.World.{opened_with, opening_rows, world_after}
+use Rattle.versions.specs.World.{opened_with, opening_words, world_after}
+use Rattle.versions.specs.declared.book.Book.{Book}
+use Rattle.versions.specs.Book.{IsBook, IsBookAtStart}
 use Rattle.versions.specs.body.Mirror.{BeginsAtStart, Follows, IsMirror}
 use Rattle.versions.specs.body.WorldKept.{IsProposalAt, IsWorld, proposal_by}
 use Rattle.versions.proofs.BookLemmas.{IsBook-opened, IsBook-proposed}
 use Rattle.versions.proofs.ListLemmas.{elem_below}
 use Rattle.versions.proofs.MirrorLemmas.{IsMirror-operator, none_some}
 use Rattle.versions.proofs.RowLemmas.{length-row}
-use Rattle.versions.proofs.ShapeLemmas.{all_rows_is, charge_is, charge_limit_is, other_rows_is, row_is, row_words_is, rows_is, workers_is}
+use Rattle.versions.proofs.ShapeLemmas.{charge_is, charge_limit_is, holds, names_none, none_there, row_is, row_words_is, rows_is, stored_is, workers_is}
 use Rattle.versions.proofs.TraceLemmas.{length-new_workers, new_worker_at}
 
-length-the_row : (config : List Group) → length (the_shape.row config) ≡ the_shape.row_words
-length-the_row config = ap length (row_is config) ∙ (length-row config ∙ sym row_words_is)
+length-the_row : (config : List Group) → length (the_shape.form.row config []) ≡ the_shape.row_words
+length-the_row config = ap length (row_is config []) ∙ (length-row config ∙ sym row_words_is)
 
-pub IsOpening-rows : (config : List Group) → the_shape.charge config ≤ the_shape.charge_limit → IsOpening the_shape config (opening_rows config)
-IsOpening-rows config charge = record {
+row_first : (config : List Group) (i : ℕ) → i < ROW_WORDS → get_or (opening_words config) (0 + (0 * ROW_WORDS + i)) 0 ≡ get_or (row config) i 0
+row_first config i low = ap (λ (k : ℕ). get_or (opening_words config) k 0) (let g : 0 + (0 * ROW_WORDS + i) ≡ i = omega arith in g)
+    ∙ (get_or_append_left (the_shape.form.row config []) (replicate (stored_words the_shape - the_shape.row_words) 0) 0 i (omega (arith, length-the_row config, row_words_is)) ∙ ap (λ l. get_or l i 0) (row_is config []))
+
+pub IsOpening-words : (config : List Group) → the_shape.charge config ≤ the_shape.charge_limit → IsOpening the_shape config (opening_words config)
+IsOpening-words config charge = record {
   charge = charge;
   some_row = omega (arith, rows_is);
-  whole = omega (arith, length-append (the_shape.row config) (replicate ((the_shape.rows - 1) * the_shape.row_words) 0), length-the_row config, row_words_is, length-replicate {A = ℕ} ((the_shape.rows - 1) * the_shape.row_words) 0, other_rows_is, all_rows_is);
-  first_row = λ i low. get_or_append_left (the_shape.row config) (replicate ((the_shape.rows - 1) * the_shape.row_words) 0) 0 i (omega (arith, length-the_row config));
+  whole = omega (arith, length-append (the_shape.form.row config []) (replicate (stored_words the_shape - the_shape.row_words) 0), length-the_row config, row_words_is, length-replicate {A = ℕ} (stored_words the_shape - the_shape.row_words) 0, stored_is);
+  held = subst (HoldsForm the_shape 0 (opening_words config) 0 config) (sym (names_none (opening_words config) 0)) (holds 0 (opening_words config) 0 config (row_first config));
 }
 
 pub IsReached-world : (config : List Group) (events : List (Event (List Group))) → the_shape.charge config ≤ the_shape.charge_limit → IsLegal the_shape (opened_with config) (reverse events) → IsReached the_shape (world_after config events)
 IsReached-world config events charge legal = record {
   config = config;
-  rows = opening_rows config;
+  stored = opening_words config;
   trace = reverse events;
-  opening = IsOpening-rows config charge;
+  opening = IsOpening-words config charge;
   legal = legal;
   reached = refl;
 }
@@ -69,14 +77,20 @@ pub slice_get-end : {A : Type 0} → (xs : List A) (x : A) → slice_get (xs ++ 
 slice_get-end [] x = refl
 slice_get-end (y ∷ xs) x = slice_get-end xs x
 
-pub IsMirror-opened : (config : List Group) (words : List ℕ) (progress : Progress) → words ≡ (opened_with config).words → BeginsAtStart progress → IsMirror the_shape (opened_with config) words progress
+-- the book of an operator that opened a table
+pub IsBook-start : {A : Type 0} → (config : List Group) (book : Book A) → IsBookAtStart [] book → IsBook the_shape (new_operator the_shape config (opening_words config)) book
+IsBook-start config book h = IsBook-opened config (opening_words config) book (λ index page at. absurd (none_there index page (ap (λ l. slice_get l index) (sym (names_none (opening_words config) 0)) ∙ at)))
+    (subst (λ l. IsBookAtStart l book) (sym (names_none (opening_words config) 0)) h)
+
+pub IsMirror-opened : {A : Type 0} → (config : List Group) (words : List ℕ) (progress : Progress A) → words ≡ (opened_with config).words → BeginsAtStart progress → IsMirror the_shape (opened_with config) words progress
 IsMirror-opened config words progress same h = record {
   words_same = same;
   stages_length = ap length h.stages ∙ length-replicate the_shape.workers Outside;
   stages = λ w view at.
-      let is = new_worker_at config 0 the_shape.workers w view at in let below = elem_below (new_workers config 0 the_shape.workers) w view at in let many = length-new_workers config 0 the_shape.workers in
+      let named = pages_named the_shape (opening_words config) 0 in
+      let is = new_worker_at config named 0 the_shape.workers w view at in let below = elem_below (new_workers config named 0 the_shape.workers) w view at in let many = length-new_workers config named 0 the_shape.workers in
       ap (λ qs. slice_get qs w) h.stages ∙ (slice_get-replicate the_shape.workers w Outside (omega arith) ∙ ap (λ (v : WorkerView (List Group)). Some v.stage) (sym is));
-  book = IsBook-opened config (opening_rows config) progress.book h.book;
+  book = IsBook-start config progress.book h.book;
 }
 
 -- the words of an opening, in one piece
@@ -84,8 +98,8 @@ pub opened_words : (begin n k m : ℕ) (rows : List ℕ) → begin ≡ suc n →
 opened_words begin n k m rows e f = ap (λ (b : ℕ). (replicate b 0 ++ rows) ++ replicate k 0) e ∙ (ap (λ l. 0 ∷ l) (append_assoc (replicate n 0) rows (replicate k 0)) ∙ ap (λ (j : ℕ). 0 ∷ (replicate n 0 ++ (rows ++ replicate j 0))) f)
 
 pub opened_words_are : (config : List Group) (items : List ℕ) → items ≡ (replicate ROWS_BEGIN 0 ++ row config) ++ replicate (TABLE_WORDS - (ROWS_BEGIN + length (row config))) 0 → items ≡ (opened_with config).words
-opened_words_are config items is = is ∙ (ap (λ l. (replicate ROWS_BEGIN 0 ++ l) ++ replicate (TABLE_WORDS - (ROWS_BEGIN + length (row config))) 0) (sym (row_is config))
-    ∙ opened_words ROWS_BEGIN the_shape.workers (TABLE_WORDS - (ROWS_BEGIN + length (row config))) ((the_shape.rows - 1) * the_shape.row_words) (the_shape.row config) (omega (arith, workers_is)) (omega (arith, length-row config, other_rows_is)))
+opened_words_are config items is = is ∙ (ap (λ l. (replicate ROWS_BEGIN 0 ++ l) ++ replicate (TABLE_WORDS - (ROWS_BEGIN + length (row config))) 0) (sym (row_is config []))
+    ∙ opened_words ROWS_BEGIN the_shape.workers (TABLE_WORDS - (ROWS_BEGIN + length (row config))) (stored_words the_shape - the_shape.row_words) (the_shape.form.row config []) (omega (arith, workers_is)) (omega (arith, length-row config, stored_is, row_words_is)))
 
 pub light : (config : List Group) (charge : ℕ) → charge ≡ charge_of config → charge ≤ CHARGE_LIMIT → the_shape.charge config ≤ the_shape.charge_limit
 light config charge is low = omega (arith, charge_is config, charge_limit_is)
@@ -107,7 +121,7 @@ proposed-after s events (Scan p) x found h = still_proposed events (Stepped (Sca
 proposed-after s events (Publish r) x found h = refl
 
 -- a world after a step, where the words and numbers follow
-pub IsWorld-stepped : (config : List Group) (events : List (Event (List Group))) (table table' : List ℕ) (progress progress' : Progress) (found : Option ℕ) (step : Step) (x : ℕ) → IsWorld config events table progress found
+pub IsWorld-stepped : {A : Type 0} → (config : List Group) (events : List (Event (List Group))) (table table' : List ℕ) (progress progress' : Progress A) (found : Option ℕ) (step : Step) (x : ℕ) → IsWorld config events table progress found
     → IsLegalStep the_shape (world_after config events) step x → length table' ≡ length table → Follows table progress table' progress' step x
     → IsWorld config (events ++ Stepped step x ∷ []) table' progress' (proposal_by step found)
 IsWorld-stepped config events table table' progress progress' found step x h legal long follows =
@@ -120,7 +134,7 @@ IsWorld-stepped config events table table' progress progress' found step x h leg
     }
 
 -- a world after a proposal
-pub IsWorld-proposed : (config : List Group) (events : List (Event (List Group))) (table : List ℕ) (progress : Progress) (found : Option ℕ) (proposed : List Group) → IsWorld config events table progress found
+pub IsWorld-proposed : {A : Type 0} → (config : List Group) (events : List (Event (List Group))) (table : List ℕ) (progress : Progress A) (found : Option ℕ) (proposed : List Group) → IsWorld config events table progress found
     → the_shape.charge proposed ≤ the_shape.charge_limit → IsWorld config (events ++ Proposed proposed ∷ []) table progress (Some (length events))
 IsWorld-proposed config events table progress found proposed h low =
     let s = world_after config events in let more = world_after-pushed config events (Proposed proposed) in record {
@@ -132,11 +146,11 @@ IsWorld-proposed config events table progress found proposed h low =
       proposed = subst (λ (t : State (List Group)). IsProposalAt (events ++ Proposed proposed ∷ []) t.operator.proposal (Some (length events))) (sym more) (proposed, slice_get-end events (Proposed proposed), refl);
     }
 
-pub IsWorld-opened : (config : List Group) (words : List ℕ) (progress : Progress) → the_shape.charge config ≤ the_shape.charge_limit → words ≡ (opened_with config).words → BeginsAtStart progress → IsWorld config [] words progress None
+pub IsWorld-opened : {A : Type 0} → (config : List Group) (words : List ℕ) (progress : Progress A) → the_shape.charge config ≤ the_shape.charge_limit → words ≡ (opened_with config).words → BeginsAtStart progress → IsWorld config [] words progress None
 IsWorld-opened config words progress charge same h = record {
   charge = charge;
   legal = tt;
   mirror = IsMirror-opened config words progress same h;
-  table_length = ap length same ∙ omega (arith, length-append (replicate the_shape.workers 0) (opening_rows config), length-replicate {A = ℕ} the_shape.workers 0, workers_is, (IsOpening-rows config charge).whole, all_rows_is);
+  table_length = ap length same ∙ omega (arith, length-append (replicate the_shape.workers 0) (opening_words config), length-replicate {A = ℕ} the_shape.workers 0, workers_is, (IsOpening-words config charge).whole, stored_is);
   proposed = refl;
 }

@@ -1,6 +1,6 @@
--- When a replaced version is free, and when a row is: the end of a grace period (Desnoyers et al. 2012; docs/TABLE.md, "When
--- a version is free"). Freedom is told by the operator's own log alone. The log has the newest entry first.
-use Rattle.std.specs.Prelude.{◌≡◌, ◌+◌, ◌<◌, ◌≤◌, ◌⊎◌, ◌∷◌, List, [], suc, ℕ}
+-- When a replaced version is free, and when a row or a page is: the end of a grace period (Desnoyers et al. 2012; docs/TABLE.md,
+-- "When a version is free"). Freedom is told by the operator's own log alone. The log has the newest entry first.
+use Rattle.std.specs.Prelude.{◌≡◌, ◌+◌, ◌<◌, ◌≤◌, ◌⊎◌, ◌∷◌, List, Some, [], slice_get, suc, ℕ}
 use mathlib.Core.Option.{some}
 use lib.ListN.{get_elem?}
 use Rattle.versions.specs.declared.step.Step.{Step}
@@ -51,6 +51,11 @@ IsLastScan w x (newest ∷ older) = GivesLast w x newest.step newest.word (IsLas
 abbrev pub IsLastIn : ℕ → ℕ → List ℕ → Type 0
 IsLastIn r m version_rows = (get_elem? version_rows m ≡ some r) × ((later : ℕ) → m < later → get_elem? version_rows later ≡ some r → ⊥)
 
+module _ {C : Type 0} where
+  -- version n names page q: it was published from a row that named the page
+  abbrev pub Names : OperatorView C → ℕ → ℕ → Type 0
+  Names view n q = (pages : List ℕ) × (get_elem? view.version_pages n ≡ some pages) × ((index : ℕ) × (slice_get pages index ≡ Some q))
+
 module _ {C : Type 0} (shape : Shape C) where
   -- a replaced version is free where since then the read word of each worker was once scanned clear for it
   abbrev pub IsFree : ℕ → List Entry → Type 0
@@ -59,6 +64,10 @@ module _ {C : Type 0} (shape : Shape C) where
   -- a row is free where it was never used, or its last version is free
   abbrev pub IsFreeRow : OperatorView C → ℕ → Type 0
   IsFreeRow view r = (r < shape.rows) × ((m : ℕ) → IsLastIn r m view.version_rows → IsFree m view.log)
+
+  -- a page is free where each version that names it is free. The whole page is: also its end, behind the part that stands in it
+  abbrev pub IsFreePage : OperatorView C → ℕ → Type 0
+  IsFreePage view q = (q < shape.pages) × ((n : ℕ) → Names view n q → IsFree n view.log)
 
   -- whatever the operator does next, a free version stays free
   abbrev pub FreeStaysFree : Type 0

@@ -1,5 +1,5 @@
 -- Which steps are legal (docs/TABLE.md, "The eight steps").
-use Rattle.std.specs.Prelude.{◌≡◌, ◌+◌, ◌<◌, ◌≤◌, ◌^◌, ◌∷◌, List, Some, [], slice_index, ℕ}
+use Rattle.std.specs.Prelude.{◌≡◌, ◌+◌, ◌<◌, ◌≤◌, ◌^◌, ◌⊎◌, ◌∷◌, List, Some, [], slice_index, ℕ}
 use mathlib.Core.Option.{some}
 use lib.ListN.{get_elem?}
 use Rattle.versions.specs.declared.step.Step.{Step}
@@ -10,11 +10,12 @@ use Rattle.versions.specs.declared.step.Event.TheVariants.{Proposed, Stepped}
 use Rattle.versions.specs.declared.view.Stage.{Stage}
 use Rattle.versions.specs.declared.view.Stage.TheVariants.{Announced, Inside, Peeked}
 use Rattle.versions.specs.declared.view.WorkerView.{WorkerView}
-use Rattle.versions.specs.Layout.{HoldsRow, IsInRow, Shape, current_word}
+use Rattle.versions.specs.declared.view.OperatorView.{OperatorView}
+use Rattle.versions.specs.Layout.{HoldsForm, IsInPage, IsInRow, Shape, current_word, pages_named, rows_begin}
 use Rattle.versions.specs.Step.{IsStepOf}
 use Rattle.versions.specs.View.{stage_after}
-use Rattle.versions.specs.Free.{IsFreeRow, number_after}
-use Rattle.versions.specs.State.{IsOpening, State, start_of, state_after}
+use Rattle.versions.specs.Free.{IsFreePage, IsFreeRow, number_after}
+use Rattle.versions.specs.State.{HoldsVersion, IsOpening, IsWordOf, State, start_of, state_after}
 
 -- peeks come outside, and inside after the pin; nothing comes between an announce and its pin
 abbrev pub MayPeek : Stage → Type 0
@@ -41,32 +42,40 @@ module _ {C : Type 0} where
   IsNextOf state w step x = (view : WorkerView C) × (get_elem? state.workers w ≡ some view) × IsInOrder view.stage step x
 
 module _ {C : Type 0} (shape : Shape C) where
-  -- a word of the version held: the one rule on where a fetch may go, whatever its order
-  abbrev pub IsHeldPlace : Stage → ℕ → Type 0
-  IsHeldPlace (Inside read_word n r) place = IsInRow shape r place
-  IsHeldPlace _ place = ⊥
+  -- the place is in a page of the pool
+  abbrev pub IsInPool : ℕ → Type 0
+  IsInPool place = (q : ℕ) × (q < shape.pages) × IsInPage shape q place
 
-  -- the step is a fetch of a word of the version held, or no fetch
-  abbrev pub FetchesHeld : Stage → Step → Type 0
-  FetchesHeld stage (Fetch w place) = IsHeldPlace stage place
-  FetchesHeld stage _ = Unit {0}
+  -- a fetch goes to the row of the version held, or to the pool: so much a log tells by itself
+  abbrev pub MayFetch : Stage → ℕ → Type 0
+  MayFetch (Inside read_word n r) place = IsInRow shape r place ⊎ IsInPool place
+  MayFetch _ place = ⊥
 
-  -- a log of worker w alone, in the order of a worker's steps, each fetch of a word of the version held then
+  abbrev pub FetchesThere : Stage → Step → Type 0
+  FetchesThere stage (Fetch w place) = MayFetch stage place
+  FetchesThere stage _ = Unit {0}
+
+  -- a log of worker w alone, in the order of a worker's steps
   abbrev pub IsLogOf : ℕ → List Entry → Type 0
   IsLogOf w [] = Unit {0}
   IsLogOf w (newest ∷ older) =
-      IsLogOf w older × IsStepOf w newest.step × IsInOrder (stage_after shape.rows older) newest.step newest.word × FetchesHeld (stage_after shape.rows older) newest.step
+      IsLogOf w older × IsStepOf w newest.step × IsInOrder (stage_after shape.rows older) newest.step newest.word × FetchesThere (stage_after shape.rows older) newest.step
 
-  -- the place is a word of the version that worker w holds
+  -- the place is a word of the version that worker w holds: the one rule on where a fetch may go, whatever its order
   abbrev pub HoldsPlace : State C → ℕ → ℕ → Type 0
-  HoldsPlace state w place = (view : WorkerView C) × (get_elem? state.workers w ≡ some view) × IsHeldPlace view.stage place
+  HoldsPlace state w place = (n : ℕ) × (r : ℕ) × HoldsVersion state w n r × IsWordOf shape state n place
 
-  -- the operator publishes its last proposal, from a free row that holds that configuration's row, while numbers last
+  -- the place is in a free row or in a free page
+  abbrev pub MayFill : OperatorView C → ℕ → Type 0
+  MayFill view place = ((r : ℕ) × IsFreeRow shape view r × IsInRow shape r place) ⊎ ((q : ℕ) × IsFreePage shape view q × IsInPage shape q place)
+
+  -- the operator publishes its last proposal, from a free row that with the pages that it names holds that configuration, while
+  -- numbers last
   pub record CanPublish (state : State C) (r : ℕ) : Type 0 where
     pub free : IsFreeRow shape state.operator r
     pub config : C
     pub proposed : state.operator.proposal ≡ Some config
-    pub holds : HoldsRow shape state.words r config
+    pub holds : HoldsForm shape (rows_begin shape) state.words r config (pages_named shape state.operator.stored r)
     pub number : number_after state.operator.log < shape.last_number
 
   -- the step is legal, and loads or stores x
@@ -76,7 +85,7 @@ module _ {C : Type 0} (shape : Shape C) where
   IsLegalStep state (Pin w) x = IsNextOf state w (Pin w) x × IsWordAt state 0 x
   IsLegalStep state (Fetch w place) x = IsNextOf state w (Fetch w place) x × HoldsPlace state w place × IsWordAt state place x
   IsLegalStep state (Leave w) x = IsNextOf state w (Leave w) x
-  IsLegalStep state (Fill place word) x = (r : ℕ) × IsFreeRow shape state.operator r × IsInRow shape r place × (word < 2 ^ 64) × (x ≡ word)
+  IsLegalStep state (Fill place word) x = MayFill state.operator place × (word < 2 ^ 64) × (x ≡ word)
   IsLegalStep state (Publish r) x = CanPublish state r × (x ≡ current_word shape (number_after state.operator.log + 1) r)
   IsLegalStep state (Scan place) x = (w : ℕ) × (w < shape.workers) × (place ≡ 1 + w) × IsWordAt state place x
 
@@ -93,8 +102,8 @@ module _ {C : Type 0} (shape : Shape C) where
   -- a legal trace leads to the state
   pub record IsReached (s : State C) : Type 0 where
     pub config : C
-    pub rows : List ℕ
+    pub stored : List ℕ
     pub trace : List (Event C)
-    pub opening : IsOpening shape config rows
-    pub legal : IsLegal (start_of shape config rows) trace
-    pub reached : state_after shape (start_of shape config rows) trace ≡ s
+    pub opening : IsOpening shape config stored
+    pub legal : IsLegal (start_of shape config stored) trace
+    pub reached : state_after shape (start_of shape config stored) trace ≡ s

@@ -59,6 +59,25 @@ abbrev pub last_seen : ℕ → List Entry → ℕ
 last_seen rows [] = 0
 last_seen rows (newest ∷ older) = version_by rows newest.step newest.word (last_seen rows older)
 
+abbrev pub pinned_by : ℕ → Step → ℕ → ℕ → ℕ
+pinned_by rows (Pin w) x before = x / rows
+pinned_by rows _ x before = before
+
+-- the version that a worker's last pin gave, and 0 at first
+abbrev pub last_pinned : ℕ → List Entry → ℕ
+last_pinned rows [] = 0
+last_pinned rows (newest ∷ older) = pinned_by rows newest.step newest.word (last_pinned rows older)
+
+abbrev pub OfFetchesBy : (ℕ → Type 0) → Step → Type 0 → Type 0
+OfFetchesBy Fact (Fetch w place) before = Fact place × before
+OfFetchesBy Fact (Peek w) before = before
+OfFetchesBy Fact _ before = Unit {0}
+
+-- a fact of the place of each fetch since the last step of a log that is no fetch and no peek: in a section, since its pin
+abbrev pub OfFetches : (ℕ → Type 0) → List Entry → Type 0
+OfFetches Fact [] = Unit {0}
+OfFetches Fact (newest ∷ older) = OfFetchesBy Fact newest.step (OfFetches Fact older)
+
 -- a log that begins with an older log, and goes on
 abbrev pub BeginsWithLog : List Entry → List Entry → Type 0
 BeginsWithLog log older = (newer : List Entry) × (log ≡ newer ++ older)
@@ -76,11 +95,12 @@ module _ {C : Type 0} where
   abbrev pub up_to : ℕ → List C → List C
   up_to n published = take (suc n) published
 
-  -- a worker outside, that made no step, where the first configuration is version 0
-  abbrev pub new_worker : C → ℕ → WorkerView C
-  new_worker config w = record { number = w; stage = Outside; log = []; seen = config ∷ [] }
+  -- a worker outside, that made no step, where the first configuration is version 0 and stands in these pages
+  abbrev pub new_worker : C → List ℕ → ℕ → WorkerView C
+  new_worker config pages w = record { number = w; stage = Outside; log = []; seen = config ∷ []; pages = pages }
 
-  -- what a worker knows after each of its steps; `seen` is its seen list after a load of `current`
+  -- what a worker knows after each of its steps; `seen` is its seen list after a load of `current`, and `pages` are those of the
+  -- version that a pin gave
   abbrev pub after_peek : ℕ → ℕ → List C → WorkerView C → WorkerView C
   after_peek rows x seen view =
       record view { stage = stage_after_peek view.stage (x / rows); log = entry (Peek view.number) x ∷ view.log; seen = seen }
@@ -88,9 +108,9 @@ module _ {C : Type 0} where
   abbrev pub after_announce : ℕ → WorkerView C → WorkerView C
   after_announce x view = record view { stage = Announced x; log = entry (Announce view.number) x ∷ view.log }
 
-  abbrev pub after_pin : ℕ → ℕ → List C → WorkerView C → WorkerView C
-  after_pin rows x seen view =
-      record view { stage = stage_after_pin view.stage (x / rows) (x % rows); log = entry (Pin view.number) x ∷ view.log; seen = seen }
+  abbrev pub after_pin : ℕ → ℕ → List C → List ℕ → WorkerView C → WorkerView C
+  after_pin rows x seen pages view =
+      record view { stage = stage_after_pin view.stage (x / rows) (x % rows); log = entry (Pin view.number) x ∷ view.log; seen = seen; pages = pages }
 
   abbrev pub after_fetch : ℕ → ℕ → WorkerView C → WorkerView C
   after_fetch place x view = record view { log = entry (Fetch view.number place) x ∷ view.log }
@@ -105,12 +125,17 @@ module _ {C : Type 0} where
   -- what the operator knows after each of its steps; the rows begin at the place `rows_begin`
   abbrev pub after_fill : ℕ → ℕ → ℕ → OperatorView C → OperatorView C
   after_fill rows_begin place x view =
-      record view { log = entry (Fill place x) x ∷ view.log; row_words = slice_set view.row_words (place - rows_begin) x }
+      record view { log = entry (Fill place x) x ∷ view.log; stored = slice_set view.stored (place - rows_begin) x }
 
-  -- the proposal is the next version, and is used up
-  abbrev pub after_publish : ℕ → ℕ → OperatorView C → OperatorView C
-  after_publish r x view =
-      record view { log = entry (Publish r) x ∷ view.log; published = view.published ++ listed view.proposal; version_rows = view.version_rows ++ r ∷ []; proposal = None }
+  -- the proposal is the next version, in row r with these pages, and is used up
+  abbrev pub after_publish : ℕ → ℕ → List ℕ → OperatorView C → OperatorView C
+  after_publish r x pages view = record view {
+    log = entry (Publish r) x ∷ view.log;
+    published = view.published ++ listed view.proposal;
+    version_rows = view.version_rows ++ r ∷ [];
+    version_pages = view.version_pages ++ pages ∷ [];
+    proposal = None;
+  }
 
   -- a scan of worker w, whose log is this by then
   abbrev pub after_scan : ℕ → ℕ → List Entry → OperatorView C → OperatorView C

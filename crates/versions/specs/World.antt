@@ -1,16 +1,17 @@
 -- A world: the table after the events that were made in it.
-use Rattle.std.specs.Prelude.{◌≡◌, ◌*◌, ◌++◌, ◌-◌, IsErrAnd, List, Result, replicate, reverse, ℕ}
+use Rattle.std.specs.Prelude.{◌≡◌, ◌++◌, ◌-◌, IsErrAnd, List, Result, [], replicate, reverse, ℕ}
 use Rattle.config_image.specs.Image.{Group}
 use Rattle.versions.specs.declared.step.Event.{Event}
+use Rattle.versions.specs.Layout.{stored_words}
 use Rattle.versions.specs.State.{State, start_of, state_after}
 use Rattle.versions.specs.Table.{the_shape}
 
--- the configuration's row, and zeros in the other rows
-abbrev pub opening_rows : List Group → List ℕ
-opening_rows config = the_shape.row config ++ replicate ((the_shape.rows - 1) * the_shape.row_words) 0
+-- the configuration's row, and zeros in the other rows and in the pool
+abbrev pub opening_words : List Group → List ℕ
+opening_words config = the_shape.form.row config [] ++ replicate (stored_words the_shape - the_shape.row_words) 0
 
 abbrev pub opened_with : List Group → State (List Group)
-opened_with config = start_of the_shape config (opening_rows config)
+opened_with config = start_of the_shape config (opening_words config)
 
 -- the state after a list of events, the oldest of which comes first
 abbrev pub world_after : List Group → List (Event (List Group)) → State (List Group)

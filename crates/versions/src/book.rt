@@ -1,41 +1,50 @@
-//! The operator's book of its own steps: how far versions are, what each row held last, and what scans showed clear.
+//! The operator's book of its own steps: how far versions are, what each row held last, which version named each page last, and
+//! what scans showed clear.
 
-ghost use Rattle.std.specs.Prelude.{◌≡◌, ◌<◌, ◌↔◌, IsTrue, List, length, ℕ};
+ghost use Rattle.std.specs.Prelude.{◌≡◌, ◌<◌, ◌↔◌, IfOk, IsTrue, List, [], length, slice_get, Some, ℕ};
 ghost use Rattle.config_image.specs.Image.{Group};
 ghost use Rattle.versions.specs.declared.view.OperatorView.{OperatorView};
 ghost use Rattle.versions.specs.Book.{IsBook, IsBookAtStart, IsCleared, with_version_in};
-ghost use Rattle.versions.specs.Free.{IsFree, IsFreeRow};
+ghost use Rattle.versions.specs.Free.{IsFree, IsFreePage, IsFreeRow};
+ghost use Rattle.versions.specs.Legal.{MayFill};
 ghost use Rattle.versions.specs.Table.{the_shape};
 
 use crate::freedom::{clear_below, least};
-use crate::layout::{LAST_NUMBER, ROWS, WORKERS};
+use crate::layout::{LAST_NUMBER, PAGES, POOL_BEGIN, ROW_WORDS, ROWS, ROWS_BEGIN, WORKERS};
+use crate::page_uses::PageUses;
+use config_image::PAGE_WORDS;
+use std::alloc::{AllocError, Allocator, Global};
 
-/// What an operator's log tells of numbers and free rows, in a few numbers. Who makes the operator's steps counts them here.
+/// What an operator's log tells of numbers, free rows and free pages, in a few numbers. Who makes the operator's steps counts them here.
 #[derive(Drop)]
-pub struct Book {
+pub struct Book<A: Allocator = Global> {
     /// The number of the current version.
     pub number: u64,
     /// For each row one more than the number of its last version, 0 where it was never used.
     pub last: [u64; ROWS],
+    /// For each page one more than the number of the last version that named it, 0 where none did.
+    pub last_use: PageUses<A>,
     /// For each worker: the versions below this number were scanned clear of it since they were replaced.
     pub cleared: [u64; WORKERS],
     /// The least of these: the versions below it are free.
     pub free: u64,
 }
 
-impl Book {
-    /// The book of an operator that made no step: version 0 is in row 0, and nothing was scanned.
-    pub fn at_start() -> Book
-        ensures at_start { IsBookAtStart result }
+impl<A: Allocator> Book<A> {
+    /// The book of an operator that made no step: version 0 is in row 0 and names no page, and nothing was scanned.
+    pub fn at_start(alloc: A) -> Result<Book<A>, AllocError>
+        ensures at_start { IfOk result (IsBookAtStart []) }
     {
+        let last_use = PageUses::none(alloc)?;
         let mut last = [0; ROWS];
         last[0] = 1;
-        Book {
+        Ok(Book {
             number: 0,
             last,
+            last_use,
             cleared: [0; WORKERS],
             free: 0,
-        }
+        })
     }
 
     /// Tells how many versions are free: those below the result.
@@ -53,14 +62,40 @@ impl Book {
         row < ROWS && self.last[row] <= self.free
     }
 
-    /// Counts a publication from a row.
-    pub fn count_version(&mut self, row: usize)
+    /// Tests whether a page is free; false where there is no such page.
+    pub fn page_is_free(&self, page: usize) -> bool
+        ensures free_page_exact { (view : OperatorView (List Group)) → IsBook the_shape view self.now → IsTrue result ↔ IsFreePage the_shape view page }
+        ensures a_page { IsTrue result → page < PAGES }
+    {
+        page < PAGES && self.last_use.last_use(page) <= self.free
+    }
+
+    /// Tests whether the operator may fill a place of the table: whether it is in a free row or a free page.
+    pub fn may_fill(&self, place: usize) -> bool
+        ensures may_fill_exact { (view : OperatorView (List Group)) → IsBook the_shape view self.now → IsTrue result ↔ MayFill the_shape view place }
+    {
+        if place < ROWS_BEGIN {
+            return false;
+        }
+        if place < POOL_BEGIN {
+            return self.is_free((place - ROWS_BEGIN) / ROW_WORDS);
+        }
+        self.page_is_free((place - POOL_BEGIN) / PAGE_WORDS)
+    }
+
+    /// Counts a publication from a row that names these pages.
+    pub fn count_version(&mut self, row: usize, pages: &[u32])
         requires row { row < ROWS }
+        requires pages { (index page : ℕ) → slice_get pages.now index ≡ Some page → page < PAGES }
         requires number { self.old.number < LAST_NUMBER }
-        ensures counted { self.new ≡ with_version_in row self.old }
+        ensures counted { self.new ≡ with_version_in row pages.now self.old }
     {
         self.number += 1;
-        self.last[row] = self.number + 1;
+        let number = self.number + 1;
+        self.last[row] = number;
+        for page in pages {
+            self.last_use.name(*page as usize, number);
+        }
     }
 
     /// Counts a scan of a worker's read word, which gave `word`.

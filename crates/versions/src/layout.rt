@@ -1,12 +1,12 @@
-//! The words of the table (docs/TABLE.md, "The words"): which row a place is in, and whether a row holds a configuration's.
+//! The words of the table (docs/TABLE.md, "The words"): where rows and pages stand, and whether a row holds a configuration's.
 
-ghost use Rattle.std.specs.Prelude.{◌≡◌, ◌<◌, IsTrue, MatchOption, length, slice_index, ℕ, ◌↔◌};
+ghost use Rattle.std.specs.Prelude.{◌≡◌, ◌<◌, IsTrue, [], length, slice_index, ◌↔◌};
 ghost use Rattle.config_image.specs.Image.{row};
-ghost use Rattle.versions.specs.Layout.{HoldsRow, IsInRow};
+ghost use Rattle.versions.specs.Layout.{HoldsForm, IsInRow, rows_begin};
 ghost use Rattle.versions.specs.Table.{the_shape};
 
+use config_image::{PAGE_WORDS, image_len, image_word};
 pub use config_image::ROW_WORDS;
-use config_image::{image_len, image_word};
 use member_group::Config;
 use std::alloc::Allocator;
 
@@ -15,6 +15,10 @@ pub const WORKERS: usize = 64;
 
 /// The number of rows: row r begins at word 65 + 8192 * r.
 pub const ROWS: usize = 16;
+
+/// The number of pages: page q begins at word 131,137 + 16 * q. They suffice for all rows but one and a version more
+/// (`read_section::Operator::free_page`).
+pub const PAGES: usize = ROWS * 2048;
 
 /// The greatest charge of a configuration, so that its image fits a row.
 pub const CHARGE_LIMIT: u64 = 8192;
@@ -25,8 +29,11 @@ pub const LAST_NUMBER: u64 = 1 << 48;
 /// Where the first row begins: behind `current` and the read words.
 pub const ROWS_BEGIN: usize = 1 + WORKERS;
 
+/// Where the pool of pages begins: behind the rows.
+pub const POOL_BEGIN: usize = ROWS_BEGIN + ROWS * ROW_WORDS;
+
 /// The number of words of the whole table.
-pub const TABLE_WORDS: usize = ROWS_BEGIN + ROWS * ROW_WORDS;
+pub const TABLE_WORDS: usize = POOL_BEGIN + PAGES * PAGE_WORDS;
 
 /// Law: the limits, as numbers. It runs nothing.
 pub fn limits_as_numbers()
@@ -34,17 +41,10 @@ pub fn limits_as_numbers()
     ensures rows { ROWS ≡ 16 }
     ensures charge { CHARGE_LIMIT ≡ 8192 }
     ensures last_number { LAST_NUMBER ≡ 281474976710656 }
-    ensures table_words { TABLE_WORDS ≡ 131137 }
+    ensures pages { PAGES ≡ 32768 }
+    ensures pool_begin { POOL_BEGIN ≡ 131137 }
+    ensures table_words { TABLE_WORDS ≡ 655425 }
 {}
-
-pub(crate) fn row_of_place(place: usize) -> Option<usize>
-    ensures row { MatchOption result ((r : ℕ) → IsInRow the_shape r place → ⊥) (λ r. IsInRow the_shape r place) }
-{
-    if place < ROWS_BEGIN {
-        return None;
-    }
-    Some((place - ROWS_BEGIN) / ROW_WORDS)
-}
 
 pub(crate) fn is_in_row(row: usize, place: usize) -> bool
     ensures { IsTrue result ↔ IsInRow the_shape row place }
@@ -64,11 +64,11 @@ pub fn row_word<A: Allocator>(config: &Config<A>, i: usize) -> u64
     }
 }
 
-// Tests the words of a row against a configuration's, in one pass.
+// Tests the words of a row of the table against a configuration's, in one pass.
 pub(crate) fn holds_row<A: Allocator>(words: &[u64], row: usize, config: &Config<A>) -> bool
     requires table { length words.now ≡ TABLE_WORDS }
     requires row { row < ROWS }
-    ensures holds { IsTrue result ↔ HoldsRow the_shape words.now row config.now }
+    ensures holds { IsTrue result ↔ HoldsForm the_shape (rows_begin the_shape) words.now row config.now [] }
 {
     let begin = ROWS_BEGIN + row * ROW_WORDS;
     for i in 0..ROW_WORDS {

@@ -7,12 +7,13 @@
 #![tactic(auto)]
 
 ghost use Rattle.versions.specs.Table.{the_shape};
-ghost use Rattle.versions.specs.Safety.{FetchesPublished, InEveryTrace, KeepsHeld, ListsVersions, LoadsNewest, OfEveryTrace, ReclaimsNoneHeld, ScansTell, SeesUpToLastLoad, StepsOnOneWord, ViewsTellTable};
+ghost use Rattle.versions.specs.Safety.{FetchesPublished, InEveryTrace, KeepsHeld, KeepsPool, ListsVersions, LoadsNewest, OfEveryTrace, ReclaimsNoneHeld, ScansTell, SeesUpToLastLoad, StepsOnOneWord, ViewsTellTable};
 
 mod book;
 mod fault;
 mod freedom;
 mod layout;
+mod page_uses;
 mod progress;
 mod step;
 mod view;
@@ -22,20 +23,24 @@ pub use book::Book;
 pub use fault::StepFault;
 pub use freedom::free_versions;
 pub use layout::{
-    CHARGE_LIMIT, LAST_NUMBER, ROWS, ROWS_BEGIN, TABLE_WORDS, WORKERS, limits_as_numbers, row_word,
+    CHARGE_LIMIT, LAST_NUMBER, PAGES, POOL_BEGIN, ROWS, ROWS_BEGIN, TABLE_WORDS, WORKERS,
+    limits_as_numbers, row_word,
 };
+pub use page_uses::PageUses;
 pub use step::{Entry, Event, Step};
 pub use view::{OperatorView, Stage, WorkerView};
 pub use world::{World, opening_words};
 
 /// Law: in each state that a legal trace leads to, each load of `current` gives the version published last, each worker has
-/// seen the versions up to its last load, a version that a worker holds stands in its row and may not be overwritten, each
-/// fetch gives the published word, each scan tells a log of its worker, the words of the table are as the actors know them,
-/// and each step is on one word. No legal trace reclaims a version that a worker holds. It runs nothing.
+/// seen the versions up to its last load, a version that a worker holds stands in its row and its pages and may not be
+/// overwritten, no page is filled that a version names which is not free, each fetch gives the published word, each scan tells
+/// a log of its worker, the words of the table are as the actors know them, and each step is on one word. No legal trace
+/// reclaims a version that a worker holds. It runs nothing.
 pub fn every_trace()
     ensures pin_is_newest { InEveryTrace the_shape (LoadsNewest the_shape) }
     ensures seen_up_to_last_load { InEveryTrace the_shape (SeesUpToLastLoad the_shape) }
     ensures held_version_kept { InEveryTrace the_shape (KeepsHeld the_shape) }
+    ensures pool_kept { InEveryTrace the_shape (KeepsPool the_shape) }
     ensures not_reclaimed { OfEveryTrace the_shape (ReclaimsNoneHeld the_shape) }
     ensures fetch_is_published { InEveryTrace the_shape (FetchesPublished the_shape) }
     ensures scan_tells_log { InEveryTrace the_shape (ScansTell the_shape) }

@@ -1,23 +1,23 @@
 //! How far the actors of a world are: where each worker is, and the operator's book. It decides which steps are legal.
 
-ghost use Rattle.std.specs.Prelude.{◌≡◌, ◌+◌, ◌<◌, IsTrue, MatchOption, length, slice_get};
+ghost use Rattle.std.specs.Prelude.{◌≡◌, ◌+◌, ◌<◌, IfOk, MatchOption, length, slice_get};
 ghost use Rattle.std.specs.Option.{option_map};
 ghost use Rattle.versions.specs.declared.step.Step.TheVariants.{Announce, Fetch, Fill, Leave, Peek, Pin, Publish, Scan};
 ghost use Rattle.versions.specs.View as view;
 ghost use Rattle.versions.specs.body.Mirror.{BeginsAtStart, Decides, DecidesProposed, DecidesPublish, Follows, IsFollowed, moved};
 
 use crate::book::Book;
-use crate::layout::{LAST_NUMBER, ROWS, TABLE_WORDS, WORKERS, holds_row, is_in_row, row_of_place};
+use crate::layout::{LAST_NUMBER, ROWS, TABLE_WORDS, WORKERS, holds_row, is_in_row};
 use crate::step::Step;
 use crate::view::Stage;
 use member_group::Config;
-use std::alloc::Allocator;
+use std::alloc::{AllocError, Allocator, Global};
 
 /// Where each worker is, and what the operator's log tells.
 #[derive(Drop)]
-pub(crate) struct Progress {
+pub(crate) struct Progress<A: Allocator = Global> {
     pub(crate) stages: [Stage; WORKERS],
-    pub(crate) book: Book,
+    pub(crate) book: Book<A>,
 }
 
 fn after_peek(stage: Stage, version: u64) -> Stage
@@ -66,7 +66,7 @@ fn announced(version: u64) -> Option<u64>
 }
 
 // Which word a step loads or stores, `None` where no word makes it legal.
-impl Progress {
+impl<A: Allocator> Progress<A> {
     fn stage(&self, worker: usize) -> Option<Stage>
         ensures { result ≡ slice_get self.now.stages worker }
     {
@@ -127,20 +127,17 @@ impl Progress {
     fn fill_word(&self, words: &[u64], place: usize, word: u64) -> Option<u64>
         ensures { Decides words.now self.now (Fill place word) result }
     {
-        let Some(row) = row_of_place(place) else {
-            return None;
-        };
-        if !self.book.is_free(row) {
+        if !self.book.may_fill(place) {
             return None;
         }
         Some(word)
     }
 
-    fn publish_word<A: Allocator>(
+    fn publish_word<B: Allocator>(
         &self,
         words: &[u64],
         row: usize,
-        proposal: Option<&Config<A>>,
+        proposal: Option<&Config<B>>,
     ) -> Option<u64>
         requires { length words.now ≡ TABLE_WORDS }
         ensures { DecidesPublish words.now self.now (option_map (λ config. config.now) proposal.entry) row result }
@@ -167,10 +164,10 @@ impl Progress {
         Some(words[place])
     }
 
-    pub(crate) fn word_of<A: Allocator>(
+    pub(crate) fn word_of<B: Allocator>(
         &self,
         words: &[u64],
-        proposal: Option<&Config<A>>,
+        proposal: Option<&Config<B>>,
         step: Step,
     ) -> Option<u64>
         requires { length words.now ≡ TABLE_WORDS }
@@ -190,14 +187,15 @@ impl Progress {
 }
 
 // What a legal step changes.
-impl Progress {
-    pub(crate) fn at_start() -> Progress
-        ensures { BeginsAtStart result }
+impl<A: Allocator> Progress<A> {
+    pub(crate) fn at_start(alloc: A) -> Result<Progress<A>, AllocError>
+        ensures { IfOk result BeginsAtStart }
     {
-        Progress {
+        let book = Book::at_start(alloc)?;
+        Ok(Progress {
             stages: [Stage::Outside; WORKERS],
-            book: Book::at_start(),
-        }
+            book,
+        })
     }
 
     fn move_worker(&mut self, worker: usize, step: Step, word: u64)
@@ -227,7 +225,7 @@ impl Progress {
             Step::Fill { place, .. } => words[place] = word,
             Step::Publish { row } => {
                 words[0] = word;
-                self.book.count_version(row);
+                self.book.count_version(row, &[]);
             }
             Step::Scan { place } => self.book.take_scan(place - 1, word),
         }

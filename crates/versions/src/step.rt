@@ -3,8 +3,8 @@
 /// One load or one store of one word of the table, by one actor and without a lock.
 ///
 /// A `worker` is 0 to 63, a `row` 0 to 15. A `place` is that of a word in the whole table: 0 is `current`, 1 + w the read word
-/// of worker w, and row r begins at 65 + 8192 * r; a scan's is 1 to 64, a fetch's and a fill's 65 to 131,136. A step with any
-/// other number is not legal.
+/// of worker w, row r begins at 65 + 8192 * r, and page q at 131,137 + 16 * q; a scan's is 1 to 64, a fetch's and a fill's 65 to
+/// 655,424. A step with any other number is not legal.
 #[derive(Clone, Copy, Debug)]
 pub enum Step {
     /// The worker loads `current`.
@@ -13,13 +13,13 @@ pub enum Step {
     Announce { worker: usize },
     /// The worker loads `current`, and holds the version that it gives.
     Pin { worker: usize },
-    /// The worker loads a word of the row of the version that it holds.
+    /// The worker loads a word of the version that it holds: of its row, or of a part in one of its pages.
     Fetch { worker: usize, place: usize },
     /// The worker stores 0 in its own read word, and holds nothing.
     Leave { worker: usize },
-    /// The operator stores a word in a free row.
+    /// The operator stores a word in a free row or a free page.
     Fill { place: usize, word: u64 },
-    /// The operator stores `current`: what stands in the row is the next version.
+    /// The operator stores `current`: what stands in the row, and in the pages that it names, is the next version.
     Publish { row: usize },
     /// The operator loads a read word.
     Scan { place: usize },

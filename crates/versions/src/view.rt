@@ -36,6 +36,8 @@ pub struct WorkerView<C> {
     pub log: LinkedList<Entry>,
     /// The versions from 0 up to the one that its last load of `current` gave; at first version 0 alone.
     pub seen: LinkedList<C>,
+    /// The pages of the version that its last pin gave; at first those of version 0.
+    pub pages: LinkedList<usize>,
 }
 
 /// What the operator knows over configurations `C`.
@@ -46,10 +48,12 @@ pub struct OperatorView<C> {
     pub published: LinkedList<C>,
     /// The row of each version.
     pub version_rows: LinkedList<usize>,
+    /// The pages of each version.
+    pub version_pages: LinkedList<LinkedList<usize>>,
     /// What it proposed last, where it published nothing since.
     pub proposal: Option<C>,
-    /// The words of the rows, which it alone stores.
-    pub row_words: LinkedList<u64>,
+    /// The words of the rows, and behind them those of the pool, which it alone stores.
+    pub stored: LinkedList<u64>,
     /// The log of each worker at the operator's last scan of its read word.
     pub scanned_logs: LinkedList<LinkedList<Entry>>,
 }

@@ -30,7 +30,7 @@ pub struct World<A: Allocator = Global> {
     opening: Config<A>,
     events: Vec<Event<Config<A>>, A>,
     words: Vec<u64, A>,
-    progress: Progress,
+    progress: Progress<A>,
     proposal: Option<usize>,
 }
 
@@ -49,7 +49,7 @@ impl<A: Allocator> Model for World<A> {
 }
 
 /// Makes the words of a table that opens with a configuration, in its memory: it is version 0, in row 0, all read words are
-/// 0, and so are the words of the other rows.
+/// 0, and so are the words of the other rows and of the pool.
 pub fn opening_words<A: Allocator + Clone>(config: &Config<A>) -> Result<Vec<u64, A>, AllocError>
     ensures words { IfOk result (λ words. words.items ≡ (opened_with config.now).words) }
 {
@@ -73,7 +73,7 @@ fn proposal_after(step: Step, proposal: Option<usize>) -> Option<usize>
 }
 
 impl<A: Allocator> World<A> {
-    /// The word at a place of the table, `None` from 131,137 on. Each world is what a legal trace from an opening of the table
+    /// The word at a place of the table, `None` from 655,425 on. Each world is what a legal trace from an opening of the table
     /// leads to, so what `every_trace` says holds of it.
     pub fn word(&self, place: usize) -> Option<u64>
         ensures word { result ≡ slice_get self.now.words place }
@@ -140,7 +140,7 @@ impl<A: Allocator> World<A> {
 }
 
 impl<A: Allocator + Clone> World<A> {
-    /// Opens a table with a configuration, in its memory: version 0, in row 0. The other rows are filled with zeros.
+    /// Opens a table with a configuration, in its memory: version 0, in row 0. The other rows and the pages are filled with zeros.
     ///
     /// Fails with `TooBig` where the charge is above `CHARGE_LIMIT`, else with `OutOfMemory` where memory was refused.
     pub fn new(config: Config<A>) -> Result<World<A>, StepFault>
@@ -152,12 +152,13 @@ impl<A: Allocator + Clone> World<A> {
             return Err(StepFault::TooBig);
         }
         let words = opening_words(&config)?;
+        let progress = Progress::at_start(config.allocator().clone()?)?;
         let events = Vec::new(config.allocator().clone()?);
         Ok(World {
             opening: config,
             events,
             words,
-            progress: Progress::at_start(),
+            progress,
             proposal: None,
         })
     }

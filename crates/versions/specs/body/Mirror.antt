@@ -1,5 +1,5 @@
 -- How what a world keeps beside its words goes with the state of the table, and what is said of the calls that use it.
-use Rattle.std.specs.Prelude.{◌≡◌, List, MatchOption, Option, Some, length, replicate, slice_get, slice_index_or, slice_set, ℕ}
+use Rattle.std.specs.Prelude.{◌≡◌, List, MatchOption, Option, Some, [], length, replicate, slice_get, slice_index_or, slice_set, ℕ}
 use mathlib.Core.Option.{some}
 use lib.ListN.{get_elem?}
 use Rattle.config_image.specs.Image.{Group}
@@ -16,9 +16,9 @@ use Rattle.versions.specs.Legal.{IsLegalStep, IsReached}
 use Rattle.versions.specs.Book.{IsBook, IsBookAtStart}
 use Rattle.versions.specs.Table.{the_shape}
 
-module _ {C : Type 0} (shape : Shape C) where
+module _ {C : Type 0} {A : Type 0} (shape : Shape C) where
   -- the words are the table's, and the numbers tell where each actor is
-  pub record IsMirror (s : State C) (words : List ℕ) (progress : Progress) : Type 0 where
+  pub record IsMirror (s : State C) (words : List ℕ) (progress : Progress A) : Type 0 where
     pub words_same : words ≡ s.words
     pub stages_length : length progress.stages ≡ shape.workers
     pub stages : (w : ℕ) (view : WorkerView C) → get_elem? s.workers w ≡ some view → slice_get progress.stages w ≡ Some view.stage
@@ -29,35 +29,35 @@ abbrev pub IsDecided : State (List Group) → Step → Option ℕ → Type 0
 IsDecided s step found = MatchOption found ((x : ℕ) → IsLegalStep the_shape s step x → ⊥) (IsLegalStep the_shape s step)
 
 -- it is decided what word the step loads or stores, in each state that the words and numbers mirror
-abbrev pub Decides : List ℕ → Progress → Step → Option ℕ → Type 0
+abbrev pub Decides : {A : Type 0} → List ℕ → Progress A → Step → Option ℕ → Type 0
 Decides words progress step found =
     (s : State (List Group)) → IsReached the_shape s → IsMirror the_shape s words progress → IsDecided s step found
 
 -- the same, where this was proposed last
-abbrev pub DecidesProposed : List ℕ → Progress → Option (List Group) → Step → Option ℕ → Type 0
+abbrev pub DecidesProposed : {A : Type 0} → List ℕ → Progress A → Option (List Group) → Step → Option ℕ → Type 0
 DecidesProposed words progress proposal step found =
     (s : State (List Group)) → IsReached the_shape s → IsMirror the_shape s words progress → s.operator.proposal ≡ proposal → IsDecided s step found
 
-abbrev pub DecidesPublish : List ℕ → Progress → Option (List Group) → ℕ → Option ℕ → Type 0
+abbrev pub DecidesPublish : {A : Type 0} → List ℕ → Progress A → Option (List Group) → ℕ → Option ℕ → Type 0
 DecidesPublish words progress proposal r found = DecidesProposed words progress proposal (Publish r) found
 
 -- the words and numbers after a legal step mirror the state after it
-abbrev pub Follows : List ℕ → Progress → List ℕ → Progress → Step → ℕ → Type 0
+abbrev pub Follows : {A : Type 0} → List ℕ → Progress A → List ℕ → Progress A → Step → ℕ → Type 0
 Follows words progress words' progress' step x =
     (s : State (List Group)) → IsReached the_shape s → IsMirror the_shape s words progress → IsLegalStep the_shape s step x
     → IsMirror the_shape (after_step the_shape s step x) words' progress'
 
 -- the step is legal in a state that the words and numbers mirror
-abbrev pub IsFollowed : List ℕ → Progress → Step → ℕ → Type 0
+abbrev pub IsFollowed : {A : Type 0} → List ℕ → Progress A → Step → ℕ → Type 0
 IsFollowed words progress step x =
     (s : State (List Group)) × IsReached the_shape s × IsMirror the_shape s words progress × IsLegalStep the_shape s step x
 
 -- where all are at the start
-pub record BeginsAtStart (progress : Progress) : Type 0 where
+pub record BeginsAtStart {A : Type 0} (progress : Progress A) : Type 0 where
   pub stages : progress.stages ≡ replicate the_shape.workers Outside
-  pub book : IsBookAtStart progress.book
+  pub book : IsBookAtStart [] progress.book
 
 -- the numbers after a step of a worker
-abbrev pub moved : ℕ → Step → ℕ → Progress → Progress
+abbrev pub moved : {A : Type 0} → ℕ → Step → ℕ → Progress A → Progress A
 moved w step x before =
     record before { stages = slice_set before.stages w (next_stage ROWS (slice_index_or before.stages w Outside) step x) }

@@ -23,7 +23,7 @@ proposal_by (Publish r) found = None
 proposal_by _ found = found
 
 -- the events are legal, and the table, the numbers and the place tell the state after them
-pub record IsWorld (config : List Group) (events : List (Event (List Group))) (table : List ℕ) (progress : Progress) (found : Option ℕ) : Type 0 where
+pub record IsWorld {A : Type 0} (config : List Group) (events : List (Event (List Group))) (table : List ℕ) (progress : Progress A) (found : Option ℕ) : Type 0 where
   pub charge : the_shape.charge config ≤ the_shape.charge_limit
   pub legal : IsLegal the_shape (opened_with config) (reverse events)
   pub mirror : IsMirror the_shape (world_after config events) table progress

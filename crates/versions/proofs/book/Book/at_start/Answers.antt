@@ -4,4 +4,4 @@ use Rattle.versions.proofs.book.Book.at_start.Goals as goal
 
 pub returns : goal.returns
 unfolding the_shape
-returns c = record { at_start = record { number = refl; last = refl; cleared = refl; free = refl } }
+returns g c = record { at_start = record { number = refl; last = refl; last_use = c.in_ok-last_use.ensures.none; cleared = refl; free = refl } }

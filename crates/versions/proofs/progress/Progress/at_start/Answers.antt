@@ -4,4 +4,4 @@ use Rattle.versions.proofs.progress.Progress.at_start.Goals as goal
 
 pub returns : goal.returns
 unfolding the_shape
-returns c = record { stages = refl; book = c.at_start.ensures.at_start }
+returns g c = record { stages = refl; book = c.in_ok-book.ensures.at_start }
