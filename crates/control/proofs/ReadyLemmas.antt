@@ -15,7 +15,8 @@ use Rattle.versions.proofs.ListLemmas.{elem_below, elem_same, elem_there}
 use Rattle.versions.proofs.LogLemmas.{IsFree-on}
 use Rattle.versions.proofs.ShapeLemmas.{rows_is}
 use Rattle.read_section.specs.Operator.{OperatorValue, scanned}
-use Rattle.retire.specs.Publish.{HasFreeRow, IsFillOf, Publishes, Scanned, ScansEach, after_scans}
+use Rattle.read_section.specs.Operator.{HasFreeRow}
+use Rattle.retire.specs.Publish.{IsFillOf, Publishes, Scanned, ScansEach, after_scans}
 use Rattle.retire.specs.Sweep.{Sweeps}
 use Rattle.retire.specs.declared.fault.PublishFault.TheVariants.{Busy, Exhausted, TooBig}
 use Rattle.retire.proofs.PublishLemmas.{looked_keeps, number_found}
@@ -74,7 +75,7 @@ module _ (before : OperatorValue) (now : Standing) (stands : Stands before now) 
   )
 
   -- so the first row is free, or the second
-  has_free_row : HasFreeRow before
+  has_free_row : HasFreeRow before.view
   has_free_row =
       let long = stands.rows_length in
       let (current, at) = elem_there before.view.version_rows now.version (omega arith) in

@@ -1,6 +1,6 @@
 -- A worker's steps from outside to the version that it holds.
 use Rattle.std.proofs.Common.{Contains, ◌≡◌, ℕ, zero, suc, ◌+◌, ◌/◌, ◌%◌, ◌<◌, List, [], ◌∷◌, ◌++◌, None, Option, Some, ap, append_assoc, arith, length, length-append, refl, slice_index_or, subst, sym, ◌∙◌}
-use Rattle.config_image.specs.Image.{Group}
+use Rattle.config_image.specs.Image.{Group, row}
 use Rattle.config_image.specs.Lookup.{BeginsWithImage}
 use Rattle.config_image.proofs.RowLemmas.{row_holds}
 use Rattle.versions.specs.declared.layout.TheConstants.{ROWS}
@@ -10,7 +10,6 @@ use Rattle.versions.specs.declared.view.WorkerView.{WorkerView}
 use Rattle.versions.specs.View.{BeginsWith, IsTold, after_announce, after_peek, after_pin, read_word_of, stage_after_peek}
 use Rattle.versions.specs.Legal.{MayPeek}
 use Rattle.versions.specs.Table.{the_shape}
-use Rattle.versions.proofs.ShapeLemmas.{row_is}
 use Rattle.read_section.specs.declared.worker.Held.{Held}
 use Rattle.read_section.specs.Layout.{IsPublishable}
 use Rattle.read_section.specs.body.Seat.{TellsStage}
@@ -76,16 +75,17 @@ module _ (before out : WorkerValue) (may : MayPeek out.view.stage) (e0 : out ≡
     pub peeked_stage : one.view.stage ≡ Peeked (x / ROWS)
     peeked_stage = ap (λ (w : WorkerValue). w.view.stage) e1 ∙ (peeked_outside out.view.stage (x / the_shape.rows) out_is ∙ ap Peeked (version_is x))
 
-    module _ (two three : WorkerValue) (y : ℕ) (more : List (List Group)) (e2 : two ≡ steps (after_announce (x / ROWS + 1)) one) (e3 : three ≡ steps (after_pin the_shape.rows y more) two) (first : Sees out x seen) (second : Sees two y more) where
+    module _ (two three : WorkerValue) (y : ℕ) (more : List (List Group)) (pages : List ℕ) (e2 : two ≡ steps (after_announce (x / ROWS + 1)) one) (e3 : three ≡ steps (after_pin the_shape.rows y more pages) two) (first : Sees out x seen) (second : Sees two y more) where
       pub enters : Enters before three
       enters = record {
         peeked = x;
         pinned = y;
         seen_by_peek = seen;
         seen_by_pin = more;
+        pages = pages;
         peek_shows = subst (Shows the_shape x seen) (ap (λ (w : WorkerValue). w.view.seen) e0 ∙ left_seen before.view) first.shows;
         pin_shows = subst (Shows the_shape y more) (ap (λ (w : WorkerValue). w.view.seen) e2 ∙ ap (λ (w : WorkerValue). w.view.seen) e1) second.shows;
-        three_steps = e3 ∙ ap (steps (after_pin the_shape.rows y more)) (e2 ∙ (ap (λ (n : ℕ). steps (after_announce (n + 1)) one) (sym (version_is x)) ∙ ap (steps (after_announce (x / the_shape.rows + 1))) (e1 ∙ ap (steps (after_peek the_shape.rows x seen)) e0)));
+        three_steps = e3 ∙ ap (steps (after_pin the_shape.rows y more pages)) (e2 ∙ (ap (λ (n : ℕ). steps (after_announce (n + 1)) one) (sym (version_is x)) ∙ ap (steps (after_announce (x / the_shape.rows + 1))) (e1 ∙ ap (steps (after_peek the_shape.rows x seen)) e0)));
       }
 
       pub pinned_inside : IsInside three.view.stage (y / ROWS) (y % ROWS)
@@ -96,15 +96,15 @@ module _ (before out : WorkerValue) (may : MayPeek out.view.stage) (e0 : out ≡
       HoldsLastSeen-pinned =
           let last = last_of more (y / the_shape.rows) second.shows.up_to_version in let config = last.1 in let seen_is : three.view.seen ≡ last.0 ++ config ∷ [] = ap (λ (w : WorkerValue). w.view.seen) e3 ∙ last.2 in
           let publishable : IsPublishable config = second.publishable config (subst (λ l. Contains l config) (sym last.2) (contains_last last.0 config)) in
-          let row : held_words three ≡ the_shape.row config = ap held_words e3 ∙ ap the_shape.row ((λ i. slice_index_or (last.2 i) (sym last.3 i) []) ∙ at_last last.0 config []) in
+          let same : held_words three ≡ row config = ap held_words e3 ∙ ap row ((λ i. slice_index_or (last.2 i) (sym last.3 i) []) ∙ at_last last.0 config []) in
           let charge = publishable.1 in record {
             config = config;
             older = last.0;
             last_seen = seen_is;
             number = ap held_version e3 ∙ sym last.3;
             publishable = publishable;
-            row = row;
-            image = subst (λ l. BeginsWithImage l config) (sym (row ∙ row_is config)) (row_holds config publishable.0 (omega arith)).begins;
+            row_is = same;
+            image = subst (λ l. BeginsWithImage l config) (sym same) (row_holds config publishable.0 (omega arith)).begins;
           }
 
 begins_further : (xs ys zs : List (List Group)) → BeginsWith xs ys → BeginsWith ys zs → BeginsWith xs zs

@@ -2,10 +2,12 @@
 use Rattle.std.proofs.Common.{◌≡◌, ◌∙◌, ◌⊎◌, ◌≢◌, ℕ, ◌+◌, ◌-◌, ◌*◌, ◌<◌, List, ap, arith, get_or, get_or-set_other, get_or-set_same, length, set, slice_index, inr, sym, ⊎_elim}
 use mathlib.Core.Logic.{dite}
 use native.Mathlib.Decide.{ℕ_discrete}
-use Rattle.config_image.specs.declared.TheConstants.{ROW_WORDS}
-use Rattle.versions.specs.declared.layout.TheConstants.{ROWS}
-use Rattle.versions.specs.Layout.{row_begin, rows_begin}
+use Rattle.config_image.specs.declared.TheConstants.{PAGE_WORDS, ROW_WORDS}
+use Rattle.versions.specs.declared.layout.TheConstants.{PAGES, ROWS}
+use Rattle.versions.specs.Layout.{page_begin, row_begin, rows_begin, stored_words}
 use Rattle.versions.specs.Table.{the_shape}
+use Rattle.versions.proofs.ListLemmas as size
+use Rattle.versions.proofs.ShapeLemmas.{pages_is, stored_is}
 use Rattle.read_section.specs.Operator.{OperatorValue, filled}
 
 -- what the shape says of rows, in numbers
@@ -18,20 +20,34 @@ pub place_in_rows : (r place : ℕ) → (row_begin the_shape r + place) - rows_b
 unfolding the_shape
 place_in_rows r place = omega arith
 
+-- a place of a page among the words of rows and pool
+pub place_in_pool : (q place : ℕ) → (page_begin the_shape q + place) - rows_begin the_shape ≡ ROWS * ROW_WORDS + (q * PAGE_WORDS + place)
+unfolding the_shape
+place_in_pool q place = omega arith
+
+pub place_stored : (r place : ℕ) → r < ROWS → place < ROW_WORDS → r * ROW_WORDS + place < ROWS * ROW_WORDS
+place_stored r place low small = size.row_inside r ROWS place ROW_WORDS low small
+
+pub rows_stored : (i : ℕ) → i < ROWS * ROW_WORDS → i < stored_words the_shape
+rows_stored i low = omega (arith, stored_is)
+
+pub pages_stored : (q place : ℕ) → q < the_shape.pages → place < PAGE_WORDS → ROWS * ROW_WORDS + (q * PAGE_WORDS + place) < stored_words the_shape
+pages_stored q place low small = let inside = size.row_inside q PAGES place PAGE_WORDS (omega (arith, pages_is)) small in omega (arith, stored_is)
+
 -- a word of a row
 abbrev pub word_at : OperatorValue → ℕ → ℕ → ℕ
-word_at operator r i = slice_index operator.view.row_words (r * ROW_WORDS + i)
+word_at operator r i = slice_index operator.view.stored (r * ROW_WORDS + i)
 
-module _ (now after : OperatorValue) (r place word : ℕ) (low : r < ROWS) (small : place < ROW_WORDS) (whole : length now.view.row_words ≡ ROWS * ROW_WORDS) (e : after ≡ filled r place word now) where
-  pub words_are : after.view.row_words ≡ set now.view.row_words (r * ROW_WORDS + place) word
-  words_are = ap (λ (o : OperatorValue). o.view.row_words) e ∙ ap (λ (k : ℕ). set now.view.row_words k word) (place_in_rows r place)
+module _ (now after : OperatorValue) (r place word : ℕ) (low : r < ROWS) (small : place < ROW_WORDS) (whole : length now.view.stored ≡ stored_words the_shape) (e : after ≡ filled r place word now) where
+  pub words_are : after.view.stored ≡ set now.view.stored (r * ROW_WORDS + place) word
+  words_are = ap (λ (o : OperatorValue). o.view.stored) e ∙ ap (λ (k : ℕ). set now.view.stored k word) (place_in_rows r place)
 
   pub word_filled : word_at after r place ≡ word
-  word_filled = ap (λ l. get_or l (r * ROW_WORDS + place) 0) words_are ∙ get_or-set_same now.view.row_words (r * ROW_WORDS + place) word 0 (omega arith)
+  word_filled = ap (λ l. get_or l (r * ROW_WORDS + place) 0) words_are ∙ get_or-set_same now.view.stored (r * ROW_WORDS + place) word 0 (let inside = rows_stored (r * ROW_WORDS + place) (place_stored r place low small) in omega arith)
 
   pub word_kept : (q i : ℕ) → i < ROW_WORDS → (q ≢ r) ⊎ (i ≢ place) → word_at after q i ≡ word_at now q i
   word_kept q i inside other = ap (λ l. get_or l (q * ROW_WORDS + i) 0) words_are
-      ∙ get_or-set_other now.view.row_words (r * ROW_WORDS + place) (q * ROW_WORDS + i) word 0 (λ k. ⊎_elim (λ ne. ne (omega arith)) (λ ne. ne (omega arith)) other)
+      ∙ get_or-set_other now.view.stored (r * ROW_WORDS + place) (q * ROW_WORDS + i) word 0 (λ k. ⊎_elim (λ ne. ne (omega arith)) (λ ne. ne (omega arith)) other)
 
   -- the first words of the row, where the fill is right behind them
   pub front_filled : (words : List ℕ) → word ≡ slice_index words place → ((i : ℕ) → i < place → word_at now r i ≡ slice_index words i) → (i : ℕ) → i < place + 1 → word_at after r i ≡ slice_index words i

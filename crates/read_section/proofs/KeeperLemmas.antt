@@ -1,5 +1,5 @@
 -- What the operator keeps stays true after each of its steps.
-use Rattle.std.proofs.Common.{◌↔◌, ◌≡◌, ℕ, zero, suc, ◌+◌, ◌-◌, ◌*◌, ◌<◌, ◌≤◌, List, [], ◌∷◌, ap, arith, get_or, get_or-set_other, get_or-set_same, length, length-append, length-set, refl, replicate, set, slice_index, subst, suc-mul, sym, ◌∙◌}
+use Rattle.std.proofs.Common.{◌↔◌, ◌≡◌, ℕ, zero, suc, ◌+◌, ◌-◌, ◌*◌, ◌<◌, ◌≤◌, List, [], ◌∷◌, ap, arith, get_or, get_or-set_other, get_or-set_same, length, length-append, length-set, refl, replicate, set, slice_get, slice_index, subst, suc-mul, sym, ◌∙◌, ⊎_elim}
 use Rattle.std.proofs.lemmas.List.{get_or-append_right, get_or_append_left, length-replicate}
 use mathlib.Core.Logic.{dite}
 use native.Mathlib.Decide.{ℕ_discrete}
@@ -7,62 +7,74 @@ use Rattle.config_image.specs.Image.{Group, image}
 use Rattle.config_image.proofs.LengthLemmas.{within_charge}
 use Rattle.member_group.specs.Charge.{charge_of}
 use Rattle.versions.specs.declared.step.Entry.{Entry}
-use Rattle.config_image.specs.declared.TheConstants.{ROW_WORDS}
-use Rattle.versions.specs.declared.layout.TheConstants.{LAST_NUMBER, ROWS, WORKERS}
+use Rattle.config_image.specs.declared.TheConstants.{PAGE_WORDS, ROW_WORDS}
+use Rattle.versions.specs.declared.layout.TheConstants.{LAST_NUMBER, ROWS, ROWS_BEGIN, WORKERS}
 use Rattle.versions.specs.declared.view.OperatorView.{OperatorView}
-use Rattle.versions.specs.declared.step.Step.TheVariants.{Publish, Scan}
-use Rattle.versions.specs.Layout.{current_word, row_begin, rows_begin}
+use Rattle.versions.specs.declared.step.Step.TheVariants.{Fill, Publish, Scan}
+use Rattle.versions.specs.Layout.{current_word, page_begin, pages_named, row_begin, rows_begin, stored_words}
 use Rattle.versions.specs.Step.{entry}
 use Rattle.versions.specs.View.{after_fill, after_proposal, after_scan}
-use Rattle.versions.specs.Free.{IsFree, number_after}
+use Rattle.versions.specs.Free.{IsFree, IsFreeRow, number_after}
 use Rattle.versions.specs.State.{new_operator}
-use Rattle.versions.specs.Book.{IsBookAtStart, IsCleared, with_version_in}
-use Rattle.versions.specs.World.{opening_rows}
+use Rattle.versions.specs.Book.{IsBook, IsBookAtStart, IsCleared, with_version_in}
+use Rattle.versions.specs.World.{opened_with, opening_stored}
 use Rattle.versions.specs.Table.{the_shape}
-use Rattle.versions.proofs.ListLemmas.{row_inside, same_row}
+use Rattle.versions.proofs.ListLemmas.{elem_snoc, same_row}
 use Rattle.versions.proofs.LogLemmas.{IsFree-on}
-use Rattle.versions.proofs.BookLemmas.{IsBook-opened, IsBook-filled, IsBook-proposed, IsBook-published, IsBook-scanned}
+use Rattle.versions.proofs.BookLemmas.{IsBook-filled, IsBook-proposed, IsBook-published, IsBook-scanned}
 use Rattle.versions.proofs.RowLemmas.{length-row, row_behind_image}
-use Rattle.versions.proofs.ShapeLemmas.{all_rows_is, row_is, row_words_is, rows_is, workers_is}
-use Rattle.versions.proofs.WorldLemmas.{IsOpening-rows, light}
+use Rattle.versions.proofs.ShapeLemmas.{names_none, none_there, row_is, row_words_is, rows_is, stored_is, workers_is}
+use Rattle.versions.proofs.ReuseLemmas.{IsFreeBefore-published}
+use Rattle.versions.proofs.TraceLemmas.{Coheres-start, only}
+use Rattle.versions.proofs.WorldLemmas.{IsBook-start, IsOpening-stored, light}
 use Rattle.versions.specs.declared.book.Book.{Book}
 use Rattle.read_section.specs.Layout.{IsPublishable, IsZeroFrom}
 use Rattle.read_section.specs.body.OperatorKept.{KeepsZeros}
 use Rattle.read_section.specs.Operator.{IsReport, put_in}
 use Rattle.read_section.specs.body.OperatorKept.{IsKeptBy}
-use Rattle.read_section.proofs.FilledLemmas.{place_in_rows}
+use Rattle.read_section.proofs.FilledLemmas.{place_in_pool, place_in_rows, place_stored, rows_stored}
 
 abbrev pub View : Type 0
 View = OperatorView (List Group)
 
 -- the words of a row, in numbers
-IsZeroFrom-shape : (view : View) (r from : ℕ) → ((i : ℕ) → from ≤ i → i < the_shape.row_words → slice_index view.row_words (r * the_shape.row_words + i) ≡ 0) → IsZeroFrom view r from
+IsZeroFrom-shape : (view : View) (r from : ℕ) → ((i : ℕ) → from ≤ i → i < the_shape.row_words → slice_index view.stored (r * the_shape.row_words + i) ≡ 0) → IsZeroFrom view r from
 unfolding the_shape
 IsZeroFrom-shape view r from h = h
 
-module _ (view : View) (config : List Group) (book : Book) (reported : ℕ) (zeros : List ℕ) (h : IsKeptBy view config book reported zeros) where
+module _ {A : Type 0} (view : View) (config : List Group) (book : Book A) (reported : ℕ) (zeros words : List ℕ) (h : IsKeptBy view config book reported zeros words) where
   zeros_stand-filled : (row place word from : ℕ) → row < ROWS → place < ROW_WORDS → KeepsZeros place word (slice_index zeros row) from
       → (q : ℕ) → q < ROWS → IsZeroFrom (after_fill (rows_begin the_shape) (row_begin the_shape row + place) word view) q (slice_index (set zeros row from) q)
   zeros_stand-filled row place word from low small keeps q low' i up inside =
-      let p = (row_begin the_shape row + place) - rows_begin the_shape in let p_is = place_in_rows row place in let inside_all = row_inside row ROWS place ROW_WORDS low small in let all = h.row_words_length in let many = h.zeros_length in
+      let p = (row_begin the_shape row + place) - rows_begin the_shape in let p_is = place_in_rows row place in let inside_all = rows_stored (row * ROW_WORDS + place) (place_stored row place low small) in let all = h.stored_length in let many = h.zeros_length in
       dite (ℕ_discrete q row)
       (λ same. let from_is : get_or (set zeros row from) q 0 ≡ from = ap (λ (k : ℕ). get_or (set zeros row from) k 0) same ∙ get_or-set_same zeros row from 0 (omega arith) in
       let same_begin : q * ROW_WORDS ≡ row * ROW_WORDS = ap (λ (k : ℕ). k * ROW_WORDS) same in
       let kept = keeps i (omega arith) in dite (ℕ_discrete i place)
-      (λ here. ap (λ (k : ℕ). get_or (set view.row_words p word) k 0) (let g : q * ROW_WORDS + i ≡ p = omega arith in g) ∙ (get_or-set_same view.row_words p word 0 (omega arith) ∙ kept.0 here))
-      (λ ne. get_or-set_other view.row_words p (q * ROW_WORDS + i) word 0 (λ e. ne (omega arith))
-      ∙ (ap (λ (k : ℕ). get_or view.row_words (k + i) 0) same_begin ∙ h.zeros_stand row low i (kept.1 ne) inside)))
+      (λ here. ap (λ (k : ℕ). get_or (set view.stored p word) k 0) (let g : q * ROW_WORDS + i ≡ p = omega arith in g) ∙ (get_or-set_same view.stored p word 0 (omega arith) ∙ kept.0 here))
+      (λ ne. get_or-set_other view.stored p (q * ROW_WORDS + i) word 0 (λ e. ne (omega arith))
+      ∙ (ap (λ (k : ℕ). get_or view.stored (k + i) 0) same_begin ∙ h.zeros_stand row low i (kept.1 ne) inside)))
       (λ other. let from_is : get_or (set zeros row from) q 0 ≡ get_or zeros q 0 = get_or-set_other zeros row q from 0 other in
-      get_or-set_other view.row_words p (q * ROW_WORDS + i) word 0 (λ e. other (same_row ROW_WORDS q row i place inside small (omega arith))) ∙ h.zeros_stand q low' i (omega arith) inside)
+      get_or-set_other view.stored p (q * ROW_WORDS + i) word 0 (λ e. other (same_row ROW_WORDS q row i place inside small (omega arith))) ∙ h.zeros_stand q low' i (omega arith) inside)
 
-  pub IsKeptBy-filled : (row place word from : ℕ) → row < ROWS → place < ROW_WORDS → KeepsZeros place word (slice_index zeros row) from → from ≤ ROW_WORDS
-      → IsKeptBy (after_fill (rows_begin the_shape) (row_begin the_shape row + place) word view) config book reported (set zeros row from)
-  IsKeptBy-filled row place word from low small keeps fits = record {
+  pub IsKeptBy-filled : (row place word from k : ℕ) → row < ROWS → place < ROW_WORDS → KeepsZeros place word (slice_index zeros row) from → from ≤ ROW_WORDS → k ≡ ROWS_BEGIN + row * ROW_WORDS + place
+      → IsKeptBy (after_fill (rows_begin the_shape) (row_begin the_shape row + place) word view) config book reported (set zeros row from) (set words k word)
+  IsKeptBy-filled row place word from k low small keeps fits k_is = let p_is = place_in_rows row place in let here = place_stored row place low small in let off : k ≡ ROWS_BEGIN + (row * ROW_WORDS + place) = omega arith in record {
     steps_told = IsBook-filled the_shape view book h.steps_told (rows_begin the_shape) (row_begin the_shape row + place) word;
     number_limited = h.number_limited;
     published_length = h.published_length;
     version_rows_length = h.version_rows_length;
-    row_words_length = length-set view.row_words ((row_begin the_shape row + place) - rows_begin the_shape) word ∙ h.row_words_length;
+    version_pages_length = h.version_pages_length;
+    stored_length = length-set view.stored ((row_begin the_shape row + place) - rows_begin the_shape) word ∙ h.stored_length;
+    words_length = length-set words k word ∙ h.words_length;
+    words_same = λ i inside. let long = h.words_length in let all = h.stored_length in let within = rows_stored (row * ROW_WORDS + place) here in ap (λ (l : List ℕ). get_or l (ROWS_BEGIN + i) 0) (ap (λ (j : ℕ). set words j word) off) ∙ (dite (ℕ_discrete i (row * ROW_WORDS + place))
+        (λ same. ap (λ (j : ℕ). get_or (set words (ROWS_BEGIN + (row * ROW_WORDS + place)) word) (ROWS_BEGIN + j) 0) same
+        ∙ (get_or-set_same words (ROWS_BEGIN + (row * ROW_WORDS + place)) word 0 (omega arith)
+        ∙ sym (ap (λ (j : ℕ). get_or (set view.stored ((row_begin the_shape row + place) - rows_begin the_shape) word) j 0) (same ∙ sym p_is) ∙ get_or-set_same view.stored ((row_begin the_shape row + place) - rows_begin the_shape) word 0 (omega arith))))
+        (λ other. get_or-set_other words (ROWS_BEGIN + (row * ROW_WORDS + place)) (ROWS_BEGIN + i) word 0 (λ e. other (omega arith))
+        ∙ (h.words_same i inside ∙ sym (get_or-set_other view.stored ((row_begin the_shape row + place) - rows_begin the_shape) i word 0 (λ e. other (omega arith))))));
+    reused = λ m later r up at again. IsFree-on the_shape m (entry (Fill (row_begin the_shape row + place) word) word) view.log (h.reused m later r up at again);
+    few_pages = h.few_pages;
     current = h.current;
     reported_free = h.reported_free;
     zeros_length = length-set zeros row from ∙ h.zeros_length;
@@ -73,28 +85,62 @@ module _ (view : View) (config : List Group) (book : Book) (reported : ℕ) (zer
     zeros_stand = zeros_stand-filled row place word from low small keeps;
   }
 
-  pub IsKeptBy-published : (row : ℕ) (new : List Group) (book' : Book) → row < the_shape.rows → book.number < LAST_NUMBER → book' ≡ with_version_in row book
-      → IsKeptBy (put_in row new view) new book' reported zeros
-  IsKeptBy-published row new book' low number is = subst (λ (b : Book). IsKeptBy (put_in row new view) new b reported zeros) (sym is) record {
-    steps_told = IsBook-published the_shape (after_proposal new view) book (IsBook-proposed the_shape view book h.steps_told new) row _ low h.version_rows_length;
-    number_limited = omega arith;
-    published_length = omega (arith, length-append view.published (new ∷ []), h.published_length);
-    version_rows_length = omega (arith, length-append view.version_rows (row ∷ []), h.version_rows_length);
-    row_words_length = h.row_words_length;
-    current = (view.published, refl);
-    reported_free = λ m l. IsFree-on the_shape m (entry (Publish row) (current_word the_shape (number_after view.log + 1) row)) view.log (h.reported_free m l);
+  pub IsKeptBy-filled_page : (page place word : ℕ) → page < the_shape.pages → place < PAGE_WORDS
+      → IsKeptBy (after_fill (rows_begin the_shape) (page_begin the_shape page + place) word view) config book reported zeros words
+  IsKeptBy-filled_page page place word low small = let p_is = place_in_pool page place in record {
+    steps_told = IsBook-filled the_shape view book h.steps_told (rows_begin the_shape) (page_begin the_shape page + place) word;
+    number_limited = h.number_limited;
+    published_length = h.published_length;
+    version_rows_length = h.version_rows_length;
+    version_pages_length = h.version_pages_length;
+    stored_length = length-set view.stored ((page_begin the_shape page + place) - rows_begin the_shape) word ∙ h.stored_length;
+    words_length = h.words_length;
+    words_same = λ i inside. h.words_same i inside ∙ sym (get_or-set_other view.stored ((page_begin the_shape page + place) - rows_begin the_shape) i word 0 (λ e. omega arith));
+    reused = λ m later r up at again. IsFree-on the_shape m (entry (Fill (page_begin the_shape page + place) word) word) view.log (h.reused m later r up at again);
+    few_pages = h.few_pages;
+    current = h.current;
+    reported_free = λ m l. IsFree-on the_shape m (entry (Fill (page_begin the_shape page + place) word) word) view.log (h.reported_free m l);
     zeros_length = h.zeros_length;
     zeros_limited = h.zeros_limited;
-    zeros_stand = h.zeros_stand;
+    zeros_stand = λ q low' i up inside. let here = place_stored q i low' inside in
+        get_or-set_other view.stored ((page_begin the_shape page + place) - rows_begin the_shape) (q * ROW_WORDS + i) word 0 (λ e. omega arith) ∙ h.zeros_stand q low' i up inside;
   }
 
-  pub IsKeptBy-scanned : (w x : ℕ) (log : List Entry) (book' : Book) → (length book.cleared ≡ WORKERS → IsCleared w x book book') → IsKeptBy (after_scan w x log view) config book' reported zeros
+  pub IsKeptBy-published : (row : ℕ) (new : List Group) (book' : Book A) → IsFreeRow the_shape view row → book.number < LAST_NUMBER → book' ≡ with_version_in row [] book
+      → IsKeptBy (put_in row new view) new book' reported zeros words
+  IsKeptBy-published row new book' free number is = let none = names_none view.stored row in let named = pages_named the_shape view.stored row in
+      subst (λ (b : Book A). IsKeptBy (put_in row new view) new b reported zeros words) (sym is) record {
+        steps_told = subst (λ l. IsBook the_shape (put_in row new view) (with_version_in row l book)) none
+            (IsBook-published the_shape (after_proposal new view) book (IsBook-proposed the_shape view book h.steps_told new) row (current_word the_shape (number_after view.log + 1) row) named free.0 h.version_rows_length h.version_pages_length
+            (λ index page at. absurd (none_there index page (ap (λ l. slice_get l index) (sym none) ∙ at))));
+        number_limited = omega arith;
+        published_length = omega (arith, length-append view.published (new ∷ []), h.published_length);
+        version_rows_length = omega (arith, length-append view.version_rows (row ∷ []), h.version_rows_length);
+        version_pages_length = omega (arith, length-append view.version_pages (named ∷ []), h.version_pages_length);
+        stored_length = h.stored_length;
+        words_length = h.words_length;
+        words_same = h.words_same;
+        reused = IsFreeBefore-published the_shape (after_proposal new view) row (current_word the_shape (number_after view.log + 1) row) named h.reused free;
+        few_pages = λ n pages at. ⊎_elim (h.few_pages n pages) (λ last. omega (arith, ap length (sym last.1 ∙ none))) (elem_snoc view.version_pages named pages n at);
+        current = (view.published, refl);
+        reported_free = λ m l. IsFree-on the_shape m (entry (Publish row) (current_word the_shape (number_after view.log + 1) row)) view.log (h.reported_free m l);
+        zeros_length = h.zeros_length;
+        zeros_limited = h.zeros_limited;
+        zeros_stand = h.zeros_stand;
+      }
+
+  pub IsKeptBy-scanned : (w x : ℕ) (log : List Entry) (book' : Book A) → (length book.cleared ≡ WORKERS → IsCleared w x book book') → IsKeptBy (after_scan w x log view) config book' reported zeros words
   IsKeptBy-scanned w x log book' cleared = let c = cleared (h.steps_told.cleared_length ∙ workers_is) in record {
     steps_told = IsBook-scanned the_shape view book h.steps_told w x log book' c;
     number_limited = let same = c.number in let low = h.number_limited in omega arith;
     published_length = h.published_length;
     version_rows_length = h.version_rows_length;
-    row_words_length = h.row_words_length;
+    version_pages_length = h.version_pages_length;
+    stored_length = h.stored_length;
+    words_length = h.words_length;
+    words_same = h.words_same;
+    reused = λ m later r up at again. IsFree-on the_shape m (entry (Scan (1 + w)) x) view.log (h.reused m later r up at again);
+    few_pages = h.few_pages;
     current = h.current;
     reported_free = λ m l. IsFree-on the_shape m (entry (Scan (1 + w)) x) view.log (h.reported_free m l);
     zeros_length = h.zeros_length;
@@ -113,13 +159,18 @@ module _ (view : View) (config : List Group) (book : Book) (reported : ℕ) (zer
     pub IsReport-now : IsReport view reported reported (free - reported)
     IsReport-now = let low = reported_below in record { from = refl; free = λ m up. ((λ f. let t = (tells m).0 f in omega arith), λ l. (tells m).1 (omega arith)) }
 
-    pub IsKeptBy-reported : IsKeptBy view config book (reported + (free - reported)) zeros
+    pub IsKeptBy-reported : IsKeptBy view config book (reported + (free - reported)) zeros words
     IsKeptBy-reported = let low = reported_below in record {
       steps_told = h.steps_told;
       number_limited = h.number_limited;
       published_length = h.published_length;
       version_rows_length = h.version_rows_length;
-      row_words_length = h.row_words_length;
+      version_pages_length = h.version_pages_length;
+      stored_length = h.stored_length;
+      words_length = h.words_length;
+      words_same = h.words_same;
+      reused = h.reused;
+      few_pages = h.few_pages;
       current = h.current;
       reported_free = λ m l. (tells m).1 (omega arith);
       zeros_length = h.zeros_length;
@@ -133,38 +184,47 @@ zeros_everywhere (suc n) zero = refl
 zeros_everywhere (suc n) (suc k) = zeros_everywhere n k
 
 module _ (config : List Group) where
-  length-shape_row : length (the_shape.row config) ≡ the_shape.row_words
-  length-shape_row = ap length (row_is config) ∙ (length-row config ∙ sym row_words_is)
+  length-form_row : length (the_shape.form.row config []) ≡ the_shape.row_words
+  length-form_row = ap length (row_is config []) ∙ (length-row config ∙ sym row_words_is)
 
-  zeros_behind_image : (i : ℕ) → length (image config) ≤ i → i < the_shape.row_words → get_or (the_shape.row config) i 0 ≡ 0
-  zeros_behind_image i up low = ap (λ l. get_or l i 0) (row_is config) ∙ sym (row_behind_image config i (length (image config)) (omega (arith, row_words_is)) refl up)
+  zeros_behind_image : (i : ℕ) → length (image config) ≤ i → i < the_shape.row_words → get_or (the_shape.form.row config []) i 0 ≡ 0
+  zeros_behind_image i up low = ap (λ l. get_or l i 0) (row_is config []) ∙ sym (row_behind_image config i (length (image config)) (omega (arith, row_words_is)) refl up)
+
+  -- how many words stand behind row 0
+  abbrev more : ℕ
+  more = stored_words the_shape - the_shape.row_words
 
   -- the rows at the start: the configuration's, and zeros
   zeros_at_start : (zeros : List ℕ) → zeros ≡ length (image config) ∷ replicate (the_shape.rows - 1) 0 → (q : ℕ) → q < the_shape.rows
-      → (i : ℕ) → slice_index zeros q ≤ i → i < the_shape.row_words → slice_index (opening_rows config) (q * the_shape.row_words + i) ≡ 0
+      → (i : ℕ) → slice_index zeros q ≤ i → i < the_shape.row_words → slice_index (opening_stored config) (q * the_shape.row_words + i) ≡ 0
   zeros_at_start zeros is zero low i up small =
       let first : slice_index zeros 0 ≡ length (image config) = ap (λ l. slice_index l 0) is in
-      ap (λ (k : ℕ). get_or (opening_rows config) k 0) (let g : 0 * the_shape.row_words + i ≡ i = omega arith in g)
-      ∙ (get_or_append_left (the_shape.row config) (replicate ((the_shape.rows - 1) * the_shape.row_words) 0) 0 i (omega (arith, length-shape_row)) ∙ zeros_behind_image i (omega arith) small)
+      ap (λ (k : ℕ). get_or (opening_stored config) k 0) (let g : 0 * the_shape.row_words + i ≡ i = omega arith in g)
+      ∙ (get_or_append_left (the_shape.form.row config []) (replicate more 0) 0 i (omega (arith, length-form_row)) ∙ zeros_behind_image i (omega arith) small)
   zeros_at_start zeros is (suc q) low i up small =
       let later : the_shape.row_words ≤ suc q * the_shape.row_words = omega (arith, suc-mul q the_shape.row_words) in
-      get_or-append_right (the_shape.row config) (replicate ((the_shape.rows - 1) * the_shape.row_words) 0) the_shape.row_words (suc q * the_shape.row_words + i) 0 length-shape_row (omega arith)
-      ∙ zeros_everywhere ((the_shape.rows - 1) * the_shape.row_words) ((suc q * the_shape.row_words + i) - the_shape.row_words)
+      get_or-append_right (the_shape.form.row config []) (replicate more 0) the_shape.row_words (suc q * the_shape.row_words + i) 0 length-form_row (omega arith)
+      ∙ zeros_everywhere more ((suc q * the_shape.row_words + i) - the_shape.row_words)
 
-  pub IsKeptBy-opened : (book : Book) (zeros : List ℕ) → IsPublishable config → IsBookAtStart book → zeros ≡ length (image config) ∷ replicate (the_shape.rows - 1) 0
-      → IsKeptBy (new_operator the_shape config (opening_rows config)) config book 0 zeros
-  IsKeptBy-opened book zeros publishable start is =
-      let rows = rows_is in record {
-        steps_told = IsBook-opened config (opening_rows config) book start;
+  pub IsKeptBy-opened : {A : Type 0} → (book : Book A) (zeros words : List ℕ) → IsPublishable config → IsBookAtStart [] book → zeros ≡ length (image config) ∷ replicate (the_shape.rows - 1) 0 → words ≡ (opened_with config).words
+      → IsKeptBy (new_operator the_shape config (opening_stored config)) config book 0 zeros words
+  IsKeptBy-opened book zeros words publishable start is same =
+      let rows = rows_is in let opening = IsOpening-stored config (light config (charge_of config) refl publishable.1) in let first = Coheres-start the_shape config (opening_stored config) opening in record {
+        steps_told = IsBook-start config book start;
         number_limited = let none = start.number in omega arith;
         published_length = refl;
         version_rows_length = refl;
-        row_words_length = (IsOpening-rows config (light config (charge_of config) refl publishable.1)).whole ∙ all_rows_is;
+        version_pages_length = refl;
+        stored_length = opening.whole;
+        words_length = ap length same ∙ (first.words_length ∙ omega (arith, workers_is, stored_is));
+        words_same = λ i low. ap (λ (l : List ℕ). get_or l (ROWS_BEGIN + i) 0) same ∙ (ap (λ (k : ℕ). get_or (opened_with config).words k 0) (let g : ROWS_BEGIN + i ≡ (1 + the_shape.workers) + i = omega (arith, workers_is) in g) ∙ first.stored i (rows_stored i low));
+        reused = λ m later r up at again. let a = (only 0 r m at).0 in let b = (only 0 r later again).0 in absurd (omega arith);
+        few_pages = λ n pages at. omega (arith, ap length ((only (pages_named the_shape (opening_stored config) 0) pages n at).1 ∙ names_none (opening_stored config) 0));
         current = ([], refl);
         reported_free = λ m low. absurd (omega arith);
         zeros_length = ap length is ∙ (let n = length-replicate {A = ℕ} (the_shape.rows - 1) 0 in omega (arith, rows_is));
         zeros_limited = λ q low. limited q;
-        zeros_stand = λ q low. IsZeroFrom-shape (new_operator the_shape config (opening_rows config)) q (slice_index zeros q) (zeros_at_start zeros is q (omega (arith, rows_is)));
+        zeros_stand = λ q low. IsZeroFrom-shape (new_operator the_shape config (opening_stored config)) q (slice_index zeros q) (zeros_at_start zeros is q (omega (arith, rows_is)));
       }
     where
       limited : (q : ℕ) → slice_index zeros q ≤ ROW_WORDS

@@ -12,3 +12,4 @@ pub mod SectionLemmas
 mod EnterLemmas
 pub mod FilledLemmas
 mod KeeperLemmas
+mod PoolLemmas

@@ -11,13 +11,13 @@ use Rattle.versions.specs.declared.step.Entry.{Entry}
 use Rattle.versions.specs.declared.step.Event.TheVariants.{Proposed, Stepped}
 use Rattle.versions.specs.declared.view.WorkerView.{WorkerView}
 use Rattle.versions.specs.declared.view.OperatorView.{OperatorView}
-use Rattle.versions.specs.Layout.{HoldsRow, IsInRow, Shape, current_word, row_begin}
+use Rattle.versions.specs.Layout.{HoldsForm, Shape, current_word, pages_named, rows_begin}
 use Rattle.versions.specs.View.{after_fill, after_proposal, after_publish, after_scan, read_word_after}
 use Rattle.versions.specs.Free.{IsFreeRow, number_after}
 use Rattle.versions.specs.State.{State, after_event, log_of}
-use Rattle.versions.specs.Legal.{IsLegalStep, IsLogOf}
-use Rattle.versions.proofs.ListLemmas.{elem_there, row_inside}
-use Rattle.versions.proofs.Coherence.{Coheres, log_of_is}
+use Rattle.versions.specs.Legal.{IsLegalStep, IsLogOf, MayFill}
+use Rattle.versions.proofs.ListLemmas.{elem_there}
+use Rattle.versions.proofs.Coherence.{Coheres, holds-on, log_of_is}
 use Rattle.read_section.specs.declared.versions_rule.SeatView.{SeatView}
 use Rattle.read_section.specs.body.Plays.{OperatorKnows, fills, publishes, scans}
 use Rattle.read_section.specs.VersionsRule.{IsLeftByTrace}
@@ -28,20 +28,19 @@ use Rattle.read_section.proofs.VersionsRuleLemmas.{IsLeftByTrace-operator, for_o
 
 module _ {C : Type 0} (shape : Shape C) where
   -- the words of the table hold what the operator's words hold
-  holds_row : (s : State C) → Coheres shape s → (r : ℕ) (config : C) → r < shape.rows
-      → ((i : ℕ) → i < shape.row_words → slice_index s.operator.row_words (r * shape.row_words + i) ≡ slice_index (shape.row config) i) → HoldsRow shape s.words r config
-  holds_row s h r config low holds i small = let l = row_inside r shape.rows i shape.row_words low small in let e : row_begin shape r + i ≡ (1 + shape.workers) + (r * shape.row_words + i) = omega arith in
-      ap (λ (q : ℕ). get_or s.words q 0) e ∙ (h.row_words (r * shape.row_words + i) l ∙ holds i small)
+  holds_stored : (s : State C) → Coheres shape s → (r : ℕ) (config : C) (pages : List ℕ) → r < shape.rows → HoldsForm shape 0 s.operator.stored r config pages → HoldsForm shape (rows_begin shape) s.words r config pages
+  holds_stored s h r config pages low = holds-on shape 0 (rows_begin shape) s.operator.stored s.words r config pages low
+      (λ i inside. h.stored i inside ∙ ap (slice_index s.operator.stored) (let g : i ≡ 0 + i = omega arith in g))
 
 module _ {C : Type 0} (shape : Shape C) (IsPublishable : C → Type 0) {S : Type 0} (config : C) where
   abbrev Kept : table.State S (SeatView C) → Type 0
   Kept = IsLeftByTrace shape IsPublishable config
 
-  pub allows_fill : (slots id : ℕ) (me : Me S (SeatView C)) (view : OperatorView C) (r place x : ℕ) (at : table.Step S) → me.0.operator ≡ Some view → IsFreeRow shape view r → IsInRow shape r place → x < 2 ^ 64 → at.word ≡ place
+  pub allows_fill : (slots id : ℕ) (me : Me S (SeatView C)) (view : OperatorView C) (place x : ℕ) (at : table.Step S) → me.0.operator ≡ Some view → MayFill shape view place → x < 2 ^ 64 → at.word ≡ place
       → Allows Kept slots id me place (λ _. x) (λ _. fills shape at me x)
-  allows_fill slots id me view r place x at is free in_row fit here s kept deep there fits =
+  allows_fill slots id me view place x at is may_fill fit here s kept deep there fits =
       let st = now shape IsPublishable config s kept in let mine = (kept.each_seat id me.0 there).operator view is in let view' : OperatorView C = after_fill (1 + shape.workers) place x view in
-      let may : IsLegalStep shape st (Fill place x) x = (r, subst (λ (y : OperatorView C). IsFreeRow shape y r) mine.1 free, in_row, fit, refl) in (
+      let may : IsLegalStep shape st (Fill place x) x = (subst (λ (y : OperatorView C). MayFill shape y place) mine.1 may_fill, fit, refl) in (
         with_operator me.0 view',
         keeps,
         tt,
@@ -54,18 +53,18 @@ module _ {C : Type 0} (shape : Shape C) (IsPublishable : C → Type 0) {S : Type
       )
 
   pub allows_publish : (slots id : ℕ) (me : Me S (SeatView C)) (view : OperatorView C) (r x : ℕ) (new : C) (at : table.Step S) → me.0.operator ≡ Some view → IsFreeRow shape view r → shape.charge new ≤ shape.charge_limit → IsPublishable new
-      → ((i : ℕ) → i < shape.row_words → slice_index view.row_words (r * shape.row_words + i) ≡ slice_index (shape.row new) i) → number_after view.log < shape.last_number → x ≡ current_word shape (number_after view.log + 1) r → at.word ≡ 0
+      → HoldsForm shape 0 view.stored r new (pages_named shape view.stored r) → number_after view.log < shape.last_number → x ≡ current_word shape (number_after view.log + 1) r → at.word ≡ 0
       → Allows Kept slots id me 0 (λ _. x) (λ _. publishes shape new at me x)
   allows_publish slots id me view r x new at is free light publishable holds low number here s kept deep there fits =
-      let st = now shape IsPublishable config s kept in let mine = (kept.each_seat id me.0 there).operator view is in let view' : OperatorView C = after_publish r x (after_proposal new view) in
+      let st = now shape IsPublishable config s kept in let mine = (kept.each_seat id me.0 there).operator view is in let view' : OperatorView C = after_publish r x (pages_named shape view.stored r) (after_proposal new view) in
       let proposed : State C = after_event shape st (Proposed new) in let same : st.operator ≡ view = sym mine.1 in
       let may : IsLegalStep shape proposed (Publish r) x = (
         record {
           free = subst (λ (y : OperatorView C). IsFreeRow shape y r) mine.1 free;
           config = new;
           proposed = refl;
-          holds = holds_row shape st (rule_now shape IsPublishable config s kept) r new free.0
-              (subst (λ (y : OperatorView C). (i : ℕ) → i < shape.row_words → slice_index y.row_words (r * shape.row_words + i) ≡ slice_index (shape.row new) i) mine.1 holds);
+          holds = holds_stored shape st (rule_now shape IsPublishable config s kept) r new (pages_named shape st.operator.stored r) free.0
+              (subst (λ (y : OperatorView C). HoldsForm shape 0 y.stored r new (pages_named shape y.stored r)) mine.1 holds);
           number = subst (λ (y : OperatorView C). number_after y.log < shape.last_number) mine.1 low;
         },
         number ∙ ap (λ (y : OperatorView C). current_word shape (number_after y.log + 1) r) mine.1,
@@ -76,10 +75,10 @@ module _ {C : Type 0} (shape : Shape C) (IsPublishable : C → Type 0) {S : Type
         tt,
         subst (λ ws. Kept record { words = set ws 0 x; homes = s.homes; views = set s.views id (with_operator me.0 view') }) (sym kept.words)
             (IsLeftByTrace-operator shape IsPublishable config s kept id me.0 view view' (Stepped (Publish r) x ∷ Proposed new ∷ kept.trace) (set st.words 0 x) there is ((kept.legal, light), may)
-            (ap (λ (y : OperatorView C). let u : State C = record { words = set st.words 0 x; workers = st.workers; operator = after_publish r x (after_proposal new y) } in u) same) (new ∷ [], refl)
+            (ap (λ (y : OperatorView C). let u : State C = record { words = set st.words 0 x; workers = st.workers; operator = after_publish r x (pages_named shape y.stored r) (after_proposal new y) } in u) same) (new ∷ [], refl)
             (λ c there'. contains_snoc IsPublishable view.published new c (subst (λ (y : OperatorView C). (c : C) → Contains y.published c → IsPublishable c) same kept.publishable) publishable there')),
-        for_operator me.0 view is (λ y. (at.word ≡ 0) × OperatorKnows shape me (with_operator me.0 view', me.1) (after_publish (x % shape.rows) x (after_proposal new y)))
-            (here, ap (λ (q : ℕ). let u : Me S (SeatView C) = (with_operator me.0 (after_publish q x (after_proposal new view)), me.1) in u) (sym row_is)),
+        for_operator me.0 view is (λ y. (at.word ≡ 0) × OperatorKnows shape me (with_operator me.0 view', me.1) (after_publish (x % shape.rows) x (pages_named shape y.stored (x % shape.rows)) (after_proposal new y)))
+            (here, ap (λ (q : ℕ). let u : Me S (SeatView C) = (with_operator me.0 (after_publish q x (pages_named shape view.stored q) (after_proposal new view)), me.1) in u) (sym row_is)),
       )
 
   pub allows_scan : (slots id : ℕ) (me : Me S (SeatView C)) (view : OperatorView C) (w : ℕ) (at : table.Step S) → me.0.operator ≡ Some view → w < shape.workers → at.word ≡ 1 + w

@@ -1,17 +1,18 @@
 -- The operator's seat, and what its steps leave.
-use Rattle.std.proofs.Common.{◌≡◌, ℕ, ◌+◌, ◌*◌, ◌%◌, ◌^◌, ◌<◌, ◌≤◌, List, ap, arith, refl, slice_index, subst, sym, ◌∙◌}
+use Rattle.std.proofs.Common.{◌≡◌, ℕ, ◌+◌, ◌*◌, ◌%◌, ◌^◌, ◌<◌, ◌≤◌, List, ap, arith, inl, inr, refl, slice_index, subst, sym, ◌∙◌}
 use Rattle.std.proofs.lemmas.Nat.{mod-mul-add}
 use mathlib.Core.Option.{none}
 use Rattle.atomic_table.specs.Table.{Allows, step}
 use Rattle.atomic_table.specs.Seated.{TableId}
+use Rattle.config_image.specs.declared.TheConstants.{ROW_WORDS}
 use Rattle.config_image.specs.Image.{Group}
 use Rattle.member_group.specs.Charge.{charge_of}
 use Rattle.versions.specs.declared.layout.TheConstants.{LAST_NUMBER, ROWS, WORKERS}
 use Rattle.versions.specs.declared.view.OperatorView.{OperatorView}
-use Rattle.versions.specs.Layout.{current_word, row_begin}
-use Rattle.versions.specs.Free.{IsFreeRow, number_after}
+use Rattle.versions.specs.Layout.{HoldsForm, current_word, page_begin, pages_named, row_begin}
+use Rattle.versions.specs.Free.{IsFreePage, IsFreeRow, number_after}
 use Rattle.versions.specs.Table.{the_shape}
-use Rattle.versions.proofs.ShapeLemmas.{last_number_is, rows_is, workers_is}
+use Rattle.versions.proofs.ShapeLemmas.{holds, last_number_is, names_none, rows_is, workers_is}
 use Rattle.versions.proofs.WorldLemmas.{light}
 use Rattle.read_section.specs.Layout.{HoldsConfig, IsPublishable}
 use Rattle.read_section.specs.body.Seat.{OperatorSeatValue, acts, operator_at, operator_or_none}
@@ -22,11 +23,10 @@ use Rattle.read_section.specs.body.SeatView.{with_operator}
 use Rattle.read_section.proofs.OperatorKept.{allows_fill, allows_publish, allows_scan}
 use Rattle.read_section.proofs.WorkerSeatLemmas.{Kept, Seated, View}
 
--- the words of a row, as those of the shape's
-Holds-shape : (view : OperatorView (List Group)) (r : ℕ) (config : List Group) → HoldsConfig view r config
-    → (i : ℕ) → i < the_shape.row_words → slice_index view.row_words (r * the_shape.row_words + i) ≡ slice_index (the_shape.row config) i
-unfolding the_shape
-Holds-shape view r config h = h
+-- a row that has the words of a configuration's row holds it, with the pages that the row names: none
+Holds-shape : (view : OperatorView (List Group)) (r : ℕ) (config : List Group) → HoldsConfig view r config → HoldsForm the_shape 0 view.stored r config (pages_named the_shape view.stored r)
+Holds-shape view r config h = subst (HoldsForm the_shape 0 view.stored r config) (sym (names_none view.stored r))
+    (holds 0 view.stored r config (λ i low. ap (slice_index view.stored) (let g : 0 + (r * ROW_WORDS + i) ≡ r * ROW_WORDS + i = omega arith in g) ∙ h i low))
 
 module _ (v : View) (h : IsOperatorSeat v) where
   abbrev view : OperatorView (List Group)
@@ -45,8 +45,13 @@ module _ (v : View) (h : IsOperatorSeat v) where
   module _ (slots : List (ℕ × ℕ)) (seat : TableId) (config : List Group) (slots' id : ℕ) (operator : OperatorSeatValue) (is : operator_at seat v ≡ operator) where
     pub may_fill : (r i place x : ℕ) → IsFreeRow the_shape operator.view r → i < the_shape.row_words → place ≡ row_begin the_shape r + i → x < 2 ^ 64
         → Allows (Kept config) slots' id (v, slots) place (λ _. x) (λ _. fills the_shape (step slots' place x 0 none) (v, slots) x)
-    may_fill r i place x free small e fits = allows_fill the_shape IsPublishable config slots' id (v, slots) view r place x (step slots' place x 0 none) h.knows
-        (subst (λ (o : OperatorSeatValue). IsFreeRow the_shape o.view r) (sym is) free) (i, small, e) fits refl
+    may_fill r i place x free small e fits = allows_fill the_shape IsPublishable config slots' id (v, slots) view place x (step slots' place x 0 none) h.knows
+        (inl (r, subst (λ (o : OperatorSeatValue). IsFreeRow the_shape o.view r) (sym is) free, (i, small, e))) fits refl
+
+    pub may_fill_page : (q i place x : ℕ) → IsFreePage the_shape operator.view q → i < the_shape.page_words → place ≡ page_begin the_shape q + i → x < 2 ^ 64
+        → Allows (Kept config) slots' id (v, slots) place (λ _. x) (λ _. fills the_shape (step slots' place x 0 none) (v, slots) x)
+    may_fill_page q i place x free small e fits = allows_fill the_shape IsPublishable config slots' id (v, slots) view place x (step slots' place x 0 none) h.knows
+        (inr (q, subst (λ (o : OperatorSeatValue). IsFreePage the_shape o.view q) (sym is) free, (i, small, e))) fits refl
 
     pub may_publish : (r n x : ℕ) (new : List Group) → IsFreeRow the_shape operator.view r → HoldsConfig operator.view r new → IsPublishable new → n ≡ number_after operator.view.log + 1 → n ≤ the_shape.last_number → x ≡ current_word the_shape n r
         → Allows (Kept config) slots' id (v, slots) 0 (λ _. x) (λ _. publishes the_shape new (step slots' 0 x 0 none) (v, slots) x)

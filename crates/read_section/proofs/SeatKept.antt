@@ -10,14 +10,14 @@ use Rattle.atomic_table.proofs.Lists.{at_last, at_longer, at_set, set_else}
 use Rattle.versions.specs.declared.view.Stage.TheVariants.{Outside}
 use Rattle.versions.specs.declared.view.WorkerView.{WorkerView}
 use Rattle.versions.specs.declared.view.OperatorView.{OperatorView}
-use Rattle.versions.specs.Layout.{Shape}
+use Rattle.versions.specs.Layout.{Shape, pages_named}
 use Rattle.versions.specs.View.{BeginsWith, new_worker}
 use Rattle.versions.specs.State.{IsOpening, State, new_operator, new_workers, start_of}
-use Rattle.versions.proofs.ListLemmas.{contains_first, elem_below, elem_snoc}
+use Rattle.versions.proofs.ListLemmas.{contains_first, elem_below, elem_snoc, get_elem_or}
 use Rattle.versions.proofs.MirrorLemmas.{none_some, some_same}
 use Rattle.read_section.specs.declared.versions_rule.SeatView.{SeatView}
 use Rattle.read_section.specs.VersionsRule.{IsLeftByTrace, IsViewOf, KnowsOperator, KnowsWorker}
-use Rattle.read_section.specs.body.SeatView.{first_seat, nobody, note_of, published_by, seen_by, spare_alone, told_by, with_worker_of, without_spare, without_worker, worker_alone}
+use Rattle.read_section.specs.body.SeatView.{first_pages, first_seat, nobody, note_of, published_by, seen_by, spare_alone, told_by, with_worker_of, without_spare, without_worker, worker_alone}
 use Rattle.read_section.proofs.VersionsRuleLemmas.{knows_after, now, rule_now}
 
 abbrev picked : {P : Type 0} → Dec P → ℕ → ℕ → ℕ
@@ -45,19 +45,19 @@ moved_else seat_of w seat v other = go (ℕ_discrete v w)
     go (no _) = refl
 
 module _ {C : Type 0} where
-  new_worker_there : (config : C) (k n w : ℕ) → w < n → get_elem? (new_workers config k n) w ≡ some (new_worker config (k + w))
-  new_worker_there config k zero w l = absurd (omega arith)
-  new_worker_there config k (suc n) zero l = ap (λ (j : ℕ). some (new_worker config j)) (let g : k ≡ k + 0 = omega arith in g)
-  new_worker_there config k (suc n) (suc w) l = new_worker_there config (suc k) n w (omega arith) ∙ ap (λ (j : ℕ). some (new_worker config j)) (let g : suc k + w ≡ k + suc w = omega arith in g)
+  new_worker_there : (config : C) (pages : List ℕ) (k n w : ℕ) → w < n → get_elem? (new_workers config pages k n) w ≡ some (new_worker config pages (k + w))
+  new_worker_there config pages k zero w l = absurd (omega arith)
+  new_worker_there config pages k (suc n) zero l = ap (λ (j : ℕ). some (new_worker config pages j)) (let g : k ≡ k + 0 = omega arith in g)
+  new_worker_there config pages k (suc n) (suc w) l = new_worker_there config pages (suc k) n w (omega arith) ∙ ap (λ (j : ℕ). some (new_worker config pages j)) (let g : suc k + w ≡ k + suc w = omega arith in g)
 
 module _ {C : Type 0} where
   given_there : (views : List (SeatView C)) (id other : ℕ) (both given : SeatView C) → other ≢ id → get_elem? (set views id both) other ≡ some given → get_elem? views other ≡ some given
   given_there views id other both given apart there = ⊎_elim (λ t. absurd (apart t.0)) (λ t. t.1) (at_set views id other both given there)
 
-module _ {C : Type 0} (shape : Shape C) (config : C) where
+module _ {C : Type 0} (shape : Shape C) (config : C) (pages : List ℕ) where
   -- worker w goes from one seat to another, and a third knows what it knew
-  IsViewOf-moved : (st : State C) (seat_of : ℕ → ℕ) (operator_seat w from to seat : ℕ) (v : SeatView C) → seat_of w ≡ from → seat ≢ from → IsViewOf shape config st seat_of operator_seat seat v
-      → IsViewOf shape config st (moved_to seat_of w to) operator_seat seat v
+  IsViewOf-moved : (st : State C) (seat_of : ℕ → ℕ) (operator_seat w from to seat : ℕ) (v : SeatView C) → seat_of w ≡ from → seat ≢ from → IsViewOf shape config pages st seat_of operator_seat seat v
+      → IsViewOf shape config pages st (moved_to seat_of w to) operator_seat seat v
   IsViewOf-moved st seat_of operator_seat w from to seat v mine other is = record {
     worker = λ b e. let o = is.worker b e in (moved_else seat_of w to b.number (λ h. other (sym o.0 ∙ (ap seat_of h ∙ mine))) ∙ o.0, o.1);
     operator = is.operator;
@@ -65,7 +65,7 @@ module _ {C : Type 0} (shape : Shape C) (config : C) where
     told = is.told;
   }
 
-  IsViewOf-nobody : (st : State C) (seat_of : ℕ → ℕ) (operator_seat seat : ℕ) → IsViewOf shape config st seat_of operator_seat seat (nobody shape)
+  IsViewOf-nobody : (st : State C) (seat_of : ℕ → ℕ) (operator_seat seat : ℕ) → IsViewOf shape config pages st seat_of operator_seat seat (nobody shape)
   IsViewOf-nobody st seat_of operator_seat seat = record {
     worker = λ b e. absurd (none_some b e);
     operator = λ o e. absurd (none_some o e);
@@ -77,9 +77,9 @@ module _ {C : Type 0} (shape : Shape C) (IsPublishable : C → Type 0) {S : Type
   abbrev Kept : table.State S (SeatView C) → Type 0
   Kept = IsLeftByTrace shape IsPublishable config
 
-  pub opens : (rows : List ℕ) → IsOpening shape config rows → IsPublishable config → Kept (opening (start_of shape config rows).words [] (first_seat shape config rows))
-  opens rows is publishable = record {
-    rows = rows;
+  pub opens : (stored : List ℕ) → IsOpening shape config stored → IsPublishable config → Kept (opening (start_of shape config stored).words [] (first_seat shape config stored))
+  opens stored is publishable = record {
+    stored = stored;
     trace = [];
     seat_of = λ _. 0;
     operator_seat = 0;
@@ -88,18 +88,18 @@ module _ {C : Type 0} (shape : Shape C) (IsPublishable : C → Type 0) {S : Type
     words = refl;
     publishable = λ c there. ⊎_elim (λ e. subst IsPublishable e publishable) (λ (none : Contains [] c). absurd (let l = none.1 in omega arith)) (contains_first config c [] there);
     each_seat = λ seat v at. ⊎_elim
-        (λ (t : (seat ≡ 0) × (first_seat shape config rows ≡ v)). subst (λ (y : SeatView C). IsViewOf shape config (start_of shape config rows) (λ _. 0) 0 seat y) t.1 record {
+        (λ (t : (seat ≡ 0) × (first_seat shape config stored ≡ v)). subst (λ (y : SeatView C). IsViewOf shape config (pages_named shape stored 0) (start_of shape config stored) (λ _. 0) 0 seat y) t.1 record {
           worker = λ b e. absurd (none_some b e);
-          operator = λ o e. (sym t.0, sym (some_same (new_operator shape config rows) o e));
-          spare = λ w l low. (sym t.0, new_worker_there config 0 shape.workers w low ∙ ap (λ (k : ℕ). some (new_worker config k)) (let g : 0 + w ≡ w = omega arith in g));
+          operator = λ o e. (sym t.0, sym (some_same (new_operator shape config stored) o e));
+          spare = λ w l low. (sym t.0, new_worker_there config (pages_named shape stored 0) 0 shape.workers w low ∙ ap (λ (k : ℕ). some (new_worker config (pages_named shape stored 0) k)) (let g : 0 + w ≡ w = omega arith in g));
           told = (config ∷ [], refl);
         })
-        (λ (t : (seat ≢ 0) × (get_elem? (first_seat shape config rows ∷ []) seat ≡ some v)). absurd (beyond seat v t.0 t.1)) (at_set (first_seat shape config rows ∷ []) 0 seat (first_seat shape config rows) v at);
-    each_worker = λ w low. (first_seat shape config rows, refl, inr (omega arith));
-    the_operator = (first_seat shape config rows, refl, (new_operator shape config rows, refl));
+        (λ (t : (seat ≢ 0) × (get_elem? (first_seat shape config stored ∷ []) seat ≡ some v)). absurd (beyond seat v t.0 t.1)) (at_set (first_seat shape config stored ∷ []) 0 seat (first_seat shape config stored) v at);
+    each_worker = λ w low. (first_seat shape config stored, refl, inr (omega arith));
+    the_operator = (first_seat shape config stored, refl, (new_operator shape config stored, refl));
   }
     where
-      beyond : (seat : ℕ) (v : SeatView C) → seat ≢ 0 → get_elem? (first_seat shape config rows ∷ []) seat ≡ some v → ⊥
+      beyond : (seat : ℕ) (v : SeatView C) → seat ≢ 0 → get_elem? (first_seat shape config stored ∷ []) seat ≡ some v → ⊥
       beyond zero v other e = other refl
       beyond (suc seat) v other e = some-ne-none v (sym e)
 
@@ -109,12 +109,12 @@ module _ {C : Type 0} (shape : Shape C) (IsPublishable : C → Type 0) {S : Type
       ((seat_of' w ≡ length s.views) × KnowsWorker shape right w) ⊎ ((seat_of' w ≡ kept.seat_of w) × (KnowsWorker shape v w → KnowsWorker shape left w))
 
   IsLeftByTrace-split : (s : table.State S (SeatView C)) (kept : Kept s) (id : ℕ) (v left right : SeatView C) (seat_of' : ℕ → ℕ) → get_elem? s.views id ≡ some v
-      → IsViewOf shape config (now shape IsPublishable config s kept) seat_of' kept.operator_seat id left → IsViewOf shape config (now shape IsPublishable config s kept) seat_of' kept.operator_seat (length s.views) right
-      → ((seat : ℕ) (u : SeatView C) → seat ≢ id → seat < length s.views → IsViewOf shape config (now shape IsPublishable config s kept) kept.seat_of kept.operator_seat seat u → IsViewOf shape config (now shape IsPublishable config s kept) seat_of' kept.operator_seat seat u)
+      → IsViewOf shape config (pages_named shape kept.stored 0) (now shape IsPublishable config s kept) seat_of' kept.operator_seat id left → IsViewOf shape config (pages_named shape kept.stored 0) (now shape IsPublishable config s kept) seat_of' kept.operator_seat (length s.views) right
+      → ((seat : ℕ) (u : SeatView C) → seat ≢ id → seat < length s.views → IsViewOf shape config (pages_named shape kept.stored 0) (now shape IsPublishable config s kept) kept.seat_of kept.operator_seat seat u → IsViewOf shape config (pages_named shape kept.stored 0) (now shape IsPublishable config s kept) seat_of' kept.operator_seat seat u)
       → ((w : ℕ) → w < shape.workers → StaysKnown s kept seat_of' v left right w) → (KnowsOperator shape v → KnowsOperator shape left)
       → Kept record { words = s.words; homes = s.homes; views = set s.views id left ++ right ∷ [] }
   IsLeftByTrace-split s kept id v left right seat_of' at on_left on_right others workers operator = record {
-    rows = kept.rows;
+    stored = kept.stored;
     trace = kept.trace;
     seat_of = seat_of';
     operator_seat = kept.operator_seat;
@@ -123,11 +123,11 @@ module _ {C : Type 0} (shape : Shape C) (IsPublishable : C → Type 0) {S : Type
     words = kept.words;
     publishable = kept.publishable;
     each_seat = λ j u there. ⊎_elim
-        (λ was. ⊎_elim (λ (t : (j ≡ id) × (left ≡ u)). subst (λ (y : SeatView C). IsViewOf shape config (now shape IsPublishable config s kept) seat_of' kept.operator_seat j y) t.1
-        (subst (λ (i : ℕ). IsViewOf shape config (now shape IsPublishable config s kept) seat_of' kept.operator_seat i left) (sym t.0) on_left))
+        (λ was. ⊎_elim (λ (t : (j ≡ id) × (left ≡ u)). subst (λ (y : SeatView C). IsViewOf shape config (pages_named shape kept.stored 0) (now shape IsPublishable config s kept) seat_of' kept.operator_seat j y) t.1
+        (subst (λ (i : ℕ). IsViewOf shape config (pages_named shape kept.stored 0) (now shape IsPublishable config s kept) seat_of' kept.operator_seat i left) (sym t.0) on_left))
         (λ (t : (j ≢ id) × (get_elem? s.views j ≡ some u)). others j u t.0 (elem_below s.views j u t.1) (kept.each_seat j u t.1)) (at_set s.views id j left u was))
-        (λ (t : (j ≡ length (set s.views id left)) × (right ≡ u)). subst (λ (y : SeatView C). IsViewOf shape config (now shape IsPublishable config s kept) seat_of' kept.operator_seat j y) t.1
-        (subst (λ (i : ℕ). IsViewOf shape config (now shape IsPublishable config s kept) seat_of' kept.operator_seat i right) (sym (t.0 ∙ length-set s.views id left)) on_right))
+        (λ (t : (j ≡ length (set s.views id left)) × (right ≡ u)). subst (λ (y : SeatView C). IsViewOf shape config (pages_named shape kept.stored 0) (now shape IsPublishable config s kept) seat_of' kept.operator_seat j y) t.1
+        (subst (λ (i : ℕ). IsViewOf shape config (pages_named shape kept.stored 0) (now shape IsPublishable config s kept) seat_of' kept.operator_seat i right) (sym (t.0 ∙ length-set s.views id left)) on_right))
         (elem_snoc (set s.views id left) right u j there);
     each_worker = λ w low. ⊎_elim
         (λ here. (right, ap (get_elem? (set s.views id left ++ right ∷ [])) here.0 ∙ at_last (set s.views id left) right (length s.views) (length-set s.views id left), here.1))
@@ -142,8 +142,11 @@ module _ {C : Type 0} (shape : Shape C) (IsPublishable : C → Type 0) {S : Type
   splits_spare id v view none is first low s kept at =
       let ours = kept.each_seat id v at in let new : ℕ = length s.views in let mine = ours.spare v.spare (omega arith) low in let st = now shape IsPublishable config s kept in
       let published : published_by v.operator ≡ config ∷ [] = ap published_by is ∙ first in
-      let given : WorkerView C = record { number = v.spare; stage = Outside; log = []; seen = published_by v.operator } in
-      let given_is : new_worker config v.spare ≡ given = ap (λ (l : List C). let y : WorkerView C = record { number = v.spare; stage = Outside; log = []; seen = l } in y) (sym published) in
+      let pages : List ℕ = pages_named shape kept.stored 0 in
+      let paged : first_pages v.operator ≡ pages = ap first_pages is ∙ (ap (λ (y : OperatorView C). first_pages (Some y)) (ours.operator view is).1
+      ∙ get_elem_or st.operator.version_pages 0 pages [] ((rule_now shape IsPublishable config s kept).each_worker v.spare (new_worker config pages v.spare) mine.1).pages) in
+      let given : WorkerView C = record { number = v.spare; stage = Outside; log = []; seen = published_by v.operator; pages = first_pages v.operator } in
+      let given_is : new_worker config pages v.spare ≡ given = λ i. let y : WorkerView C = record { number = v.spare; stage = Outside; log = []; seen = sym published i; pages = sym paged i } in y in
       let below = elem_below s.views id v at in
       IsLeftByTrace-split s kept id v (without_spare v) (spare_alone shape v) (moved_to kept.seat_of v.spare new) at
       record {
@@ -158,7 +161,7 @@ module _ {C : Type 0} (shape : Shape C) (IsPublishable : C → Type 0) {S : Type
         spare = λ w l small. absurd (omega arith);
         told = (st.operator.published, refl);
       }
-      (λ seat u other near f. IsViewOf-moved shape config st kept.seat_of kept.operator_seat v.spare id new seat u mine.0 other f)
+      (λ seat u other near f. IsViewOf-moved shape config (pages_named shape kept.stored 0) st kept.seat_of kept.operator_seat v.spare id new seat u mine.0 other f)
       (λ w small. dite (ℕ_discrete w v.spare)
       (λ e. inl (ap (moved_to kept.seat_of v.spare new) e ∙ moved_here kept.seat_of v.spare new, inl (given, refl, sym e)))
       (λ other. inr (moved_else kept.seat_of v.spare new w other, ⊎_elim (λ knows. absurd (none_some knows.0 (sym none ∙ knows.1))) (λ (up : v.spare ≤ w). inr (omega arith)))))
@@ -180,7 +183,7 @@ module _ {C : Type 0} (shape : Shape C) (IsPublishable : C → Type 0) {S : Type
         spare = λ w l small. absurd (omega arith);
         told = (st.operator.published, refl);
       }
-      (λ seat u other near f. IsViewOf-moved shape config st kept.seat_of kept.operator_seat view.number id new seat u mine.0 other f)
+      (λ seat u other near f. IsViewOf-moved shape config (pages_named shape kept.stored 0) st kept.seat_of kept.operator_seat view.number id new seat u mine.0 other f)
       (λ w small. dite (ℕ_discrete w view.number)
       (λ e. inl (ap (moved_to kept.seat_of view.number new) e ∙ moved_here kept.seat_of view.number new, inl (view, is, sym e)))
       (λ other. inr (
@@ -209,12 +212,12 @@ module _ {C : Type 0} (shape : Shape C) (IsPublishable : C → Type 0) {S : Type
       ((seat_of' w ≡ id) × KnowsWorker shape both w) ⊎ ((seat_of' w ≡ kept.seat_of w) × (KnowsWorker shape v w → KnowsWorker shape both w) × (KnowsWorker shape given w → ⊥))
 
   IsLeftByTrace-join : (s : table.State S (SeatView C)) (kept : Kept s) (id : ℕ) (v : SeatView C) (other : ℕ) (given both : SeatView C) (seat_of' : ℕ → ℕ) → get_elem? s.views id ≡ some v → other ≢ id → get_elem? s.views other ≡ some given
-      → IsViewOf shape config (now shape IsPublishable config s kept) seat_of' kept.operator_seat id both
-      → ((seat : ℕ) (u : SeatView C) → seat ≢ id → seat ≢ other → IsViewOf shape config (now shape IsPublishable config s kept) kept.seat_of kept.operator_seat seat u → IsViewOf shape config (now shape IsPublishable config s kept) seat_of' kept.operator_seat seat u)
+      → IsViewOf shape config (pages_named shape kept.stored 0) (now shape IsPublishable config s kept) seat_of' kept.operator_seat id both
+      → ((seat : ℕ) (u : SeatView C) → seat ≢ id → seat ≢ other → IsViewOf shape config (pages_named shape kept.stored 0) (now shape IsPublishable config s kept) kept.seat_of kept.operator_seat seat u → IsViewOf shape config (pages_named shape kept.stored 0) (now shape IsPublishable config s kept) seat_of' kept.operator_seat seat u)
       → ((w : ℕ) → w < shape.workers → IsTaken s kept seat_of' id v given both w) → (KnowsOperator shape v → KnowsOperator shape both) → (KnowsOperator shape given → ⊥)
       → Kept record { words = s.words; homes = s.homes; views = set (set s.views id both) other (nobody shape) }
   IsLeftByTrace-join s kept id v other given both seat_of' at apart gives on_both others workers operator no_operator = record {
-    rows = kept.rows;
+    stored = kept.stored;
     trace = kept.trace;
     seat_of = seat_of';
     operator_seat = kept.operator_seat;
@@ -223,10 +226,10 @@ module _ {C : Type 0} (shape : Shape C) (IsPublishable : C → Type 0) {S : Type
     words = kept.words;
     publishable = kept.publishable;
     each_seat = λ j u there. ⊎_elim
-        (λ (t : (j ≡ other) × (nobody shape ≡ u)). subst (λ (y : SeatView C). IsViewOf shape config (now shape IsPublishable config s kept) seat_of' kept.operator_seat j y) t.1 (IsViewOf-nobody shape config (now shape IsPublishable config s kept) seat_of' kept.operator_seat j))
+        (λ (t : (j ≡ other) × (nobody shape ≡ u)). subst (λ (y : SeatView C). IsViewOf shape config (pages_named shape kept.stored 0) (now shape IsPublishable config s kept) seat_of' kept.operator_seat j y) t.1 (IsViewOf-nobody shape config (pages_named shape kept.stored 0) (now shape IsPublishable config s kept) seat_of' kept.operator_seat j))
         (λ (b : (j ≢ other) × (get_elem? (set s.views id both) j ≡ some u)). ⊎_elim
-        (λ (t : (j ≡ id) × (both ≡ u)). subst (λ (y : SeatView C). IsViewOf shape config (now shape IsPublishable config s kept) seat_of' kept.operator_seat j y) t.1
-        (subst (λ (i : ℕ). IsViewOf shape config (now shape IsPublishable config s kept) seat_of' kept.operator_seat i both) (sym t.0) on_both))
+        (λ (t : (j ≡ id) × (both ≡ u)). subst (λ (y : SeatView C). IsViewOf shape config (pages_named shape kept.stored 0) (now shape IsPublishable config s kept) seat_of' kept.operator_seat j y) t.1
+        (subst (λ (i : ℕ). IsViewOf shape config (pages_named shape kept.stored 0) (now shape IsPublishable config s kept) seat_of' kept.operator_seat i both) (sym t.0) on_both))
         (λ (t : (j ≢ id) × (get_elem? s.views j ≡ some u)). others j u t.0 b.0 (kept.each_seat j u t.1))
         (at_set s.views id j both u b.1))
         (at_set (set s.views id both) other j (nobody shape) u there);
@@ -255,7 +258,7 @@ module _ {C : Type 0} (shape : Shape C) (IsPublishable : C → Type 0) {S : Type
         spare = λ w l small. absurd (omega arith);
         told = ours.told;
       }
-      (λ seat u not_id not_other f. IsViewOf-moved shape config st kept.seat_of kept.operator_seat view.number other id seat u from.0 not_other f)
+      (λ seat u not_id not_other f. IsViewOf-moved shape config (pages_named shape kept.stored 0) st kept.seat_of kept.operator_seat view.number other id seat u from.0 not_other f)
       (λ w small. dite (ℕ_discrete w view.number)
       (λ e. inl (ap (moved_to kept.seat_of view.number id) e ∙ moved_here kept.seat_of view.number id, inl (view, is, sym e)))
       (λ else. inr (

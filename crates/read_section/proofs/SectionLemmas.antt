@@ -2,20 +2,21 @@
 use Rattle.std.proofs.Common.{Contains, ◌≡◌, ℕ, zero, suc, ◌+◌, ◌/◌, ◌%◌, ◌<◌, List, [], ◌∷◌, ◌++◌, None, Option, Some, ap, arith, false, length, refl, slice_get, slice_index, slice_index_or, subst, sym, true, ◌∙◌, ⊎_elim}
 use Rattle.std.proofs.lemmas.List.{length-replicate}
 use Rattle.std.specs.Option.{is_some}
-use Rattle.config_image.specs.Image.{Group}
+use Rattle.config_image.specs.Image.{Group, row}
 use Rattle.versions.specs.declared.step.Step.{Step}
 use Rattle.versions.specs.declared.step.Step.TheVariants.{Announce, Fetch, Fill, Leave, Peek, Pin, Publish, Scan}
 use Rattle.versions.specs.declared.step.Entry.{Entry}
 use Rattle.versions.specs.declared.view.Stage.{Stage}
 use Rattle.versions.specs.declared.view.Stage.TheVariants.{Announced, Inside, Outside, Peeked}
 use Rattle.versions.specs.declared.view.WorkerView.{WorkerView}
-use Rattle.versions.specs.View.{after_leave, next_stage, read_word_of, stage_after}
-use Rattle.versions.specs.Legal.{FetchesHeld, IsHeldPlace, IsInOrder, IsLogOf}
+use Rattle.versions.specs.View.{OfFetches, OfFetchesBy, after_leave}
+use Rattle.versions.specs.Legal.{IsLogOf}
+use Rattle.versions.specs.Safety.{IsHeldPlace}
 use Rattle.versions.specs.Step.{IsStepOf, entry}
 use Rattle.versions.specs.Table.{the_shape}
 use Rattle.versions.proofs.ListLemmas.{contains_first}
 use Rattle.versions.proofs.RowLemmas.{length-row}
-use Rattle.versions.proofs.ShapeLemmas.{row_is, row_words_is}
+use Rattle.versions.proofs.ShapeLemmas.{row_words_is}
 use Rattle.read_section.specs.declared.worker.Held.{Held}
 use Rattle.read_section.specs.body.Seat.{TellsStage}
 use Rattle.read_section.specs.Section.{EndsInFetches, IsFetchIn, IsWholeSection, SectionsAreWhole, at_pin, before_fetches, held_words, words_in}
@@ -23,37 +24,34 @@ use Rattle.read_section.specs.body.Steps.{IsOwnLogOf}
 use Rattle.read_section.specs.Worker.{Enters, IsInside, IsOutside, WorkerValue, left, left_from, steps}
 
 -- the fetches that a log ends with
-module _ (w : ℕ) (stage : Stage) where
+module _ (view : WorkerView (List Group)) where
   abbrev IsFetched : List Entry → Type 0
-  IsFetched log = (fetches : List Entry) × (log ≡ fetches ++ before_fetches log) × ((entry : Entry) → Contains fetches entry → IsFetchIn w stage entry.step)
+  IsFetched log = (fetches : List Entry) × (log ≡ fetches ++ before_fetches log) × ((entry : Entry) → Contains fetches entry → IsFetchIn view entry.step)
 
   none_fetched : (log : List Entry) → before_fetches log ≡ log → IsFetched log
   none_fetched log e = ([], sym e, λ entry c. absurd (let l = c.1 in omega arith))
 
-  one_more_fetched : (newest : Entry) (older : List Entry) (place : ℕ) → newest.step ≡ Fetch w place → IsHeldPlace the_shape stage place → before_fetches (newest ∷ older) ≡ before_fetches older → IsFetched older → IsFetched (newest ∷ older)
+  one_more_fetched : (newest : Entry) (older : List Entry) (place : ℕ) → newest.step ≡ Fetch view.number place → IsHeldPlace the_shape view place → before_fetches (newest ∷ older) ≡ before_fetches older → IsFetched older → IsFetched (newest ∷ older)
   one_more_fetched newest older place is held same (fetches, all, each) = (
     newest ∷ fetches,
     ap (λ l. newest ∷ l) (all ∙ ap (λ l. fetches ++ l) (sym same)),
-    λ entry c. ⊎_elim (λ e. subst (λ (y : Entry). IsFetchIn w stage y.step) e (place, is, held)) (λ later. each entry later) (contains_first newest entry fetches c),
+    λ entry c. ⊎_elim (λ e. subst (λ (y : Entry). IsFetchIn view y.step) e (place, is, held)) (λ later. each entry later) (contains_first newest entry fetches c),
   )
 
-module _ (w k n r : ℕ) where
-  -- the log of a worker inside a section ends with fetches of words of the version held, back to its pin or a later peek
-  fetched_log : (log : List Entry) → IsLogOf the_shape w log → stage_after the_shape.rows log ≡ Inside k n r → IsFetched w (Inside k n r) log
-  fetched_log [] own stage = none_fetched w (Inside k n r) [] refl
-  fetched_log (newest ∷ older) own stage = go newest.step newest.word own stage (λ inside. fetched_log older own.0 inside)
+  -- the log of a worker ends with fetches of words of the version held, back to its pin or a later peek
+  fetched_log : (log : List Entry) → IsLogOf the_shape view.number log → OfFetches (IsHeldPlace the_shape view) log → IsFetched log
+  fetched_log [] own held = none_fetched [] refl
+  fetched_log (newest ∷ older) own held = go newest.step newest.word own.1 held (λ before. fetched_log older own.0 before)
     where
-      go : (step : Step) (x : ℕ) → IsLogOf the_shape w older × IsStepOf w step × IsInOrder (stage_after the_shape.rows older) step x × FetchesHeld the_shape (stage_after the_shape.rows older) step → next_stage the_shape.rows (stage_after the_shape.rows older) step x ≡ Inside k n r
-          → (stage_after the_shape.rows older ≡ Inside k n r → IsFetched w (Inside k n r) older) → IsFetched w (Inside k n r) (entry step x ∷ older)
-      go (Peek v) x own stage before = none_fetched w (Inside k n r) (entry (Peek v) x ∷ older) refl
-      go (Announce v) x own stage before = none_fetched w (Inside k n r) (entry (Announce v) x ∷ older) refl
-      go (Pin v) x own stage before = none_fetched w (Inside k n r) (entry (Pin v) x ∷ older) refl
-      go (Fetch v place) x own stage before =
-          one_more_fetched w (Inside k n r) (entry (Fetch v place) x) older place (ap (λ (u : ℕ). Fetch u place) own.1) (subst (λ q. IsHeldPlace the_shape q place) stage own.3) refl (before stage)
-      go (Leave v) x own stage before = none_fetched w (Inside k n r) (entry (Leave v) x ∷ older) refl
-      go (Fill p y) x own stage before = none_fetched w (Inside k n r) (entry (Fill p y) x ∷ older) refl
-      go (Publish q) x own stage before = none_fetched w (Inside k n r) (entry (Publish q) x ∷ older) refl
-      go (Scan p) x own stage before = none_fetched w (Inside k n r) (entry (Scan p) x ∷ older) refl
+      go : (step : Step) (x : ℕ) → IsStepOf view.number step → OfFetchesBy (IsHeldPlace the_shape view) step (OfFetches (IsHeldPlace the_shape view) older) → (OfFetches (IsHeldPlace the_shape view) older → IsFetched older) → IsFetched (entry step x ∷ older)
+      go (Peek v) x own held before = none_fetched (entry (Peek v) x ∷ older) refl
+      go (Announce v) x own held before = none_fetched (entry (Announce v) x ∷ older) refl
+      go (Pin v) x own held before = none_fetched (entry (Pin v) x ∷ older) refl
+      go (Fetch v place) x own held before = one_more_fetched (entry (Fetch v place) x) older place (ap (λ (u : ℕ). Fetch u place) own) held.0 refl (before held.1)
+      go (Leave v) x own held before = none_fetched (entry (Leave v) x ∷ older) refl
+      go (Fill p y) x own held before = none_fetched (entry (Fill p y) x ∷ older) refl
+      go (Publish q) x own held before = none_fetched (entry (Publish q) x ∷ older) refl
+      go (Scan p) x own held before = none_fetched (entry (Scan p) x ∷ older) refl
 
 -- any log
 front_fetches : (log : List Entry) → (fetches : List Entry) × (log ≡ fetches ++ before_fetches log)
@@ -76,14 +74,12 @@ outside_inside stage out k n r e = subst IsOutside e out
 pub EndsInFetches-outside : (worker : WorkerValue) → IsOutside worker.view.stage → EndsInFetches worker
 EndsInFetches-outside worker out = let t = front_fetches worker.view.log in record { fetches = t.0; log = t.1; each = λ k n r e stage c. absurd (outside_inside worker.view.stage out k n r stage) }
 
-pub EndsInFetches-inside : (worker : WorkerValue) (n r : ℕ) → IsInside worker.view.stage n r → IsOwnLogOf worker → EndsInFetches worker
-EndsInFetches-inside worker n r inside own =
-    let k = read_word_of worker.view.stage in let t = fetched_log worker.view.number k n r worker.view.log own.order (sym own.stage ∙ inside) in
-    record { fetches = t.0; log = t.1; each = λ j m q e stage c. subst (λ p. IsFetchIn worker.view.number p e.step) (sym inside ∙ stage) (t.2 e c) }
+pub EndsInFetches-inside : (worker : WorkerValue) → IsOwnLogOf worker → EndsInFetches worker
+EndsInFetches-inside worker own = let t = fetched_log worker.view worker.view.log own.order own.fetched in record { fetches = t.0; log = t.1; each = λ j m q e stage c. t.2 e c }
 
 pub EndsInFetches-held : (held : Option Held) (worker : WorkerValue) → TellsStage held worker.view.stage → IsOwnLogOf worker → EndsInFetches worker
 EndsInFetches-held None worker at own = EndsInFetches-outside worker at
-EndsInFetches-held (Some h) worker at own = EndsInFetches-inside worker h.version h.row at.0 own
+EndsInFetches-held (Some h) worker at own = EndsInFetches-inside worker own
 
 -- what a worker keeps of its section tells whether it is inside
 pub outside_of_none : (held : Option Held) (stage : Stage) → is_some held ≡ false → TellsStage held stage → IsOutside stage
@@ -100,8 +96,8 @@ inside_of_some None stage e at = absurd (false_true e)
     false_true e = cc
 inside_of_some (Some h) stage e at = (h.version, h.row, at.0)
 
-length-shape_row : (config : List Group) → length (the_shape.row config) ≡ the_shape.row_words
-length-shape_row config = ap length (row_is config) ∙ (length-row config ∙ sym row_words_is)
+length-shape_row : (config : List Group) → length (row config) ≡ the_shape.row_words
+length-shape_row config = length-row config ∙ sym row_words_is
 
 -- a section has as many words as a row
 pub length-held_words : (worker : WorkerValue) → length (held_words worker) ≡ the_shape.row_words
@@ -136,7 +132,7 @@ module _ (before inside last after : WorkerValue) (entered : Enters before insid
   whole_section = let number = ap (λ (w : WorkerValue). w.view.number) same in let after_is : after.view ≡ after_leave last.view = ap (λ (w : WorkerValue). w.view) e ∙ left_is in record {
     entered = entered;
     fetches = since.fetches;
-    each = λ k n r newest stage c. subst (λ (w : ℕ). IsFetchIn w (Inside k n r) newest.step) number (since.each k n r newest (last_stage ∙ stage) c);
+    each = λ k n r newest stage c. subst (λ (w : WorkerValue). IsFetchIn w.view newest.step) same (since.each k n r newest (last_stage ∙ stage) c);
     log = ap (λ (v : WorkerView (List Group)). v.log) after_is
         ∙ ((λ i. entry (Leave (number i)) 0 ∷ last.view.log) ∙ ap (λ l. entry (Leave inside.view.number) 0 ∷ l) (since.log ∙ ap (λ l. since.fetches ++ l) (ap (λ (w : WorkerValue). w.view.log) same ∙ pinned_log)));
     outside = ap (λ (v : WorkerView (List Group)). v.stage) after_is;

@@ -12,7 +12,7 @@ use Rattle.versions.specs.declared.step.Event.{Event}
 use Rattle.versions.specs.declared.step.Event.TheVariants.{Stepped}
 use Rattle.versions.specs.declared.view.WorkerView.{WorkerView}
 use Rattle.versions.specs.declared.view.OperatorView.{OperatorView}
-use Rattle.versions.specs.Layout.{Shape}
+use Rattle.versions.specs.Layout.{Shape, pages_named}
 use Rattle.versions.specs.View.{BeginsWith, up_to}
 use Rattle.versions.specs.State.{State, after_step, change, start_of, state_after}
 use Rattle.versions.specs.Legal.{IsLegal, IsLegalStep, IsReached}
@@ -48,24 +48,24 @@ module _ {C : Type 0} where
 module _ {C : Type 0} (shape : Shape C) (IsPublishable : C → Type 0) {S : Type 0} (config : C) where
   -- the state after the trace
   abbrev pub now : (s : table.State S (SeatView C)) → IsLeftByTrace shape IsPublishable config s → State C
-  now s kept = state_after shape (start_of shape config kept.rows) kept.trace
+  now s kept = state_after shape (start_of shape config kept.stored) kept.trace
 
   pub reached : (s : table.State S (SeatView C)) (kept : IsLeftByTrace shape IsPublishable config s) → IsReached shape (now s kept)
-  reached s kept = record { config = config; rows = kept.rows; trace = kept.trace; opening = kept.opening; legal = kept.legal; reached = refl }
+  reached s kept = record { config = config; stored = kept.stored; trace = kept.trace; opening = kept.opening; legal = kept.legal; reached = refl }
 
   pub rule_now : (s : table.State S (SeatView C)) (kept : IsLeftByTrace shape IsPublishable config s) → Coheres shape (now s kept)
   rule_now s kept = Coheres-reached shape (now s kept) (reached s kept)
 
   -- the trace goes on to a state that the seat's new view and the other seats' views are of
   pub IsLeftByTrace-on : (s : table.State S (SeatView C)) (kept : IsLeftByTrace shape IsPublishable config s) (id : ℕ) (v v' : SeatView C) (trace : List (Event C)) (after : State C)
-      → get_elem? s.views id ≡ some v → IsLegal shape (start_of shape config kept.rows) trace → state_after shape (start_of shape config kept.rows) trace ≡ after
+      → get_elem? s.views id ≡ some v → IsLegal shape (start_of shape config kept.stored) trace → state_after shape (start_of shape config kept.stored) trace ≡ after
       → ((published : C) → Contains after.operator.published published → IsPublishable published)
-      → IsViewOf shape config after kept.seat_of kept.operator_seat id v'
-      → ((seat : ℕ) (view : SeatView C) → seat ≢ id → IsViewOf shape config (now s kept) kept.seat_of kept.operator_seat seat view → IsViewOf shape config after kept.seat_of kept.operator_seat seat view)
+      → IsViewOf shape config (pages_named shape kept.stored 0) after kept.seat_of kept.operator_seat id v'
+      → ((seat : ℕ) (view : SeatView C) → seat ≢ id → IsViewOf shape config (pages_named shape kept.stored 0) (now s kept) kept.seat_of kept.operator_seat seat view → IsViewOf shape config (pages_named shape kept.stored 0) after kept.seat_of kept.operator_seat seat view)
       → ((w : ℕ) → KnowsWorker shape v w → KnowsWorker shape v' w) → (KnowsOperator shape v → KnowsOperator shape v')
       → IsLeftByTrace shape IsPublishable config record { words = after.words; homes = s.homes; views = set s.views id v' }
   IsLeftByTrace-on s kept id v v' trace after at legal reached publishable own others workers operator = record {
-    rows = kept.rows;
+    stored = kept.stored;
     trace = trace;
     seat_of = kept.seat_of;
     operator_seat = kept.operator_seat;
@@ -73,9 +73,9 @@ module _ {C : Type 0} (shape : Shape C) (IsPublishable : C → Type 0) {S : Type
     legal = legal;
     words = sym (ap (λ (st : State C). st.words) reached);
     publishable = subst (λ (st : State C). (published : C) → Contains st.operator.published published → IsPublishable published) (sym reached) publishable;
-    each_seat = λ j u there. subst (λ (st : State C). IsViewOf shape config st kept.seat_of kept.operator_seat j u) (sym reached) (⊎_elim
-        (λ (t : (j ≡ id) × (v' ≡ u)). subst (λ (y : SeatView C). IsViewOf shape config after kept.seat_of kept.operator_seat j y) t.1
-        (subst (λ (i : ℕ). IsViewOf shape config after kept.seat_of kept.operator_seat i v') (sym t.0) own))
+    each_seat = λ j u there. subst (λ (st : State C). IsViewOf shape config (pages_named shape kept.stored 0) st kept.seat_of kept.operator_seat j u) (sym reached) (⊎_elim
+        (λ (t : (j ≡ id) × (v' ≡ u)). subst (λ (y : SeatView C). IsViewOf shape config (pages_named shape kept.stored 0) after kept.seat_of kept.operator_seat j y) t.1
+        (subst (λ (i : ℕ). IsViewOf shape config (pages_named shape kept.stored 0) after kept.seat_of kept.operator_seat i v') (sym t.0) own))
         (λ (t : (j ≢ id) × (get_elem? s.views j ≡ some u)). others j u t.0 (kept.each_seat j u t.1))
         (at_set s.views id j v' u there));
     each_worker = λ w low. knows_after s.views id (kept.seat_of w) v v' (λ y. KnowsWorker shape y w) at (workers w) (kept.each_worker w low);
@@ -110,8 +110,8 @@ module _ {C : Type 0} (shape : Shape C) (IsPublishable : C → Type 0) {S : Type
 
   -- steps of the operator, after which it knows this
   pub IsLeftByTrace-operator : (s : table.State S (SeatView C)) (kept : IsLeftByTrace shape IsPublishable config s) (id : ℕ) (v : SeatView C) (view view' : OperatorView C) (trace : List (Event C)) (words' : List ℕ)
-      → get_elem? s.views id ≡ some v → v.operator ≡ Some view → IsLegal shape (start_of shape config kept.rows) trace
-      → state_after shape (start_of shape config kept.rows) trace ≡ record { words = words'; workers = (now s kept).workers; operator = view' }
+      → get_elem? s.views id ≡ some v → v.operator ≡ Some view → IsLegal shape (start_of shape config kept.stored) trace
+      → state_after shape (start_of shape config kept.stored) trace ≡ record { words = words'; workers = (now s kept).workers; operator = view' }
       → BeginsWith view'.published view.published → ((published : C) → Contains view'.published published → IsPublishable published)
       → IsLeftByTrace shape IsPublishable config record { words = words'; homes = s.homes; views = set s.views id (with_operator v view') }
   IsLeftByTrace-operator s kept id v view view' trace words' at is legal moves longer publishable =

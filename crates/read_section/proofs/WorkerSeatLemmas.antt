@@ -1,20 +1,22 @@
 -- A worker's seat, and what its steps leave.
-use Rattle.std.proofs.Common.{◌≡◌, ℕ, ◌+◌, ◌*◌, ◌/◌, ◌%◌, ◌<◌, List, [], ap, arith, get_or, refl, slice_index_or, subst, sym, ◌∙◌}
+use Rattle.std.proofs.Common.{◌≡◌, ℕ, ◌+◌, ◌*◌, ◌/◌, ◌%◌, ◌<◌, List, [], ap, arith, get_or, inl, inr, refl, slice_index, slice_index_or, subst, sym, ◌∙◌}
 use mathlib.Core.Option.{none}
 use Rattle.atomic_table.specs.Table.{Allows, Me, step}
 use Rattle.atomic_table.specs.Seated.{TableId}
-use Rattle.config_image.specs.declared.TheConstants.{ROW_WORDS}
-use Rattle.config_image.specs.Image.{Group}
-use Rattle.versions.specs.declared.layout.TheConstants.{ROWS, ROWS_BEGIN, WORKERS}
+use Rattle.config_image.specs.declared.TheConstants.{PAGE_WORDS, ROW_WORDS}
+use Rattle.config_image.specs.Image.{Group, row}
+use Rattle.versions.specs.declared.layout.TheConstants.{PAGES, POOL_BEGIN, ROWS, ROWS_BEGIN, WORKERS}
 use Rattle.versions.specs.declared.view.Stage.{Stage}
 use Rattle.versions.specs.declared.view.Stage.TheVariants.{Announced, Inside, Peeked}
 use Rattle.versions.specs.declared.view.WorkerView.{WorkerView}
-use Rattle.versions.specs.Layout.{row_begin}
+use Rattle.versions.specs.Layout.{page_begin, row_begin, stored_words}
 use Rattle.versions.specs.View.{read_word_of}
 use Rattle.versions.specs.Legal.{MayPeek}
 use Rattle.versions.specs.Table.{the_shape}
 use Rattle.versions.proofs.ListLemmas.{get_elem_or, row_inside}
-use Rattle.versions.proofs.ShapeLemmas.{row_words_is, rows_is, workers_is}
+use Rattle.versions.proofs.ShapeLemmas.{page_words_is, pages_is, row_words_is, rows_is, workers_is}
+use Rattle.versions.proofs.ShapeLemmas as shape
+use Rattle.versions.specs.Safety.{IsFormWord}
 use Rattle.read_section.specs.declared.versions_rule.SeatView.{SeatView}
 use Rattle.read_section.specs.Layout.{IsPublishable}
 use Rattle.read_section.specs.body.Plays.{IsWordIn, ShowsSeat, announces, fetches, leaves, peeks, pins}
@@ -42,8 +44,19 @@ some_row = omega (arith, rows_is)
 pub place_is : (r i : ℕ) → ROWS_BEGIN + r * ROW_WORDS + i ≡ row_begin the_shape r + i
 place_is r i = λ j. 1 + sym workers_is j + r * sym row_words_is j + i
 
-pub place_inside : (r i : ℕ) → r < the_shape.rows → i < the_shape.row_words → row_begin the_shape r + i < (1 + the_shape.workers) + the_shape.rows * the_shape.row_words
+pub place_inside : (r i : ℕ) → r < the_shape.rows → i < the_shape.row_words → row_begin the_shape r + i < (1 + the_shape.workers) + stored_words the_shape
 place_inside r i low small = let t = row_inside r the_shape.rows i the_shape.row_words low small in omega arith
+
+-- the place of a word of a page as it is computed
+pub page_place_is : (q k : ℕ) → POOL_BEGIN + q * PAGE_WORDS + k ≡ page_begin the_shape q + k
+unfolding the_shape
+page_place_is q k = omega arith
+
+pub page_place_inside : (q k : ℕ) → q < the_shape.pages → k < the_shape.page_words → page_begin the_shape q + k < (1 + the_shape.workers) + stored_words the_shape
+page_place_inside q k low small = let t = row_inside q the_shape.pages k the_shape.page_words low small in omega arith
+
+pub page_place_fits : (q k : ℕ) → q < the_shape.pages → k < the_shape.page_words → q * PAGE_WORDS + k < PAGES * PAGE_WORDS
+page_place_fits q k low small = row_inside q PAGES k PAGE_WORDS (omega (arith, pages_is)) (omega (arith, page_words_is))
 
 pub place_fits : (r i : ℕ) → r < the_shape.rows → i < the_shape.row_words → r * ROW_WORDS + i < ROWS * ROW_WORDS
 place_fits r i low small = row_inside r ROWS i ROW_WORDS (omega (arith, rows_is)) (omega (arith, row_words_is))
@@ -59,7 +72,7 @@ module _ (slots : List (ℕ × ℕ)) (seat table : TableId) (h : IsSeatAt slots 
   pub some_word : 0 < seat.words
   some_word = let w = h.words in omega arith
 
-  pub word_inside : (place : ℕ) → place < (1 + the_shape.workers) + the_shape.rows * the_shape.row_words → place < seat.words
+  pub word_inside : (place : ℕ) → place < (1 + the_shape.workers) + stored_words the_shape → place < seat.words
   word_inside place low = let w = h.words in omega arith
 
   pub read_word_inside : (w : ℕ) → w < the_shape.workers → 1 + w < seat.words
@@ -104,9 +117,14 @@ module _ (v : View) (number : ℕ) (h : IsWorkerSeat v number) where
         (allows_leave the_shape IsPublishable config slots' id (v, slots) view (read_word_of worker.view.stage) n r (step slots' (1 + number) 0 0 none) h.knows h.no_spare (stage_is seat worker is (Inside (read_word_of worker.view.stage) n r) stage) (ap (λ (k : ℕ). 1 + k) h.numbered))
 
     pub may_fetch : (n r i place : ℕ) → IsInside worker.view.stage n r → i < the_shape.row_words → place ≡ row_begin the_shape r + i → Allows (Kept config) slots' id (v, slots) place (λ x. x) (fetches the_shape (step slots' place 0 0 none) (v, slots))
-    may_fetch n r i place stage small e = allows_fetch the_shape IsPublishable config slots' id (v, slots) view (read_word_of worker.view.stage) n r place (step slots' place 0 0 none) h.knows h.no_spare (stage_is seat worker is (Inside (read_word_of worker.view.stage) n r) stage) (i, small, e) refl
+    may_fetch n r i place stage small e = allows_fetch the_shape IsPublishable config slots' id (v, slots) view (read_word_of worker.view.stage) n r place (step slots' place 0 0 none) h.knows h.no_spare (stage_is seat worker is (Inside (read_word_of worker.view.stage) n r) stage) (inl (i, small, e)) refl
 
-  pub fetched_word : (seat : TableId) (worker : WorkerValue) → worker_at seat v ≡ worker → (n r i place x : ℕ) → IsInside worker.view.stage n r → i < the_shape.row_words → place ≡ row_begin the_shape r + i
-      → ((k m q : ℕ) → view.stage ≡ Inside k m q → IsWordIn the_shape view k m q place x) → FetchesWord worker n i x
-  fetched_word seat worker is n r i place x stage small e told = let t = told (read_word_of worker.view.stage) n r (stage_is seat worker is (Inside (read_word_of worker.view.stage) n r) stage) (i, small, e) in
-      t.2 ∙ (ap (λ (c : List Group). get_or (the_shape.row c) i 0) (sym (get_elem_or view.seen n t.0 [] t.1)) ∙ ap (λ (w : WorkerValue). get_or (the_shape.row (slice_index_or w.view.seen n [])) i 0) is)
+  -- what the form has at a place of a row is the row's word
+  row_word : (r i place x : ℕ) (config : List Group) (pages : List ℕ) → r < the_shape.rows → i < the_shape.row_words → place ≡ row_begin the_shape r + i → IsFormWord the_shape r config pages place x → x ≡ slice_index (row config) i
+  row_word r i place x config pages low small at (inl (j, inside, here, is)) = is ∙ (ap (λ (k : ℕ). get_or (the_shape.form.row config pages) k 0) (let g : j ≡ i = omega arith in g) ∙ ap (λ l. get_or l i 0) (shape.row_is config pages))
+  row_word r i place x config pages low small at (inr (part, is)) = let inside = row_inside r the_shape.rows i the_shape.row_words low small in let there = part.at in absurd (omega arith)
+
+  pub fetched_word : (seat : TableId) (worker : WorkerValue) → worker_at seat v ≡ worker → (n r i place x : ℕ) → IsInside worker.view.stage n r → r < the_shape.rows → i < the_shape.row_words → place ≡ row_begin the_shape r + i
+      → ((k m q : ℕ) → view.stage ≡ Inside k m q → IsWordIn the_shape view m q place x) → FetchesWord worker n i x
+  fetched_word seat worker is n r i place x stage low small e told = let t = told (read_word_of worker.view.stage) n r (stage_is seat worker is (Inside (read_word_of worker.view.stage) n r) stage) (inl (i, small, e)) in
+      row_word r i place x t.0 view.pages low small e t.2 ∙ (ap (λ (c : List Group). get_or (row c) i 0) (sym (get_elem_or view.seen n t.0 [] t.1)) ∙ ap (λ (w : WorkerValue). get_or (row (slice_index_or w.view.seen n [])) i 0) is)

@@ -1,22 +1,24 @@
--- What the rule says of a version that a worker holds, in each state that the table can be in: its words stand in their row.
-use Rattle.std.specs.Prelude.{◌≡◌, ◌+◌, ◌<◌, ◌↔◌, List, Some, slice_index, ℕ}
+-- What the rule says of a version that a worker holds, in each state that the table can be in: its words stand in their places.
+use Rattle.std.specs.Prelude.{◌≡◌, ◌↔◌, List, Some, slice_index, ℕ}
 use mathlib.Core.Option.{some}
 use lib.ListN.{get_elem?}
 use Rattle.config_image.specs.Image.{Group}
 use Rattle.versions.specs.declared.step.Step.TheVariants.{Fetch, Fill}
 use Rattle.versions.specs.declared.view.Stage.TheVariants.{Inside}
 use Rattle.versions.specs.declared.view.WorkerView.{WorkerView}
-use Rattle.versions.specs.Layout.{Shape, row_begin}
+use Rattle.versions.specs.Layout.{Shape}
 use Rattle.versions.specs.View.{IsTold}
 use Rattle.versions.specs.Legal.{IsLegalStep}
+use Rattle.versions.specs.Safety.{IsFormWord, IsHeldPlace}
 use Rattle.versions.specs.Table.{the_shape}
 use Rattle.read_section.specs.declared.versions_rule.SeatView.{SeatView}
 use Rattle.read_section.specs.VersionsRule.{IsAllowedState, TableState, state_left}
 
 module _ {C : Type 0} (shape : Shape C) where
-  -- the worker has seen version n, and x is word i of the row of that configuration
-  abbrev pub IsSeenWord : WorkerView C → ℕ → ℕ → ℕ → Type 0
-  IsSeenWord view n i x = (config : C) × (get_elem? view.seen n ≡ some config) × (x ≡ slice_index (shape.row config) i)
+  -- the worker has seen version n, and x is what the form of that configuration has at the place, where row r and the worker's
+  -- pages hold it
+  abbrev pub IsSeenWord : WorkerView C → ℕ → ℕ → ℕ → ℕ → Type 0
+  IsSeenWord view n r place x = (config : C) × (get_elem? view.seen n ≡ some config) × IsFormWord shape r config view.pages place x
 
 -- a worker that has a seat at the table is inside: it holds version n, which stands in row r
 pub record IsHolder (state : TableState) (view : WorkerView (List Group)) (n r : ℕ) : Type 0 where
@@ -27,28 +29,28 @@ pub record IsHolder (state : TableState) (view : WorkerView (List Group)) (n r :
   pub worker : known.worker ≡ Some view
   pub inside : view.stage ≡ Inside read_word n r
 
--- in each state of the table that the rule allows, the words of row r are those of the version that a worker holds there
+-- in each state of the table that the rule allows, the words of the version that a worker holds there are in its row and its pages
 abbrev pub HeldWordsStand : Type 0
 HeldWordsStand =
-    (config : List Group) (state : TableState) (view : WorkerView (List Group)) (n r i : ℕ) → IsAllowedState config state → IsHolder state view n r
-    → i < the_shape.row_words → IsSeenWord the_shape view n i (slice_index state.words (row_begin the_shape r + i))
+    (config : List Group) (state : TableState) (view : WorkerView (List Group)) (n r place : ℕ) → IsAllowedState config state → IsHolder state view n r
+    → IsHeldPlace the_shape view place → IsSeenWord the_shape view n r place (slice_index state.words place)
 
--- in two such states the words of the row are the same, where the worker holds the version in both, and has seen in the
--- later one what it had seen in the earlier
+-- in two such states these words are the same, where the worker holds the version in both, and knows in the later one what it knew
+-- in the earlier: what it had seen, and the version's pages
 abbrev pub HeldWordsStay : Type 0
 HeldWordsStay =
-    (config : List Group) (earlier later : TableState) (view view' : WorkerView (List Group)) (n r i : ℕ) → IsAllowedState config earlier → IsAllowedState config later
-    → IsHolder earlier view n r → IsHolder later view' n r → IsTold view.seen view' → i < the_shape.row_words
-    → slice_index later.words (row_begin the_shape r + i) ≡ slice_index earlier.words (row_begin the_shape r + i)
+    (config : List Group) (earlier later : TableState) (view view' : WorkerView (List Group)) (n r place : ℕ) → IsAllowedState config earlier → IsAllowedState config later
+    → IsHolder earlier view n r → IsHolder later view' n r → IsTold view.seen view' → view'.pages ≡ view.pages → IsHeldPlace the_shape view place
+    → slice_index later.words place ≡ slice_index earlier.words place
 
--- the worker's next step may be a fetch of each word of the row, and it then loads the version's word, and no other
+-- the worker's next step may be a fetch of each word of the version, and it then loads the version's word, and no other
 abbrev pub FetchesHeldWord : Type 0
 FetchesHeldWord =
-    (config : List Group) (state : TableState) (view : WorkerView (List Group)) (n r i x : ℕ) (allowed : IsAllowedState config state) → IsHolder state view n r
-    → i < the_shape.row_words → IsLegalStep the_shape (state_left the_shape allowed) (Fetch view.number (row_begin the_shape r + i)) x ↔ IsSeenWord the_shape view n i x
+    (config : List Group) (state : TableState) (view : WorkerView (List Group)) (n r place x : ℕ) (allowed : IsAllowedState config state) → IsHolder state view n r
+    → IsHeldPlace the_shape view place → IsLegalStep the_shape (state_left the_shape allowed) (Fetch view.number place) x ↔ IsSeenWord the_shape view n r place x
 
--- no fill of a word of the row may come next
+-- no fill of a word of the version may come next
 abbrev pub HeldWordsUnfilled : Type 0
 HeldWordsUnfilled =
-    (config : List Group) (state : TableState) (view : WorkerView (List Group)) (n r i word x : ℕ) (allowed : IsAllowedState config state) → IsHolder state view n r
-    → i < the_shape.row_words → IsLegalStep the_shape (state_left the_shape allowed) (Fill (row_begin the_shape r + i) word) x → ⊥
+    (config : List Group) (state : TableState) (view : WorkerView (List Group)) (n r place word x : ℕ) (allowed : IsAllowedState config state) → IsHolder state view n r
+    → IsHeldPlace the_shape view place → IsLegalStep the_shape (state_left the_shape allowed) (Fill place word) x → ⊥

@@ -14,8 +14,8 @@ IsPublishable config = IsConfig config × (charge_of config ≤ CHARGE_LIMIT)
 -- the row of the operator's words holds the configuration's
 abbrev pub HoldsConfig : OperatorView (List Group) → ℕ → List Group → Type 0
 HoldsConfig view r config =
-    (i : ℕ) → i < ROW_WORDS → slice_index view.row_words (r * ROW_WORDS + i) ≡ slice_index (row config) i
+    (i : ℕ) → i < ROW_WORDS → slice_index view.stored (r * ROW_WORDS + i) ≡ slice_index (row config) i
 
 -- the words of a row are 0 from a place on
 abbrev pub IsZeroFrom : OperatorView (List Group) → ℕ → ℕ → Type 0
-IsZeroFrom view r from = (i : ℕ) → from ≤ i → i < ROW_WORDS → slice_index view.row_words (r * ROW_WORDS + i) ≡ 0
+IsZeroFrom view r from = (i : ℕ) → from ≤ i → i < ROW_WORDS → slice_index view.stored (r * ROW_WORDS + i) ≡ 0

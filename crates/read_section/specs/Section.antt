@@ -2,17 +2,18 @@
 use Rattle.std.specs.Prelude.{◌≡◌, ◌+◌, ◌++◌, ◌∷◌, List, [], length, replicate, slice_index_or, ℕ}
 use Rattle.std.specs.Borrow.{GName}
 use Rattle.std.specs.List.{Contains}
-use Rattle.config_image.specs.Image.{Group}
+use Rattle.config_image.specs.Image.{Group, row}
 use Rattle.config_image.specs.Lookup.{BeginsWithImage}
 use Rattle.versions.specs.declared.step.Step.{Step}
 use Rattle.versions.specs.declared.step.Step.TheVariants.{Fetch, Leave}
 use Rattle.versions.specs.declared.step.Entry.{Entry}
+use Rattle.versions.specs.declared.view.WorkerView.{WorkerView}
 use Rattle.versions.specs.declared.view.Stage.{Stage}
 use Rattle.versions.specs.declared.view.Stage.TheVariants.{Inside, Outside}
 use Rattle.versions.specs.Layout.{row_begin}
 use Rattle.versions.specs.Step.{entry}
 use Rattle.versions.specs.View.{after_fetch}
-use Rattle.versions.specs.Legal.{IsHeldPlace}
+use Rattle.versions.specs.Safety.{IsHeldPlace}
 use Rattle.versions.specs.Table.{the_shape}
 use Rattle.read_section.specs.declared.section.Section.{Section}
 use Rattle.read_section.specs.Layout.{IsPublishable}
@@ -35,10 +36,10 @@ abbrev pub held_version : WorkerValue → ℕ
 held_version worker = version_of worker.view.stage
 
 abbrev pub words_in : Stage → List (List Group) → List ℕ
-words_in (Inside read_word n r) seen = the_shape.row (slice_index_or seen n [])
+words_in (Inside read_word n r) seen = row (slice_index_or seen n [])
 words_in _ seen = replicate the_shape.row_words 0
 
--- the row of the version that a worker holds, as it has seen it; zeros where it holds none
+-- the row of the version that a worker holds, as it has seen it: the image and zeros behind it; zeros alone where it holds none
 abbrev pub held_words : WorkerValue → List ℕ
 held_words worker = words_in worker.view.stage worker.view.seen
 
@@ -71,15 +72,15 @@ fetched_in _ i x worker = worker
 abbrev pub fetched : ℕ → ℕ → WorkerValue → WorkerValue
 fetched i x worker = fetched_in worker.view.stage i x worker
 
--- the step is a fetch of worker w, of a word of the version that it holds at this stage
-abbrev pub IsFetchIn : ℕ → Stage → Step → Type 0
-IsFetchIn w stage step = (place : ℕ) × (step ≡ Fetch w place) × IsHeldPlace the_shape stage place
+-- the step is a fetch of the worker, of a word of the version that it holds
+abbrev pub IsFetchIn : WorkerView (List Group) → Step → Type 0
+IsFetchIn view step = (place : ℕ) × (step ≡ Fetch view.number place) × IsHeldPlace the_shape view place
 
 -- the fetches that a worker's log ends with are of words of the version that it holds
 pub record EndsInFetches (worker : WorkerValue) : Type 0 where
   pub fetches : List Entry
   pub log : worker.view.log ≡ fetches ++ (at_pin worker).view.log
-  pub each : (read_word n r : ℕ) (entry : Entry) → worker.view.stage ≡ Inside read_word n r → Contains fetches entry → IsFetchIn worker.view.number (Inside read_word n r) entry.step
+  pub each : (read_word n r : ℕ) (entry : Entry) → worker.view.stage ≡ Inside read_word n r → Contains fetches entry → IsFetchIn worker.view entry.step
 
 -- a worker holds the version that it has seen last, which is a configuration; its row begins with the image of that
 pub record HoldsLastSeen (worker : WorkerValue) : Type 0 where
@@ -88,14 +89,14 @@ pub record HoldsLastSeen (worker : WorkerValue) : Type 0 where
   pub last_seen : worker.view.seen ≡ older ++ config ∷ []
   pub number : held_version worker ≡ length older
   pub publishable : IsPublishable config
-  pub row : held_words worker ≡ the_shape.row config
+  pub row_is : held_words worker ≡ row config
   pub image : BeginsWithImage (held_words worker) config
 
 -- a worker entered, which left it inside, made fetches of words of the version that it held, and left: these steps and no others
 pub record IsWholeSection (before inside after : WorkerValue) : Type 0 where
   pub entered : Enters before inside
   pub fetches : List Entry
-  pub each : (read_word n r : ℕ) (entry : Entry) → inside.view.stage ≡ Inside read_word n r → Contains fetches entry → IsFetchIn inside.view.number (Inside read_word n r) entry.step
+  pub each : (read_word n r : ℕ) (entry : Entry) → inside.view.stage ≡ Inside read_word n r → Contains fetches entry → IsFetchIn inside.view entry.step
   pub log : after.view.log ≡ entry (Leave inside.view.number) 0 ∷ (fetches ++ inside.view.log)
   pub outside : after.view.stage ≡ Outside
   pub seen : after.view.seen ≡ inside.view.seen

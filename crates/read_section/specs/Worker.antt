@@ -38,12 +38,13 @@ abbrev pub left : WorkerView (List Group) → WorkerView (List Group)
 left view = left_from view.stage view
 
 -- a worker enters: where an abandoned section left it inside it leaves; then it peeks, announces the version of that peek plus
--- 1, and pins. `peeked` and `pinned` are the words that it loaded
+-- 1, and pins. `peeked` and `pinned` are the words that it loaded, and `pages` those of the version that the pin gave
 pub record Enters (before after : WorkerValue) : Type 0 where
   pub peeked : ℕ
   pub pinned : ℕ
   pub seen_by_peek : List (List Group)
   pub seen_by_pin : List (List Group)
+  pub pages : List ℕ
   pub peek_shows : Shows the_shape peeked seen_by_peek before.view.seen
   pub pin_shows : Shows the_shape pinned seen_by_pin seen_by_peek
-  pub three_steps : after ≡ steps (λ view. after_pin the_shape.rows pinned seen_by_pin (after_announce (peeked / the_shape.rows + 1) (after_peek the_shape.rows peeked seen_by_peek (left view)))) before
+  pub three_steps : after ≡ steps (λ view. after_pin the_shape.rows pinned seen_by_pin pages (after_announce (peeked / the_shape.rows + 1) (after_peek the_shape.rows peeked seen_by_peek (left view)))) before

@@ -22,14 +22,13 @@ mod versions_rule;
 mod worker;
 
 use crate::seat::open_table;
-pub use config_image::ROW_WORDS;
-use config_image::image_len;
+pub use config_image::{PAGE_WORDS, ROW_WORDS};
 pub use fault::OpenFault;
 use member_group::Config;
 pub use operator::{Operator, Reclaimed};
 pub use section::{Section, sections_are_whole};
-use versions::opening_words;
-pub use versions::{CHARGE_LIMIT, LAST_NUMBER, ROWS, WORKERS};
+use versions::{Book, opening_words};
+pub use versions::{CHARGE_LIMIT, LAST_NUMBER, PAGES, ROWS, WORKERS};
 pub use versions_rule::{SeatView, VersionsRule, held_words_stand};
 pub use worker::Worker;
 
@@ -46,7 +45,7 @@ pub fn open(config: Config) -> Result<(Operator, Vec<Worker>), OpenFault>
     }
     let alloc = *config.allocator();
     let words = opening_words(&config)?;
+    let book = Book::at_start(alloc)?;
     let (seat, workers) = open_table(alloc, &words, &config)?;
-    let image_len = image_len(&config);
-    Ok((Operator::opened(seat, config, image_len), workers))
+    Ok((Operator::opened(seat, config, book, words), workers))
 }

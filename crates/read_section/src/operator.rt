@@ -1,24 +1,28 @@
-//! The operator: the one that fills rows, publishes and reclaims, by single steps.
+//! The operator: the one that fills rows and pages, publishes and reclaims, by single steps.
 
-ghost use Rattle.std.specs.Prelude.{◌≡◌, ◌+◌, ◌*◌, ◌<◌, ◌≤◌, ◌↔◌, IsTrue, List, length, slice_index, suc, ℕ};
-ghost use Rattle.config_image.specs.declared.TheConstants.{ROW_WORDS};
+ghost use Rattle.std.specs.Prelude.{◌≡◌, ◌+◌, ◌*◌, ◌<◌, ◌≤◌, ◌↔◌, IsTrue, List, MatchOption, [], length, slice_index, suc, ℕ};
+ghost use Rattle.config_image.specs.declared.TheConstants.{PAGE_WORDS, ROW_WORDS};
 ghost use Rattle.config_image.specs.Image.{Group, image};
 ghost use Rattle.versions.specs.declared.layout.TheConstants.{LAST_NUMBER, ROWS, WORKERS};
 ghost use Rattle.versions.specs.declared.step.Entry.{Entry};
-ghost use Rattle.versions.specs.Free.{IsFreeRow, number_after};
+ghost use Rattle.versions.specs.Book.{IsBookAtStart};
+ghost use Rattle.versions.specs.Free.{IsFree, IsFreePage, IsFreeRow, Names, number_after};
+ghost use Rattle.versions.specs.Layout.{stored_words};
+ghost use Rattle.versions.specs.World.{opened_with};
 ghost use Rattle.versions.specs.Legal.{MayPeek};
 ghost use Rattle.versions.specs.Table.{the_shape};
 ghost use Rattle.read_section.specs.Layout.{HoldsConfig, IsPublishable, IsZeroFrom};
 ghost use Rattle.read_section.specs.body.OperatorKept.{KeepsZeros};
 ghost use Rattle.read_section.specs.body.Steps.{IsOwnLogOf};
-ghost use Rattle.read_section.specs.Operator.{IsCurrent, IsReport, Meets, filled, opened_operator, published_from, scanned};
+ghost use Rattle.read_section.specs.Operator.{IsCurrent, IsLeastFreePage, IsReport, Meets, NeverShort, filled, filled_page, opened_operator, published_from, scanned};
 ghost use Rattle.read_section.specs.View.{TellsLog};
 
 use crate::seat::{OperatorSeat, WorkerSeat};
-use config_image::ROW_WORDS;
+use config_image::{ROW_WORDS, image_len};
 use member_group::Config;
+use std::alloc::Global;
 use std::marker::Model;
-use versions::{Book, ROWS, WORKERS};
+use versions::{Book, PAGES, ROWS, ROWS_BEGIN, WORKERS};
 
 /// The versions from `first` on, `count` of them, may be reused.
 #[derive(Clone, Copy, Debug, PartialEq, Eq)]
@@ -38,6 +42,8 @@ pub struct Operator {
     reported: u64,
     // For each row a place from which on its words are 0.
     zeros: [usize; ROWS],
+    // The table's words at its opening, with the words of the rows as the operator's fills left them.
+    words: Vec<u64, Global>,
 }
 
 impl Model for Operator {
@@ -48,7 +54,7 @@ impl Model for Operator {
 
     ghost view = { λ o. record { table = o.seat.table; view = o.seat.view; reported = o.reported } };
 
-    ghost invariant = { λ o. IsKeptBy o.seat.view o.config o.book o.reported o.zeros };
+    ghost invariant = { λ o. IsKeptBy o.seat.view o.config o.book o.reported o.zeros o.words.items };
 }
 
 // Where the zeros of a row begin, after a word was stored at a place.
@@ -68,20 +74,27 @@ fn zeros_begin(from: usize, place: usize, word: u64) -> usize
 }
 
 impl Operator {
-    pub(crate) fn opened(seat: OperatorSeat, config: Config, image_len: usize) -> Operator
+    pub(crate) fn opened(
+        seat: OperatorSeat,
+        config: Config,
+        book: Book,
+        words: Vec<u64, Global>,
+    ) -> Operator
         requires seat { seat ≡ record { table = seat.table; view = (opened_operator seat.table config).view } }
         requires publishable { IsPublishable config }
-        requires image { image_len ≡ length (image config) }
+        requires book { IsBookAtStart [] book }
+        requires words { words.items ≡ (opened_with config).words }
         ensures { result ≡ opened_operator seat.table config }
     {
         let mut zeros = [0; ROWS];
-        zeros[0] = image_len;
+        zeros[0] = image_len(&config);
         Operator {
             seat,
             config,
-            book: Book::at_start(),
+            book,
             reported: 0,
             zeros,
+            words,
         }
     }
 
@@ -125,10 +138,54 @@ impl Operator {
         requires free { IsFreeRow the_shape self.old.view row }
         requires place { place < ROW_WORDS }
         ensures one_fill { self.new ≡ filled row place word self.old }
-        ensures whole_rows { length self.old.view.row_words ≡ ROWS * ROW_WORDS }
+        ensures all_stored { length self.old.view.stored ≡ stored_words the_shape }
     {
         self.seat.fill(row, place, word);
+        self.words[ROWS_BEGIN + row * ROW_WORDS + place] = word;
         self.zeros[row] = zeros_begin(self.zeros[row], place, word);
+    }
+
+    /// Tells the word at a place of a row, as the operator's own fills left it: nobody else stores there. No step.
+    pub fn row_word(&self, row: usize, place: usize) -> u64
+        requires row { row < ROWS }
+        requires place { place < ROW_WORDS }
+        ensures word { result ≡ slice_index self.now.view.stored (row * ROW_WORDS + place) }
+    {
+        let place = ROWS_BEGIN + row * ROW_WORDS + place;
+        self.words[place]
+    }
+
+    /// Tests whether a page is free: each version that names it is. No step; false where there is no such page.
+    pub fn page_is_free(&self, page: usize) -> bool
+        ensures page_free_exact { IsTrue result ↔ IsFreePage the_shape self.now.view page }
+    {
+        self.book.page_is_free(page)
+    }
+
+    /// Tells the least free page from the page `from` on, `None` where there is none. No step.
+    ///
+    /// Where a row is free there are more free pages than a version names (`never_short`).
+    pub fn free_page(&self, from: usize) -> Option<usize>
+        ensures least { MatchOption result ((page : ℕ) → from ≤ page → IsFreePage the_shape self.now.view page → ⊥) (IsLeastFreePage self.now.view from) }
+        ensures never_short { NeverShort self.now.view }
+    {
+        for page in from..PAGES {
+            if self.book.page_is_free(page) {
+                return Some(page);
+            }
+        }
+        None
+    }
+
+    /// Makes one fill: stores a word at a place of a free page, counted from 0 in the page. Takes no memory.
+    pub fn fill_page(&mut self, page: usize, place: usize, word: u64)
+        requires free { IsFreePage the_shape self.old.view page }
+        requires place { place < PAGE_WORDS }
+        ensures one_fill { self.new ≡ filled_page page place word self.old }
+        ensures all_stored { length self.old.view.stored ≡ stored_words the_shape }
+        ensures pool_kept { (n : ℕ) → Names self.old.view n page → IsFree the_shape n self.old.view.log }
+    {
+        self.seat.fill_page(page, place, word);
     }
 
     /// Publishes, by one store of `current`, a configuration whose row a free row holds. Takes no memory.
@@ -140,7 +197,7 @@ impl Operator {
         ensures one_publish { self.new ≡ published_from row config self.old }
     {
         self.seat.publish(&config, row, self.book.number + 1);
-        self.book.count_version(row);
+        self.book.count_version(row, &[]);
         self.config = config;
     }
 

@@ -6,12 +6,12 @@ ghost use Rattle.std.specs.Arc.{arc_value};
 ghost use Rattle.config_image.specs.Image.{Group};
 ghost use Rattle.versions.specs.declared.step.Entry.{Entry};
 ghost use Rattle.versions.specs.declared.view.Stage.TheVariants.{Announced, Peeked};
-ghost use Rattle.versions.specs.Layout.{current_word, row_begin, rows_begin};
+ghost use Rattle.versions.specs.Layout.{current_word, page_begin, pages_named, row_begin, rows_begin};
 ghost use Rattle.versions.specs.View.{IsTold, after_announce, after_fetch, after_fill, after_leave, after_peek, after_pin, after_scan, new_worker, read_word_after};
-ghost use Rattle.versions.specs.Free.{IsFreeRow, number_after};
+ghost use Rattle.versions.specs.Free.{IsFreePage, IsFreeRow, number_after};
 ghost use Rattle.versions.specs.Legal.{MayPeek};
 ghost use Rattle.versions.specs.Table.{the_shape};
-ghost use Rattle.versions.specs.World.{opened_with};
+ghost use Rattle.versions.specs.World.{opened_with, opening_stored};
 ghost use Rattle.read_section.specs.Layout.{HoldsConfig, IsPublishable};
 ghost use Rattle.read_section.specs.View.{TellsLog};
 ghost use Rattle.read_section.specs.Worker.{IsInside, steps};
@@ -27,12 +27,12 @@ use crate::plays::{
 use crate::versions_rule::{SharedTable, TableSeat};
 use crate::worker::Worker;
 use atomic_table::Table;
-use config_image::ROW_WORDS;
+use config_image::{PAGE_WORDS, ROW_WORDS};
 use member_group::Config;
 use std::alloc::{AllocError, Global};
 use std::marker::{Brand, Model};
 use std::sync::Arc;
-use versions::{ROWS, ROWS_BEGIN, WORKERS};
+use versions::{POOL_BEGIN, ROWS, ROWS_BEGIN, WORKERS};
 
 /// A worker's seat at the table.
 #[derive(Drop)]
@@ -84,7 +84,7 @@ fn new_worker(
     requires number { number < the_shape.workers }
     ensures seating { IfOk result (λ w. IsSeating seat.new.me.0 (arc_value table.now).shared.key (number + 1)) }
     ensures seat { IfOk result (λ w. IsSeatAt seat.new.me.1 seat.new.table_id (arc_value table.now).shared.table_id) }
-    ensures worker { IfOk result (λ w. w ≡ record { table = (arc_value table.now).shared.table_id; view = new_worker (arc_value table.now).shared.key number }) }
+    ensures worker { IfOk result (λ w. w ≡ record { table = (arc_value table.now).shared.table_id; view = new_worker (arc_value table.now).shared.key (pages_named the_shape (opening_stored (arc_value table.now).shared.key) 0) number }) }
 {
     let table = Arc::try_clone(table)?;
     let seat = table.shared.split_seat::<SeatSpare>(seat);
@@ -161,7 +161,7 @@ impl WorkerSeat {
 
     pub(crate) fn pin(&mut self) -> u64
         requires { (read_word : ℕ) × (self.old.view.stage ≡ Announced read_word) }
-        ensures { (seen : List (List Group)) × Sees self.old result seen × (self.new ≡ steps (after_pin the_shape.rows result seen) self.old) }
+        ensures { (seen : List (List Group)) × (pages : List ℕ) × Sees self.old result seen × (self.new ≡ steps (after_pin the_shape.rows result seen pages) self.old) }
     {
         let table = &self.table;
         table.shared.load::<Pin>(&mut self.seat, 0)
@@ -213,6 +213,16 @@ impl OperatorSeat {
     {
         let table = &self.table;
         let place = ROWS_BEGIN + row * ROW_WORDS + place;
+        table.shared.store::<Fill>(&mut self.seat, place, word);
+    }
+
+    pub(crate) fn fill_page(&mut self, page: usize, place: usize, word: u64)
+        requires free { IsFreePage the_shape self.old.view page }
+        requires place { place < the_shape.page_words }
+        ensures { self.new ≡ acts (after_fill (rows_begin the_shape) (page_begin the_shape page + place) word) self.old }
+    {
+        let table = &self.table;
+        let place = POOL_BEGIN + page * PAGE_WORDS + place;
         table.shared.store::<Fill>(&mut self.seat, place, word);
     }
 

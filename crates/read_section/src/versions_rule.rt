@@ -27,11 +27,11 @@ impl TableRule<u8, SeatView<Config>, Config> for VersionsRule {
     ghost use Rattle.read_section.specs.VersionsRule.{IsAllowedState};
     ghost use Rattle.read_section.specs.body.SeatView.{first_seat};
     ghost use Rattle.versions.specs.Table.{the_shape};
-    ghost use Rattle.versions.specs.World.{opening_rows};
+    ghost use Rattle.versions.specs.World.{opening_stored};
 
     ghost holds = { IsAllowedState };
 
-    ghost first = { λ config. first_seat the_shape config (opening_rows config) };
+    ghost first = { λ config. first_seat the_shape config (opening_stored config) };
 }
 
 // No slot of the table is used: it has none.
@@ -41,7 +41,8 @@ pub(crate) type TableSeat = Seat<u8, SeatView<Config>>;
 
 /// Law: no word of a version is overwritten while a worker holds it. The rule holds between any two accesses of the table, so
 /// each state that the table is ever in is one that it allows. In each of them, from the worker's pin to its leave, the words
-/// of the version's row are those of its configuration, a fetch of any of them loads just that word, and none may be filled.
+/// of the version's row and pages are those of its configuration, a fetch of any of them loads just that word, and none may be
+/// filled.
 /// It runs nothing.
 pub fn held_words_stand()
     ensures words_stand { HeldWordsStand }

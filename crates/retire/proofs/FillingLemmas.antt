@@ -8,13 +8,13 @@ use Rattle.config_image.specs.Image.{Group, image, row}
 use Rattle.config_image.specs.Lookup.{RowHolds}
 use Rattle.versions.specs.declared.layout.TheConstants.{ROWS}
 use Rattle.versions.specs.declared.step.Step.TheVariants.{Fill}
-use Rattle.versions.specs.Layout.{row_begin}
+use Rattle.versions.specs.Layout.{row_begin, stored_words}
 use Rattle.versions.specs.Step.{entry}
 use Rattle.versions.specs.Free.{IsFreeRow}
 use Rattle.versions.specs.Table.{the_shape}
 use Rattle.read_section.specs.Layout.{HoldsConfig}
 use Rattle.read_section.specs.Operator.{OperatorValue, filled}
-use Rattle.read_section.proofs.FilledLemmas.{front_filled, word_at, word_filled, word_kept, words_are}
+use Rattle.read_section.proofs.FilledLemmas.{front_filled, place_stored, rows_stored, word_at, word_filled, word_kept, words_are}
 use Rattle.retire.specs.body.Filling.{FillsFrom, FillsFront, FillsRow}
 use Rattle.retire.specs.Publish.{IsFillOf}
 use Rattle.retire.specs.body.Sink.{IsFilling, SinkValue, front_of, taken_of}
@@ -30,6 +30,7 @@ no_fills o r words free = record {
   number = refl;
   published = refl;
   version_rows = refl;
+  version_pages = refl;
   scanned_logs = refl;
   table = refl;
   reported = refl;
@@ -46,6 +47,7 @@ same_fills before now r words more h same = record {
   number = h.number;
   published = h.published;
   version_rows = h.version_rows;
+  version_pages = h.version_pages;
   scanned_logs = h.scanned_logs;
   table = h.table;
   reported = h.reported;
@@ -53,7 +55,7 @@ same_fills before now r words more h same = record {
 
 -- ---- one fill more
 
-module _ (before now after : OperatorValue) (r place word : ℕ) (low : r < ROWS) (small : place < ROW_WORDS) (whole : length now.view.row_words ≡ ROWS * ROW_WORDS) (e : after ≡ filled r place word now) where
+module _ (before now after : OperatorValue) (r place word : ℕ) (low : r < ROWS) (small : place < ROW_WORDS) (whole : length now.view.stored ≡ stored_words the_shape) (e : after ≡ filled r place word now) where
   pub one_fill_more : (words : List ℕ) → FillsFrom before now r words → place < length words → word ≡ slice_index words place → FillsFrom before after r words
   one_fill_more words h inside is = subst (λ (o : OperatorValue). FillsFrom before o r words) (sym e) record {
     fills = entry (Fill (row_begin the_shape r + place) word) word ∷ h.fills;
@@ -67,6 +69,7 @@ module _ (before now after : OperatorValue) (r place word : ℕ) (low : r < ROWS
     number = h.number;
     published = h.published;
     version_rows = h.version_rows;
+    version_pages = h.version_pages;
     scanned_logs = h.scanned_logs;
     table = h.table;
     reported = h.reported;
@@ -74,12 +77,12 @@ module _ (before now after : OperatorValue) (r place word : ℕ) (low : r < ROWS
 
   -- the first words of the row are one more
   pub front_grows : front_of after r (place + 1) ≡ front_of now r place ++ word ∷ []
-  front_grows = let words = now.view.row_words in let begin = r * ROW_WORDS in
+  front_grows = let words = now.view.stored in let begin = r * ROW_WORDS in
       ap (λ l. take (place + 1) (drop begin l)) (words_are now after r place word low small whole e)
-      ∙ (ap (take (place + 1)) (drop-set-add begin words place word) ∙ take_more_set (drop begin words) place word (omega (arith, length-drop begin words)))
+      ∙ (ap (take (place + 1)) (drop-set-add begin words place word) ∙ take_more_set (drop begin words) place word (let inside = rows_stored (r * ROW_WORDS + place) (place_stored r place low small) in omega (arith, length-drop begin words)))
 
   length_front : length (front_of now r place) ≡ place
-  length_front = let words = now.view.row_words in length-take-le place (drop (r * ROW_WORDS) words) (omega (arith, length-drop (r * ROW_WORDS) words))
+  length_front = let words = now.view.stored in length-take-le place (drop (r * ROW_WORDS) words) (let inside = rows_stored (r * ROW_WORDS + place) (place_stored r place low small) in omega (arith, length-drop (r * ROW_WORDS) words))
 
   pub one_word_more : FillsFront before now r (front_of now r place) → FillsFront before after r (front_of after r (place + 1))
   one_word_more h = subst (FillsFront before after r) (sym front_grows) record {
@@ -141,7 +144,7 @@ HoldsFront o r config n = (i : ℕ) → i < n → word_at o r i ≡ slice_index 
 abbrev pub ZerosBehind : OperatorValue → ℕ → ℕ → Type 0
 ZerosBehind o r from = (i : ℕ) → from ≤ i → i < ROW_WORDS → word_at o r i ≡ 0
 
-module _ (now after : OperatorValue) (r place : ℕ) (low : r < ROWS) (small : place < ROW_WORDS) (whole : length now.view.row_words ≡ ROWS * ROW_WORDS) (e : after ≡ filled r place 0 now) where
+module _ (now after : OperatorValue) (r place : ℕ) (low : r < ROWS) (small : place < ROW_WORDS) (whole : length now.view.stored ≡ stored_words the_shape) (e : after ≡ filled r place 0 now) where
   pub one_zero_more : ZerosBehind now r (place + 1) → ZerosBehind after r place
   one_zero_more behind i up inside = dite (ℕ_discrete i place)
       (λ same. ap (word_at after r) same ∙ word_filled now after r place 0 low small whole e)

@@ -6,14 +6,14 @@ use Rattle.config_image.specs.declared.TheConstants.{ROW_WORDS}
 use Rattle.config_image.specs.Image.{Group}
 use Rattle.versions.specs.declared.step.Step.TheVariants.{Publish}
 use Rattle.versions.specs.declared.step.Entry.{Entry}
-use Rattle.versions.specs.Layout.{current_word}
+use Rattle.versions.specs.Layout.{current_word, pages_named}
 use Rattle.versions.specs.Step.{entry}
 use Rattle.versions.specs.Free.{IsFree, IsReplaced, IsScannedClear, number_after}
 use Rattle.versions.specs.Table.{the_shape}
 use Rattle.retire.specs.body.Filling.{FillsRow}
 use Rattle.read_section.specs.Layout.{HoldsConfig}
-use Rattle.read_section.specs.Operator.{OperatorValue, published_from, scanned}
-use Rattle.retire.specs.Publish.{HasFreeRow, HoldsBack, IsBusy, IsLeastFreeRow, LooksForRow, Publishes, Scanned, ScansEach, StandsInRow, TellLogs, after_scans}
+use Rattle.read_section.specs.Operator.{HasFreeRow, OperatorValue, published_from, scanned}
+use Rattle.retire.specs.Publish.{HoldsBack, IsBusy, IsLeastFreeRow, LooksForRow, Publishes, Scanned, ScansEach, StandsInRow, TellLogs, after_scans}
 use Rattle.read_section.specs.View.{TellsLog}
 use Rattle.retire.proofs.RowLemmas.{contains_later, worker_inside}
 
@@ -74,6 +74,7 @@ publishes before found full after r config looked least h e =
       log = λ i. entry (Publish r) (current_word the_shape (number i + 1) r) ∷ h.log i;
       published = ap (λ l. l ++ config ∷ []) (h.published ∙ found_keeps (λ (o : OperatorValue). o.view.published) (λ w x log o. refl) before found looked);
       version_rows = ap (λ l. l ++ r ∷ []) (h.version_rows ∙ found_keeps (λ (o : OperatorValue). o.view.version_rows) (λ w x log o. refl) before found looked);
+      version_pages = ap (λ l. l ++ pages_named the_shape full.view.stored r ∷ []) (h.version_pages ∙ found_keeps (λ (o : OperatorValue). o.view.version_pages) (λ w x log o. refl) before found looked);
       proposal = refl;
       scanned_logs = h.scanned_logs;
       table = h.table ∙ found_keeps (λ (o : OperatorValue). o.table) (λ w x log o. refl) before found looked;
@@ -85,10 +86,10 @@ stands_in_row before found full after r config looked h holds e = subst (λ (o :
   taken = r;
   version_rows = ap (λ l. l ++ r ∷ []) (h.version_rows ∙ found_keeps (λ (o : OperatorValue). o.view.version_rows) (λ w x log o. refl) before found looked);
   holds = holds;
-  others = λ q i ne inside. h.others q i ne inside ∙ ap (λ l. slice_index l (q * ROW_WORDS + i)) (found_keeps (λ (o : OperatorValue). o.view.row_words) (λ w x log o. refl) before found looked);
+  others = λ q i ne inside. h.others q i ne inside ∙ ap (λ l. slice_index l (q * ROW_WORDS + i)) (found_keeps (λ (o : OperatorValue). o.view.stored) (λ w x log o. refl) before found looked);
 }
 
-pub busy : (before after : OperatorValue) → (HasFreeRow before → ⊥) → ScansEach before after → (HasFreeRow after → ⊥) → IsBusy before after
+pub busy : (before after : OperatorValue) → (HasFreeRow before.view → ⊥) → ScansEach before after → (HasFreeRow after.view → ⊥) → IsBusy before after
 busy before after none_before each none = record { none_before = none_before; scanned = each; none = none; held_back = held_back before after each }
 
 pub none_then : {A : Type 0} → (o : Option A) (P Q : Type 0) → (P → Q) → IfNone o P → IfNone o Q

@@ -6,13 +6,13 @@ use Rattle.config_image.specs.Image.{Group, row}
 use Rattle.versions.specs.declared.layout.TheConstants.{WORKERS}
 use Rattle.versions.specs.declared.step.Step.TheVariants.{Fill, Publish}
 use Rattle.versions.specs.declared.step.Entry.{Entry}
-use Rattle.versions.specs.Layout.{current_word, row_begin}
+use Rattle.versions.specs.Layout.{current_word, pages_named, row_begin}
 use Rattle.versions.specs.Step.{entry}
 use Rattle.versions.specs.Free.{IsFree, IsFreeRow, IsReplaced, number_after}
 use Rattle.versions.specs.Table.{the_shape}
 use Rattle.read_section.specs.Layout.{HoldsConfig}
 use Rattle.read_section.specs.View.{TellsLog}
-use Rattle.read_section.specs.Operator.{OperatorValue, scanned}
+use Rattle.read_section.specs.Operator.{HasFreeRow, OperatorValue, scanned}
 
 -- the call refused, and this is the fault that it named
 abbrev pub IsRefusedAs : {T F C : Type 0} → F → Result T (F × C) → Type 0
@@ -41,12 +41,9 @@ pub record ScansEach (before after : OperatorValue) : Type 0 where
   pub tell : TellLogs scans before
   pub no_more : after ≡ after_scans scans before
 
-abbrev pub HasFreeRow : OperatorValue → Type 0
-HasFreeRow operator = (row : ℕ) × IsFreeRow the_shape operator.view row
-
 -- where a row is free nothing is scanned; else the read word of each worker is, once
 abbrev pub LooksForRow : OperatorValue → OperatorValue → Type 0
-LooksForRow before after = (HasFreeRow before × (after ≡ before)) ⊎ ((HasFreeRow before → ⊥) × ScansEach before after)
+LooksForRow before after = (HasFreeRow before.view × (after ≡ before)) ⊎ ((HasFreeRow before.view → ⊥) × ScansEach before after)
 
 -- a fill of a place of row r by the word that a list has there
 abbrev pub IsFillOf : ℕ → List ℕ → Entry → Type 0
@@ -55,7 +52,7 @@ IsFillOf r words newest = (i : ℕ) × (i < length words) × (newest ≡ entry (
 -- the words of all rows but r are as they were
 abbrev pub KeepsOtherRows : ℕ → OperatorValue → OperatorValue → Type 0
 KeepsOtherRows r before after = (q i : ℕ) → (q ≡ r → ⊥) → i < ROW_WORDS
-    → slice_index after.view.row_words (q * ROW_WORDS + i) ≡ slice_index before.view.row_words (q * ROW_WORDS + i)
+    → slice_index after.view.stored (q * ROW_WORDS + i) ≡ slice_index before.view.stored (q * ROW_WORDS + i)
 
 -- the least of the rows that are free
 pub record IsLeastFreeRow (operator : OperatorValue) (r : ℕ) : Type 0 where
@@ -74,6 +71,7 @@ pub record Publishes (before after : OperatorValue) (config : List Group) : Type
   pub log : after.view.log ≡ entry (Publish taken) (current_word the_shape (number_after before.view.log + 1) taken) ∷ (fills ++ found.view.log)
   pub published : after.view.published ≡ before.view.published ++ config ∷ []
   pub version_rows : after.view.version_rows ≡ before.view.version_rows ++ taken ∷ []
+  pub version_pages : after.view.version_pages ≡ before.view.version_pages ++ pages_named the_shape after.view.stored taken ∷ []
   pub proposal : after.view.proposal ≡ None
   pub scanned_logs : after.view.scanned_logs ≡ found.view.scanned_logs
   pub table : after.table ≡ before.table
@@ -93,7 +91,7 @@ HoldsBack m scans = (scan : Scanned) × Contains scans scan × (0 < scan.word) �
 -- no row was free, each read word was scanned, and still no row is free: a word that was scanned holds back each replaced
 -- version that is not free
 pub record IsBusy (before after : OperatorValue) : Type 0 where
-  pub none_before : HasFreeRow before → ⊥
+  pub none_before : HasFreeRow before.view → ⊥
   pub scanned : ScansEach before after
-  pub none : HasFreeRow after → ⊥
+  pub none : HasFreeRow after.view → ⊥
   pub held_back : (m : ℕ) → IsReplaced m after.view.log → (IsFree the_shape m after.view.log → ⊥) → HoldsBack m scanned.scans

@@ -5,7 +5,8 @@ ghost use Rattle.config_image.specs.declared.TheConstants.{ROW_WORDS};
 ghost use Rattle.versions.specs.Free.{IsFreeRow};
 ghost use Rattle.versions.specs.Table.{the_shape};
 ghost use Rattle.read_section.specs.Layout.{HoldsConfig, IsPublishable};
-ghost use Rattle.retire.specs.Publish.{HasFreeRow, IsBusy, IsLeastFreeRow, LooksForRow, ScansEach};
+ghost use Rattle.read_section.specs.Operator.{HasFreeRow};
+ghost use Rattle.retire.specs.Publish.{IsBusy, IsLeastFreeRow, LooksForRow, ScansEach};
 ghost use Rattle.retire.specs.body.Filling.{FillsRow};
 
 use crate::sink::fill_image;
@@ -25,7 +26,7 @@ pub(crate) fn scan_each(operator: &mut Operator)
 
 fn free_row(operator: &Operator) -> Option<usize>
     ensures some { IfSome result (IsLeastFreeRow operator.now) }
-    ensures none { IfNone result (HasFreeRow operator.now → ⊥) }
+    ensures none { IfNone result (HasFreeRow operator.now.view → ⊥) }
 {
     for row in 0..ROWS {
         if operator.is_free(row) {

@@ -117,14 +117,14 @@ module _ {C : Type 0} {A : Type 0} (shape : Shape C) (view : OperatorView C) (bo
 
   -- free pages, as free rows
   pub page_is_free : (page : ℕ) → 0 < shape.workers → page < shape.pages → slice_index book.last_use page ≤ book.free → IsFreePage shape view page
-  page_is_free page some_worker low up = (low, λ m names. (free_below book.free some_worker h.free m).1 (let t = h.below_use page m names in omega arith))
+  page_is_free page some_worker low up = (low, λ m names. (free_below book.free some_worker h.free m).1 (let t = h.below_use m page names in omega arith))
 
   pub free_page_is : (page : ℕ) → 0 < shape.workers → IsFreePage shape view page → slice_index book.last_use page ≤ book.free
   free_page_is page some_worker f = go (slice_index book.last_use page) refl
     where
       go : (k : ℕ) → slice_index book.last_use page ≡ k → k ≤ book.free
       go zero e = omega arith
-      go (suc m) e = let t = (free_below book.free some_worker h.free m).0 (f.1 m (h.use_there page m e)) in omega arith
+      go (suc m) e = let t = (free_below book.free some_worker h.free m).0 (f.1 m (h.use_there m page e)) in omega arith
 
   pub IsBook-published : (r x : ℕ) (pages : List ℕ) → r < shape.rows → length view.version_rows ≡ suc (number_after view.log) → length view.version_pages ≡ suc (number_after view.log)
       → ((index page : ℕ) → slice_get pages index ≡ Some page → page < shape.pages) → IsBook shape (after_publish r x pages view) (with_version_in r pages book)
@@ -141,14 +141,14 @@ module _ {C : Type 0} {A : Type 0} (shape : Shape C) (view : OperatorView C) (bo
         ⊎_elim (λ was. let t = h.below_last q m was in omega arith) (λ t. absurd (ne (sym t.1))) (elem_snoc view.version_rows r q m at));
     free = h.free;
     last_use_length = length-used (book.number + 2) pages book.last_use ∙ h.last_use_length;
-    below_use = λ page m names. ⊎_elim
-        (λ was. let t = h.below_use page m (names.0, was, names.2) in let near = elem_below view.version_pages m names.0 was in
+    below_use = λ m page names. ⊎_elim
+        (λ was. let t = h.below_use m page (names.0, was, names.2) in let near = elem_below view.version_pages m names.0 was in
         ⊎_elim (λ new. let e = new.1 in omega arith) (λ old. let e = old.1 in omega arith) (used_at (book.number + 2) pages book.last_use within page))
         (λ last. let m_is = last.0 in let e = named_at (book.number + 2) pages book.last_use within page names.2.0 (ap (λ l. slice_get l names.2.0) last.1 ∙ names.2.1) in omega arith)
         (elem_snoc view.version_pages pages names.0 m names.1);
-    use_there = λ page m e. ⊎_elim
+    use_there = λ m page e. ⊎_elim
         (λ new. let is = new.1 in (pages, elem_end view.version_pages pages m (omega arith), new.0))
-        (λ old. let was = h.use_there page m (sym old.1 ∙ e) in (was.0, elem_prefix view.version_pages (pages ∷ []) m was.0 was.1, was.2))
+        (λ old. let was = h.use_there m page (sym old.1 ∙ e) in (was.0, elem_prefix view.version_pages (pages ∷ []) m was.0 was.1, was.2))
         (used_at (book.number + 2) pages book.last_use within page);
     last_there = λ q m e. dite (ℕ_discrete q r)
         (λ same. let here : get_or (set book.last r (book.number + 2)) q 0 ≡ book.number + 2 = ap (λ (k : ℕ). get_or (set book.last r (book.number + 2)) k 0) same ∙ get_or-set_same book.last r (book.number + 2) 0 (omega arith) in
@@ -175,8 +175,8 @@ module _ {C : Type 0} {A : Type 0} (shape : Shape C) (view : OperatorView C) (bo
     below_last = λ r m at. let t = h.below_last r m at in let e = ap (λ l. slice_index l r) c.last in omega arith;
     last_there = λ r m e. h.last_there r m (ap (λ l. slice_index l r) (sym c.last) ∙ e);
     last_use_length = ap length c.last_use ∙ h.last_use_length;
-    below_use = λ page m names. let t = h.below_use page m names in let e = ap (λ l. slice_index l page) c.last_use in omega arith;
-    use_there = λ page m e. h.use_there page m (ap (λ l. slice_index l page) (sym c.last_use) ∙ e);
+    below_use = λ m page names. let t = h.below_use m page names in let e = ap (λ l. slice_index l page) c.last_use in omega arith;
+    use_there = λ m page e. h.use_there m page (ap (λ l. slice_index l page) (sym c.last_use) ∙ e);
     free = c.free h.free;
   }
 
@@ -231,9 +231,9 @@ IsBook-opened config stored book below h = let some_row : 0 < the_shape.rows = o
     (0, omega (arith, ap length h.cleared, length-replicate {A = ℕ} the_shape.workers 0, workers_is), ap (λ l. slice_index l 0) h.cleared ∙ zeros_at the_shape.workers 0 ∙ sym h.free),
   );
   last_use_length = ap length h.last_use ∙ (length-used 1 named none ∙ length-replicate {A = ℕ} the_shape.pages 0);
-  below_use = λ page m names. let t = only named names.0 m names.1 in let m_is = t.0 in let here : slice_get named names.2.0 ≡ Some page = ap (λ l. slice_get l names.2.0) (sym t.1) ∙ names.2.1 in
+  below_use = λ m page names. let t = only named names.0 m names.1 in let m_is = t.0 in let here : slice_get named names.2.0 ≡ Some page = ap (λ l. slice_get l names.2.0) (sym t.1) ∙ names.2.1 in
       let e = ap (λ l. slice_index l page) h.last_use ∙ named_at 1 named none within page names.2.0 here in omega arith;
-  use_there = λ page m e. let is = ap (λ l. slice_index l page) h.last_use in ⊎_elim
+  use_there = λ m page e. let is = ap (λ l. slice_index l page) h.last_use in ⊎_elim
       (λ new. let one = new.1 in let m_is : m ≡ 0 = omega arith in (named, ap (get_elem? (named ∷ [])) m_is, new.0))
       (λ old. let zero_there = zeros_at the_shape.pages page in let same = old.1 in absurd (omega arith))
       (used_at 1 named none within page);

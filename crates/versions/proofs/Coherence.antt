@@ -17,7 +17,7 @@ use Rattle.versions.specs.Step.{IsStepOf, LoadsCurrent}
 use Rattle.versions.specs.View.{BeginsWith, BeginsWithLog, OfFetches, last_pinned, last_seen, next_stage, pinned_by, read_word_after, read_word_of, stage_after, stage_after_peek, up_to}
 use Rattle.versions.specs.Free.{IsFree, IsScannedClear, Names, number_after}
 use Rattle.versions.specs.State.{State, change, log_of}
-use Rattle.versions.specs.Legal.{FetchesThere, IsInOrder, IsLogOf, MayPeek}
+use Rattle.versions.specs.Legal.{FetchesInReach, IsInOrder, IsLogOf, MayPeek}
 use Rattle.versions.specs.Safety.{IsHeldPlace, IsOwnLog}
 use Rattle.versions.proofs.ListLemmas.{change_at, change_length, contains_first, elem_below, elem_same, row_inside}
 
@@ -165,11 +165,11 @@ module _ {C : Type 0} (shape : Shape C) where
   }
 
   -- a log of worker w, one step longer
-  pub own_log-on : (w : ℕ) (view view' : WorkerView C) (step : Step) (x : ℕ) → IsOwnLog shape w view → view'.number ≡ view.number → IsStepOf w step → IsInOrder view.stage step x → FetchesThere shape view.stage step
+  pub own_log-on : (w : ℕ) (view view' : WorkerView C) (step : Step) (x : ℕ) → IsOwnLog shape w view → view'.number ≡ view.number → IsStepOf w step → IsInOrder view.stage step x → FetchesInReach shape view.stage step
       → OfFetches (IsHeldPlace shape view') (record { step = step; word = x } ∷ view.log) → view'.log ≡ record { step = step; word = x } ∷ view.log → view'.stage ≡ stage_after shape.rows (record { step = step; word = x } ∷ view.log) → IsOwnLog shape w view'
   own_log-on w view view' step x h number mine order place fetched log stage = record {
     number = number ∙ h.number;
-    order = subst (IsLogOf shape w) (sym log) (h.order, mine, subst (λ q. IsInOrder q step x) h.stage order, subst (λ q. FetchesThere shape q step) h.stage place);
+    order = subst (IsLogOf shape w) (sym log) (h.order, mine, subst (λ q. IsInOrder q step x) h.stage order, subst (λ q. FetchesInReach shape q step) h.stage place);
     stage = stage ∙ ap (stage_after shape.rows) (sym log);
     fetched = subst (OfFetches (IsHeldPlace shape view')) (sym log) fetched;
   }

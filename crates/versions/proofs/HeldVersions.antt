@@ -95,7 +95,7 @@ module _ {C : Type 0} (shape : Shape C) where
     pub same_row : (q : ℕ) → get_elem? s.operator.version_rows n ≡ some q → q ≡ r
     same_row q at = elem_same s.operator.version_rows n q r at kept.in_row
 
-    word_seen : (place : ℕ) → IsWordOf shape s n place → IsSeenPlace shape view.seen view.pages n r place
+    pub word_seen : (place : ℕ) → IsWordOf shape s n place → IsSeenPlace shape view.seen view.pages n r place
     word_seen place (inl (q, at, in_row)) = inl (subst (λ (j : ℕ). IsInRow shape j place) (same_row q at) in_row)
     word_seen place (inr (config, pages, at, named, part)) = inr (
       config,
@@ -103,9 +103,9 @@ module _ {C : Type 0} (shape : Shape C) where
       subst (λ l. IsPartPlace shape config l place) (elem_same s.operator.version_pages n pages kept.pages named kept.in_pages ∙ sym pages_known) part,
     )
 
-    seen_word : (place : ℕ) → IsSeenPlace shape view.seen view.pages n r place → IsWordOf shape s n place
-    seen_word place (inl in_row) = inl (r, kept.in_row, in_row)
-    seen_word place (inr (config, at, part)) = inr (
+    pub word_of_seen : (place : ℕ) → IsSeenPlace shape view.seen view.pages n r place → IsWordOf shape s n place
+    word_of_seen place (inl in_row) = inl (r, kept.in_row, in_row)
+    word_of_seen place (inr (config, at, part)) = inr (
       config,
       view.pages,
       kept.published ∙ ap some (elem_same view.seen n kept.config config config_seen at),
@@ -117,7 +117,7 @@ module _ {C : Type 0} (shape : Shape C) where
     held_place place word = subst (λ stage. IsHeldPlaceAt shape stage view.seen view.pages place) (sym is.3) (word_seen place word)
 
     pub word_of_held : (place : ℕ) → IsHeldPlace shape view place → IsWordOf shape s n place
-    word_of_held place held = seen_word place (subst (λ stage. IsHeldPlaceAt shape stage view.seen view.pages place) is.3 held)
+    word_of_held place held = word_of_seen place (subst (λ stage. IsHeldPlaceAt shape stage view.seen view.pages place) is.3 held)
 
     may_fetch_seen : (place : ℕ) → IsSeenPlace shape view.seen view.pages n r place → IsInRow shape r place ⊎ IsInPool shape place
     may_fetch_seen place (inl in_row) = inl in_row

@@ -6,9 +6,10 @@ use Rattle.versions.specs.declared.step.Step.TheVariants.{Announce, Fetch, Fill,
 use Rattle.versions.specs.declared.step.Entry.{Entry}
 use Rattle.versions.specs.declared.step.Event.{Event}
 use Rattle.versions.specs.declared.step.Event.TheVariants.{Proposed, Stepped}
-use Rattle.versions.specs.Layout.{Shape}
+use Rattle.versions.specs.declared.view.OperatorView.{OperatorView}
+use Rattle.versions.specs.Layout.{Shape, pages_named}
 use Rattle.versions.specs.Step.{entry}
-use Rattle.versions.specs.View.{read_word_after}
+use Rattle.versions.specs.View.{after_publish, read_word_after}
 use Rattle.versions.specs.Free.{IsFree, IsFreeRow, IsLastScan}
 use Rattle.versions.specs.State.{IsOpening, State, after_event, log_of, start_of, state_after}
 use Rattle.versions.specs.Legal.{IsLegal, IsLegalEvent, IsLegalStep}
@@ -19,29 +20,29 @@ use Rattle.versions.proofs.TraceLemmas.{Coheres-start, Coheres-trace, free_on, o
 
 module _ {C : Type 0} (shape : Shape C) where
   -- where a row was published in again, the earlier version is free
-  abbrev pub IsFreeBefore : State C → Type 0
-  IsFreeBefore s = (m later r : ℕ) → m < later → get_elem? s.operator.version_rows m ≡ some r → get_elem? s.operator.version_rows later ≡ some r → IsFree shape m s.operator.log
+  abbrev pub IsFreeBefore : OperatorView C → Type 0
+  IsFreeBefore view = (m later r : ℕ) → m < later → get_elem? view.version_rows m ≡ some r → get_elem? view.version_rows later ≡ some r → IsFree shape m view.log
 
-  IsFreeBefore-publish : (s : State C) (r x : ℕ) → IsFreeBefore s → IsFreeRow shape s.operator r → IsFreeBefore (after_event shape s (Stepped (Publish r) x))
-  IsFreeBefore-publish s r x h free m later q up at again =
-      let rows = s.operator.version_rows in let on : IsFree shape m s.operator.log → IsFree shape m (entry (Publish r) x ∷ s.operator.log) = IsFree-on shape m (entry (Publish r) x) s.operator.log in
+  pub IsFreeBefore-published : (view : OperatorView C) (r x : ℕ) (pages : List ℕ) → IsFreeBefore view → IsFreeRow shape view r → IsFreeBefore (after_publish r x pages view)
+  IsFreeBefore-published view r x pages h free m later q up at again =
+      let rows = view.version_rows in let on : IsFree shape m view.log → IsFree shape m (entry (Publish r) x ∷ view.log) = IsFree-on shape m (entry (Publish r) x) view.log in
       ⊎_elim
       (λ old. ⊎_elim (λ was. on (h m later q up was old)) (λ t. let k = t.0 in let low = elem_below rows later q old in absurd (omega arith)) (elem_snoc rows r q m at))
-      (λ new. let k = new.0 in ⊎_elim (λ was. on (IsFree-of_row shape s.operator r m free (was ∙ ap some (sym new.1)))) (λ t. let j = t.0 in absurd (omega arith)) (elem_snoc rows r q m at))
+      (λ new. let k = new.0 in ⊎_elim (λ was. on (IsFree-of_row shape view r m free (was ∙ ap some (sym new.1)))) (λ t. let j = t.0 in absurd (omega arith)) (elem_snoc rows r q m at))
       (elem_snoc rows r q later again)
 
-  IsFreeBefore-event : (s : State C) (event : Event C) → IsFreeBefore s → IsLegalEvent shape s event → IsFreeBefore (after_event shape s event)
+  IsFreeBefore-event : (s : State C) (event : Event C) → IsFreeBefore s.operator → IsLegalEvent shape s event → IsFreeBefore (after_event shape s event).operator
   IsFreeBefore-event s (Stepped (Peek w) x) h may = h
   IsFreeBefore-event s (Stepped (Announce w) x) h may = h
   IsFreeBefore-event s (Stepped (Pin w) x) h may = h
   IsFreeBefore-event s (Stepped (Fetch w p) x) h may = h
   IsFreeBefore-event s (Stepped (Leave w) x) h may = h
   IsFreeBefore-event s (Stepped (Fill p y) x) h may = λ m later r up at again. free_on shape s (Stepped (Fill p y) x) m (h m later r up at again)
-  IsFreeBefore-event s (Stepped (Publish r) x) h may = IsFreeBefore-publish s r x h may.0.free
+  IsFreeBefore-event s (Stepped (Publish r) x) h may = IsFreeBefore-published s.operator r x (pages_named shape s.operator.stored r) h may.0.free
   IsFreeBefore-event s (Stepped (Scan p) x) h may = λ m later r up at again. free_on shape s (Stepped (Scan p) x) m (h m later r up at again)
   IsFreeBefore-event s (Proposed config) h may = h
 
-  pub reused_is_free : (config : C) (rows : List ℕ) (trace : List (Event C)) → IsLegal shape (start_of shape config rows) trace → IsFreeBefore (state_after shape (start_of shape config rows) trace)
+  pub reused_is_free : (config : C) (rows : List ℕ) (trace : List (Event C)) → IsLegal shape (start_of shape config rows) trace → IsFreeBefore (state_after shape (start_of shape config rows) trace).operator
   reused_is_free config rows [] legal = λ m later r up at again. let a = (only 0 r m at).0 in let b = (only 0 r later again).0 in absurd (omega arith)
   reused_is_free config rows (newest ∷ older) legal =
       IsFreeBefore-event (state_after shape (start_of shape config rows) older) newest (reused_is_free config rows older legal.0) legal.1

@@ -9,7 +9,7 @@ use Rattle.versions.specs.declared.step.Event.{Event}
 use Rattle.versions.specs.declared.step.Event.TheVariants.{Proposed, Stepped}
 use Rattle.versions.specs.Layout.{HoldsForm, IsInPage, IsInRow, IsPartPlace, Shape, all_rows, page_begin, rows_begin}
 use Rattle.versions.specs.Step.{LoadsCurrent}
-use Rattle.versions.specs.Free.{IsFree, Names}
+use Rattle.versions.specs.Free.{IsFree, Names, number_after}
 use Rattle.versions.specs.State.{IsWordOf, State, start_of, state_after}
 use Rattle.versions.specs.Legal.{IsLegal, IsLegalEvent, IsLegalStep, IsWordAt, MayFill}
 use Rattle.versions.specs.Reclaimed.{IsReclaimed, Reclaims}
@@ -97,7 +97,7 @@ module _ {C : Type 0} (shape : Shape C) where
   }
 
   pub keeps_held : InEveryTrace shape (KeepsHeld shape)
-  keeps_held s reached = let h = Coheres-reached shape s reached in let reused = subst (IsFreeBefore shape) reached.reached (reused_is_free shape reached.config reached.stored reached.trace reached.legal) in record {
+  keeps_held s reached = let h = Coheres-reached shape s reached in let reused = subst (λ (st : State C). IsFreeBefore shape st.operator) reached.reached (reused_is_free shape reached.config reached.stored reached.trace reached.legal) in record {
     words_stand = λ w n r holds. let kept = held_is_kept shape s h w n r holds in (kept.config, kept.pages, kept.published, kept.in_pages, kept.holds);
     not_filled = λ w n r p y x holds may word. (held_is_kept shape s h w n r holds).not_free (fill_is_free s h p y x n may word);
     not_free = λ w n r holds. (held_is_kept shape s h w n r holds).not_free;
@@ -112,7 +112,10 @@ module _ {C : Type 0} (shape : Shape C) where
 
   pub keeps_pool : InEveryTrace shape (KeepsPool shape)
   keeps_pool s reached = let h = Coheres-reached shape s reached in record {
-    pool_kept = λ q n p y x may in_page names. filled_page_is_free s h q n p may.0 in_page names;
+    stands = λ n r config pages published in_row named not_free. ⊎_elim (λ free. absurd (not_free free)) (λ stands. stands.0) (h.each_version n config r pages published in_row named);
+    pool_kept = λ n q p y x may in_page names. filled_page_is_free s h q n p may.0 in_page names;
+    not_current = λ q p y x may in_page names. let replaced = (filled_page_is_free s h q (number_after s.operator.log) p may.0 in_page names).0 in omega arith;
+    not_held = λ w n r q p y x holds may in_page names. (held_is_kept shape s h w n r holds).not_free (filled_page_is_free s h q n p may.0 in_page names);
     names_stand = λ n r pages in_row named not_free.
         let low = elem_below s.operator.version_rows n r in_row in let long = h.published_length in let all = h.version_rows_length in let config = elem_there s.operator.published n (omega arith) in
         ⊎_elim (λ free. absurd (not_free free)) (λ stands. stands.1) (h.each_version n config.0 r pages config.1 in_row named);
@@ -127,6 +130,12 @@ module _ {C : Type 0} (shape : Shape C) where
     slice_get-get_or part.part part.k 0 part.inside ∙ ap Some (sym (ap (slice_index s.words) (let e = part.at in let g : place ≡ rows_begin shape + (all_rows shape + (part.page * shape.page_words + part.k)) = omega arith in g)
         ∙ holds.standing part.index part.page part.k (get_or part.part part.k 0) part.part part.page_is part.part_is (slice_get-get_or part.part part.k 0 part.inside))),
   )
+
+  -- and the word that the form has there is the only one
+  pub word_is_form : (s : State C) (r : ℕ) (config : C) (pages : List ℕ) (place x : ℕ) → HoldsForm shape (rows_begin shape) s.words r config pages → IsFormWord shape r config pages place x → slice_index s.words place ≡ x
+  word_is_form s r config pages place x holds (inl (i, small, at, is)) = ap (slice_index s.words) (let g : place ≡ rows_begin shape + (r * shape.row_words + i) = omega arith in g) ∙ (holds.row i small ∙ sym is)
+  word_is_form s r config pages place x holds (inr (part, is)) = ap (slice_index s.words) (let e = part.at in let g : place ≡ rows_begin shape + (all_rows shape + (part.page * shape.page_words + part.k)) = omega arith in g)
+      ∙ holds.standing part.index part.page part.k x part.part part.page_is part.part_is is
 
   version_place : (s : State C) (n r place : ℕ) (kept : IsKept shape s n r) → IsWordOf shape s n place → IsInRow shape r place ⊎ IsPartPlace shape kept.config kept.pages place
   version_place s n r place kept (inl (q, at, in_row)) = inl (subst (λ (k : ℕ). IsInRow shape k place) (elem_same s.operator.version_rows n q r at kept.in_row) in_row)

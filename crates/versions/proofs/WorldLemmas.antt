@@ -18,7 +18,7 @@ use Rattle.versions.specs.Layout.{HoldsForm, pages_named, stored_words}
 use Rattle.versions.specs.State.{IsOpening, State, after_event, after_step, new_operator, new_workers, state_after}
 use Rattle.versions.specs.Legal.{IsLegal, IsLegalEvent, IsLegalStep, IsReached}
 use Rattle.versions.specs.Table.{the_shape}
-use Rattle.versions.specs.World.{opened_with, opening_words, world_after}
+use Rattle.versions.specs.World.{opened_with, opening_stored, world_after}
 use Rattle.versions.specs.declared.book.Book.{Book}
 use Rattle.versions.specs.Book.{IsBook, IsBookAtStart}
 use Rattle.versions.specs.body.Mirror.{BeginsAtStart, Follows, IsMirror}
@@ -33,24 +33,24 @@ use Rattle.versions.proofs.TraceLemmas.{length-new_workers, new_worker_at}
 length-the_row : (config : List Group) → length (the_shape.form.row config []) ≡ the_shape.row_words
 length-the_row config = ap length (row_is config []) ∙ (length-row config ∙ sym row_words_is)
 
-row_first : (config : List Group) (i : ℕ) → i < ROW_WORDS → get_or (opening_words config) (0 + (0 * ROW_WORDS + i)) 0 ≡ get_or (row config) i 0
-row_first config i low = ap (λ (k : ℕ). get_or (opening_words config) k 0) (let g : 0 + (0 * ROW_WORDS + i) ≡ i = omega arith in g)
+row_first : (config : List Group) (i : ℕ) → i < ROW_WORDS → get_or (opening_stored config) (0 + (0 * ROW_WORDS + i)) 0 ≡ get_or (row config) i 0
+row_first config i low = ap (λ (k : ℕ). get_or (opening_stored config) k 0) (let g : 0 + (0 * ROW_WORDS + i) ≡ i = omega arith in g)
     ∙ (get_or_append_left (the_shape.form.row config []) (replicate (stored_words the_shape - the_shape.row_words) 0) 0 i (omega (arith, length-the_row config, row_words_is)) ∙ ap (λ l. get_or l i 0) (row_is config []))
 
-pub IsOpening-words : (config : List Group) → the_shape.charge config ≤ the_shape.charge_limit → IsOpening the_shape config (opening_words config)
-IsOpening-words config charge = record {
+pub IsOpening-stored : (config : List Group) → the_shape.charge config ≤ the_shape.charge_limit → IsOpening the_shape config (opening_stored config)
+IsOpening-stored config charge = record {
   charge = charge;
   some_row = omega (arith, rows_is);
   whole = omega (arith, length-append (the_shape.form.row config []) (replicate (stored_words the_shape - the_shape.row_words) 0), length-the_row config, row_words_is, length-replicate {A = ℕ} (stored_words the_shape - the_shape.row_words) 0, stored_is);
-  held = subst (HoldsForm the_shape 0 (opening_words config) 0 config) (sym (names_none (opening_words config) 0)) (holds 0 (opening_words config) 0 config (row_first config));
+  held = subst (HoldsForm the_shape 0 (opening_stored config) 0 config) (sym (names_none (opening_stored config) 0)) (holds 0 (opening_stored config) 0 config (row_first config));
 }
 
 pub IsReached-world : (config : List Group) (events : List (Event (List Group))) → the_shape.charge config ≤ the_shape.charge_limit → IsLegal the_shape (opened_with config) (reverse events) → IsReached the_shape (world_after config events)
 IsReached-world config events charge legal = record {
   config = config;
-  stored = opening_words config;
+  stored = opening_stored config;
   trace = reverse events;
-  opening = IsOpening-words config charge;
+  opening = IsOpening-stored config charge;
   legal = legal;
   reached = refl;
 }
@@ -78,16 +78,16 @@ slice_get-end [] x = refl
 slice_get-end (y ∷ xs) x = slice_get-end xs x
 
 -- the book of an operator that opened a table
-pub IsBook-start : {A : Type 0} → (config : List Group) (book : Book A) → IsBookAtStart [] book → IsBook the_shape (new_operator the_shape config (opening_words config)) book
-IsBook-start config book h = IsBook-opened config (opening_words config) book (λ index page at. absurd (none_there index page (ap (λ l. slice_get l index) (sym (names_none (opening_words config) 0)) ∙ at)))
-    (subst (λ l. IsBookAtStart l book) (sym (names_none (opening_words config) 0)) h)
+pub IsBook-start : {A : Type 0} → (config : List Group) (book : Book A) → IsBookAtStart [] book → IsBook the_shape (new_operator the_shape config (opening_stored config)) book
+IsBook-start config book h = IsBook-opened config (opening_stored config) book (λ index page at. absurd (none_there index page (ap (λ l. slice_get l index) (sym (names_none (opening_stored config) 0)) ∙ at)))
+    (subst (λ l. IsBookAtStart l book) (sym (names_none (opening_stored config) 0)) h)
 
 pub IsMirror-opened : {A : Type 0} → (config : List Group) (words : List ℕ) (progress : Progress A) → words ≡ (opened_with config).words → BeginsAtStart progress → IsMirror the_shape (opened_with config) words progress
 IsMirror-opened config words progress same h = record {
   words_same = same;
   stages_length = ap length h.stages ∙ length-replicate the_shape.workers Outside;
   stages = λ w view at.
-      let named = pages_named the_shape (opening_words config) 0 in
+      let named = pages_named the_shape (opening_stored config) 0 in
       let is = new_worker_at config named 0 the_shape.workers w view at in let below = elem_below (new_workers config named 0 the_shape.workers) w view at in let many = length-new_workers config named 0 the_shape.workers in
       ap (λ qs. slice_get qs w) h.stages ∙ (slice_get-replicate the_shape.workers w Outside (omega arith) ∙ ap (λ (v : WorkerView (List Group)). Some v.stage) (sym is));
   book = IsBook-start config progress.book h.book;
@@ -151,6 +151,6 @@ IsWorld-opened config words progress charge same h = record {
   charge = charge;
   legal = tt;
   mirror = IsMirror-opened config words progress same h;
-  table_length = ap length same ∙ omega (arith, length-append (replicate the_shape.workers 0) (opening_words config), length-replicate {A = ℕ} the_shape.workers 0, workers_is, (IsOpening-words config charge).whole, stored_is);
+  table_length = ap length same ∙ omega (arith, length-append (replicate the_shape.workers 0) (opening_stored config), length-replicate {A = ℕ} the_shape.workers 0, workers_is, (IsOpening-stored config charge).whole, stored_is);
   proposed = refl;
 }

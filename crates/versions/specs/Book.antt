@@ -14,9 +14,9 @@ IsLeast numbers least =
     ((w : ℕ) → w < length numbers → least ≤ slice_index numbers w) × ((w : ℕ) × (w < length numbers) × (slice_index numbers w ≡ least))
 
 module _ {C : Type 0} {A : Type 0} (shape : Shape C) where
-  -- the numbers tell what the operator's log tells: scanned clear of worker w are the versions below `cleared` at w, and in
-  -- row r the last version is one less than `last` at r; the last version that named page q is one less than `last_use` at q;
-  -- `free` is the least of `cleared`
+  -- the numbers tell what the operator's log and its lists of versions tell: the versions below `cleared` at w were scanned clear
+  -- of worker w; the last version in row r is one less than `last` at r, and the last one that named page q is one less than
+  -- `last_use` at q, where 0 stands for none; `free` is the least of `cleared`
   pub record IsBook (view : OperatorView C) (book : Book A) : Type 0 where
     pub number : book.number ≡ number_after view.log
     pub last_length : length book.last ≡ shape.rows
@@ -25,8 +25,8 @@ module _ {C : Type 0} {A : Type 0} (shape : Shape C) where
     pub below_last : (r m : ℕ) → get_elem? view.version_rows m ≡ some r → m < slice_index book.last r
     pub last_there : (r m : ℕ) → slice_index book.last r ≡ suc m → get_elem? view.version_rows m ≡ some r
     pub last_use_length : length book.last_use ≡ shape.pages
-    pub below_use : (page n : ℕ) → Names view n page → n < slice_index book.last_use page
-    pub use_there : (page n : ℕ) → slice_index book.last_use page ≡ suc n → Names view n page
+    pub below_use : (n page : ℕ) → Names view n page → n < slice_index book.last_use page
+    pub use_there : (n page : ℕ) → slice_index book.last_use page ≡ suc n → Names view n page
     pub free : IsLeast book.cleared book.free
 
 -- the numbers with this one at each of the places

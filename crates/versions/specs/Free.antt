@@ -1,5 +1,6 @@
 -- When a replaced version is free, and when a row or a page is: the end of a grace period (Desnoyers et al. 2012; docs/TABLE.md,
--- "When a version is free"). Freedom is told by the operator's own log alone. The log has the newest entry first.
+-- "When a version is free"). Whether a version is free is told by the operator's own log alone; whether a row or a page is, by that
+-- log and by the rows and pages of the versions. The log has the newest entry first.
 use Rattle.std.specs.Prelude.{◌≡◌, ◌+◌, ◌<◌, ◌≤◌, ◌⊎◌, ◌∷◌, List, Some, [], slice_get, suc, ℕ}
 use mathlib.Core.Option.{some}
 use lib.ListN.{get_elem?}
@@ -52,7 +53,7 @@ abbrev pub IsLastIn : ℕ → ℕ → List ℕ → Type 0
 IsLastIn r m version_rows = (get_elem? version_rows m ≡ some r) × ((later : ℕ) → m < later → get_elem? version_rows later ≡ some r → ⊥)
 
 module _ {C : Type 0} where
-  -- version n names page q: it was published from a row that named the page
+  -- version n names page q: the row in which it stood at its publication, or at the opening, named the page
   abbrev pub Names : OperatorView C → ℕ → ℕ → Type 0
   Names view n q = (pages : List ℕ) × (get_elem? view.version_pages n ≡ some pages) × ((index : ℕ) × (slice_get pages index ≡ Some q))
 
@@ -65,7 +66,7 @@ module _ {C : Type 0} (shape : Shape C) where
   abbrev pub IsFreeRow : OperatorView C → ℕ → Type 0
   IsFreeRow view r = (r < shape.rows) × ((m : ℕ) → IsLastIn r m view.version_rows → IsFree m view.log)
 
-  -- a page is free where each version that names it is free. The whole page is: also its end, behind the part that stands in it
+  -- a page is free where each version that names it is free. A page is free as a whole, with its end behind the part
   abbrev pub IsFreePage : OperatorView C → ℕ → Type 0
   IsFreePage view q = (q < shape.pages) × ((n : ℕ) → Names view n q → IsFree n view.log)
 

@@ -7,10 +7,10 @@ pub record Form (C : Type 0) : Type 0 where
   pub row : C → List ℕ → List ℕ
   -- the parts: words that stand in pages, each part from the first word of a page on
   pub parts : C → List (List ℕ)
-  -- the pages that the words of a row name, one for each part
+  -- the pages that the words of a row name; where the row holds a configuration, one for each part
   pub named : List ℕ → List ℕ
 
--- how many workers, rows and pages there are, the words of a row and of a page, the number of the last version, the greatest
+-- how many workers, rows and pages there are, how many words a row and a page have, the number of the last version, the greatest
 -- charge, what a configuration is charged, and how it is stored. The laws hold for every shape; `the_shape` of specs/Table.antt
 -- is the product's
 pub record Shape (C : Type 0) : Type 0 where
@@ -37,7 +37,7 @@ module _ {C : Type 0} (shape : Shape C) where
   abbrev pub row_begin : ℕ → ℕ
   row_begin r = rows_begin + r * shape.row_words
 
-  -- the place is in row r
+  -- the place is in row r. Whoever asks knows that there is such a row: behind the last one stands the pool
   abbrev pub IsInRow : ℕ → ℕ → Type 0
   IsInRow r place = (i : ℕ) × (i < shape.row_words) × (place ≡ row_begin r + i)
 
@@ -45,7 +45,7 @@ module _ {C : Type 0} (shape : Shape C) where
   abbrev pub all_rows : ℕ
   all_rows = shape.rows * shape.row_words
 
-  -- how many words the rows and the pool have: those that the operator stores
+  -- how many words the rows and the pool have: those that the operator fills
   abbrev pub stored_words : ℕ
   stored_words = all_rows + shape.pages * shape.page_words
 
@@ -53,7 +53,7 @@ module _ {C : Type 0} (shape : Shape C) where
   abbrev pub page_begin : ℕ → ℕ
   page_begin q = rows_begin + (all_rows + q * shape.page_words)
 
-  -- the place is in page q
+  -- the place is in page q. Whoever asks knows that there is such a page
   abbrev pub IsInPage : ℕ → ℕ → Type 0
   IsInPage q place = (k : ℕ) × (k < shape.page_words) × (place ≡ page_begin q + k)
 

@@ -51,15 +51,16 @@ module _ {C : Type 0} (shape : Shape C) where
   MayFetch (Inside read_word n r) place = IsInRow shape r place ⊎ IsInPool place
   MayFetch _ place = ⊥
 
-  abbrev pub FetchesThere : Stage → Step → Type 0
-  FetchesThere stage (Fetch w place) = MayFetch stage place
-  FetchesThere stage _ = Unit {0}
+  -- the step is no fetch, or one that may go there
+  abbrev pub FetchesInReach : Stage → Step → Type 0
+  FetchesInReach stage (Fetch w place) = MayFetch stage place
+  FetchesInReach stage _ = Unit {0}
 
-  -- a log of worker w alone, in the order of a worker's steps
+  -- a log of worker w alone, in the order of a worker's steps, each fetch in the row held then or in the pool
   abbrev pub IsLogOf : ℕ → List Entry → Type 0
   IsLogOf w [] = Unit {0}
   IsLogOf w (newest ∷ older) =
-      IsLogOf w older × IsStepOf w newest.step × IsInOrder (stage_after shape.rows older) newest.step newest.word × FetchesThere (stage_after shape.rows older) newest.step
+      IsLogOf w older × IsStepOf w newest.step × IsInOrder (stage_after shape.rows older) newest.step newest.word × FetchesInReach (stage_after shape.rows older) newest.step
 
   -- the place is a word of the version that worker w holds: the one rule on where a fetch may go, whatever its order
   abbrev pub HoldsPlace : State C → ℕ → ℕ → Type 0

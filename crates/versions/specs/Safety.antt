@@ -52,7 +52,7 @@ module _ {C : Type 0} (shape : Shape C) where
     pub logged : (w : ℕ) (view : WorkerView C) (e : Entry) → get_elem? state.workers w ≡ some view → Contains view.log e → LoadsCurrent e.step
         → e.word / shape.rows < length state.operator.published
 
-  -- each worker has seen the published versions up to its last load of `current`
+  -- each worker has seen the published versions up to its last load of `current`, and knows the pages of its last pin's version
   pub record SeesUpToLastLoad (state : State C) : Type 0 where
     pub seen : (w : ℕ) (view : WorkerView C) → get_elem? state.workers w ≡ some view → IsSeen state w view
 
@@ -60,7 +60,7 @@ module _ {C : Type 0} (shape : Shape C) where
   pub record ReclaimsNoneHeld (start : State C) (trace : List (Event C)) : Type 0 where
     pub not_reclaimed : (w n r : ℕ) → HoldsVersion (state_after shape start trace) w n r → IsReclaimed shape start trace n → ⊥
 
-  -- the version that a worker holds stands in its row, and may not be overwritten
+  -- the version that a worker holds stands in its row and its pages, and may not be overwritten
   pub record KeepsHeld (state : State C) : Type 0 where
     -- the row and the version's pages hold the published configuration
     pub words_stand : (w n r : ℕ) → HoldsVersion state w n r → (config : C) × (pages : List ℕ) × (get_elem? state.operator.published n ≡ some config)
@@ -72,10 +72,16 @@ module _ {C : Type 0} (shape : Shape C) where
     -- the row is the one in which the version was published, and no later version was published in it
     pub last_in_row : (w n r : ℕ) → HoldsVersion state w n r → IsLastIn r n state.operator.version_rows
 
-  -- no page is filled while a version names it that is not free, and the row of such a version names its pages
+  -- a version that is not free stands in its row and the pages that the row names, and no page that it names is filled
   pub record KeepsPool (state : State C) : Type 0 where
-    pub pool_kept : (page n place word x : ℕ) → IsLegalStep shape state (Fill place word) x → IsInPage shape page place → Names state.operator n page
+    pub stands : (n r : ℕ) (config : C) (pages : List ℕ) → get_elem? state.operator.published n ≡ some config → get_elem? state.operator.version_rows n ≡ some r
+        → get_elem? state.operator.version_pages n ≡ some pages → (IsFree shape n state.operator.log → ⊥) → HoldsForm shape (rows_begin shape) state.words r config pages
+    pub pool_kept : (n page place word x : ℕ) → IsLegalStep shape state (Fill place word) x → IsInPage shape page place → Names state.operator n page
         → IsFree shape n state.operator.log
+    -- so the current version names no page that is filled, nor does a version that a worker holds
+    pub not_current : (page place word x : ℕ) → IsLegalStep shape state (Fill place word) x → IsInPage shape page place
+        → Names state.operator (number_after state.operator.log) page → ⊥
+    pub not_held : (w n r page place word x : ℕ) → HoldsVersion state w n r → IsLegalStep shape state (Fill place word) x → IsInPage shape page place → Names state.operator n page → ⊥
     pub names_stand : (n r : ℕ) (pages : List ℕ) → get_elem? state.operator.version_rows n ≡ some r → get_elem? state.operator.version_pages n ≡ some pages
         → (IsFree shape n state.operator.log → ⊥) → pages_named shape state.operator.stored r ≡ pages
 
@@ -99,7 +105,7 @@ module _ {C : Type 0} (shape : Shape C) where
   pub record FetchesPublished (state : State C) : Type 0 where
     pub fetches : (w place x : ℕ) → IsLegalStep shape state (Fetch w place) x → IsPublishedWord state w place x
 
-  -- the place is a word of version n of these, which stands in row r and these pages
+  -- the place is a word of version n of a seen list, where that version stands in row r and these pages
   abbrev pub IsSeenPlace : List C → List ℕ → ℕ → ℕ → ℕ → Type 0
   IsSeenPlace seen pages n r place = IsInRow shape r place ⊎ ((config : C) × (get_elem? seen n ≡ some config) × IsPartPlace shape config pages place)
 
@@ -107,7 +113,8 @@ module _ {C : Type 0} (shape : Shape C) where
   IsHeldPlaceAt (Inside read_word n r) seen pages place = IsSeenPlace seen pages n r place
   IsHeldPlaceAt _ seen pages place = ⊥
 
-  -- the place is a word of the version that the worker holds, as far as the worker knows; `HoldsPlace` says the same of a state
+  -- the place is a word of the version that the worker holds, as far as the worker knows. In each state that a legal trace leads to,
+  -- `HoldsPlace` says the same
   abbrev pub IsHeldPlace : WorkerView C → ℕ → Type 0
   IsHeldPlace view place = IsHeldPlaceAt view.stage view.seen view.pages place
 

@@ -44,7 +44,7 @@ module _ {C : Type 0} where
 
 module _ {C : Type 0} (shape : Shape C) where
   -- the state after a step that loads or stores x; a peek or pin shows the published versions up to the one that it gives, and a
-  -- pin the pages of that one. A publication names the pages that the row names
+  -- pin the pages of that one. A new version names the pages that its row names
   abbrev pub after_step : State C → Step → ℕ → State C
   after_step state (Peek w) x =
       record state { workers = change w (after_peek shape.rows x (up_to (x / shape.rows) state.operator.published)) state.workers }
@@ -92,14 +92,15 @@ module _ {C : Type 0} (shape : Shape C) where
     operator = new_operator config stored;
   }
 
-  -- a table opens with a configuration that is not charged too much, and that row 0 holds with the pages that it names
+  -- a table opens with a configuration that is not charged too much, and that row 0 and the pages which it names hold
   pub record IsOpening (config : C) (stored : List ℕ) : Type 0 where
     pub charge : shape.charge config ≤ shape.charge_limit
     pub some_row : 0 < shape.rows
     pub whole : length stored ≡ stored_words shape
     pub held : HoldsForm shape 0 stored 0 config (pages_named shape stored 0)
 
-  -- a word of version n: it is in the row in which n was published, or a part of n's configuration has it, in one of n's pages
+  -- the place is a word of version n: it is in the row in which n was published, or in one of n's pages, where a part of n's
+  -- configuration stands
   abbrev pub IsWordOf : State C → ℕ → ℕ → Type 0
   IsWordOf state n place = ((r : ℕ) × (get_elem? state.operator.version_rows n ≡ some r) × IsInRow shape r place)
       ⊎ ((config : C) × (pages : List ℕ) × (get_elem? state.operator.published n ≡ some config) × (get_elem? state.operator.version_pages n ≡ some pages) × IsPartPlace shape config pages place)

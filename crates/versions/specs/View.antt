@@ -73,7 +73,7 @@ OfFetchesBy Fact (Fetch w place) before = Fact place × before
 OfFetchesBy Fact (Peek w) before = before
 OfFetchesBy Fact _ before = Unit {0}
 
--- a fact of the place of each fetch since the last step of a log that is no fetch and no peek: in a section, since its pin
+-- the fact holds of the place of each fetch that came after the log's last announce, pin or leave: inside a section, after its pin
 abbrev pub OfFetches : (ℕ → Type 0) → List Entry → Type 0
 OfFetches Fact [] = Unit {0}
 OfFetches Fact (newest ∷ older) = OfFetchesBy Fact newest.step (OfFetches Fact older)

@@ -6,12 +6,12 @@ use Rattle.versions.specs.Layout.{stored_words}
 use Rattle.versions.specs.State.{State, start_of, state_after}
 use Rattle.versions.specs.Table.{the_shape}
 
--- the configuration's row, and zeros in the other rows and in the pool
-abbrev pub opening_words : List Group → List ℕ
-opening_words config = the_shape.form.row config [] ++ replicate (stored_words the_shape - the_shape.row_words) 0
+-- what rows and pool hold at the opening: the configuration's row, and zeros behind it
+abbrev pub opening_stored : List Group → List ℕ
+opening_stored config = the_shape.form.row config [] ++ replicate (stored_words the_shape - the_shape.row_words) 0
 
 abbrev pub opened_with : List Group → State (List Group)
-opened_with config = start_of the_shape config (opening_words config)
+opened_with config = start_of the_shape config (opening_stored config)
 
 -- the state after a list of events, the oldest of which comes first
 abbrev pub world_after : List Group → List (Event (List Group)) → State (List Group)

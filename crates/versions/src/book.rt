@@ -15,7 +15,8 @@ use crate::page_uses::PageUses;
 use config_image::PAGE_WORDS;
 use std::alloc::{AllocError, Allocator, Global};
 
-/// What an operator's log tells of numbers, free rows and free pages, in a few numbers. Who makes the operator's steps counts them here.
+/// What tells the current number, free versions, free rows and free pages: a number for each row, page and worker. Who makes the
+/// operator's steps counts them here.
 #[derive(Drop)]
 pub struct Book<A: Allocator = Global> {
     /// The number of the current version.

@@ -1,4 +1,4 @@
-//! What tells that versions and rows are free: scans, counted by worker.
+//! What tells that versions, rows and pages are free: scans, counted by worker.
 ghost use Rattle.std.specs.Prelude.{◌≡◌, ◌<◌, ◌≤◌, length, slice_index, ℕ, ◌↔◌};
 ghost use Rattle.versions.specs.Free.{FreeBelow, FreeRowsAreFree, FreeStaysFree, IsClear};
 ghost use Rattle.versions.specs.Table.{the_shape};

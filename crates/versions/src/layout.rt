@@ -16,8 +16,8 @@ pub const WORKERS: usize = 64;
 /// The number of rows: row r begins at word 65 + 8192 * r.
 pub const ROWS: usize = 16;
 
-/// The number of pages: page q begins at word 131,137 + 16 * q. They suffice for all rows but one and a version more
-/// (`read_section::Operator::free_page`).
+/// The number of pages: page q begins at word 131,137 + 16 * q. Where a row is free, the versions of the other rows and one
+/// version more never name all of them (`read_section::Operator::free_page`).
 pub const PAGES: usize = ROWS * 2048;
 
 /// The greatest charge of a configuration, so that its image fits a row.

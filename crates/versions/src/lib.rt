@@ -6,7 +6,10 @@
 //! one by one, by itself.
 #![tactic(auto)]
 
-ghost use Rattle.versions.specs.Table.{the_shape};
+ghost use Rattle.config_image.specs.Image.{Group};
+ghost use Rattle.std.specs.Prelude.{List};
+ghost use Rattle.versions.specs.Layout.{Form};
+ghost use Rattle.versions.specs.Table.{stored_by, the_shape};
 ghost use Rattle.versions.specs.Safety.{FetchesPublished, InEveryTrace, KeepsHeld, KeepsPool, ListsVersions, LoadsNewest, OfEveryTrace, ReclaimsNoneHeld, ScansTell, SeesUpToLastLoad, StepsOnOneWord, ViewsTellTable};
 
 mod book;
@@ -33,8 +36,8 @@ pub use world::{World, opening_words};
 
 /// Law: in each state that a legal trace leads to, each load of `current` gives the version published last, each worker has
 /// seen the versions up to its last load, a version that a worker holds stands in its row and its pages and may not be
-/// overwritten, no page is filled that a version names which is not free, each fetch gives the published word, each scan tells
-/// a log of its worker, the words of the table are as the actors know them, and each step is on one word. No legal trace
+/// overwritten, no page is filled while a version that is not free names it, each fetch gives the published word, each scan
+/// tells a log of its worker, the words of the table are as the actors know them, and each step is on one word. No legal trace
 /// reclaims a version that a worker holds. It runs nothing.
 pub fn every_trace()
     ensures pin_is_newest { InEveryTrace the_shape (LoadsNewest the_shape) }
@@ -47,4 +50,19 @@ pub fn every_trace()
     ensures views_tell_table { InEveryTrace the_shape (ViewsTellTable the_shape) }
     ensures versions_listed { InEveryTrace the_shape (ListsVersions the_shape) }
     ensures one_word { InEveryTrace the_shape (StepsOnOneWord the_shape) }
+{}
+
+/// Law: all of this holds too where configurations are stored in another form, whatever stands in rows and whatever in pages. It
+/// runs nothing.
+pub fn every_form()
+    ensures pin_is_newest { (form : Form (List Group)) → InEveryTrace (stored_by form) (LoadsNewest (stored_by form)) }
+    ensures seen_up_to_last_load { (form : Form (List Group)) → InEveryTrace (stored_by form) (SeesUpToLastLoad (stored_by form)) }
+    ensures held_version_kept { (form : Form (List Group)) → InEveryTrace (stored_by form) (KeepsHeld (stored_by form)) }
+    ensures pool_kept { (form : Form (List Group)) → InEveryTrace (stored_by form) (KeepsPool (stored_by form)) }
+    ensures not_reclaimed { (form : Form (List Group)) → OfEveryTrace (stored_by form) (ReclaimsNoneHeld (stored_by form)) }
+    ensures fetch_is_published { (form : Form (List Group)) → InEveryTrace (stored_by form) (FetchesPublished (stored_by form)) }
+    ensures scan_tells_log { (form : Form (List Group)) → InEveryTrace (stored_by form) (ScansTell (stored_by form)) }
+    ensures views_tell_table { (form : Form (List Group)) → InEveryTrace (stored_by form) (ViewsTellTable (stored_by form)) }
+    ensures versions_listed { (form : Form (List Group)) → InEveryTrace (stored_by form) (ListsVersions (stored_by form)) }
+    ensures one_word { (form : Form (List Group)) → InEveryTrace (stored_by form) (StepsOnOneWord (stored_by form)) }
 {}

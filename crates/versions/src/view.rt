@@ -48,7 +48,7 @@ pub struct OperatorView<C> {
     pub published: LinkedList<C>,
     /// The row of each version.
     pub version_rows: LinkedList<usize>,
-    /// The pages of each version.
+    /// The pages that each version names, one for each part.
     pub version_pages: LinkedList<LinkedList<usize>>,
     /// What it proposed last, where it published nothing since.
     pub proposal: Option<C>,

@@ -6,10 +6,9 @@ use Rattle.versions.specs.declared.step.Entry.{Entry}
 use Rattle.versions.specs.declared.view.Stage.TheVariants.{Inside}
 use Rattle.versions.specs.declared.view.WorkerView.{WorkerView}
 use Rattle.versions.specs.declared.view.OperatorView.{OperatorView}
-use Rattle.versions.specs.Layout.{Shape, rows_begin}
+use Rattle.versions.specs.Layout.{Shape, pages_named, rows_begin}
 use Rattle.versions.specs.View.{BeginsWith, after_announce, after_fetch, after_fill, after_leave, after_peek, after_pin, after_proposal, after_publish, after_scan}
-use Rattle.versions.specs.Legal.{IsHeldPlace}
-use Rattle.versions.specs.Safety.{IsOwnLog}
+use Rattle.versions.specs.Safety.{IsOwnLog, IsSeenPlace}
 use Rattle.read_section.specs.declared.versions_rule.SeatView.{SeatView}
 use Rattle.read_section.specs.Held.{IsSeenWord}
 use Rattle.read_section.specs.View.{Shows, TellsLog}
@@ -45,15 +44,15 @@ module _ {C : Type 0} (shape : Shape C) where
 
   abbrev pub pins : (C → Type 0) → {S : Type 0} → Step S → Seated S → ℕ → Seated S → Type 0
   pins IsPublishable at me x after = (view : WorkerView C) → me.0.worker ≡ Some view → (at.word ≡ 0)
-      × ((seen : List C) × ShowsSeat IsPublishable me.0 view x seen × WorkerKnows me after (after_pin shape.rows x seen view))
+      × ((seen : List C) × (pages : List ℕ) × ShowsSeat IsPublishable me.0 view x seen × WorkerKnows me after (after_pin shape.rows x seen pages view))
 
-  -- x is the word of version n at the place, where that is a word of the version held
-  abbrev pub IsWordIn : WorkerView C → ℕ → ℕ → ℕ → ℕ → ℕ → Type 0
-  IsWordIn view read_word n r place x = (held : IsHeldPlace shape (Inside read_word n r) place) → IsSeenWord shape view n held.0 x
+  -- x is the word of version n at the place, where that is a word of it
+  abbrev pub IsWordIn : WorkerView C → ℕ → ℕ → ℕ → ℕ → Type 0
+  IsWordIn view n r place x = IsSeenPlace shape view.seen view.pages n r place → IsSeenWord shape view n r place x
 
   abbrev pub fetches : {S : Type 0} → Step S → Seated S → ℕ → Seated S → Type 0
   fetches at me x after = (view : WorkerView C) → me.0.worker ≡ Some view → WorkerKnows me after (after_fetch at.word x view)
-      × ((read_word n r : ℕ) → view.stage ≡ Inside read_word n r → IsWordIn view read_word n r at.word x)
+      × ((read_word n r : ℕ) → view.stage ≡ Inside read_word n r → IsWordIn view n r at.word x)
 
   -- it stores 0; the log up to there is the worker's own, in the order of a worker's steps
   abbrev pub leaves : {S : Type 0} → Step S → Seated S → ℕ → Seated S → Type 0
@@ -62,10 +61,10 @@ module _ {C : Type 0} (shape : Shape C) where
   abbrev pub fills : {S : Type 0} → Step S → Seated S → ℕ → Seated S → Type 0
   fills at me x after = (view : OperatorView C) → me.0.operator ≡ Some view → OperatorKnows me after (after_fill (rows_begin shape) at.word x view)
 
-  -- the operator proposes the configuration, and publishes it
+  -- the operator proposes the configuration, and publishes it from the row, with the pages that the row names
   abbrev pub publishes : C → {S : Type 0} → Step S → Seated S → ℕ → Seated S → Type 0
   publishes config at me x after = (view : OperatorView C) → me.0.operator ≡ Some view → (at.word ≡ 0)
-      × OperatorKnows me after (after_publish (x % shape.rows) x (after_proposal config view))
+      × OperatorKnows me after (after_publish (x % shape.rows) x (pages_named shape view.stored (x % shape.rows)) (after_proposal config view))
 
   abbrev pub scans : {S : Type 0} → Step S → Seated S → ℕ → Seated S → Type 0
   scans at me x after = (view : OperatorView C) → me.0.operator ≡ Some view → (w : ℕ) → at.word ≡ 1 + w

@@ -5,16 +5,17 @@ use Rattle.config_image.specs.Image.{Group}
 use Rattle.versions.specs.declared.view.Stage.{Stage}
 use Rattle.versions.specs.declared.view.WorkerView.{WorkerView}
 use Rattle.versions.specs.declared.view.OperatorView.{OperatorView}
+use Rattle.versions.specs.Layout.{stored_words}
 use Rattle.versions.specs.View.{new_worker}
 use Rattle.versions.specs.State.{new_operator}
-use Rattle.versions.specs.World.{opening_rows}
+use Rattle.versions.specs.World.{opening_stored}
 use Rattle.versions.specs.Table.{the_shape}
 use Rattle.read_section.specs.declared.versions_rule.SeatView.{SeatView}
 use Rattle.read_section.specs.declared.worker.Held.{Held}
 use Rattle.read_section.specs.Worker.{IsInside, IsOutside, WorkerValue}
 
 abbrev pub worker_or_none : Option (WorkerView (List Group)) → WorkerView (List Group)
-worker_or_none None = new_worker [] 0
+worker_or_none None = new_worker [] [] 0
 worker_or_none (Some view) = view
 
 abbrev pub worker_at : TableId → SeatView (List Group) → WorkerValue
@@ -26,7 +27,7 @@ pub record OperatorSeatValue : Type 0 where
   pub view : OperatorView (List Group)
 
 abbrev pub operator_or_none : Option (OperatorView (List Group)) → OperatorView (List Group)
-operator_or_none None = record { log = []; published = []; version_rows = []; proposal = None; row_words = []; scanned_logs = [] }
+operator_or_none None = record { log = []; published = []; version_rows = []; version_pages = []; proposal = None; stored = []; scanned_logs = [] }
 operator_or_none (Some view) = view
 
 abbrev pub operator_at : TableId → SeatView (List Group) → OperatorSeatValue
@@ -40,7 +41,7 @@ acts after seat = record seat { view = after seat.view }
 pub record IsSeatAt (slots : List (ℕ × ℕ)) (seat table : TableId) : Type 0 where
   pub no_slots : slots ≡ []
   pub same_table : seat ≡ table
-  pub words : seat.words ≡ (1 + the_shape.workers) + the_shape.rows * the_shape.row_words
+  pub words : seat.words ≡ (1 + the_shape.workers) + stored_words the_shape
 
 -- the seat knows a worker of this number, and has no other spare
 pub record IsWorkerSeat (view : SeatView (List Group)) (number : ℕ) : Type 0 where
@@ -57,7 +58,7 @@ pub record IsOperatorSeat (view : SeatView (List Group)) : Type 0 where
 
 -- the operator's seat at the start, from which n workers got their seats
 pub record IsSeating (view : SeatView (List Group)) (config : List Group) (n : ℕ) : Type 0 where
-  pub view_is : view ≡ record { worker = None; operator = Some (new_operator the_shape config (opening_rows config)); spare = n; told = [] }
+  pub view_is : view ≡ record { worker = None; operator = Some (new_operator the_shape config (opening_stored config)); spare = n; told = [] }
 
 -- what a worker keeps of its section: none outside, and else the version that it holds, and its row
 abbrev pub TellsStage : Option Held → Stage → Type 0

@@ -1,5 +1,5 @@
 -- What a seat at the table knows, and what seats hand to one another (docs/TABLE.md, "Seats").
-use Rattle.std.specs.Prelude.{◌+◌, List, None, Option, Some, [], ℕ}
+use Rattle.std.specs.Prelude.{◌+◌, List, None, Option, Some, [], slice_index_or, ℕ}
 use Rattle.versions.specs.declared.view.Stage.TheVariants.{Outside}
 use Rattle.versions.specs.declared.view.WorkerView.{WorkerView}
 use Rattle.versions.specs.declared.view.OperatorView.{OperatorView}
@@ -21,6 +21,10 @@ module _ {C : Type 0} where
   abbrev pub published_by : Option (OperatorView C) → List C
   published_by None = []
   published_by (Some view) = view.published
+
+  abbrev pub first_pages : Option (OperatorView C) → List ℕ
+  first_pages None = []
+  first_pages (Some view) = slice_index_or view.version_pages 0 []
 
   -- without its worker, which another seat gets or gives
   abbrev pub without_worker : SeatView C → SeatView C
@@ -46,10 +50,11 @@ module _ {C : Type 0} (shape : Shape C) where
   abbrev pub worker_alone : SeatView C → SeatView C
   worker_alone seat = record { worker = seat.worker; operator = None; spare = seat.spare; told = [] }
 
-  -- the first spare worker of the operator's seat, alone: it made no step, and has seen what is published
+  -- the first spare worker of the operator's seat, alone: it made no step, has seen what is published, and knows the pages of
+  -- version 0
   abbrev pub spare_alone : SeatView C → SeatView C
   spare_alone seat =
-      record { worker = Some (record { number = seat.spare; stage = Outside; log = []; seen = published_by seat.operator }); operator = None; spare = shape.workers; told = [] }
+      record { worker = Some (record { number = seat.spare; stage = Outside; log = []; seen = published_by seat.operator; pages = first_pages seat.operator }); operator = None; spare = shape.workers; told = [] }
 
   -- a note of what the seat's worker has seen
   abbrev pub note_of : SeatView C → SeatView C
@@ -57,4 +62,4 @@ module _ {C : Type 0} (shape : Shape C) where
 
   -- the seat that a table opens with: the operator's, and all workers are spare
   abbrev pub first_seat : C → List ℕ → SeatView C
-  first_seat config rows = record { worker = None; operator = Some (new_operator shape config rows); spare = 0; told = [] }
+  first_seat config stored = record { worker = None; operator = Some (new_operator shape config stored); spare = 0; told = [] }

@@ -1,7 +1,7 @@
 -- What single steps tell a worker of versions and words.
 use Rattle.std.specs.Prelude.{◌≡◌, List, slice_index, slice_index_or, [], ℕ}
 use Rattle.std.specs.List.{Contains}
-use Rattle.config_image.specs.Image.{Group}
+use Rattle.config_image.specs.Image.{Group, row}
 use Rattle.versions.specs.Safety.{IsOwnLog}
 use Rattle.versions.specs.Table.{the_shape}
 use Rattle.read_section.specs.Layout.{IsPublishable}
@@ -20,4 +20,4 @@ pub record Sees (worker : WorkerValue) (x : ℕ) (seen : List (List Group)) : Ty
 
 -- x is the word at place i of the row of version n, as the worker has seen it
 abbrev pub FetchesWord : WorkerValue → ℕ → ℕ → ℕ → Type 0
-FetchesWord worker n i x = x ≡ slice_index (the_shape.row (slice_index_or worker.view.seen n [])) i
+FetchesWord worker n i x = x ≡ slice_index (row (slice_index_or worker.view.seen n [])) i

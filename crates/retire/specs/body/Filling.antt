@@ -19,6 +19,7 @@ pub record FillsFrom (before after : OperatorValue) (r : ℕ) (words : List ℕ)
   pub number : number_after after.view.log ≡ number_after before.view.log
   pub published : after.view.published ≡ before.view.published
   pub version_rows : after.view.version_rows ≡ before.view.version_rows
+  pub version_pages : after.view.version_pages ≡ before.view.version_pages
   pub scanned_logs : after.view.scanned_logs ≡ before.view.scanned_logs
   pub table : after.table ≡ before.table
   pub reported : after.reported ≡ before.reported
@@ -30,4 +31,4 @@ FillsRow before after r config = FillsFrom before after r (row config)
 -- the row begins with the list then
 pub record FillsFront (before after : OperatorValue) (r : ℕ) (words : List ℕ) : Type 0 where
   pub fills : FillsFrom before after r words
-  pub front : (i : ℕ) → i < length words → slice_index after.view.row_words (r * ROW_WORDS + i) ≡ slice_index words i
+  pub front : (i : ℕ) → i < length words → slice_index after.view.stored (r * ROW_WORDS + i) ≡ slice_index words i

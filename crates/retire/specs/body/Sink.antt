@@ -18,7 +18,7 @@ no_operator = opened_operator (record { words = 0; slots = 0; views_name = 0; at
 
 -- the first words of a row
 abbrev pub front_of : OperatorValue → ℕ → ℕ → List ℕ
-front_of operator r n = take n (drop (r * ROW_WORDS) operator.view.row_words)
+front_of operator r n = take n (drop (r * ROW_WORDS) operator.view.stored)
 
 -- what a sink took: its borrow's name and its row, so that they stay, and then the words of the row
 abbrev pub taken_of : SinkValue → List ℕ

@@ -31,9 +31,9 @@ pub loop-place-preserved : goal.loop-place-preserved
 loop-place-preserved c = let t = c.zeros_from-end.result - 1 - (c.loop-place.place - c.image_len-len.result) in let within = c.zeros_from-end.ensures.within in let test = c.loop-place-test.true in let past = c.loop-place.auto.place in
     let small : t < ROW_WORDS = omega arith in let up : c.image_len-len.result ≤ t = omega arith in let len = c.image_len-len.ensures.length_exact in let behind : length (image c.args.config.now) ≤ t = omega arith in
     let h = c.loop-place.invariant in let e = c.fill.ensures in let low = row_inside c.args.row h.0.still_free.0 in let holds = row_holds c.args.config.now c.requires.publishable.0 c.requires.publishable.1 in let whole = holds.whole in (
-      one_fill_more _ _ _ c.args.row t 0 low small e.whole_rows e.one_fill (row c.args.config.now) h.0 (omega arith) (sym (zeros_behind_image c.args.config.now holds t behind small)),
-      front_kept _ _ c.args.row t low small e.whole_rows e.one_fill c.image_len-len.result c.args.config.now up h.1,
-      λ i far inside. one_zero_more _ _ c.args.row t low small e.whole_rows e.one_fill (λ j more below. h.2 j (omega arith) below) i (omega arith) inside,
+      one_fill_more _ _ _ c.args.row t 0 low small e.all_stored e.one_fill (row c.args.config.now) h.0 (omega arith) (sym (zeros_behind_image c.args.config.now holds t behind small)),
+      front_kept _ _ c.args.row t low small e.all_stored e.one_fill c.image_len-len.result c.args.config.now up h.1,
+      λ i far inside. one_zero_more _ _ c.args.row t low small e.all_stored e.one_fill (λ j more below. h.2 j (omega arith) below) i (omega arith) inside,
     )
 
 pub returns-clause-fills : goal.returns-clause-fills

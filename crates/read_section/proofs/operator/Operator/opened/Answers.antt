@@ -7,5 +7,5 @@ use Rattle.read_section.proofs.KeeperLemmas.{IsKeptBy-opened}
 use Rattle.read_section.proofs.operator.Operator.opened.Goals as goal
 
 pub invariant_of-result : goal.invariant_of-result
-invariant_of-result c = subst (λ v. IsKeptBy v c.args.config c.at_start.result 0 (c.args.image_len ∷ replicate (ROWS - 1) 0)) (sym (ap (λ s. s.view) c.requires.seat))
-    (IsKeptBy-opened c.args.config c.at_start.result (c.args.image_len ∷ replicate (ROWS - 1) 0) c.requires.publishable c.at_start.ensures.at_start (ap (λ (n : ℕ). n ∷ replicate (ROWS - 1) 0) c.requires.image ∙ ap (λ (n : ℕ). length (image c.args.config) ∷ replicate (n - 1) 0) (sym rows_is)))
+invariant_of-result c = subst (λ v. IsKeptBy v c.args.config c.args.book 0 (c.image_len.result ∷ replicate (ROWS - 1) 0) c.args.words.items) (sym (ap (λ s. s.view) c.requires.seat))
+    (IsKeptBy-opened c.args.config c.args.book (c.image_len.result ∷ replicate (ROWS - 1) 0) c.args.words.items c.requires.publishable c.requires.book (ap (λ (n : ℕ). n ∷ replicate (ROWS - 1) 0) c.image_len.ensures.length_exact ∙ ap (λ (n : ℕ). length (image c.args.config) ∷ replicate (n - 1) 0) (sym rows_is)) c.requires.words)

@@ -4,8 +4,12 @@ use Rattle.versions.specs.Table.{the_shape}
 use Rattle.versions.proofs.ShapeLemmas.{last_number_is}
 use Rattle.read_section.specs.body.OperatorKept.{IsKeptBy}
 use Rattle.read_section.specs.Operator.{OperatorValue}
+use Rattle.read_section.proofs.FilledLemmas.{row_inside}
 use Rattle.read_section.proofs.KeeperLemmas.{IsKeptBy-published}
 use Rattle.read_section.proofs.operator.Operator.put.Goals as goal
+
+pub count_version-requires-clause-row : goal.count_version-requires-clause-row
+count_version-requires-clause-row c = row_inside c.args.row c.requires.free.0
 
 pub overflow_add-self-inside : goal.overflow_add-self-inside
 overflow_add-self-inside c = let low = c.self.invariant.number_limited in omega arith
@@ -21,5 +25,5 @@ count_version-requires-clause-number c = let number = c.self.invariant.steps_tol
 
 pub invariant_of-self : goal.invariant_of-self
 invariant_of-self c = let number = c.self.invariant.steps_told.number in let same = ap (λ (o : OperatorValue). number_after o.view.log) c.self.view_is in let low = c.requires.number in
-    subst (λ o. IsKeptBy o.view c.args.config c.count_version.new.self c.self.inside.reported c.self.inside.zeros) (sym c.publish.ensures)
-    (IsKeptBy-published _ _ _ _ _ c.self.invariant c.args.row c.args.config c.count_version.new.self c.requires.free.0 (omega arith) c.count_version.ensures.counted)
+    subst (λ o. IsKeptBy o.view c.args.config c.count_version.new.self c.self.inside.reported c.self.inside.zeros c.self.inside.words.items) (sym c.publish.ensures)
+    (IsKeptBy-published _ _ _ _ _ _ c.self.invariant c.args.row c.args.config c.count_version.new.self (subst (λ (o : OperatorValue). IsFreeRow the_shape o.view c.args.row) (sym c.self.view_is) c.requires.free) (omega arith) c.count_version.ensures.counted)

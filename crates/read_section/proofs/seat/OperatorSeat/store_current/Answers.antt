@@ -3,7 +3,7 @@ use Rattle.atomic_table.specs.Seated.{TableId}
 use Rattle.config_image.specs.Image.{Group}
 use Rattle.versions.specs.declared.layout.TheConstants.{ROWS}
 use Rattle.versions.specs.declared.view.OperatorView.{OperatorView}
-use Rattle.versions.specs.Layout.{current_word}
+use Rattle.versions.specs.Layout.{current_word, pages_named}
 use Rattle.versions.specs.View.{after_proposal, after_publish}
 use Rattle.versions.specs.Table.{the_shape}
 use Rattle.read_section.specs.Layout.{HoldsConfig, IsPublishable}
@@ -32,7 +32,7 @@ invariant_of-self g c = let h = c.self.invariant in let t = (c.store.ensures.2 _
 
 pub returns : goal.returns
 returns g c = let h = c.self.invariant in let t = (c.store.ensures.2 _ h.0.knows).1 in let x : ℕ = c.args.number * ROWS + c.args.row in let new : List Group = g.P.Proposal.config in
-    let put : ℕ → ℕ → List Group → OperatorView (List Group) → OperatorView (List Group) = λ r y k v. after_publish r y (after_proposal k v) in
+    let put : ℕ → ℕ → List Group → OperatorView (List Group) → OperatorView (List Group) = λ r y k v. after_publish r y (pages_named the_shape v.stored r) (after_proposal k v) in
     operator_after _ h.0 _ _ (put (x % the_shape.rows) x new) _ _ c.args.self.now c.self.view_is c.store.ensures.0 t
     ∙ (ap (λ (r : ℕ). acts (put r x new) c.args.self.now) (row_of_current c.args.number c.args.row c.requires.free.0)
     ∙ (ap (λ (y : ℕ). acts (put c.args.row y new) c.args.self.now) (current_is c.args.number c.args.row ∙ ap (λ (n : ℕ). current_word the_shape n c.args.row) c.requires.number)

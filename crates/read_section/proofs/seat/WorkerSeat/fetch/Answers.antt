@@ -35,4 +35,4 @@ returns-clause-one_step c = let h = c.self.invariant in let t = (c.load.ensures.
 
 pub returns-clause-word : goal.returns-clause-word
 returns-clause-word c = let h = c.self.invariant in
-    fetched_word _ _ h.0 _ c.args.self.now c.self.view_is c.args.version c.args.row c.args.i (ROWS_BEGIN + c.args.row * ROW_WORDS + c.args.i) c.load.result c.requires.inside c.requires.i (place_is c.args.row c.args.i) (c.load.ensures.2 _ h.0.knows).1
+    fetched_word _ _ h.0 _ c.args.self.now c.self.view_is c.args.version c.args.row c.args.i (ROWS_BEGIN + c.args.row * ROW_WORDS + c.args.i) c.load.result c.requires.inside c.requires.row c.requires.i (place_is c.args.row c.args.i) (c.load.ensures.2 _ h.0.knows).1

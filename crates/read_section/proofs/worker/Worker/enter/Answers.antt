@@ -11,16 +11,16 @@ pub pin-pinned-requires : goal.pin-pinned-requires
 pin-pinned-requires c = (_, ap (λ w. w.view.stage) c.announce.ensures)
 
 pub invariant_of-self : goal.invariant_of-self
-invariant_of-self c = let may = may_peek_at c.self.inside.held _ c.self.invariant in let one = c.peek-peeked.ensures in let three = c.pin-pinned.ensures in let out = c.self.view_is ∙ c.leave.ensures.left in (pinned_inside c.args.self.now c.self.inside.seat may out _ c.peek-peeked.result one.0 one.2 _ _ c.pin-pinned.result three.0 c.announce.ensures three.2 one.1 three.1, in_some_row c.pin-pinned.result)
+invariant_of-self c = let may = may_peek_at c.self.inside.held _ c.self.invariant in let one = c.peek-peeked.ensures in let three = c.pin-pinned.ensures in let out = c.self.view_is ∙ c.leave.ensures.left in (pinned_inside c.args.self.now c.self.inside.seat may out _ c.peek-peeked.result one.0 one.2 _ _ c.pin-pinned.result three.0 three.1 c.announce.ensures three.3 one.1 three.2, in_some_row c.pin-pinned.result)
 
 pub returns-clause-entered_by_three_steps : goal.returns-clause-entered_by_three_steps
-returns-clause-entered_by_three_steps c = let may = may_peek_at c.self.inside.held _ c.self.invariant in let one = c.peek-peeked.ensures in let three = c.pin-pinned.ensures in let out = c.self.view_is ∙ c.leave.ensures.left in subst (Enters c.args.self.now) (sym c.of.ensures.worker) (enters c.args.self.now c.self.inside.seat may out _ c.peek-peeked.result one.0 one.2 _ _ c.pin-pinned.result three.0 c.announce.ensures three.2 one.1 three.1)
+returns-clause-entered_by_three_steps c = let may = may_peek_at c.self.inside.held _ c.self.invariant in let one = c.peek-peeked.ensures in let three = c.pin-pinned.ensures in let out = c.self.view_is ∙ c.leave.ensures.left in subst (Enters c.args.self.now) (sym c.of.ensures.worker) (enters c.args.self.now c.self.inside.seat may out _ c.peek-peeked.result one.0 one.2 _ _ c.pin-pinned.result three.0 three.1 c.announce.ensures three.3 one.1 three.2)
 
 pub returns-clause-section_row : goal.returns-clause-section_row
-returns-clause-section_row c = let may = may_peek_at c.self.inside.held _ c.self.invariant in let one = c.peek-peeked.ensures in let three = c.pin-pinned.ensures in let out = c.self.view_is ∙ c.leave.ensures.left in subst HoldsLastSeen (sym c.of.ensures.worker) (HoldsLastSeen-pinned c.args.self.now c.self.inside.seat may out _ c.peek-peeked.result one.0 one.2 _ _ c.pin-pinned.result three.0 c.announce.ensures three.2 one.1 three.1)
+returns-clause-section_row c = let may = may_peek_at c.self.inside.held _ c.self.invariant in let one = c.peek-peeked.ensures in let three = c.pin-pinned.ensures in let out = c.self.view_is ∙ c.leave.ensures.left in subst HoldsLastSeen (sym c.of.ensures.worker) (HoldsLastSeen-pinned c.args.self.now c.self.inside.seat may out _ c.peek-peeked.result one.0 one.2 _ _ c.pin-pinned.result three.0 three.1 c.announce.ensures three.3 one.1 three.2)
 
 pub returns-clause-seen_grows : goal.returns-clause-seen_grows
-returns-clause-seen_grows c = let may = may_peek_at c.self.inside.held _ c.self.invariant in let one = c.peek-peeked.ensures in let three = c.pin-pinned.ensures in let out = c.self.view_is ∙ c.leave.ensures.left in seen_on c.args.self.now (worker_of c.of.result) (subst (Enters c.args.self.now) (sym c.of.ensures.worker) (enters c.args.self.now c.self.inside.seat may out _ c.peek-peeked.result one.0 one.2 _ _ c.pin-pinned.result three.0 c.announce.ensures three.2 one.1 three.1))
+returns-clause-seen_grows c = let may = may_peek_at c.self.inside.held _ c.self.invariant in let one = c.peek-peeked.ensures in let three = c.pin-pinned.ensures in let out = c.self.view_is ∙ c.leave.ensures.left in seen_on c.args.self.now (worker_of c.of.result) (subst (Enters c.args.self.now) (sym c.of.ensures.worker) (enters c.args.self.now c.self.inside.seat may out _ c.peek-peeked.result one.0 one.2 _ _ c.pin-pinned.result three.0 three.1 c.announce.ensures three.3 one.1 three.2))
 
 pub returns-clause-number_is_seen : goal.returns-clause-number_is_seen
-returns-clause-number_is_seen c = let may = may_peek_at c.self.inside.held _ c.self.invariant in let one = c.peek-peeked.ensures in let three = c.pin-pinned.ensures in let out = c.self.view_is ∙ c.leave.ensures.left in number_seen (worker_of c.of.result) (subst HoldsLastSeen (sym c.of.ensures.worker) (HoldsLastSeen-pinned c.args.self.now c.self.inside.seat may out _ c.peek-peeked.result one.0 one.2 _ _ c.pin-pinned.result three.0 c.announce.ensures three.2 one.1 three.1))
+returns-clause-number_is_seen c = let may = may_peek_at c.self.inside.held _ c.self.invariant in let one = c.peek-peeked.ensures in let three = c.pin-pinned.ensures in let out = c.self.view_is ∙ c.leave.ensures.left in number_seen (worker_of c.of.result) (subst HoldsLastSeen (sym c.of.ensures.worker) (HoldsLastSeen-pinned c.args.self.now c.self.inside.seat may out _ c.peek-peeked.result one.0 one.2 _ _ c.pin-pinned.result three.0 three.1 c.announce.ensures three.3 one.1 three.2))

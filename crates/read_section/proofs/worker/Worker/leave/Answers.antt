@@ -1,11 +1,10 @@
 use Rattle.std.proofs.Common.{subst}
 use Rattle.read_section.specs.Section.{EndsInFetches}
-use Rattle.read_section.proofs.SectionLemmas.{EndsInFetches-inside, EndsInFetches-outside, inside_of_some, outside_of_none}
+use Rattle.read_section.proofs.SectionLemmas.{EndsInFetches-inside, EndsInFetches-outside, outside_of_none}
 use Rattle.read_section.proofs.worker.Worker.leave.Goals as goal
 
 pub returns-then-is_none-clause-ends_in_fetches : goal.returns-then-is_none-clause-ends_in_fetches
 returns-then-is_none-clause-ends_in_fetches c = subst EndsInFetches c.self.view_is (EndsInFetches-outside c.self.inside.seat (outside_of_none c.self.inside.held _ c.if-is_none.ensures c.self.invariant))
 
 pub returns-clause-ends_in_fetches : goal.returns-clause-ends_in_fetches
-returns-clause-ends_in_fetches c = let t = inside_of_some c.self.inside.held _ c.if-is_none.ensures c.self.invariant in
-    subst EndsInFetches c.self.view_is (EndsInFetches-inside c.self.inside.seat t.0 t.1 t.2 c.leave.ensures.own_log)
+returns-clause-ends_in_fetches c = subst EndsInFetches c.self.view_is (EndsInFetches-inside c.self.inside.seat c.leave.ensures.own_log)

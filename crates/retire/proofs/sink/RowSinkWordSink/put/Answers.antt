@@ -12,11 +12,11 @@ pub invariant_of-self : goal.invariant_of-self
 invariant_of-self g c = let h = c.self.invariant in let s = c.self.inside in let e = c.fill.ensures in let room = c.requires in let same = ap (λ (v : SinkValue). v.place) c.self.view_is in
     let small : s.place < ROW_WORDS = omega arith in record {
       inside = omega arith;
-      fills = one_word_more _ _ _ s.row s.place c.args.word (row_inside s.row h.fills.fills.still_free.0) small e.whole_rows e.one_fill h.fills;
+      fills = one_word_more _ _ _ s.row s.place c.args.word (row_inside s.row h.fills.fills.still_free.0) small e.all_stored e.one_fill h.fills;
     }
 
 pub returns-clause-taken : goal.returns-clause-taken
 returns-clause-taken g c = let h = c.self.invariant in let s = c.self.inside in let e = c.fill.ensures in let room = c.requires in let same = ap (λ (v : SinkValue). v.place) c.self.view_is in
     let small : s.place < ROW_WORDS = omega arith in
-    ap (λ l. s.operator.ghost_name ∷ s.row ∷ l) (front_grows s.operator.now s.operator.now c.fill.new.self s.row s.place c.args.word (row_inside s.row h.fills.fills.still_free.0) small e.whole_rows e.one_fill)
+    ap (λ l. s.operator.ghost_name ∷ s.row ∷ l) (front_grows s.operator.now s.operator.now c.fill.new.self s.row s.place c.args.word (row_inside s.row h.fills.fills.still_free.0) small e.all_stored e.one_fill)
     ∙ ap (λ (v : SinkValue). taken_of v ++ c.args.word ∷ []) c.self.view_is

@@ -11,7 +11,7 @@ loop-place-init c = record { free = c.requires.free; number = refl; published = 
 
 pub loop-place-preserved : goal.loop-place-preserved
 loop-place-preserved c = let h = c.loop-place.invariant in let e = c.fill.ensures in let place = c.loop-place.place in
-    let front = front_filled _ _ c.args.row place c.row_word.result (row_inside c.args.row h.free.0) c.loop-place-test.true e.whole_rows e.one_fill (row c.args.config) c.row_word.ensures h.front in record {
+    let front = front_filled _ _ c.args.row place c.row_word.result (row_inside c.args.row h.free.0) c.loop-place-test.true e.all_stored e.one_fill (row c.args.config) c.row_word.ensures h.front in record {
       free = subst (λ (o : OperatorValue). IsFreeRow the_shape o.view c.args.row) (sym e.one_fill) h.free;
       number = ap (λ (o : OperatorValue). number_after o.view.log) e.one_fill ∙ h.number;
       published = ap (λ (o : OperatorValue). o.view.published) e.one_fill ∙ h.published;
