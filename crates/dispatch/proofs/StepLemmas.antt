@@ -2,10 +2,12 @@
 use Rattle.std.proofs.Common.{◌≡◌, ◌∙◌, ◌+◌, ◌/◌, ◌%◌, ◌++◌, ◌∷◌, All, Contains, List, [], ap, append_assoc, get_or, refl, subst, sym, ℕ}
 use Rattle.std.proofs.lemmas.List.{get_or_default}
 use Rattle.std.proofs.lemmas.List.Elements.{All-append, All-cons, All-nil}
+use Rattle.config_image.specs.Image.{Group}
 use Rattle.versions.specs.declared.step.Step.{Step}
 use Rattle.versions.specs.declared.step.Step.TheVariants.{Announce, Leave, Peek, Pin}
 use Rattle.versions.specs.declared.step.Entry.{Entry}
 use Rattle.versions.specs.declared.view.Stage.{Stage}
+use Rattle.versions.specs.declared.view.WorkerView.{WorkerView}
 use Rattle.versions.specs.declared.view.Stage.TheVariants.{Announced, Inside, Outside, Peeked}
 use Rattle.versions.specs.Step.{IsStepOf, entry}
 use Rattle.versions.specs.Table.{the_shape}
@@ -56,15 +58,15 @@ module _ (before inside : WorkerValue) (entered : Enters before inside) where
   inside_stage : inside.view.stage ≡ Inside (entered.peeked / the_shape.rows + 1) (entered.pinned / the_shape.rows) (entered.pinned % the_shape.rows)
   inside_stage = ap (λ (v : WorkerValue). v.view.stage) entered.three_steps
 
-fetch_is_own : (w : ℕ) (stage : Stage) (step : Step) → IsFetchIn w stage step → IsStepOf w step
-fetch_is_own w stage step fetch = subst (IsStepOf w) (sym fetch.1) refl
+fetch_is_own : (view : WorkerView (List Group)) (step : Step) → IsFetchIn view step → IsStepOf view.number step
+fetch_is_own view step fetch = subst (IsStepOf view.number) (sym fetch.1) refl
 
 -- in one whole section
 section_adds : (before inside after : WorkerValue) → IsWholeSection before inside after → AddsOwnSteps before after
 section_adds before inside after section =
-    let w = inside.view.number in let stage = Inside (section.entered.peeked / the_shape.rows + 1) (section.entered.pinned / the_shape.rows) (section.entered.pinned % the_shape.rows) in
+    let w = inside.view.number in
     let fetched : (newest : Entry) → Contains section.fetches newest → IsOwn w newest =
-    λ newest among. fetch_is_own w stage newest.step (section.each _ _ _ newest (inside_stage before inside section.entered) among) in
+    λ newest among. fetch_is_own inside.view newest.step (section.each _ _ _ newest (inside_stage before inside section.entered) among) in
     adds_more before inside after (enters before inside section.entered) (record {
       number = section.number;
       newer = entry (Leave w) 0 ∷ section.fetches;

@@ -2,5 +2,6 @@
 
 mod commands;
 mod images;
+mod locks;
 mod pooled;
 mod searching;

@@ -2,6 +2,7 @@
 
 mod history;
 mod numbered;
+mod pages;
 mod publications;
 mod sections;
 mod worlds;

@@ -43,7 +43,7 @@ fn applied(config: &Config, command: Command) -> Result<Config, Fail> {
 
 // A command on the sample group, or one that adds or removes a group at a port of its address.
 #[derive(Clone, Copy)]
-enum Act {
+pub(super) enum Act {
     Add(u16),
     Remove(u16),
     Join(u32),
@@ -82,7 +82,7 @@ fn command(alloc: Global, act: Act) -> Result<Command, Fail> {
     })
 }
 
-fn after_each(alloc: Global, acts: &[Act]) -> Result<Config, Fail> {
+pub(super) fn after_each(alloc: Global, acts: &[Act]) -> Result<Config, Fail> {
     let mut config = Config::new(alloc);
     for act in acts {
         config = applied(&config, command(alloc, *act)?)?;
@@ -307,9 +307,9 @@ fn largest_charge_is_published(rt: HostRuntime) -> Result<(), Fail> {
     Ok(())
 }
 
-const ONE_MEMBER: &[Act] = &[Act::Add(53), Act::Join(1)];
+pub(super) const ONE_MEMBER: &[Act] = &[Act::Add(53), Act::Join(1)];
 
-const LOCKED_BARE: &[Act] = &[Act::Add(53), Act::Join(1), Act::Lock(1)];
+pub(super) const LOCKED_BARE: &[Act] = &[Act::Add(53), Act::Join(1), Act::Lock(1)];
 
 const LOCKED_FILTER: &[Act] = &[Act::Add(53), Act::Join(1), Act::Filter(1, 1), Act::Lock(1)];
 
@@ -347,88 +347,6 @@ fn refusal_after(alloc: Global, acts: &[Act], act: Act) -> Result<Option<Refusal
 fn each_refusal_in_its_order(rt: HostRuntime) -> Result<(), Fail> {
     for (acts, act, reason) in &REFUSED {
         assert_eq!(rt; refusal_after(rt.alloc(), acts, *act)?, Some(*reason));
-    }
-    Ok(())
-}
-
-// Which members of the one group are locked, in order, after commands.
-const LOCKS: [(&[Act], &[bool]); 7] = [
-    (ONE_MEMBER, &[false]),
-    (LOCKED_BARE, &[true]),
-    // Locked again, and beside a selector.
-    (
-        &[
-            Act::Add(53),
-            Act::Join(1),
-            Act::Lock(1),
-            Act::Lock(1),
-            Act::Select(1),
-        ],
-        &[true],
-    ),
-    // A member that joins behind a locked one.
-    (
-        &[Act::Add(53), Act::Join(1), Act::Lock(1), Act::Join(2)],
-        &[true, false],
-    ),
-    // The member that is moved into the gap keeps its own.
-    (
-        &[
-            Act::Add(53),
-            Act::Join(1),
-            Act::Join(2),
-            Act::Lock(2),
-            Act::Leave(1),
-        ],
-        &[true],
-    ),
-    (
-        &[
-            Act::Add(53),
-            Act::Join(1),
-            Act::Join(2),
-            Act::Lock(1),
-            Act::Leave(1),
-        ],
-        &[false],
-    ),
-    // It ends with the member, and with the group.
-    (
-        &[
-            Act::Add(53),
-            Act::Join(1),
-            Act::Lock(1),
-            Act::Leave(1),
-            Act::Join(1),
-            Act::Filter(1, 2),
-            Act::Unfilter(1),
-            Act::Lock(1),
-            Act::Remove(53),
-            Act::Add(53),
-            Act::Join(1),
-        ],
-        &[false],
-    ),
-];
-
-// The members of all groups are locked so, in order.
-fn has_locks(config: &Config, locks: &[bool]) -> bool {
-    let mut rest = locks;
-    for group in config.groups() {
-        for member in group.members() {
-            match rest {
-                [locked, behind @ ..] if *locked == member.locked => rest = behind,
-                _ => return false,
-            }
-        }
-    }
-    rest.is_empty()
-}
-
-#[test]
-fn locks_are_the_members(rt: HostRuntime) -> Result<(), Fail> {
-    for (acts, locks) in &LOCKS {
-        assert!(rt; has_locks(&after_each(rt.alloc(), acts)?, locks));
     }
     Ok(())
 }

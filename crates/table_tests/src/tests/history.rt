@@ -2,7 +2,7 @@
 
 use std::test::Fail;
 use versions::Step::{self, Announce, Fetch, Fill, Leave, Peek, Pin, Publish, Scan};
-use versions::{ROWS, TABLE_WORDS, WORKERS};
+use versions::{PAGES, ROWS, TABLE_WORDS, WORKERS};
 
 // The image of the configuration without groups: its length, and the number of groups.
 pub const EMPTY_IMAGE: [u64; 2] = [2, 0];
@@ -11,6 +11,15 @@ pub const EMPTY_IMAGE: [u64; 2] = [2, 0];
 pub fn begin_of(row: usize) -> usize {
     if row < ROWS {
         1 + WORKERS + row * 8192
+    } else {
+        TABLE_WORDS
+    }
+}
+
+// Where a page begins, behind the rows; behind the table where there is no such page.
+pub fn begin_of_page(page: usize) -> usize {
+    if page < PAGES {
+        131_137 + page * 16
     } else {
         TABLE_WORDS
     }
@@ -153,8 +162,10 @@ impl History {
 
     pub fn answer(&self, step: Step) -> Option<u64> {
         match step {
+            // No version names a page, so each page is free.
             Fill { place, word } => match self.row_of(place) {
                 Some(row) if self.is_free(row) => Some(word),
+                None if begin_of_page(0) <= place && place < TABLE_WORDS => Some(word),
                 _ => None,
             },
             Publish { row } => {

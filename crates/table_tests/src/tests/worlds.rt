@@ -2,7 +2,7 @@
 
 ghost use Rattle.std.specs.Prelude.{◌<◌};
 
-use super::history::{History, begin_of};
+use super::history::{History, begin_of, begin_of_page};
 use bpf_verify::Program;
 use ipv4_fields::Endpoint;
 use linked_list_allocator::LocalHeap;
@@ -11,7 +11,7 @@ use std::alloc::{Allocator, Global};
 use std::process::Abort;
 use std::test::Fail;
 use versions::Step::{self, Announce, Fetch, Fill, Leave, Peek, Pin, Publish, Scan};
-use versions::{ROWS, StepFault, TABLE_WORDS, WORKERS, World};
+use versions::{PAGES, ROWS, StepFault, TABLE_WORDS, WORKERS, World};
 
 // Publishes the empty configuration from the least free row, and answers the word stored; 0 where no row is free.
 fn publish(alloc: Global, world: &mut World) -> Result<u64, Fail> {
@@ -89,7 +89,7 @@ fn stalled_worker_holds_back_more(rt: HostRuntime) -> Result<(), Fail> {
 }
 
 // Each step with its answer, in a world whose version 0 is the empty configuration; no answer is "not legal".
-const ANSWERS: [(Step, Option<u64>); 33] = [
+const ANSWERS: [(Step, Option<u64>); 37] = [
     (Announce { worker: 0 }, None),
     (Pin { worker: 0 }, None),
     (Leave { worker: 0 }, None),
@@ -143,9 +143,37 @@ const ANSWERS: [(Step, Option<u64>); 33] = [
     (Fill { place: 65, word: 2 }, None),
     (Fill { place: 64, word: 2 }, None),
     (
+        Fetch {
+            worker: 0,
+            place: 131_137,
+        },
+        None,
+    ),
+    (
         Fill {
             place: 131_137,
             word: 2,
+        },
+        Some(2),
+    ),
+    (
+        Fill {
+            place: 655_424,
+            word: 3,
+        },
+        Some(3),
+    ),
+    (
+        Fill {
+            place: 655_425,
+            word: 2,
+        },
+        None,
+    ),
+    (
+        Fetch {
+            worker: 0,
+            place: 131_137,
         },
         None,
     ),
@@ -272,7 +300,7 @@ impl Numbers {
     fn step(&mut self) -> Step {
         let worker = self.below(3) as usize;
         let row = self.below(ROWS as u64 + 1) as usize;
-        match self.below(16) {
+        match self.below(17) {
             0 | 1 => Peek { worker },
             2 | 3 => Announce { worker },
             4 | 5 => Pin { worker },
@@ -290,6 +318,12 @@ impl Numbers {
                 word: self.below(8) / 7,
             },
             12 | 13 => Publish { row },
+            14 => Fill {
+                place: begin_of_page(self.below(PAGES as u64 + 1) as usize).wrapping_add(
+                    self.below(16) as usize,
+                ),
+                word: self.below(8),
+            },
             _ => Scan {
                 place: self.below(WORKERS as u64 + 2) as usize,
             },
@@ -368,15 +402,18 @@ fn rounds_within(heap: &LocalHeap) -> Result<usize, Fail> {
 
 #[test]
 fn world_under_each_refused_growth(rt: HostRuntime) -> Result<(), Fail> {
-    let mut size = 1_048_000;
     let mut least = 0;
-    for _ in 0..300 {
-        let heap = LocalHeap::new(rt.alloc(), size)?;
-        let rounds = rounds_within(&heap)?;
-        assert!(rt; least <= rounds, "a heap of {size} bytes");
-        assert_eq!(rt; heap.used(), 0);
-        least = rounds;
-        size = size.saturating_add(128);
+    // From where the words of the table are refused, and from where the numbers of the pages are.
+    for (first, sizes) in [(5_243_000usize, 40usize), (5_505_000, 340)] {
+        let mut size = first;
+        for _ in 0..sizes {
+            let heap = LocalHeap::new(rt.alloc(), size)?;
+            let rounds = rounds_within(&heap)?;
+            assert!(rt; least <= rounds, "a heap of {size} bytes");
+            assert_eq!(rt; heap.used(), 0);
+            least = rounds;
+            size = size.saturating_add(128);
+        }
     }
     assert_eq!(rt; least, 40);
     Ok(())

@@ -1,0 +1,88 @@
+//! Pages of the pool, and words of rows, as an operator tells and fills them.
+
+use super::numbered::config_of;
+use config_image::image_len;
+use read_section::{Operator, PAGE_WORDS, PAGES, ROW_WORDS, open};
+use std::test::Fail;
+
+// Fills a place of a page; tells whether the page was free, and so may be filled.
+fn page_filled(operator: &mut Operator, page: usize, place: usize) -> bool {
+    if !operator.page_is_free(page) || place >= PAGE_WORDS {
+        return false;
+    }
+    operator.fill_page(page, place, 7);
+    true
+}
+
+// A page, and the least free page from there on.
+const FREE_FROM: [(usize, Option<usize>); 6] = [
+    (0, Some(0)),
+    (1, Some(1)),
+    (2046, Some(2046)),
+    (32_767, Some(32_767)),
+    (32_768, None),
+    (usize::MAX, None),
+];
+
+#[test]
+fn each_page_is_free_at_first(rt: HostRuntime) -> Result<(), Fail> {
+    let (mut operator, _workers) = open(config_of(rt.alloc(), 0)?)?;
+    for (from, least) in &FREE_FROM {
+        assert_eq!(rt; operator.free_page(*from), *least, "from {from}");
+        for place in [0, 15] {
+            assert_eq!(rt;
+                page_filled(&mut operator, *from, place),
+                *from < PAGES,
+                "page {from}"
+            );
+        }
+    }
+    Ok(())
+}
+
+// Fills a place of a row; tells whether the row was free, and so may be filled.
+fn row_filled(operator: &mut Operator, row: usize, place: usize, word: u64) -> bool {
+    if !operator.is_free(row) || place >= ROW_WORDS {
+        return false;
+    }
+    operator.fill(row, place, word);
+    true
+}
+
+// Fills of row 1 and of the current row: a place, the word, whether it may be, and the row's word there afterwards.
+const FILLS: [(usize, usize, u64, bool, u64); 6] = [
+    (1, 0, 5, true, 5),
+    (1, 1, 6, true, 6),
+    (1, 0, 7, true, 7),
+    (1, 8191, 8, true, 8),
+    (1, 2, 0, true, 0),
+    (0, 8191, 9, false, 0),
+];
+
+#[test]
+fn words_of_rows_are_told(rt: HostRuntime) -> Result<(), Fail> {
+    let (mut operator, mut workers) = open(config_of(rt.alloc(), 0)?)?;
+    assert_eq!(rt;
+        operator.row_word(0, 0),
+        image_len(operator.config()) as u64
+    );
+    assert_eq!(rt; operator.row_word(15, 0), 0);
+    for (row, place, word, may, after) in &FILLS {
+        assert_eq!(rt;
+            row_filled(&mut operator, *row, *place, *word),
+            *may,
+            "row {row}, place {place}"
+        );
+        assert_eq!(rt;
+            operator.row_word(*row, *place),
+            *after,
+            "row {row}, place {place}"
+        );
+    }
+    // The current version stands as it stood.
+    let Some(worker) = workers.first_mut() else {
+        return Err(Fail::from("there are workers"));
+    };
+    assert_eq!(rt; super::sections::read_whole(worker), (0, 0));
+    Ok(())
+}
