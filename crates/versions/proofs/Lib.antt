@@ -9,6 +9,7 @@ pub mod TraceLemmas
 pub mod ReuseLemmas
 pub mod SafetyLemmas
 pub mod ShapeLemmas
+mod PooledLemmas
 pub mod BookLemmas
 pub mod MirrorLemmas
 pub mod RowLemmas

@@ -1,5 +1,5 @@
 -- A world at its opening, and after one event more.
-use Rattle.std.proofs.Common.{◌≡◌, ℕ, zero, suc, ◌+◌, ◌-◌, ◌*◌, ◌<◌, ◌≤◌, List, None, Option, Some, [], ◌∷◌, ◌++◌, ap, append_assoc, arith, get_or, length, length-append, refl, replicate, reverse, slice_get, subst, sym, ◌∙◌}
+use Rattle.std.proofs.Common.{◌≡◌, ℕ, zero, suc, ◌+◌, ◌-◌, ◌*◌, ◌<◌, ◌≤◌, List, None, Option, Some, [], ◌∷◌, ◌++◌, ap, append_assoc, arith, get_or, length, length-append, refl, replicate, reverse, slice_get, subst, sym, take, ◌∙◌}
 use Rattle.std.proofs.lemmas.List.{get_or-replicate, get_or_append_left, length-replicate, reverse-append}
 use Rattle.std.proofs.lemmas.Option.{slice_get-get_or}
 use Rattle.config_image.specs.declared.TheConstants.{ROW_WORDS}
@@ -26,7 +26,7 @@ use Rattle.versions.specs.body.WorldKept.{IsProposalAt, IsWorld, proposal_by}
 use Rattle.versions.proofs.BookLemmas.{IsBook-opened, IsBook-proposed}
 use Rattle.versions.proofs.ListLemmas.{elem_below}
 use Rattle.versions.proofs.MirrorLemmas.{IsMirror-operator, none_some}
-use Rattle.versions.proofs.RowLemmas.{length-row}
+use Rattle.versions.proofs.RowLemmas.{length-row, whole_row}
 use Rattle.versions.proofs.ShapeLemmas.{charge_is, charge_limit_is, holds, names_none, none_there, row_is, row_words_is, rows_is, stored_is, workers_is}
 use Rattle.versions.proofs.TraceLemmas.{length-new_workers, new_worker_at}
 
@@ -154,3 +154,10 @@ IsWorld-opened config words progress charge same h = record {
   table_length = ap length same ∙ omega (arith, length-append (replicate the_shape.workers 0) (opening_stored config), length-replicate {A = ℕ} the_shape.workers 0, workers_is, (IsOpening-stored config charge).whole, stored_is);
   proposed = refl;
 }
+
+-- the words of an opening, as they are made: the row behind the zeros of the front, and then filled up
+pub opened_words_made : (config : List Group) (i len : ℕ) (items items' : List ℕ) {all : ℕ} → items' ≡ take all items ++ replicate (all - len) 0 → all ≡ TABLE_WORDS → items ≡ replicate ROWS_BEGIN 0 ++ take i (row config) → length (row config) ≤ i → len ≡ length items
+    → items' ≡ (opened_with config).words
+opened_words_made config i len items items' {all} filled whole front up long = opened_words_are config items'
+    (whole_row ROWS_BEGIN i all len items items' (row config) front up long (omega (arith, length-row config)) filled
+    ∙ ap (λ (n : ℕ). (replicate ROWS_BEGIN 0 ++ row config) ++ replicate (n - (ROWS_BEGIN + length (row config))) 0) whole)

@@ -7,6 +7,7 @@ pub mod Legal
 pub mod Reclaimed
 pub mod Safety
 pub mod Table
+pub mod Pooled
 pub mod Book
 pub mod World
 pub mod body

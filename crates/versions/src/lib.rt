@@ -9,6 +9,7 @@
 ghost use Rattle.config_image.specs.Image.{Group};
 ghost use Rattle.std.specs.Prelude.{List};
 ghost use Rattle.versions.specs.Layout.{Form};
+ghost use Rattle.versions.specs.Pooled.{PooledFormStands};
 ghost use Rattle.versions.specs.Table.{stored_by, the_shape};
 ghost use Rattle.versions.specs.Safety.{FetchesPublished, InEveryTrace, KeepsHeld, KeepsPool, ListsVersions, LoadsNewest, OfEveryTrace, ReclaimsNoneHeld, ScansTell, SeesUpToLastLoad, StepsOnOneWord, ViewsTellTable};
 
@@ -65,4 +66,10 @@ pub fn every_form()
     ensures views_tell_table { (form : Form (List Group)) → InEveryTrace (stored_by form) (ViewsTellTable (stored_by form)) }
     ensures versions_listed { (form : Form (List Group)) → InEveryTrace (stored_by form) (ListsVersions (stored_by form)) }
     ensures one_word { (form : Form (List Group)) → InEveryTrace (stored_by form) (StepsOnOneWord (stored_by form)) }
+{}
+
+/// Law: where a row and the pages that it names hold a configuration in the pooled form, they tell each word of the row that has
+/// its image, and the row names just these pages. So `every_form` speaks of it too. It runs nothing.
+pub fn pooled_form_stands()
+    ensures { PooledFormStands }
 {}

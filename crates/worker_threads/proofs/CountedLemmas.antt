@@ -23,7 +23,10 @@ use Rattle.dispatch.specs.Tally.{AreCountersOf, CounterValue, place_of, sum_of_c
 use Rattle.dispatch.specs.Workers.{AreDone, parts_of_done, parts_of_job}
 use Rattle.read_section.specs.Operator.{AreOpenedWorkers}
 use Rattle.read_section.specs.Worker.{WorkerValue}
+use Rattle.versions.specs.Layout.{pages_named}
 use Rattle.versions.specs.View.{new_worker}
+use Rattle.versions.specs.Table.{the_shape}
+use Rattle.versions.specs.World.{opening_stored}
 use Rattle.worker_threads.specs.Counted.{AreCountersBack, AreEnded, AreRun, IsCounted, IsNew, IsNewWorker, counters_of}
 
 -- ---- a job's counter stays one of its tally
@@ -76,7 +79,7 @@ module _ (table : TableId) where
 pub opened_workers : (config : List Group) (table : TableId) (workers : List WorkerValue) → AreOpenedWorkers table config workers
     → All (IsNewWorker config table) workers
 opened_workers config table workers opened =
-    let at_first : WorkerValue = record { table = table; view = new_worker config 0 } in
+    let at_first : WorkerValue = record { table = table; view = new_worker config (pages_named the_shape (opening_stored config) 0) 0 } in
     All-from_get_or (IsNewWorker config table) workers at_first
     (λ k inside. (k, get_or_from_slice_get workers k _ at_first (opened.each k (omega (arith, opened.count)))))
 

@@ -13,7 +13,10 @@ use Rattle.dispatch.specs.Job.{IsJob}
 use Rattle.dispatch.specs.Tally.{CounterValue, sum_of_counts, total_of}
 use Rattle.dispatch.specs.Workers.{parts_of_job}
 use Rattle.read_section.specs.Worker.{WorkerValue}
+use Rattle.versions.specs.Layout.{pages_named}
 use Rattle.versions.specs.View.{new_worker}
+use Rattle.versions.specs.Table.{the_shape}
+use Rattle.versions.specs.World.{opening_stored}
 
 -- a counter of a tally that counted nothing yet
 abbrev pub IsNew : TableId → CounterValue → Type 0
@@ -21,7 +24,7 @@ IsNew table counter = counter ≡ record { table = table; log = [] }
 
 -- a worker of a table that was opened with a version, which has made no step yet
 abbrev pub IsNewWorker : List Group → TableId → WorkerValue → Type 0
-IsNewWorker opening table worker = (w : ℕ) × (worker ≡ record { table = table; view = new_worker opening w })
+IsNewWorker opening table worker = (w : ℕ) × (worker ≡ record { table = table; view = new_worker opening (pages_named the_shape (opening_stored opening) 0) w })
 
 abbrev pub counters_of : List Parts → List CounterValue
 counters_of ends = map (λ (end : Parts). end.counter) ends
