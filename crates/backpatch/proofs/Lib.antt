@@ -6,6 +6,7 @@ pub mod GuardLemmas
 pub mod BothLemmas
 pub mod LandLemmas
 pub mod FillLemmas
+pub mod FieldLemmas
 pub mod CheckLemmas
 pub mod JumpLemmas
 pub mod BranchLemmas

@@ -1,6 +1,6 @@
 //! The words of a program, as far as it is written.
 
-ghost use Rattle.std.specs.Prelude.{◌≡◌, ◌<◌, ◌≤◌, ◌+◌, ◌++◌, ◌∷◌, Contains, IfOk, OnOk, [], false, length, true};
+ghost use Rattle.std.specs.Prelude.{◌≡◌, ◌<◌, ◌≤◌, ◌+◌, ◌^◌, ◌++◌, ◌∷◌, Contains, IfOk, OnOk, [], false, length, true};
 ghost use Rattle.bpf_insn.specs.declared.instruction.Insn.TheVariants.{Jump};
 ghost use Rattle.bpf_verify.specs.declared.TheConstants.{MAX_INSTRUCTIONS};
 ghost use Rattle.backpatch.specs.Holes.{AreOpen, CanReach, HasJump, IsAppended, IsLanded, Open, hole_at};
@@ -9,7 +9,7 @@ ghost use Rattle.backpatch.specs.declared.hole.Side.TheVariants.{Always};
 ghost use Rattle.backpatch.specs.Pieces.{Writes, far_words};
 ghost use Rattle.backpatch.specs.Runs.{GoesToYes};
 ghost use Rattle.backpatch.specs.Checks.{Checks, asks};
-ghost use Rattle.backpatch.specs.body.Filling.{IsFilledIn};
+ghost use Rattle.backpatch.specs.body.Filling.{IsFilledIn, SkipFits, with_jf, with_jt, with_k, with_skip};
 ghost use Rattle.backpatch.specs.body.Noting.{IsNoted};
 
 use crate::exit::Exit;
@@ -65,6 +65,7 @@ impl<'a, A: Allocator> Code<'a, A> {
     }
 
     /// Writes an instruction. Fails where an allocation is refused.
+    #[inline(always)]
     pub fn push(&mut self, insn: Insn) -> Result<(), AllocError>
         ensures appended { OnOk result (IsAppended insn self.old self.new) }
     {
@@ -172,7 +173,7 @@ fn is_far(place: u32, by: u32) -> bool
     by > place + 256
 }
 
-// Fills the jump of a hole.
+// Fills the jump of a hole: its bits of the word.
 fn fill<A: Allocator>(words: &mut Vec<u64, A>, hole: Hole, to: usize)
     requires there { HasJump words.old.items hole.place hole.side }
     requires within { hole.place < length words.old.items }
@@ -183,31 +184,40 @@ fn fill<A: Allocator>(words: &mut Vec<u64, A>, hole: Hole, to: usize)
 {
     let place = hole.place as usize;
     let skip = to - place - 1;
-    let insn = Insn::from_word(words[place]);
-    let Ok(insn) = insn else {
-        return;
-    };
-    let filled = match (insn, hole.side) {
-        (Insn::JumpIf(test, operand, offsets), Side::WhenTrue) => Insn::JumpIf(
-            test,
-            operand,
-            Offsets {
-                jt: skip as u8,
-                jf: offsets.jf,
-            },
-        ),
-        (Insn::JumpIf(test, operand, offsets), Side::WhenFalse) => Insn::JumpIf(
-            test,
-            operand,
-            Offsets {
-                jt: offsets.jt,
-                jf: skip as u8,
-            },
-        ),
-        (Insn::Jump(_), Side::Always) => Insn::Jump(skip as u32),
-        _ => insn,
-    };
-    words[place] = filled.to_word();
+    words[place] = with_skip(hole.side, words[place], skip as u64);
+}
+
+// The word with another jump.
+fn with_skip(side: Side, word: u64, skip: u64) -> u64
+    requires fits { SkipFits side skip }
+    ensures { result ≡ with_skip side word skip }
+{
+    match side {
+        Side::WhenTrue => with_jt(word, skip),
+        Side::WhenFalse => with_jf(word, skip),
+        Side::Always => with_k(word, skip),
+    }
+}
+
+fn with_jt(word: u64, jt: u64) -> u64
+    requires fits { jt < 2 ^ 8 }
+    ensures { result ≡ with_jt word jt }
+{
+    word / (1 << 48) * (1 << 48) + jt * (1 << 40) + word % (1 << 40)
+}
+
+fn with_jf(word: u64, jf: u64) -> u64
+    requires fits { jf < 2 ^ 8 }
+    ensures { result ≡ with_jf word jf }
+{
+    word / (1 << 40) * (1 << 40) + jf * (1 << 32) + word % (1 << 32)
+}
+
+fn with_k(word: u64, k: u64) -> u64
+    requires fits { k < 2 ^ 32 }
+    ensures { result ≡ with_k word k }
+{
+    word / (1 << 32) * (1 << 32) + k
 }
 
 // Fills holes with the end.

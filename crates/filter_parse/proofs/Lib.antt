@@ -8,6 +8,7 @@ mod JudgeLemmas
 mod TokenLemmas
 pub mod ScanLemmas
 mod PostfixLemmas
+mod TakenLemmas
 mod ParseLemmas
 mod LexLemmas
 mod PrintedLemmas

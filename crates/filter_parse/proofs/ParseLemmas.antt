@@ -12,20 +12,20 @@ use Rattle.filter_parse.specs.Grammar.{Spells}
 use Rattle.filter_parse.specs.Laws.{IsUnambiguous}
 use Rattle.filter_parse.specs.body.Parser.{postfix_of}
 use Rattle.filter_parse.proofs.Gathered.{with_tree}
-use Rattle.filter_parse.specs.body.Postfix.{built, depths_of, first_depth, truth}
+use Rattle.filter_parse.specs.body.Postfix.{HasTree as HasPartsOfTree, depths_of, first_depth, tree_parts}
 use Rattle.filter_parse.specs.Token.{Placed, kinds}
 use Rattle.filter_parse.specs.body.Scan.{tokens_of}
 use Rattle.filter_parse.proofs.RunLemmas.{run-spelt}
 use Rattle.filter_parse.proofs.SpeltLemmas.{IsSpelt, spelt-run}
 use Rattle.filter_parse.proofs.JudgeLemmas.{Says, postfix_of-says}
-use Rattle.filter_parse.proofs.PostfixLemmas.{built-tree, depths-tree, same-tree}
+use Rattle.filter_parse.proofs.PostfixLemmas.{depths-tree, reverse-tree, same-tree}
 use Rattle.filter_parse.proofs.ScanLemmas.{fault-by, fault-there, tree-by, tree-there}
 
 pub unambiguous : IsUnambiguous
 unambiguous tokens one other d e =
     let parts : Some (with_tree one []) ≡ Some (with_tree other []) = sym (run-spelt d) ∙ run-spelt e in
     let same : with_tree one [] ≡ with_tree other [] = cc in
-    same-tree one other same
+    (same-tree one other [] [] (sym (reverse-tree one []) ∙ ap reverse same ∙ reverse-tree other [])).0
 
 pub fault-says : (text : List ℕ) (fault : ParseFault) → postfix_of text ≡ Err fault → HasFault text fault
 fault-says text fault h = fault-there text fault (subst (Says text) h (postfix_of-says text))
@@ -64,28 +64,25 @@ parts-say text items h =
     let s = subst (Says text) h (postfix_of-says text) in
     (s.0, spelt-run (kinds (tokens_of text)) items s.1)
 
-pub parts-build : (text : List ℕ) (items : List Item) → postfix_of text ≡ Ok items → (tree : Tree) × (built items [] ≡ Some (truth tree ∷ []))
-parts-build text items h =
-    let s = parts-say text items h in
-    (s.1.0, ap (λ is. built is []) s.1.2 ∙ built-tree s.1.0 [] [])
+pub parts-tree : (text : List ℕ) (items : List Item) → postfix_of text ≡ Ok items → HasPartsOfTree (reverse items)
+parts-tree text items h = let s = parts-say text items h in (s.1.0, [], ap reverse s.1.2 ∙ reverse-tree s.1.0 [])
 
 parts-depth : (tree : Tree) (items : List Item) → items ≡ with_tree tree [] → first_depth (depths_of items []) ≡ min (depth_of tree) 65
 parts-depth tree items h = ap (λ is. first_depth (depths_of is [])) h ∙ ap first_depth (depths-tree tree [] [])
 
-pub deep-says : (text : List ℕ) (items : List Item) (depth : ℕ) → postfix_of text ≡ Ok items → depth ≡ first_depth (depths_of items []) → 64 < depth →
+pub deep-says : (text : List ℕ) (items read : List Item) → postfix_of text ≡ Ok items → read ≡ items → 64 < first_depth (depths_of read []) →
     HasFault text (TooDeep (length text))
-deep-says text items depth h measured below =
+deep-says text items read h is below =
     let s = parts-say text items h in
-    let same = parts-depth s.1.0 items s.1.2 in
+    let same = ap (λ parts. first_depth (depths_of parts [])) is ∙ parts-depth s.1.0 items s.1.2 in
     fault-there text (TooDeep (length text)) (deep s.0 s.1.1 (omega arith))
 
-pub tree-says : (text : List ℕ) (items : List Item) (depth : ℕ) (tree : Tree) → postfix_of text ≡ Ok items → depth ≡ first_depth (depths_of items []) → depth ≤ 64 →
-    built items [] ≡ Some (truth tree ∷ []) → HasTree text tree
-tree-says text items depth tree h measured above b =
+pub tree-says : (text : List ℕ) (items read : List Item) (tree : Tree) (below : List Item) → postfix_of text ≡ Ok items → read ≡ items →
+    first_depth (depths_of read []) ≤ 64 → reverse items ≡ tree_parts tree below → HasTree text tree
+tree-says text items read tree below h is above taken =
     let s = parts-say text items h in
-    let same = parts-depth s.1.0 items s.1.2 in
-    let found : built items [] ≡ Some (truth s.1.0 ∷ []) = ap (λ is. built is []) s.1.2 ∙ built-tree s.1.0 [] [] in
-    let one : s.1.0 ≡ tree = cc in
+    let same = ap (λ parts. first_depth (depths_of parts [])) is ∙ parts-depth s.1.0 items s.1.2 in
+    let one : s.1.0 ≡ tree = (same-tree s.1.0 tree [] below (sym (ap reverse s.1.2 ∙ reverse-tree s.1.0 []) ∙ taken)).0 in
     tree-there text tree
     (record {
       spelt = subst (λ t. Spells (kinds (tokens_of text)) t) one s.1.1;

@@ -1,111 +1,67 @@
--- The parts of a tree build that tree, and tell its depth.
-use Rattle.std.proofs.Common.{◌≡◌, ◌+◌, ◌∙◌, ◌∷◌, ◌++◌, ◌<◌, List, None, Option, Some, [], ap, arith, drop, get_or, length, max, min, option_and_then, option_map, refl, subst, suc, sym, ℕ}
-use Rattle.std.proofs.Math.Seq.{drop-cons}
-use Rattle.filter_tree.specs.declared.arithmetic.Operator.{Operator}
-use Rattle.filter_tree.specs.declared.arithmetic.Protocol.{Protocol}
-use Rattle.filter_tree.specs.declared.arithmetic.Size.{Size}
-use Rattle.filter_tree.specs.declared.expression.Relation.{Relation}
+-- The parts of a tree tell that tree and its depth.
+use Rattle.std.proofs.Common.{◌≡◌, ◌+◌, ◌≤◌, ◌∙◌, ◌∷◌, ◌++◌, List, [], ap, arith, length, max, min, refl, reverse, ℕ}
+use Rattle.std.proofs.lemmas.List.{reverse-append}
 use Rattle.filter_tree.specs.Measure.{depth_of, depth_of_arith}
 use Rattle.filter_tree.specs.Tree.{ArithTree, Tree, accessor, conjunction, disjunction, negation, number, operation, packet_length, primitive, relation}
 use Rattle.filter_parse.specs.declared.item.Item.{Item}
 use Rattle.filter_parse.specs.declared.item.Item.TheVariants.{Access, Conjoin, Disjoin, Length, Negate, Number, Operate, Primitive, Relate}
-use Rattle.filter_parse.proofs.Gathered.{and_then-same, and_then-twice, with_arith, with_tree}
-use Rattle.filter_parse.specs.body.Postfix.{Growth, Takes, arithmetic, built, deepened, deeper, depths_of, grown, over_two, truth}
+use Rattle.filter_parse.proofs.Gathered.{with_arith, with_tree}
+use Rattle.filter_parse.specs.body.Postfix.{arith_parts, deepened, deeper, depths_of, first_depth, other_depths, over_two, tree_parts}
 
--- what can be built takes its next part
-takes-case : (items : List Item) (found : Option (List Growth)) (whole : List Growth) → option_and_then (built items) found ≡ Some whole →
-    (more : List Growth) × (found ≡ Some more)
-takes-case items None whole h = absurd cc
-takes-case items (Some more) whole h = (more, refl)
+reverse-push : (items : List Item) (item : Item) → reverse (items ++ item ∷ []) ≡ item ∷ reverse items
+reverse-push items item = reverse-append items (item ∷ [])
 
-pub takes-next : (item : Item) (items : List Item) (trees whole : List Growth) → built (item ∷ items) trees ≡ Some whole → Takes item trees
-takes-next item items trees whole h = takes-case items (grown item trees) whole h
+-- the parts from the last on are those behind one another, backwards
+pub reverse-arith : (a : ArithTree) (items : List Item) → reverse (with_arith a items) ≡ arith_parts a (reverse items)
+reverse-arith (number n) items = reverse-push items (Number n)
+reverse-arith packet_length items = reverse-push items Length
+reverse-arith (accessor p index size) items = reverse-push (with_arith index items) (Access p size) ∙ ap (λ ps. Access p size ∷ ps) (reverse-arith index items)
+reverse-arith (operation a o b) items =
+    reverse-push (with_arith b (with_arith a items)) (Operate o)
+    ∙ ap (λ ps. Operate o ∷ ps) (reverse-arith b (with_arith a items) ∙ ap (arith_parts b) (reverse-arith a items))
 
-built-push : (items : List Item) (item : Item) (trees : List Growth) → built (items ++ item ∷ []) trees ≡ option_and_then (grown item) (built items trees)
-built-push [] item trees = and_then-same (built []) (λ ts. refl) (grown item trees)
-built-push (first ∷ items) item trees =
-    and_then-twice (built (items ++ item ∷ [])) (built items) (grown item) (built-push items item) (grown first trees)
-
-abbrev waiting_arith : ArithTree → Option (List Growth) → Option (List Growth)
-waiting_arith a found = option_map (λ trees. arithmetic a ∷ trees) found
-
-abbrev waiting_tree : Tree → Option (List Growth) → Option (List Growth)
-waiting_tree e found = option_map (λ trees. truth e ∷ trees) found
-
-number-case : (n : ℕ) (found : Option (List Growth)) → option_and_then (grown (Number n)) found ≡ waiting_arith (number n) found
-number-case n None = refl
-number-case n (Some trees) = refl
-
-length-case : (found : Option (List Growth)) → option_and_then (grown Length) found ≡ waiting_arith packet_length found
-length-case None = refl
-length-case (Some trees) = refl
-
-access-case : (p : Protocol) (size : Size) (a : ArithTree) (found : Option (List Growth)) →
-    option_and_then (grown (Access p size)) (waiting_arith a found) ≡ waiting_arith (accessor p a size) found
-access-case p size a None = refl
-access-case p size a (Some trees) = refl
-
-operate-case : (o : Operator) (a b : ArithTree) (found : Option (List Growth)) →
-    option_and_then (grown (Operate o)) (waiting_arith b (waiting_arith a found)) ≡ waiting_arith (operation a o b) found
-operate-case o a b None = refl
-operate-case o a b (Some trees) = refl
-
-pub built-arith : (a : ArithTree) (items : List Item) (trees : List Growth) → built (with_arith a items) trees ≡ waiting_arith a (built items trees)
-built-arith (number n) items trees = built-push items (Number n) trees ∙ number-case n (built items trees)
-built-arith packet_length items trees = built-push items Length trees ∙ length-case (built items trees)
-built-arith (accessor p index size) items trees =
-    built-push (with_arith index items) (Access p size) trees ∙ ap (option_and_then (grown (Access p size))) (built-arith index items trees)
-    ∙ access-case p size index (built items trees)
-built-arith (operation a o b) items trees =
-    built-push (with_arith b (with_arith a items)) (Operate o) trees
-    ∙ ap (option_and_then (grown (Operate o))) (built-arith b (with_arith a items) trees ∙ ap (waiting_arith b) (built-arith a items trees))
-    ∙ operate-case o a b (built items trees)
-
-relate-case : (r : Relation) (a b : ArithTree) (found : Option (List Growth)) →
-    option_and_then (grown (Relate r)) (waiting_arith b (waiting_arith a found)) ≡ waiting_tree (relation a r b) found
-relate-case r a b None = refl
-relate-case r a b (Some trees) = refl
-
-primitive-case : (e : Tree) (item : Item) → ((trees : List Growth) → grown item trees ≡ Some (truth e ∷ trees)) → (found : Option (List Growth)) →
-    option_and_then (grown item) found ≡ waiting_tree e found
-primitive-case e item h None = refl
-primitive-case e item h (Some trees) = h trees
-
-negate-case : (e : Tree) (found : Option (List Growth)) → option_and_then (grown Negate) (waiting_tree e found) ≡ waiting_tree (negation e) found
-negate-case e None = refl
-negate-case e (Some trees) = refl
-
-conjoin-case : (a b : Tree) (found : Option (List Growth)) → option_and_then (grown Conjoin) (waiting_tree b (waiting_tree a found)) ≡ waiting_tree (conjunction a b) found
-conjoin-case a b None = refl
-conjoin-case a b (Some trees) = refl
-
-disjoin-case : (a b : Tree) (found : Option (List Growth)) → option_and_then (grown Disjoin) (waiting_tree b (waiting_tree a found)) ≡ waiting_tree (disjunction a b) found
-disjoin-case a b None = refl
-disjoin-case a b (Some trees) = refl
-
-pub built-tree : (e : Tree) (items : List Item) (trees : List Growth) → built (with_tree e items) trees ≡ waiting_tree e (built items trees)
-built-tree (primitive p) items trees = built-push items (Primitive p) trees ∙ primitive-case (primitive p) (Primitive p) (λ t. refl) (built items trees)
-built-tree (relation a r b) items trees =
-    built-push (with_arith b (with_arith a items)) (Relate r) trees
-    ∙ ap (option_and_then (grown (Relate r))) (built-arith b (with_arith a items) trees ∙ ap (waiting_arith b) (built-arith a items trees))
-    ∙ relate-case r a b (built items trees)
-built-tree (negation e) items trees =
-    built-push (with_tree e items) Negate trees ∙ ap (option_and_then (grown Negate)) (built-tree e items trees) ∙ negate-case e (built items trees)
-built-tree (conjunction a b) items trees =
-    built-push (with_tree b (with_tree a items)) Conjoin trees
-    ∙ ap (option_and_then (grown Conjoin)) (built-tree b (with_tree a items) trees ∙ ap (waiting_tree b) (built-tree a items trees))
-    ∙ conjoin-case a b (built items trees)
-built-tree (disjunction a b) items trees =
-    built-push (with_tree b (with_tree a items)) Disjoin trees
-    ∙ ap (option_and_then (grown Disjoin)) (built-tree b (with_tree a items) trees ∙ ap (waiting_tree b) (built-tree a items trees))
-    ∙ disjoin-case a b (built items trees)
+pub reverse-tree : (e : Tree) (items : List Item) → reverse (with_tree e items) ≡ tree_parts e (reverse items)
+reverse-tree (primitive p) items = reverse-push items (Primitive p)
+reverse-tree (relation a r b) items =
+    reverse-push (with_arith b (with_arith a items)) (Relate r)
+    ∙ ap (λ ps. Relate r ∷ ps) (reverse-arith b (with_arith a items) ∙ ap (arith_parts b) (reverse-arith a items))
+reverse-tree (negation e) items = reverse-push (with_tree e items) Negate ∙ ap (λ ps. Negate ∷ ps) (reverse-tree e items)
+reverse-tree (conjunction a b) items =
+    reverse-push (with_tree b (with_tree a items)) Conjoin
+    ∙ ap (λ ps. Conjoin ∷ ps) (reverse-tree b (with_tree a items) ∙ ap (tree_parts b) (reverse-tree a items))
+reverse-tree (disjunction a b) items =
+    reverse-push (with_tree b (with_tree a items)) Disjoin
+    ∙ ap (λ ps. Disjoin ∷ ps) (reverse-tree b (with_tree a items) ∙ ap (tree_parts b) (reverse-tree a items))
 
 -- two trees with the same parts are one
-pub same-tree : (one other : Tree) → with_tree one [] ≡ with_tree other [] → one ≡ other
-same-tree one other h =
-    let e : Some (truth one ∷ []) ≡ Some (truth other ∷ []) =
-    sym (built-tree one [] []) ∙ ap (λ items. built items []) h ∙ built-tree other [] [] in
-    cc
+pub same-arith : (a b : ArithTree) (below other : List Item) → arith_parts a below ≡ arith_parts b other → (a ≡ b) × (below ≡ other)
+same-arith (number n) (number m) below other h = (cc, cc)
+same-arith packet_length packet_length below other h = (refl, cc)
+same-arith (accessor p index size) (accessor q place bytes) below other h =
+    let t : arith_parts index below ≡ arith_parts place other = cc in let e = same-arith index place below other t in (let f = e.0 in cc, e.1)
+same-arith (operation a o b) (operation c u d) below other h =
+    let t : arith_parts b (arith_parts a below) ≡ arith_parts d (arith_parts c other) = cc in
+    let e = same-arith b d (arith_parts a below) (arith_parts c other) t in
+    let f = same-arith a c below other e.1 in (let g = e.0 in let k = f.0 in cc, f.1)
+same-arith _ _ below other h = absurd cc
+
+pub same-tree : (one two : Tree) (below other : List Item) → tree_parts one below ≡ tree_parts two other → (one ≡ two) × (below ≡ other)
+same-tree (primitive p) (primitive q) below other h = (cc, cc)
+same-tree (relation a r b) (relation c s d) below other h =
+    let t : arith_parts b (arith_parts a below) ≡ arith_parts d (arith_parts c other) = cc in
+    let e = same-arith b d (arith_parts a below) (arith_parts c other) t in
+    let f = same-arith a c below other e.1 in (let g = e.0 in let k = f.0 in cc, f.1)
+same-tree (negation a) (negation b) below other h =
+    let t : tree_parts a below ≡ tree_parts b other = cc in let e = same-tree a b below other t in (let f = e.0 in cc, e.1)
+same-tree (conjunction a b) (conjunction c d) below other h =
+    let t : tree_parts b (tree_parts a below) ≡ tree_parts d (tree_parts c other) = cc in
+    let e = same-tree b d (tree_parts a below) (tree_parts c other) t in
+    let f = same-tree a c below other e.1 in (let g = e.0 in let k = f.0 in cc, f.1)
+same-tree (disjunction a b) (disjunction c d) below other h =
+    let t : tree_parts b (tree_parts a below) ≡ tree_parts d (tree_parts c other) = cc in
+    let e = same-tree b d (tree_parts a below) (tree_parts c other) t in
+    let f = same-tree a c below other e.1 in (let g = e.0 in let k = f.0 in cc, f.1)
+same-tree _ _ below other h = absurd cc
 
 depths-push : (items : List Item) (item : Item) (depths : List ℕ) → depths_of (items ++ item ∷ []) depths ≡ deepened item (depths_of items depths)
 depths-push [] item depths = refl
@@ -146,9 +102,42 @@ depths-tree (disjunction a b) items depths =
     ∙ ap (deepened Disjoin) (depths-tree b (with_tree a items) depths ∙ ap (λ d. min (depth_of b) 65 ∷ d) (depths-tree a items depths))
     ∙ over-two (depth_of a) (depth_of b) (depths_of items depths)
 
--- what can be built from a place on takes the part at that place
-pub takes-at : (items : List Item) (i : ℕ) (item : Item) (trees whole : List Growth) → i < length items → item ≡ get_or items i item →
-    built (drop i items) trees ≡ Some whole → Takes item trees
-takes-at items i item trees whole inside is h =
-    subst (λ m. Takes m trees) (sym is)
-    (takes-next (get_or items i item) (drop (suc i) items) trees whole (ap (λ ts. built ts trees) (sym (drop-cons items i item inside)) ∙ h))
+-- the greatest depth
+abbrev deepest : List ℕ → ℕ
+deepest [] = 0
+deepest (depth ∷ depths) = max depth (deepest depths)
+
+first-deepest : (depths : List ℕ) → first_depth depths ≤ deepest depths
+first-deepest [] = omega arith
+first-deepest (depth ∷ depths) = omega arith
+
+others-deepest : (depths : List ℕ) → deepest (other_depths depths) ≤ deepest depths
+others-deepest [] = omega arith
+others-deepest (depth ∷ depths) = omega arith
+
+over-one-deepest : (depths : List ℕ) → deepest (deeper (first_depth depths) ∷ other_depths depths) ≤ deepest depths + 1
+over-one-deepest depths = let f = first-deepest depths in let o = others-deepest depths in omega arith
+
+over-two-deepest : (depths : List ℕ) → deepest (over_two depths) ≤ deepest depths + 1
+over-two-deepest depths =
+    let f = first-deepest depths in let o = others-deepest depths in
+    let g = first-deepest (other_depths depths) in let p = others-deepest (other_depths depths) in omega arith
+
+one-deeper : (item : Item) (depths : List ℕ) → deepest (deepened item depths) ≤ deepest depths + 1
+one-deeper (Number n) depths = omega arith
+one-deeper Length depths = omega arith
+one-deeper (Primitive p) depths = omega arith
+one-deeper (Access p size) depths = over-one-deepest depths
+one-deeper Negate depths = over-one-deepest depths
+one-deeper (Operate o) depths = over-two-deepest depths
+one-deeper (Relate r) depths = over-two-deepest depths
+one-deeper Conjoin depths = over-two-deepest depths
+one-deeper Disjoin depths = over-two-deepest depths
+
+deepest-parts : (items : List Item) (depths : List ℕ) → deepest (depths_of items depths) ≤ deepest depths + length items
+deepest-parts [] depths = omega arith
+deepest-parts (item ∷ items) depths = let one = one-deeper item depths in let more = deepest-parts items (deepened item depths) in omega arith
+
+-- a tree has no more levels than parts
+pub few-levels : (items : List Item) → first_depth (depths_of items []) ≤ length items
+few-levels items = let f = first-deepest (depths_of items []) in let d = deepest-parts items [] in omega arith

@@ -1,5 +1,5 @@
 -- The scanner's tokens are the text's, and the text has no others.
-use Rattle.std.proofs.Common.{◌≡◌, ◌≢◌, ◌<◌, ◌≤◌, ◌+◌, ◌-◌, ◌∙◌, ◌∷◌, ◌++◌, ◌&&◌, Bool, List, None, Option, Some, [], ap, arith, cond, drop, false, length, refl, suc, sym, subst, take, true, zero, ℕ}
+use Rattle.std.proofs.Common.{◌≡◌, ◌≤◌, ◌+◌, ◌-◌, ◌∙◌, ◌∷◌, ◌++◌, ◌&&◌, Bool, List, None, Option, Some, [], ap, arith, cond, drop, false, length, refl, suc, sym, subst, take, true, zero, ℕ}
 use Rattle.std.proofs.Math.Seq.{drop-append_seam}
 use Rattle.std.proofs.lemmas.Bool.Decides.{nat_tests}
 use Rattle.std.specs.Char.{is_ascii_digit}
@@ -7,7 +7,7 @@ use Rattle.std.specs.List.{list_all, prefix_len}
 use Rattle.filter_parse.specs.declared.token.Lexeme.{Lexeme}
 use Rattle.filter_parse.specs.declared.token.Token.{Token}
 use Rattle.filter_parse.specs.Token.{AreTokens, BeginsSign, IsLongestRun, IsSpelling, Placed, StandsAlone, a_number, a_word, begins_word, blank_first, is_blank, is_number_part, is_word_part, no_more, number_or_address, one_sign, pair_sign, sign, token_first, two_signs, word_token}
-use Rattle.filter_parse.specs.body.Scan.{lexeme, sign_lexeme, sign_or, tokens_from, tokens_of}
+use Rattle.filter_parse.specs.body.Scan.{lexeme, sign_or, tokens_from, tokens_of}
 use Rattle.filter_tree.specs.Tree.{Tree}
 use Rattle.filter_parse.specs.declared.fault.ParseFault.{ParseFault}
 use Rattle.filter_parse.specs.Fault.{HasFault, HasTree, IsFaultOf, IsTreeOf}

@@ -15,10 +15,10 @@ use crate::token::Token;
 use filter_tree::{Protocol, Size};
 use std::alloc::Allocator;
 
-impl<A: Allocator> Parser<A> {
+impl<'a, A: Allocator> Parser<'a, A> {
     pub(crate) fn after_number(&mut self, lookahead: Token, at: usize) -> Result<(), ParseFault>
         ensures met { Meets (judged_by None at
-            (after_number lookahead (from_top self.old.stack) self.old.output.items)) result (parsing_of self.new) }
+            (after_number lookahead (from_top self.old.stack) self.old.output.entries.items)) result (parsing_of self.new) }
         ensures brackets { self.new.brackets ≡ self.old.brackets }
     {
         match (lookahead, self.stack.top()) {
@@ -50,7 +50,7 @@ impl<A: Allocator> Parser<A> {
         at: usize,
     ) -> Result<(), ParseFault>
         ensures met { Meets (judged_by None at
-            (sized_by protocol (size_of_number n) (from_top self.old.stack) self.old.output.items)) result (parsing_of self.new) }
+            (sized_by protocol (size_of_number n) (from_top self.old.stack) self.old.output.entries.items)) result (parsing_of self.new) }
         ensures brackets { self.new.brackets ≡ self.old.brackets }
     {
         match size_of_number(n) {
@@ -65,7 +65,7 @@ impl<A: Allocator> Parser<A> {
     /// Appends a whole operand to the output. What it is the right side of is reduced by the next lookahead.
     pub(crate) fn put_operand(&mut self, item: Item) -> Result<(), ParseFault>
         ensures put { MatchResult result
-            (λ _. parsing_of self.new ≡ parsing Number (from_top self.old.stack) (self.old.output.items ++ item ∷ []))
+            (λ _. parsing_of self.new ≡ parsing Number (from_top self.old.stack) (self.old.output.entries.items ++ item ∷ []))
             (λ fault. fault ≡ OutOfMemory) }
         ensures brackets { self.new.brackets ≡ self.old.brackets }
     {

@@ -1,12 +1,13 @@
 //! The depth of an expression in postfix order, without its tree.
 
-ghost use Rattle.std.specs.Prelude.{◌≡◌, ◌∷◌, IfOk, OnOk, [], map};
+ghost use Rattle.std.specs.Prelude.{◌≡◌, ◌<◌, ◌≤◌, ◌∷◌, IfOk, OnOk, [], false, true};
+ghost use Rattle.filter_parse.specs.declared.TheConstants.{MAX_DEPTH};
 ghost use Rattle.filter_parse.specs.body.Stack.{from_top};
 ghost use Rattle.filter_parse.specs.body.Postfix.{deepened, deeper, depths_of, first_depth, other_depths};
 
-use crate::OutOfMemory;
 use crate::item::Item;
 use crate::stack::Stack;
+use crate::{MAX_DEPTH, OutOfMemory};
 use std::alloc::Allocator;
 
 const TOO_DEEP: u32 = 65;
@@ -17,7 +18,7 @@ fn deeper(depth: u32) -> u32
     depth.saturating_add(1).min(TOO_DEEP)
 }
 
-fn pop_depth<A: Allocator>(depths: &mut Stack<u32, A>) -> u32
+fn pop_depth<'a, A: Allocator>(depths: &mut Stack<'a, u32, A>) -> u32
     ensures first { result ≡ first_depth (from_top depths.old) }
     ensures others { from_top depths.new ≡ other_depths (from_top depths.old) }
 {
@@ -27,7 +28,7 @@ fn pop_depth<A: Allocator>(depths: &mut Stack<u32, A>) -> u32
     }
 }
 
-fn deepen<A: Allocator>(depths: &mut Stack<u32, A>, item: Item) -> Result<(), OutOfMemory>
+fn deepen<'a, A: Allocator>(depths: &mut Stack<'a, u32, A>, item: Item) -> Result<(), OutOfMemory>
     ensures { OnOk result (from_top depths.new ≡ deepened item (from_top depths.old)) }
 {
     let depth = match item {
@@ -43,8 +44,19 @@ fn deepen<A: Allocator>(depths: &mut Stack<u32, A>, item: Item) -> Result<(), Ou
     Ok(())
 }
 
-/// Tells the depth of the tree of some parts, or 65 where it is greater.
-pub(crate) fn depth_of<A: Allocator>(alloc: A, items: &[Item]) -> Result<u32, OutOfMemory>
+/// Tests whether the tree of some parts is too deep. It has no more levels than parts.
+pub(crate) fn is_too_deep<A: Allocator>(alloc: &A, items: &[Item]) -> Result<bool, OutOfMemory>
+    ensures deep { IfOk result (λ deep. deep ≡ true → MAX_DEPTH < first_depth (depths_of items.now [])) }
+    ensures shallow { IfOk result (λ deep. deep ≡ false → first_depth (depths_of items.now []) ≤ MAX_DEPTH) }
+{
+    if items.len() <= MAX_DEPTH as usize {
+        return Ok(false);
+    }
+    Ok(depth_of(alloc, items)? > MAX_DEPTH)
+}
+
+// Tells the depth of the tree of some parts, or 65 where it is greater.
+fn depth_of<A: Allocator>(alloc: &A, items: &[Item]) -> Result<u32, OutOfMemory>
     ensures { IfOk result (λ depth. depth ≡ first_depth (depths_of items.now [])) }
 {
     let mut depths = Stack::new(alloc);

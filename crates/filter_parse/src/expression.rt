@@ -16,10 +16,10 @@ use crate::token::Token;
 use filter_tree::Transport;
 use std::alloc::Allocator;
 
-impl<A: Allocator> Parser<A> {
+impl<'a, A: Allocator> Parser<'a, A> {
     pub(crate) fn begin(&mut self, lookahead: Token, at: usize) -> Result<(), ParseFault>
         ensures met { Meets (judged_by (fault_in Expects self.old.brackets lookahead at) at
-            (begins lookahead (from_top self.old.stack) self.old.output.items)) result (parsing_of self.new) }
+            (begins lookahead (from_top self.old.stack) self.old.output.entries.items)) result (parsing_of self.new) }
         ensures brackets { self.new.brackets ≡ self.old.brackets }
     {
         match lookahead {
@@ -41,7 +41,7 @@ impl<A: Allocator> Parser<A> {
 
     fn begin_truth(&mut self, lookahead: Token, at: usize) -> Result<(), ParseFault>
         ensures met { Meets (judged_by None at
-            (begins_truth lookahead (from_top self.old.stack) self.old.output.items)) result (parsing_of self.new) }
+            (begins_truth lookahead (from_top self.old.stack) self.old.output.entries.items)) result (parsing_of self.new) }
         ensures brackets { self.new.brackets ≡ self.old.brackets }
     {
         match lookahead {
@@ -60,7 +60,7 @@ impl<A: Allocator> Parser<A> {
 
     pub(crate) fn after_truth(&mut self, lookahead: Token, at: usize) -> Result<(), ParseFault>
         ensures met { Meets (judged_by None at
-            (after_truth lookahead (from_top self.old.stack) self.old.output.items)) result (parsing_of self.new) }
+            (after_truth lookahead (from_top self.old.stack) self.old.output.entries.items)) result (parsing_of self.new) }
         ensures brackets { self.new.brackets ≡ self.old.brackets }
     {
         match (lookahead, self.stack.top()) {
@@ -78,7 +78,7 @@ impl<A: Allocator> Parser<A> {
     /// Leaves pending what the lookahead began, until its right side is whole.
     pub(crate) fn push(&mut self, pending: Pending) -> Result<(), ParseFault>
         ensures pushed { MatchResult result
-            (λ _. parsing_of self.new ≡ parsing Expects (pending ∷ from_top self.old.stack) self.old.output.items)
+            (λ _. parsing_of self.new ≡ parsing Expects (pending ∷ from_top self.old.stack) self.old.output.entries.items)
             (λ fault. fault ≡ OutOfMemory) }
         ensures brackets { self.new.brackets ≡ self.old.brackets }
     {

@@ -30,10 +30,10 @@ mod step;
 mod token;
 
 use build::build;
-use depth::depth_of;
+use depth::is_too_deep;
 pub use fault::ParseFault;
 use filter_tree::Expr;
-use parser::postfix_of;
+use parser::Parser;
 use std::alloc::Allocator;
 
 /// The answer of a call that was refused memory.
@@ -57,11 +57,12 @@ pub fn parse<A: Allocator + Clone>(alloc: A, text: &[u8]) -> Result<Expr<A>, Par
     ensures fault { IfErr result (λ fault. (fault ≡ ParseFault.OutOfMemory) ⊎ HasFault text.now fault) }
     ensures every_tree { (tree : Tree) → HasTree text.now tree → IfErr result (λ fault. fault ≡ ParseFault.OutOfMemory) }
 {
-    let items = postfix_of(alloc.clone()?, text)?;
-    if depth_of(alloc.clone()?, &items)? > MAX_DEPTH {
+    let mut parser = Parser::new(&alloc);
+    parser.read(text)?;
+    if is_too_deep(&alloc, parser.output.entries())? {
         return Err(ParseFault::TooDeep { at: text.len() });
     }
-    Ok(build(alloc, &items)?)
+    Ok(build(&alloc, &mut parser.output)?)
 }
 
 /// No tokens spell two trees, so a text has at most one. A text with a tree has no fault, and each other text at most one.

@@ -1,8 +1,9 @@
 //! The parser: it goes over the tokens of a text once, and gives the expression in postfix order or the text's fault.
 
-ghost use Rattle.std.specs.Prelude.{◌≡◌, ◌⊎◌, Err, MatchResult, None, Ok};
+ghost use Rattle.std.specs.Prelude.{◌≡◌, ◌⊎◌, [], Err, MatchResult, None, Ok};
 ghost use Rattle.filter_parse.specs.declared.fault.ParseFault.TheVariants.{OutOfMemory};
-ghost use Rattle.filter_parse.specs.body.Parser.{accepted, at_end, parsing_of, postfix_of, reduced};
+ghost use Rattle.filter_parse.specs.declared.state.State.TheVariants.{Expects};
+ghost use Rattle.filter_parse.specs.body.Parser.{accepted, at_end, parsing, parsing_of, postfix_of, reduced};
 
 use crate::fault::ParseFault;
 use crate::item::Item;
@@ -13,46 +14,52 @@ use std::alloc::Allocator;
 
 /// What has been shifted last, what is pending, the output so far, and how many brackets are open.
 #[derive(Drop)]
-pub(crate) struct Parser<A: Allocator> {
+pub(crate) struct Parser<'a, A: Allocator> {
     pub(crate) state: State,
-    pub(crate) stack: Stack<Pending, A>,
-    pub(crate) output: Vec<Item, A>,
+    pub(crate) stack: Stack<'a, Pending, A>,
+    pub(crate) output: Stack<'a, Item, A>,
     pub(crate) brackets: usize,
 }
 
-/// Reads a whole text: gives the parts of its expression in postfix order, or its fault.
-pub(crate) fn postfix_of<A: Allocator + Clone>(
-    alloc: A,
-    text: &[u8],
-) -> Result<Vec<Item, A>, ParseFault>
-    ensures { MatchResult result
-        (λ items. postfix_of text.now ≡ Ok items.items)
-        (λ fault. (fault ≡ OutOfMemory) ⊎ (postfix_of text.now ≡ Err fault)) }
-{
-    let mut parser = Parser {
-        state: State::Expects,
-        stack: Stack::new(alloc.clone()?),
-        output: Vec::new(alloc),
-        brackets: 0,
-    };
-    let mut at = 0;
-    while let Some(found) = next_token(text, at) {
-        parser.step(found.token, found.place)?;
-        at = found.end;
+impl<'a, A: Allocator> Parser<'a, A> {
+    /// A parser before a text.
+    pub(crate) fn new(alloc: &'a A) -> Parser<'a, A>
+        ensures start { parsing_of result ≡ parsing Expects [] [] }
+        ensures brackets { result.brackets ≡ 0 }
+    {
+        Parser {
+            state: State::Expects,
+            stack: Stack::new(alloc),
+            output: Stack::new(alloc),
+            brackets: 0,
+        }
     }
-    parser.finish(text.len())
-}
 
-impl<A: Allocator> Parser<A> {
-    /// Gives the output, where the expression that was read is whole before a place.
-    fn finish(mut self, at: usize) -> Result<Vec<Item, A>, ParseFault>
+    /// Reads a whole text: its output is the parts of the text's expression in postfix order. Else gives the text's fault.
+    pub(crate) fn read(&mut self, text: &[u8]) -> Result<(), ParseFault>
+        requires start { parsing_of self.old ≡ parsing Expects [] [] }
+        requires brackets { self.old.brackets ≡ 0 }
         ensures { MatchResult result
-            (λ items. at_end at (accepted (reduced None (parsing_of self))) ≡ Ok items.items)
-            (λ fault. (fault ≡ OutOfMemory) ⊎ (at_end at (accepted (reduced None (parsing_of self))) ≡ Err fault)) }
+            (λ _. postfix_of text.now ≡ Ok self.new.output.entries.items)
+            (λ fault. (fault ≡ OutOfMemory) ⊎ (postfix_of text.now ≡ Err fault)) }
+    {
+        let mut at = 0;
+        while let Some(found) = next_token(text, at) {
+            self.step(found.token, found.place)?;
+            at = found.end;
+        }
+        self.finish(text.len())
+    }
+
+    // Tells whether the expression that was read is whole before a place.
+    fn finish(&mut self, at: usize) -> Result<(), ParseFault>
+        ensures { MatchResult result
+            (λ _. at_end at (accepted (reduced None (parsing_of self.old))) ≡ Ok self.new.output.entries.items)
+            (λ fault. (fault ≡ OutOfMemory) ⊎ (at_end at (accepted (reduced None (parsing_of self.old))) ≡ Err fault)) }
     {
         self.reduce(None)?;
         match (self.state, self.stack.top()) {
-            (State::Truth, None) => Ok(self.output),
+            (State::Truth, None) => Ok(()),
             _ => Err(ParseFault::Syntax { at }),
         }
     }

@@ -15,10 +15,10 @@ use crate::token::Token;
 use filter_tree::{Direction, Operator, Primitive};
 use std::alloc::Allocator;
 
-impl<A: Allocator> Parser<A> {
+impl<'a, A: Allocator> Parser<'a, A> {
     pub(crate) fn in_primitive(&mut self, lookahead: Token, at: usize) -> Result<(), ParseFault>
         ensures met { Meets (judged_by (fault_in self.old.state self.old.brackets lookahead at) at
-            (in_primitive self.old.state lookahead (from_top self.old.stack) self.old.output.items)) result (parsing_of self.new) }
+            (in_primitive self.old.state lookahead (from_top self.old.stack) self.old.output.entries.items)) result (parsing_of self.new) }
         ensures brackets { self.new.brackets ≡ self.old.brackets }
     {
         match (self.state, lookahead) {
@@ -52,7 +52,7 @@ impl<A: Allocator> Parser<A> {
 
     fn number_in_primitive(&mut self, n: u64, at: usize) -> Result<(), ParseFault>
         ensures met { Meets (judged_by (fault_in self.old.state self.old.brackets (Number n) at) at
-            (in_primitive self.old.state (Number n) (from_top self.old.stack) self.old.output.items)) result (parsing_of self.new) }
+            (in_primitive self.old.state (Number n) (from_top self.old.stack) self.old.output.entries.items)) result (parsing_of self.new) }
         ensures brackets { self.new.brackets ≡ self.old.brackets }
     {
         let primitive = match self.state {
@@ -81,7 +81,7 @@ impl<A: Allocator> Parser<A> {
 
     pub(crate) fn put_primitive(&mut self, primitive: Primitive) -> Result<(), ParseFault>
         ensures put { MatchResult result
-            (λ _. parsing_of self.new ≡ reduced_connectives (from_top self.old.stack) (self.old.output.items ++ PutPrimitive primitive ∷ []))
+            (λ _. parsing_of self.new ≡ reduced_connectives (from_top self.old.stack) (self.old.output.entries.items ++ PutPrimitive primitive ∷ []))
             (λ fault. fault ≡ OutOfMemory) }
         ensures brackets { self.new.brackets ≡ self.old.brackets }
     {

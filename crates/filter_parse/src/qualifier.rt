@@ -14,7 +14,7 @@ use crate::token::{Connective, Token};
 use filter_tree::{Direction, Protocol, Transport};
 use std::alloc::Allocator;
 
-impl<A: Allocator> Parser<A> {
+impl<'a, A: Allocator> Parser<'a, A> {
     pub(crate) fn after_name(
         &mut self,
         protocol: Protocol,
@@ -22,7 +22,7 @@ impl<A: Allocator> Parser<A> {
         at: usize,
     ) -> Result<(), ParseFault>
         ensures met { Meets (judged_by (fault_in (Named protocol) self.old.brackets lookahead at) at
-            (after_name protocol lookahead (from_top self.old.stack) self.old.output.items)) result (parsing_of self.new) }
+            (after_name protocol lookahead (from_top self.old.stack) self.old.output.entries.items)) result (parsing_of self.new) }
         ensures brackets { self.new.brackets ≡ self.old.brackets }
     {
         match lookahead {
@@ -42,7 +42,7 @@ impl<A: Allocator> Parser<A> {
         at: usize,
     ) -> Result<(), ParseFault>
         ensures met { Meets (judged_by None at
-            (after_protocol protocol lookahead (from_top self.old.stack) self.old.output.items)) result (parsing_of self.new) }
+            (after_protocol protocol lookahead (from_top self.old.stack) self.old.output.entries.items)) result (parsing_of self.new) }
         ensures brackets { self.new.brackets ≡ self.old.brackets }
     {
         match (protocol, lookahead) {
@@ -63,7 +63,7 @@ impl<A: Allocator> Parser<A> {
         at: usize,
     ) -> Result<(), ParseFault>
         ensures met { Meets (judged_by None at
-            (begins_direction transport lookahead (from_top self.old.stack) self.old.output.items)) result (parsing_of self.new) }
+            (begins_direction transport lookahead (from_top self.old.stack) self.old.output.entries.items)) result (parsing_of self.new) }
         ensures brackets { self.new.brackets ≡ self.old.brackets }
     {
         match lookahead {
@@ -81,7 +81,7 @@ impl<A: Allocator> Parser<A> {
         at: usize,
     ) -> Result<(), ParseFault>
         ensures met { Meets (judged_by None at
-            (after_source transport lookahead (from_top self.old.stack) self.old.output.items)) result (parsing_of self.new) }
+            (after_source transport lookahead (from_top self.old.stack) self.old.output.entries.items)) result (parsing_of self.new) }
         ensures brackets { self.new.brackets ≡ self.old.brackets }
     {
         let direction = match lookahead {
@@ -101,7 +101,7 @@ impl<A: Allocator> Parser<A> {
         at: usize,
     ) -> Result<(), ParseFault>
         ensures met { Meets (judged_by None at
-            (in_direction lookahead transport direction (from_top self.old.stack) self.old.output.items)) result (parsing_of self.new) }
+            (in_direction lookahead transport direction (from_top self.old.stack) self.old.output.entries.items)) result (parsing_of self.new) }
         ensures brackets { self.new.brackets ≡ self.old.brackets }
     {
         self.state = match (lookahead, transport) {

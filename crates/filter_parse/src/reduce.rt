@@ -16,7 +16,7 @@ use crate::token::{Connective, Token};
 use filter_tree::{Operator, Primitive, Protocol};
 use std::alloc::Allocator;
 
-impl<A: Allocator> Parser<A> {
+impl<'a, A: Allocator> Parser<'a, A> {
     /// Reduces what the lookahead leaves whole.
     pub(crate) fn reduce(&mut self, lookahead: Option<Token>) -> Result<(), OutOfMemory>
         ensures reduced { OnOk result (parsing_of self.new ≡ reduced lookahead (parsing_of self.old)) }
@@ -68,7 +68,7 @@ impl<A: Allocator> Parser<A> {
     /// Appends a whole primitive to the output, and reduces what it is the right side of.
     pub(crate) fn reduce_primitive(&mut self, primitive: Primitive) -> Result<(), OutOfMemory>
         ensures put { OnOk result (parsing_of self.new
-            ≡ reduced_connectives (from_top self.old.stack) (self.old.output.items ++ PutPrimitive primitive ∷ [])) }
+            ≡ reduced_connectives (from_top self.old.stack) (self.old.output.entries.items ++ PutPrimitive primitive ∷ [])) }
         ensures brackets { self.new.brackets ≡ self.old.brackets }
     {
         self.output.push(Item::Primitive(primitive))?;
@@ -78,13 +78,13 @@ impl<A: Allocator> Parser<A> {
     }
 }
 
-fn reduce_operators<A: Allocator>(
-    stack: &mut Stack<Pending, A>,
-    output: &mut Vec<Item, A>,
+fn reduce_operators<'a, A: Allocator>(
+    stack: &mut Stack<'a, Pending, A>,
+    output: &mut Stack<'a, Item, A>,
     precedence: u32,
 ) -> Result<(), OutOfMemory>
     ensures { OnOk result
-        (parsing Number (from_top stack.new) output.new.items ≡ reduced_operators precedence (from_top stack.old) output.old.items) }
+        (parsing Number (from_top stack.new) output.new.entries.items ≡ reduced_operators precedence (from_top stack.old) output.old.entries.items) }
 {
     while let Some(operator) = reducible(stack, precedence) {
         let _ = stack.pop();
@@ -94,12 +94,12 @@ fn reduce_operators<A: Allocator>(
 }
 
 /// Reduces `not`, and one `and` or `or` below: they bind alike and associate to the left, so no two wait on one another.
-pub(crate) fn reduce_connectives<A: Allocator>(
-    stack: &mut Stack<Pending, A>,
-    output: &mut Vec<Item, A>,
+pub(crate) fn reduce_connectives<'a, A: Allocator>(
+    stack: &mut Stack<'a, Pending, A>,
+    output: &mut Stack<'a, Item, A>,
 ) -> Result<(), OutOfMemory>
     ensures { OnOk result
-        (parsing Truth (from_top stack.new) output.new.items ≡ reduced_connectives (from_top stack.old) output.old.items) }
+        (parsing Truth (from_top stack.new) output.new.entries.items ≡ reduced_connectives (from_top stack.old) output.old.entries.items) }
 {
     while let Some(Pending::Negated) = stack.top() {
         let _ = stack.pop();
@@ -112,7 +112,7 @@ pub(crate) fn reduce_connectives<A: Allocator>(
     Ok(())
 }
 
-fn reducible<A: Allocator>(stack: &Stack<Pending, A>, precedence: u32) -> Option<Operator>
+fn reducible<'a, A: Allocator>(stack: &Stack<'a, Pending, A>, precedence: u32) -> Option<Operator>
     ensures { result ≡ reducible precedence (from_top stack.now) }
 {
     match stack.top() {
@@ -181,7 +181,7 @@ fn junction_of(word: Connective) -> Item
 }
 
 /// Tests whether only an arithmetic expression may stand above the top.
-pub(crate) fn is_numeric<A: Allocator>(stack: &Stack<Pending, A>) -> bool
+pub(crate) fn is_numeric<'a, A: Allocator>(stack: &Stack<'a, Pending, A>) -> bool
     ensures { result ≡ is_numeric (from_top stack.now) }
 {
     match stack.top() {

@@ -1,27 +1,30 @@
-//! A stack of the parser: a vector whose last element is the top.
+//! A stack of the parser: a list whose last element is the top.
 
-ghost use Rattle.std.specs.Prelude.{◌≡◌, ◌∷◌, OnOk, []};
+ghost use Rattle.std.specs.Prelude.{◌≡◌, ◌++◌, ◌∷◌, OnOk, [], length};
 ghost use Rattle.filter_parse.specs.body.Stack.{below_top, from_top, top_of};
 
 use crate::OutOfMemory;
+use smallvec::SmallVec;
 use std::alloc::Allocator;
 
+// Short texts need no memory for it.
 #[derive(Drop)]
-pub(crate) struct Stack<T: Drop, A: Allocator> {
-    entries: Vec<T, A>,
+pub(crate) struct Stack<'a, T: Copy + Default + Drop, A: Allocator> {
+    entries: SmallVec<T, 16, &'a A>,
 }
 
-impl<T: Drop, A: Allocator> Stack<T, A> {
-    pub(crate) fn new(alloc: A) -> Stack<T, A>
-        ensures { from_top result ≡ [] }
+impl<'a, T: Copy + Default + Drop, A: Allocator> Stack<'a, T, A> {
+    pub(crate) fn new(alloc: &'a A) -> Stack<'a, T, A>
+        ensures { result.entries.items ≡ [] }
     {
         Stack {
-            entries: Vec::new(alloc),
+            entries: SmallVec::new(alloc),
         }
     }
 
     pub(crate) fn push(&mut self, entry: T) -> Result<(), OutOfMemory>
-        ensures { OnOk result (from_top self.new ≡ entry ∷ from_top self.old) }
+        ensures top { OnOk result (from_top self.new ≡ entry ∷ from_top self.old) }
+        ensures last { OnOk result (self.new.entries.items ≡ self.old.entries.items ++ entry ∷ []) }
     {
         self.entries.push(entry)?;
         Ok(())
@@ -33,12 +36,17 @@ impl<T: Drop, A: Allocator> Stack<T, A> {
     {
         self.entries.pop()
     }
-}
 
-impl<T: Copy + Drop, A: Allocator> Stack<T, A> {
     pub(crate) fn top(&self) -> Option<T>
         ensures { result ≡ top_of (from_top self.now) }
     {
-        self.entries.last().copied()
+        self.entries.as_slice().last().copied()
+    }
+
+    /// The entries, the top last.
+    pub(crate) fn entries(&self) -> &[T]
+        ensures { result.now ≡ self.now.entries.items }
+    {
+        self.entries.as_slice()
     }
 }

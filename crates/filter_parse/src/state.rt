@@ -54,11 +54,12 @@ pub(crate) enum State {
 }
 
 /// What is pending on the stack, until its right side is whole.
-#[derive(Clone, Copy, Debug, PartialEq, Eq)]
+#[derive(Clone, Copy, Debug, Default, PartialEq, Eq)]
 pub(crate) enum Pending {
     /// An expression and `and` or `or`.
     Joined(Connective),
     /// `not`.
+    #[default]
     Negated,
     /// `(`, and whether only an arithmetic expression may stand in it.
     Bracket(bool),

@@ -12,7 +12,7 @@ use crate::state::State;
 use crate::token::Token;
 use std::alloc::Allocator;
 
-impl<A: Allocator> Parser<A> {
+impl<'a, A: Allocator> Parser<'a, A> {
     /// Takes the lookahead, which stands at a place.
     pub(crate) fn step(&mut self, lookahead: Token, at: usize) -> Result<(), ParseFault>
         requires { self.old.brackets ≤ MAX_DEPTH }

@@ -1,5 +1,5 @@
 -- What it is to fill a jump.
-use Rattle.std.specs.Prelude.{◌≡◌, ◌-◌, List, Ok, slice_set, ℕ}
+use Rattle.std.specs.Prelude.{◌≡◌, ◌+◌, ◌-◌, ◌*◌, ◌/◌, ◌%◌, ◌^◌, ◌<◌, List, Ok, slice_set, ℕ}
 use Rattle.bpf_insn.specs.Word.{instruction_of}
 use Rattle.bpf_insn.specs.declared.instruction.Insn.{Insn}
 use Rattle.bpf_insn.specs.declared.instruction.Insn.TheVariants.{Jump, JumpIf}
@@ -15,6 +15,29 @@ with_offset WhenTrue k (JumpIf test operand skips) = JumpIf test operand (offset
 with_offset WhenFalse k (JumpIf test operand skips) = JumpIf test operand (offsets skips.jt k)
 with_offset Always k (Jump old) = Jump k
 with_offset _ k insn = insn
+
+-- a word with another jt
+abbrev pub with_jt : ℕ → ℕ → ℕ
+with_jt word jt = word / 2 ^ 48 * 2 ^ 48 + jt * 2 ^ 40 + word % 2 ^ 40
+
+-- a word with another jf
+abbrev pub with_jf : ℕ → ℕ → ℕ
+with_jf word jf = word / 2 ^ 40 * 2 ^ 40 + jf * 2 ^ 32 + word % 2 ^ 32
+
+-- a word with another k
+abbrev pub with_k : ℕ → ℕ → ℕ
+with_k word k = word / 2 ^ 32 * 2 ^ 32 + k
+
+-- a word with another jump of its instruction
+abbrev pub with_skip : Side → ℕ → ℕ → ℕ
+with_skip WhenTrue word k = with_jt word k
+with_skip WhenFalse word k = with_jf word k
+with_skip Always word k = with_k word k
+
+-- a jump is in its range
+abbrev pub SkipFits : Side → ℕ → Type 0
+SkipFits Always k = k < 2 ^ 32
+SkipFits _ k = k < 2 ^ 8
 
 -- the jump of a hole is filled
 abbrev pub IsFilledIn : Hole → ℕ → List ℕ → List ℕ → Type 0

@@ -267,7 +267,7 @@ postfix_of text = postfix_from (tokens_of text) (length text) 0 (parsing Expects
 
 -- what a contract sees of a `Parser`
 abbrev pub parsing_of : {A : Type 0} → Parser A → Parsing
-parsing_of parser = parsing parser.state (from_top parser.stack) parser.output.items
+parsing_of parser = parsing parser.state (from_top parser.stack) parser.output.entries.items
 
 -- the operator on top where it binds at least as tightly as a precedence says
 abbrev pub reducible : ℕ → List Pending → Option Operator

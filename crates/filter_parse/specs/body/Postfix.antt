@@ -1,53 +1,31 @@
 -- Trees and their depths out of parts in postfix order.
-use Rattle.std.specs.Prelude.{◌≡◌, ◌+◌, ◌∷◌, List, None, Option, Some, [], max, min, option_and_then, ℕ}
+use Rattle.std.specs.Prelude.{◌≡◌, ◌+◌, ◌∷◌, List, [], max, min, ℕ}
 use Rattle.filter_tree.specs.Tree.{ArithTree, Tree, accessor, conjunction, disjunction, negation, number, operation, packet_length, primitive, relation}
-use Rattle.filter_tree.specs.View.{arith_tree_of, tree_of}
-use Rattle.filter_parse.specs.declared.build.Part.{Part}
-use Rattle.filter_parse.specs.declared.build.Part.TheVariants.{Arithmetic, Truth}
 use Rattle.filter_parse.specs.declared.item.Item.{Item}
 use Rattle.filter_parse.specs.declared.item.Item.TheVariants.{Access, Conjoin, Disjoin, Length, Negate, Number, Operate, Primitive, Relate}
 
--- a tree that waits for the part that takes it
-pub data Growth : Type 0 where
-  arithmetic : ArithTree → Growth
-  truth : Tree → Growth
+-- a tree's parts from the last on, above others
+abbrev pub arith_parts : ArithTree → List Item → List Item
+arith_parts (number n) below = Number n ∷ below
+arith_parts packet_length below = Length ∷ below
+arith_parts (accessor protocol index size) below = Access protocol size ∷ arith_parts index below
+arith_parts (operation left operator right) below = Operate operator ∷ arith_parts right (arith_parts left below)
 
--- what a part makes of the trees that wait, the last first
-abbrev pub grown : Item → List Growth → Option (List Growth)
-grown (Number n) trees = Some (arithmetic (number n) ∷ trees)
-grown Length trees = Some (arithmetic packet_length ∷ trees)
-grown (Access protocol size) (arithmetic index ∷ trees) = Some (arithmetic (accessor protocol index size) ∷ trees)
-grown (Operate operator) (arithmetic right ∷ arithmetic left ∷ trees) = Some (arithmetic (operation left operator right) ∷ trees)
-grown (Primitive p) trees = Some (truth (primitive p) ∷ trees)
-grown (Relate relator) (arithmetic right ∷ arithmetic left ∷ trees) = Some (truth (relation left relator right) ∷ trees)
-grown Negate (truth tree ∷ trees) = Some (truth (negation tree) ∷ trees)
-grown Conjoin (truth right ∷ truth left ∷ trees) = Some (truth (conjunction left right) ∷ trees)
-grown Disjoin (truth right ∷ truth left ∷ trees) = Some (truth (disjunction left right) ∷ trees)
-grown _ _ = None
+-- the same of an expression
+abbrev pub tree_parts : Tree → List Item → List Item
+tree_parts (primitive p) below = Primitive p ∷ below
+tree_parts (relation left relator right) below = Relate relator ∷ arith_parts right (arith_parts left below)
+tree_parts (negation tree) below = Negate ∷ tree_parts tree below
+tree_parts (conjunction left right) below = Conjoin ∷ tree_parts right (tree_parts left below)
+tree_parts (disjunction left right) below = Disjoin ∷ tree_parts right (tree_parts left below)
 
--- what some parts make of them, one behind the other
-abbrev pub built : List Item → List Growth → Option (List Growth)
-built [] trees = Some trees
-built (item ∷ items) trees = option_and_then (built items) (grown item trees)
+-- the parts of an arithmetic expression are on top
+abbrev pub HasArithmetic : List Item → Type 0
+HasArithmetic parts = (tree : ArithTree) × (below : List Item) × (parts ≡ arith_parts tree below)
 
--- the trees that wait have what a part takes
-abbrev pub Takes : Item → List Growth → Type 0
-Takes item trees = (more : List Growth) × (grown item trees ≡ Some more)
-
--- the last tree is an arithmetic expression
-abbrev pub IsArithmeticFirst : List Growth → Type 0
-IsArithmeticFirst (arithmetic a ∷ trees) = Unit {0}
-IsArithmeticFirst _ = ⊥
-
--- the last tree is an expression
-abbrev pub IsTruthFirst : List Growth → Type 0
-IsTruthFirst (truth e ∷ trees) = Unit {0}
-IsTruthFirst _ = ⊥
-
--- what a contract sees of a `Part`
-abbrev pub growth_of : {A : Type 0} → Part A → Growth
-growth_of (Arithmetic a) = arithmetic (arith_tree_of a)
-growth_of (Truth e) = truth (tree_of e)
+-- the parts of an expression are on top
+abbrev pub HasTree : List Item → Type 0
+HasTree parts = (tree : Tree) × (below : List Item) × (parts ≡ tree_parts tree below)
 
 -- depths past 64 are all alike
 abbrev pub deeper : ℕ → ℕ

@@ -1,0 +1,143 @@
+-- The jump of an instruction stands in bits of its word.
+use Rattle.std.proofs.Common.{◌≡◌, ◌==◌, ◌∙◌, ◌<◌, ◌^◌, Bool, List, Ok, Option, Some, [], ap, arith, cond, false, refl, subst, sym, true, ◌∷◌, ◌-◌, ◌≤◌, ℕ}
+use Rattle.std.specs.Prelude.{slice_index_or, slice_set}
+use Rattle.std.proofs.lemmas.Option.{get_or_from_slice_get}
+use Rattle.bpf_insn.proofs.WordLemmas.{instruction_of-complete, instruction_of-sound, instruction_of-word_of}
+use Rattle.bpf_insn.specs.declared.instruction.Insn.{Insn}
+use Rattle.bpf_insn.specs.declared.instruction.Insn.TheVariants.{Jump, JumpIf}
+use Rattle.bpf_insn.specs.declared.instruction.Operand.{Operand}
+use Rattle.bpf_insn.specs.declared.instruction.Operand.TheVariants.{K, X}
+use Rattle.bpf_insn.specs.Table.{Entry, Uses, instruction_with, offsets, table, uses_in, uses_of}
+use Rattle.bpf_insn.specs.Word.{FieldsFit, OperandFits, instruction_of, operand_word, test_code, word, word_of}
+use Rattle.backpatch.specs.declared.hole.Side.{Side}
+use Rattle.backpatch.specs.declared.hole.Side.TheVariants.{Always, WhenFalse, WhenTrue}
+use Rattle.backpatch.specs.declared.hole.Hole.{Hole}
+use Rattle.backpatch.specs.Holes.{CanReach, HasJump, offset_of}
+use Rattle.backpatch.specs.body.Filling.{IsFilledIn, SkipFits, with_jf, with_jt, with_k, with_offset, with_skip}
+
+-- fields in their ranges make an instruction with fields in their ranges
+abbrev Fits : Uses → Type 0
+Fits uses = (jt jf k : ℕ) → jt < 2 ^ 8 → jf < 2 ^ 8 → k < 2 ^ 32 → FieldsFit (instruction_with uses jt jf k)
+
+data AllFit : List Entry → Type 0 where
+  no_entries : AllFit []
+  ◌▹◌ : {entry : Entry} {entries : List Entry} → Fits entry.uses → AllFit entries → AllFit (entry ∷ entries)
+
+infixr 5 ◌▹◌
+table-fits : AllFit table
+unfolding table
+table-fits =
+    (λ jt jf k a b c. c)
+    ▹ (λ jt jf k a b c. c)
+    ▹ (λ jt jf k a b c. c)
+    ▹ (λ jt jf k a b c. c)
+    ▹ (λ jt jf k a b c. c)
+    ▹ (λ jt jf k a b c. c)
+    ▹ (λ jt jf k a b c. c)
+    ▹ (λ jt jf k a b c. c)
+    ▹ (λ jt jf k a b c. tt)
+    ▹ (λ jt jf k a b c. c)
+    ▹ (λ jt jf k a b c. c)
+    ▹ (λ jt jf k a b c. tt)
+    ▹ (λ jt jf k a b c. c)
+    ▹ (λ jt jf k a b c. c)
+    ▹ (λ jt jf k a b c. c)
+    ▹ (λ jt jf k a b c. c)
+    ▹ (λ jt jf k a b c. tt)
+    ▹ (λ jt jf k a b c. c)
+    ▹ (λ jt jf k a b c. tt)
+    ▹ (λ jt jf k a b c. c)
+    ▹ (λ jt jf k a b c. tt)
+    ▹ (λ jt jf k a b c. c)
+    ▹ (λ jt jf k a b c. tt)
+    ▹ (λ jt jf k a b c. c)
+    ▹ (λ jt jf k a b c. tt)
+    ▹ (λ jt jf k a b c. c)
+    ▹ (λ jt jf k a b c. tt)
+    ▹ (λ jt jf k a b c. c)
+    ▹ (λ jt jf k a b c. tt)
+    ▹ (λ jt jf k a b c. c)
+    ▹ (λ jt jf k a b c. tt)
+    ▹ (λ jt jf k a b c. c)
+    ▹ (λ jt jf k a b c. tt)
+    ▹ (λ jt jf k a b c. c)
+    ▹ (λ jt jf k a b c. tt)
+    ▹ (λ jt jf k a b c. tt)
+    ▹ (λ jt jf k a b c. tt)
+    ▹ (λ jt jf k a b c. tt)
+    ▹ (λ jt jf k a b c. c)
+    ▹ (λ jt jf k a b c. (c, a, b))
+    ▹ (λ jt jf k a b c. (tt, a, b))
+    ▹ (λ jt jf k a b c. (c, a, b))
+    ▹ (λ jt jf k a b c. (tt, a, b))
+    ▹ (λ jt jf k a b c. (c, a, b))
+    ▹ (λ jt jf k a b c. (tt, a, b))
+    ▹ (λ jt jf k a b c. (c, a, b))
+    ▹ (λ jt jf k a b c. (tt, a, b))
+    ▹ (λ jt jf k a b c. c)
+    ▹ (λ jt jf k a b c. tt)
+    ▹ no_entries
+
+step-fits : (b : Bool) (entry : Entry) (code : ℕ) (rest : Option Uses) (uses : Uses) → Fits entry.uses → (rest ≡ Some uses → Fits uses) → cond b (Some entry.uses) rest ≡ Some uses → Fits uses
+step-fits true entry code rest uses here later found = let same : entry.uses ≡ uses = cc in subst Fits same here
+step-fits false entry code rest uses here later found = later found
+
+uses_in-fits : (entries : List Entry) (code : ℕ) (uses : Uses) → AllFit entries → uses_in entries code ≡ Some uses → Fits uses
+uses_in-fits [] code uses no_entries found = cc
+uses_in-fits (entry ∷ entries) code uses (here ▹ later) found =
+    step-fits (entry.code == code) entry code (uses_in entries code) uses here (uses_in-fits entries code uses later) found
+
+uses_of-fits : (code : ℕ) (uses : Uses) → uses_of code ≡ Some uses → Fits uses
+unfolding uses_of
+uses_of-fits code uses found = uses_in-fits table code uses table-fits found
+
+-- the fields of an instruction that is read are in their ranges
+fits : (w : ℕ) (insn : Insn) → instruction_of w ≡ Ok insn → FieldsFit insn
+fits w insn e =
+    let h = (instruction_of-sound w insn e).0 in
+    let same : Ok (instruction_with h.uses h.jt h.jf h.k) ≡ Ok insn = sym (instruction_of-complete w h) ∙ e in
+    let is : instruction_with h.uses h.jt h.jf h.k ≡ insn = cc in
+    subst FieldsFit is (uses_of-fits h.code h.uses h.in_table h.jt h.jf h.k h.jt_fits h.jf_fits h.k_fits)
+
+operand-jt : (code : ℕ) (operand : Operand) (jt jf k w : ℕ) → OperandFits operand → jt < 2 ^ 8 → jf < 2 ^ 8 → operand_word code operand jt jf ≡ w → with_jt w k ≡ operand_word code operand k jf
+operand-jt code (K n) jt jf k w a b c e = omega arith
+operand-jt code X jt jf k w a b c e = omega arith
+
+operand-jf : (code : ℕ) (operand : Operand) (jt jf k w : ℕ) → OperandFits operand → jt < 2 ^ 8 → jf < 2 ^ 8 → operand_word code operand jt jf ≡ w → with_jf w k ≡ operand_word code operand jt k
+operand-jf code (K n) jt jf k w a b c e = omega arith
+operand-jf code X jt jf k w a b c e = omega arith
+
+constant-k : (n k w : ℕ) → n < 2 ^ 32 → word 0x05 0 0 n ≡ w → with_k w k ≡ word 0x05 0 0 k
+constant-k n k w a e = omega arith
+
+-- the word with another jump is the word of the instruction with that jump
+reads-case : (side : Side) (old k w : ℕ) (insn : Insn) → FieldsFit insn → word_of insn ≡ w → offset_of side insn ≡ Some old → SkipFits side k →
+    instruction_of (with_skip side w k) ≡ Ok (with_offset side k insn)
+reads-case WhenTrue old k w (JumpIf test operand skips) f e h s =
+    ap instruction_of (operand-jt (test_code test) operand skips.jt skips.jf k w f.0 f.1 f.2 e) ∙ instruction_of-word_of (JumpIf test operand (offsets k skips.jf)) (f.0, s, f.2)
+reads-case WhenFalse old k w (JumpIf test operand skips) f e h s =
+    ap instruction_of (operand-jf (test_code test) operand skips.jt skips.jf k w f.0 f.1 f.2 e) ∙ instruction_of-word_of (JumpIf test operand (offsets skips.jt k)) (f.0, f.1, s)
+reads-case Always old k w (Jump n) f e h s = ap instruction_of (constant-k n k w f e) ∙ instruction_of-word_of (Jump k) s
+reads-case _ old k w insn f e h s = absurd cc
+
+pub reads-with_skip : (side : Side) (old k w : ℕ) (insn : Insn) → instruction_of w ≡ Ok insn → offset_of side insn ≡ Some old → SkipFits side k →
+    instruction_of (with_skip side w k) ≡ Ok (with_offset side k insn)
+reads-with_skip side old k w insn e h s = reads-case side old k w insn (fits w insn e) (instruction_of-sound w insn e).1 h s
+
+pub skip-fits : (side : Side) (place to : ℕ) → CanReach place side to → place < to → to ≤ 4096 → SkipFits side (to - place - 1)
+skip-fits WhenTrue place to near behind room = omega arith
+skip-fits WhenFalse place to near behind room = omega arith
+skip-fits Always place to near behind room = omega arith
+
+-- the word at a hole's place is filled by its bits
+pub is_filled : (hole : Hole) (to word filled : ℕ) (words : List ℕ) → word ≡ slice_index_or words hole.place word → filled ≡ with_skip hole.side word (to - hole.place - 1) →
+    HasJump words hole.place hole.side → hole.place < to → CanReach hole.place hole.side to → to ≤ 4096 → IsFilledIn hole to words (slice_set words hole.place filled)
+is_filled hole to word filled words read wrote there behind near room =
+    let at = there.2 in
+    let same : word ≡ at.0 = read ∙ get_or_from_slice_get words hole.place at.0 word at.1 in (
+      there.0,
+      filled,
+      at,
+      rw (wrote, same) (reads-with_skip hole.side there.1 (to - hole.place - 1) at.0 there.0 at.2 there.3 (skip-fits hole.side hole.place to near behind room)),
+      refl,
+    )

@@ -1,0 +1,6 @@
+use Rattle.std.proofs.Common.{length}
+use Rattle.filter_parse.specs.body.Stack.{from_top}
+use Rattle.filter_parse.proofs.build.+build.Given as goal
+
+abbrev pub decreases-build : goal.decreases-build
+decreases-build g l = length (from_top l.parts.now)
