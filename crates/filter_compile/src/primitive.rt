@@ -145,6 +145,8 @@ fn bytes<'a, A: Allocator>(
     code.branch(test, Operand::K(n), yes, no)
 }
 
+// Apart from the recursion, whose every level would clear room for what it needs.
+#[inline(never)]
 pub(crate) fn primitive<'a, A: Allocator>(
     code: &mut Code<'a, A>,
     primitive: Primitive,

@@ -102,6 +102,8 @@ fn compare_with<'a, A: Allocator, B: Allocator>(
     }
 }
 
+// Apart from the recursion, whose every level would clear room for what it needs.
+#[inline(never)]
 pub(crate) fn relation<'a, A: Allocator, B: Allocator>(
     code: &mut Code<'a, A>,
     left: &Arith<B>,

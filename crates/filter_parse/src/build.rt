@@ -11,6 +11,14 @@ use crate::stack::Stack;
 use filter_tree::{Arith, Expr};
 use std::alloc::Allocator;
 
+// Its own function: else each turn of the recursion clears room for every failure that gives a tree back.
+#[inline(never)]
+fn boxed<T: Drop, A: Allocator + Clone>(alloc: &A, value: T) -> Result<Box<T, A>, OutOfMemory>
+    ensures { IfOk result (λ b. b.value ≡ value) }
+{
+    Ok(Box::new(alloc.clone()?, value)?)
+}
+
 fn arithmetic<'a, A: Allocator + Clone>(
     alloc: &'a A,
     parts: &mut Stack<'a, Item, A>,
@@ -23,8 +31,8 @@ fn arithmetic<'a, A: Allocator + Clone>(
         Some(Item::Number(n)) => Ok(Arith::Number(n)),
         Some(Item::Length) => Ok(Arith::Length),
         Some(Item::Access(protocol, size)) => {
-            let index = arithmetic(alloc, parts)?;
-            Ok(Arith::Accessor(protocol, Box::new(alloc.clone()?, index)?, size))
+            let index = boxed(alloc, arithmetic(alloc, parts)?)?;
+            Ok(Arith::Accessor(protocol, index, size))
         }
         Some(Item::Operate(operator)) => {
             let right = Box::new(alloc.clone()?, arithmetic(alloc, parts)?)?;
@@ -57,18 +65,18 @@ pub(crate) fn build<'a, A: Allocator + Clone>(
             Ok(Expr::Relation(left, relator, right))
         }
         Some(Item::Negate) => {
-            let inner = build(alloc, parts)?;
-            Ok(Expr::Not(Box::new(alloc.clone()?, inner)?))
+            let inner = boxed(alloc, build(alloc, parts)?)?;
+            Ok(Expr::Not(inner))
         }
         Some(Item::Conjoin) => {
-            let right = Box::new(alloc.clone()?, build(alloc, parts)?)?;
-            let left = build(alloc, parts)?;
-            Ok(Expr::And(Box::new(alloc.clone()?, left)?, right))
+            let right = boxed(alloc, build(alloc, parts)?)?;
+            let left = boxed(alloc, build(alloc, parts)?)?;
+            Ok(Expr::And(left, right))
         }
         Some(Item::Disjoin) => {
-            let right = Box::new(alloc.clone()?, build(alloc, parts)?)?;
-            let left = build(alloc, parts)?;
-            Ok(Expr::Or(Box::new(alloc.clone()?, left)?, right))
+            let right = boxed(alloc, build(alloc, parts)?)?;
+            let left = boxed(alloc, build(alloc, parts)?)?;
+            Ok(Expr::Or(left, right))
         }
         Some(Item::Number(_)) => unreachable!(),
         Some(Item::Length) => unreachable!(),
