@@ -4,5 +4,6 @@ mod assembly;
 mod built;
 mod compiling;
 mod parsing;
+mod prefixes;
 mod short_programs;
 mod trees;
