@@ -62,12 +62,12 @@ pub counted_version : {A : Type 0} → (r i : ℕ) (pages : List ℕ) (before af
     → after.cleared ≡ before.cleared → after.free ≡ before.free → length pages ≤ i → used_by (before.number + 2) (drop i pages) after.last_use ≡ used_by (before.number + 2) pages before.last_use
     → after ≡ with_version_in r pages before
 counted_version {A} r i pages before after number last cleared free up uses = λ j. let book : Book A = record {
-    number = number j;
-    last = last j;
-    last_use = (sym (used_up (before.number + 2) pages after.last_use i up) ∙ uses) j;
-    cleared = cleared j;
-    free = free j;
-  } in book
+  number = number j;
+  last = last j;
+  last_use = (sym (used_up (before.number + 2) pages after.last_use i up) ∙ uses) j;
+  cleared = cleared j;
+  free = free j;
+} in book
 
 module _ {C : Type 0} {A : Type 0} (shape : Shape C) (view : OperatorView C) (book : Book A) (h : IsBook shape view book) where
   pub free_below : (l : ℕ) → 0 < shape.workers → IsLeast book.cleared l → (m : ℕ) → IsFree shape m view.log ↔ (m < l)
@@ -130,31 +130,31 @@ module _ {C : Type 0} {A : Type 0} (shape : Shape C) (view : OperatorView C) (bo
       → ((index page : ℕ) → slice_get pages index ≡ Some page → page < shape.pages) → IsBook shape (after_publish r x pages view) (with_version_in r pages book)
   IsBook-published r x pages low laid paged below = let n = h.number in let long = h.last_length in let wide = h.last_use_length in
       let within : (index page : ℕ) → slice_get pages index ≡ Some page → page < length book.last_use = λ index page at. let small = below index page at in omega arith in record {
-    number = omega arith;
-    last_length = length-set book.last r (book.number + 2) ∙ h.last_length;
-    cleared_length = h.cleared_length;
-    cleared = h.cleared;
-    below_last = λ q m at. dite (ℕ_discrete q r)
-        (λ e. let here : get_or (set book.last r (book.number + 2)) q 0 ≡ book.number + 2 = ap (λ (k : ℕ). get_or (set book.last r (book.number + 2)) k 0) e ∙ get_or-set_same book.last r (book.number + 2) 0 (omega arith) in
-        let near = elem_below (view.version_rows ++ r ∷ []) m q at in let more = length-append view.version_rows (r ∷ []) in omega arith)
-        (λ ne. let here : get_or (set book.last r (book.number + 2)) q 0 ≡ get_or book.last q 0 = get_or-set_other book.last r q (book.number + 2) 0 ne in
-        ⊎_elim (λ was. let t = h.below_last q m was in omega arith) (λ t. absurd (ne (sym t.1))) (elem_snoc view.version_rows r q m at));
-    free = h.free;
-    last_use_length = length-used (book.number + 2) pages book.last_use ∙ h.last_use_length;
-    below_use = λ m page names. ⊎_elim
-        (λ was. let t = h.below_use m page (names.0, was, names.2) in let near = elem_below view.version_pages m names.0 was in
-        ⊎_elim (λ new. let e = new.1 in omega arith) (λ old. let e = old.1 in omega arith) (used_at (book.number + 2) pages book.last_use within page))
-        (λ last. let m_is = last.0 in let e = named_at (book.number + 2) pages book.last_use within page names.2.0 (ap (λ l. slice_get l names.2.0) last.1 ∙ names.2.1) in omega arith)
-        (elem_snoc view.version_pages pages names.0 m names.1);
-    use_there = λ m page e. ⊎_elim
-        (λ new. let is = new.1 in (pages, elem_end view.version_pages pages m (omega arith), new.0))
-        (λ old. let was = h.use_there m page (sym old.1 ∙ e) in (was.0, elem_prefix view.version_pages (pages ∷ []) m was.0 was.1, was.2))
-        (used_at (book.number + 2) pages book.last_use within page);
-    last_there = λ q m e. dite (ℕ_discrete q r)
-        (λ same. let here : get_or (set book.last r (book.number + 2)) q 0 ≡ book.number + 2 = ap (λ (k : ℕ). get_or (set book.last r (book.number + 2)) k 0) same ∙ get_or-set_same book.last r (book.number + 2) 0 (omega arith) in
-        elem_end view.version_rows r m (omega arith) ∙ ap some (sym same))
-        (λ ne. elem_prefix view.version_rows (r ∷ []) m q (h.last_there q m (sym (get_or-set_other book.last r q (book.number + 2) 0 ne) ∙ e)));
-  }
+        number = omega arith;
+        last_length = length-set book.last r (book.number + 2) ∙ h.last_length;
+        cleared_length = h.cleared_length;
+        cleared = h.cleared;
+        below_last = λ q m at. dite (ℕ_discrete q r)
+            (λ e. let here : get_or (set book.last r (book.number + 2)) q 0 ≡ book.number + 2 = ap (λ (k : ℕ). get_or (set book.last r (book.number + 2)) k 0) e ∙ get_or-set_same book.last r (book.number + 2) 0 (omega arith) in
+            let near = elem_below (view.version_rows ++ r ∷ []) m q at in let more = length-append view.version_rows (r ∷ []) in omega arith)
+            (λ ne. let here : get_or (set book.last r (book.number + 2)) q 0 ≡ get_or book.last q 0 = get_or-set_other book.last r q (book.number + 2) 0 ne in
+            ⊎_elim (λ was. let t = h.below_last q m was in omega arith) (λ t. absurd (ne (sym t.1))) (elem_snoc view.version_rows r q m at));
+        free = h.free;
+        last_use_length = length-used (book.number + 2) pages book.last_use ∙ h.last_use_length;
+        below_use = λ m page names. ⊎_elim
+            (λ was. let t = h.below_use m page (names.0, was, names.2) in let near = elem_below view.version_pages m names.0 was in
+            ⊎_elim (λ new. let e = new.1 in omega arith) (λ old. let e = old.1 in omega arith) (used_at (book.number + 2) pages book.last_use within page))
+            (λ last. let m_is = last.0 in let e = named_at (book.number + 2) pages book.last_use within page names.2.0 (ap (λ l. slice_get l names.2.0) last.1 ∙ names.2.1) in omega arith)
+            (elem_snoc view.version_pages pages names.0 m names.1);
+        use_there = λ m page e. ⊎_elim
+            (λ new. let is = new.1 in (pages, elem_end view.version_pages pages m (omega arith), new.0))
+            (λ old. let was = h.use_there m page (sym old.1 ∙ e) in (was.0, elem_prefix view.version_pages (pages ∷ []) m was.0 was.1, was.2))
+            (used_at (book.number + 2) pages book.last_use within page);
+        last_there = λ q m e. dite (ℕ_discrete q r)
+            (λ same. let here : get_or (set book.last r (book.number + 2)) q 0 ≡ book.number + 2 = ap (λ (k : ℕ). get_or (set book.last r (book.number + 2)) k 0) same ∙ get_or-set_same book.last r (book.number + 2) 0 (omega arith) in
+            elem_end view.version_rows r m (omega arith) ∙ ap some (sym same))
+            (λ ne. elem_prefix view.version_rows (r ∷ []) m q (h.last_there q m (sym (get_or-set_other book.last r q (book.number + 2) 0 ne) ∙ e)));
+      }
 
   -- a scan of worker w
   pub IsBook-scanned : (w x : ℕ) (log : List Entry) (book' : Book A) → IsCleared w x book book' → IsBook shape (after_scan w x log view) book'
@@ -223,25 +223,25 @@ pub IsBook-opened : {A : Type 0} → (config : List Group) (stored : List ℕ) (
     → IsBookAtStart (pages_named the_shape stored 0) book → IsBook the_shape (new_operator the_shape config stored) book
 IsBook-opened config stored book below h = let some_row : 0 < the_shape.rows = omega (arith, rows_is) in let named = pages_named the_shape stored 0 in let none : List ℕ = replicate the_shape.pages 0 in
     let within : (index page : ℕ) → slice_get named index ≡ Some page → page < length none = λ index page at. let small = below index page at in omega (arith, length-replicate {A = ℕ} the_shape.pages 0) in record {
-  number = h.number;
-  last_length = ap length h.last ∙ (length-set (replicate the_shape.rows 0) 0 1 ∙ length-replicate {A = ℕ} the_shape.rows 0);
-  cleared_length = ap length h.cleared ∙ length-replicate {A = ℕ} the_shape.workers 0;
-  free = (
-    λ w low. omega (arith, h.free),
-    (0, omega (arith, ap length h.cleared, length-replicate {A = ℕ} the_shape.workers 0, workers_is), ap (λ l. slice_index l 0) h.cleared ∙ zeros_at the_shape.workers 0 ∙ sym h.free),
-  );
-  last_use_length = ap length h.last_use ∙ (length-used 1 named none ∙ length-replicate {A = ℕ} the_shape.pages 0);
-  below_use = λ m page names. let t = only named names.0 m names.1 in let m_is = t.0 in let here : slice_get named names.2.0 ≡ Some page = ap (λ l. slice_get l names.2.0) (sym t.1) ∙ names.2.1 in
-      let e = ap (λ l. slice_index l page) h.last_use ∙ named_at 1 named none within page names.2.0 here in omega arith;
-  use_there = λ m page e. let is = ap (λ l. slice_index l page) h.last_use in ⊎_elim
-      (λ new. let one = new.1 in let m_is : m ≡ 0 = omega arith in (named, ap (get_elem? (named ∷ [])) m_is, new.0))
-      (λ old. let zero_there = zeros_at the_shape.pages page in let same = old.1 in absurd (omega arith))
-      (used_at 1 named none within page);
-  cleared = λ w m low. ((λ none. absurd none), λ lt. let e : slice_index book.cleared w ≡ 0 = ap (λ l. slice_index l w) h.cleared ∙ zeros_at the_shape.workers w in absurd (omega arith));
-  below_last = λ r m at. let t = only 0 r m at in let m_is = t.0 in
-      let e : slice_index book.last r ≡ 1 = ap (slice_index book.last) t.1 ∙ (ap (λ l. slice_index l 0) h.last ∙ (first_last the_shape.rows 0 some_row).0) in omega arith;
-  last_there = λ r m e. dite (ℕ_discrete r 0)
-      (λ zero_is. let one : slice_index book.last r ≡ 1 = ap (slice_index book.last) zero_is ∙ (ap (λ l. slice_index l 0) h.last ∙ (first_last the_shape.rows 0 some_row).0) in
-      let m_is : m ≡ 0 = omega arith in ap (get_elem? (0 ∷ [])) m_is ∙ ap some (sym zero_is))
-      (λ other. let none : slice_index book.last r ≡ 0 = ap (λ l. slice_index l r) h.last ∙ (first_last the_shape.rows r some_row).1 other in absurd (omega arith));
-}
+      number = h.number;
+      last_length = ap length h.last ∙ (length-set (replicate the_shape.rows 0) 0 1 ∙ length-replicate {A = ℕ} the_shape.rows 0);
+      cleared_length = ap length h.cleared ∙ length-replicate {A = ℕ} the_shape.workers 0;
+      free = (
+        λ w low. omega (arith, h.free),
+        (0, omega (arith, ap length h.cleared, length-replicate {A = ℕ} the_shape.workers 0, workers_is), ap (λ l. slice_index l 0) h.cleared ∙ zeros_at the_shape.workers 0 ∙ sym h.free),
+      );
+      last_use_length = ap length h.last_use ∙ (length-used 1 named none ∙ length-replicate {A = ℕ} the_shape.pages 0);
+      below_use = λ m page names. let t = only named names.0 m names.1 in let m_is = t.0 in let here : slice_get named names.2.0 ≡ Some page = ap (λ l. slice_get l names.2.0) (sym t.1) ∙ names.2.1 in
+          let e = ap (λ l. slice_index l page) h.last_use ∙ named_at 1 named none within page names.2.0 here in omega arith;
+      use_there = λ m page e. let is = ap (λ l. slice_index l page) h.last_use in ⊎_elim
+          (λ new. let one = new.1 in let m_is : m ≡ 0 = omega arith in (named, ap (get_elem? (named ∷ [])) m_is, new.0))
+          (λ old. let zero_there = zeros_at the_shape.pages page in let same = old.1 in absurd (omega arith))
+          (used_at 1 named none within page);
+      cleared = λ w m low. ((λ none. absurd none), λ lt. let e : slice_index book.cleared w ≡ 0 = ap (λ l. slice_index l w) h.cleared ∙ zeros_at the_shape.workers w in absurd (omega arith));
+      below_last = λ r m at. let t = only 0 r m at in let m_is = t.0 in
+          let e : slice_index book.last r ≡ 1 = ap (slice_index book.last) t.1 ∙ (ap (λ l. slice_index l 0) h.last ∙ (first_last the_shape.rows 0 some_row).0) in omega arith;
+      last_there = λ r m e. dite (ℕ_discrete r 0)
+          (λ zero_is. let one : slice_index book.last r ≡ 1 = ap (slice_index book.last) zero_is ∙ (ap (λ l. slice_index l 0) h.last ∙ (first_last the_shape.rows 0 some_row).0) in
+          let m_is : m ≡ 0 = omega arith in ap (get_elem? (0 ∷ [])) m_is ∙ ap some (sym zero_is))
+          (λ other. let none : slice_index book.last r ≡ 0 = ap (λ l. slice_index l r) h.last ∙ (first_last the_shape.rows r some_row).1 other in absurd (omega arith));
+    }

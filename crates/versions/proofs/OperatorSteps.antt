@@ -97,7 +97,7 @@ module _ {C : Type 0} (shape : Shape C) where
       let laid = h.version_rows_length in
       let news : d.published ++ listed d.proposal ≡ d.published ++ config ∷ [] = ap (λ (o : Option C). d.published ++ listed o) may.0.proposed in let is = may.1 in
       let still : (q : ℕ) (b : C) (pages : List ℕ) → q < shape.rows → HoldsForm shape (rows_begin shape) s.words q b pages → HoldsForm shape (rows_begin shape) (set s.words 0 x) q b pages =
-          λ q b pages low. holds-on shape (rows_begin shape) (rows_begin shape) s.words (set s.words 0 x) q b pages low (λ i l. get_or-set_other s.words 0 (rows_begin shape + i) x 0 (λ e. omega arith)) in
+      λ q b pages low. holds-on shape (rows_begin shape) (rows_begin shape) s.words (set s.words 0 x) q b pages low (λ i l. get_or-set_other s.words 0 (rows_begin shape + i) x 0 (λ e. omega arith)) in
       let long' : length (d.published ++ listed d.proposal) ≡ suc (suc n) = ap length news ∙ omega (arith, length-append d.published (config ∷ [])) in
       record {
         words_length = length-set s.words 0 x ∙ h.words_length;

@@ -22,9 +22,9 @@ module _ {C : Type 0} (shape : Shape C) where
       let before = seen_below shape s h w view ok in let long = seen.1 in
       let all = up_to (x / shape.rows) s.operator.published in
       let more : (k : ℕ) (config : C) → get_elem? view.seen k ≡ some config → get_elem? all k ≡ some config = λ k config at. let below = elem_below view.seen k config at in
-          elem_front all seen.0.0 k config (omega arith) (sym (ap (λ l. get_elem? l k) seen.0.1) ∙ (ap (λ l. get_elem? l k) ok.begins.1 ∙ elem_prefix view.seen ok.begins.0 k config at)) in
+      elem_front all seen.0.0 k config (omega arith) (sym (ap (λ l. get_elem? l k) seen.0.1) ∙ (ap (λ l. get_elem? l k) ok.begins.1 ∙ elem_prefix view.seen ok.begins.0 k config at)) in
       let held : (place : ℕ) → IsHeldPlace shape view place → IsHeldPlace shape (after_peek shape.rows x all view) place =
-          λ place. held_after_peek shape view.seen all view.pages (x / shape.rows) place view.stage may.0.2 more in
+      λ place. held_after_peek shape view.seen all view.pages (x / shape.rows) place view.stage may.0.2 more in
       worker_keeps shape s h w view (after_peek shape.rows x (up_to (x / shape.rows) s.operator.published)) s.words may.0.1 refl (λ j k. refl) record {
         read_word = ok.read_word ∙ sym (read_word-peek view.stage (x / shape.rows) may.0.2);
         bounds = bounds-peek w s.operator (length view.seen) (length (up_to (x / shape.rows) s.operator.published)) view.stage (x / shape.rows) may.0.2 (omega arith) (omega arith) ok.bounds;

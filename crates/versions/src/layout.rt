@@ -5,8 +5,8 @@ ghost use Rattle.config_image.specs.Image.{row};
 ghost use Rattle.versions.specs.Layout.{HoldsForm, IsInRow, rows_begin};
 ghost use Rattle.versions.specs.Table.{the_shape};
 
-use config_image::{PAGE_WORDS, image_len, image_word};
 pub use config_image::ROW_WORDS;
+use config_image::{PAGE_WORDS, image_len, image_word};
 use member_group::Config;
 use std::alloc::Allocator;
 
