@@ -15,7 +15,7 @@ use Rattle.config_image.proofs.LookupLemmas.{item_at}
 use Rattle.member_group.specs.Charge.{charge_of}
 use Rattle.member_group.specs.Group.{IsGroup, group_of}
 use Rattle.read_section.specs.Operator.{Meets, OperatorValue}
-use Rattle.retire.specs.Publish.{HasFreeRow}
+use Rattle.read_section.specs.Operator.{HasFreeRow}
 use Rattle.read_section.specs.Worker.{WorkerValue}
 use Rattle.versions.specs.View.{BeginsWith}
 use Rattle.versions.specs.Free.{number_after}
@@ -132,7 +132,7 @@ unfolding the_shape
 second_row = omega arith
 
 -- row 1 was never used yet
-pub second_row_free : (o : OperatorValue) → o.view.version_rows ≡ 0 ∷ [] → HasFreeRow o
+pub second_row_free : (o : OperatorValue) → o.view.version_rows ≡ 0 ∷ [] → HasFreeRow o.view
 second_row_free o is = (1, (second_row, λ m last. absurd (unused m (subst (λ l. get_elem? l m ≡ some 1) is last.0))))
   where
     unused : (m : ℕ) → get_elem? {A = ℕ} (0 ∷ []) m ≡ some 1 → ⊥

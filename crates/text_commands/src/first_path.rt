@@ -4,7 +4,7 @@ ghost use Rattle.std.specs.Prelude.{◌≡◌, ◌<◌, IfOk, List, OnOk, Some, 
 ghost use Rattle.bpf_verify.specs.Accepted.{IsAccepted};
 ghost use Rattle.config_image.specs.Image.{Group};
 ghost use Rattle.config_image.specs.Lookup.{BeginsWithImage};
-ghost use Rattle.retire.specs.Publish.{HasFreeRow};
+ghost use Rattle.read_section.specs.Operator.{HasFreeRow};
 ghost use Rattle.text_commands.specs.FirstPath.{first_lines, line_text};
 ghost use Rattle.text_commands.specs.body.FirstTable.{IsLineOf, IsOpenedWith, IsRunOf, PublishesNothing, PublishesProgram, RunsInSection, Selects, SelectsNow};
 ghost use Rattle.versions.specs.Free.{number_after};
@@ -90,7 +90,7 @@ fn open_first(alloc: Global) -> Result<(Operator, Worker), AllocError>
 }
 
 fn publish_second(alloc: Global, operator: &mut Operator) -> Result<(), AllocError>
-    requires free { HasFreeRow operator.old }
+    requires free { HasFreeRow operator.old.view }
     requires number { number_after operator.old.view.log < LAST_NUMBER }
     ensures published { OnOk result (PublishesProgram SECOND_PROGRAM.now operator.old operator.new) }
 {

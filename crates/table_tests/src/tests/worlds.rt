@@ -345,7 +345,7 @@ fn steps_in_no_order(rt: HostRuntime) -> Result<(), Fail> {
     };
     let mut numbers = Numbers(1);
     let mut legal = 0u32;
-    for turn in 0..3000u32 {
+    for turn in 0..4000u32 {
         if turn % 8 == 0 {
             world.propose(Config::new(rt.alloc()))?;
             history.proposed = true;
