@@ -4,5 +4,6 @@ mod history;
 mod numbered;
 mod pages;
 mod publications;
+mod random_steps;
 mod sections;
 mod worlds;
