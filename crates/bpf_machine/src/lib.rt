@@ -60,6 +60,28 @@ pub fn run<W: Words>(words: &mut W, from: usize, len: usize, packet: &[u8]) -> O
     ensures words_kept { W.words words.new ≡ W.words words.old }
     ensures rest_kept { W.rest words.new ≡ W.rest words.old }
 {
+    run_copy::<W, 0>(words, from, len, packet)
+}
+
+/// The same. Each number is another copy of the machine's code.
+///
+/// A copy that is called at one place of a program is inlined there. So what the words keep of themselves, as a section its row,
+/// lies in registers while the program runs, where the caller has the words as a local.
+pub fn run_copy<W: Words, const COPY: usize>(
+    words: &mut W,
+    from: usize,
+    len: usize,
+    packet: &[u8],
+) -> Outcome
+    requires within { from + len ≤ length (W.words words.old) }
+    requires accepted { IsAccepted (program_at (W.words words.old) from len) }
+    requires packet { length packet.now ≤ MAX_PACKET }
+    ensures value { ending_of (program_at (W.words words.old) from len) packet.now ≡ Ret result.value }
+    ensures steps { result.steps ≡ cost_of (program_at (W.words words.old) from len) packet.now }
+    ensures within_length { result.steps ≤ len }
+    ensures words_kept { W.words words.new ≡ W.words words.old }
+    ensures rest_kept { W.rest words.new ≡ W.rest words.old }
+{
     // A list that can be counted is short enough for its places to be numbers of this machine.
     let _count = words.count();
     let mut machine = Machine {

@@ -10,12 +10,17 @@ ghost use Rattle.packet_verdict.specs.Verdict.{choice, kept, plain_choice, value
 
 use crate::verdict::Verdict;
 use bpf_insn::Words;
-use bpf_machine::run;
+use bpf_machine::run_copy;
 use config_image::{FoundGroup, MemberEntry, ProgramPlace, member_with_filter, selector_of};
 use ipv4_fields::{Endpoint, Flow};
 
-// What the program at a place answers the packet, where there is one.
-fn answer<W: Words>(words: &mut W, place: Option<ProgramPlace>, packet: &[u8]) -> Option<u32>
+// What the program at a place answers the packet, where there is one. Selectors and filters run on copies of the machine, each
+// called once, so that it is inlined.
+fn answer<W: Words, const COPY: usize>(
+    words: &mut W,
+    place: Option<ProgramPlace>,
+    packet: &[u8],
+) -> Option<u32>
     requires found { (program : Option ProgramValue) × IfSome program IsProgram × IsProgramFound (W.words words.old) program place }
     requires packet { length packet.now ≤ MAX_PACKET }
     ensures answer { (program : Option ProgramValue) → IsProgramFound (W.words words.old) program place → result ≡ option_map (λ p. value_of p packet.now) program }
@@ -23,7 +28,7 @@ fn answer<W: Words>(words: &mut W, place: Option<ProgramPlace>, packet: &[u8]) -
     ensures rest_kept { W.rest words.new ≡ W.rest words.old }
 {
     let place = place?;
-    Some(run(words, place.from, place.len, packet).value)
+    Some(run_copy::<W, COPY>(words, place.from, place.len, packet).value)
 }
 
 fn plain_choice(flow: &Flow, count: usize) -> usize
@@ -64,7 +69,7 @@ pub fn choose<W: Words>(words: &mut W, group: &FoundGroup, flow: &Flow, packet: 
     ensures rest_kept { W.rest words.new ≡ W.rest words.old }
 {
     let selector = selector_of(words, group.index);
-    let answer = answer(words, selector, packet);
+    let answer = answer::<W, 1>(words, selector, packet);
     choice(answer, flow, group.members)
 }
 
@@ -102,6 +107,6 @@ pub fn judge_by_member<W: Words>(
     ensures rest_kept { W.rest words.new ≡ W.rest words.old }
 {
     let (member, filter) = member_with_filter(words, group, index);
-    let answer = answer(words, filter, packet);
+    let answer = answer::<W, 2>(words, filter, packet);
     kept(key, member, answer, packet.len())
 }

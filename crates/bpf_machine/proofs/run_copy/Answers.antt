@@ -1,7 +1,7 @@
 use Rattle.std.proofs.Common.{◌∙◌, ap, refl, sym}
 use Rattle.bpf_machine.specs.Meaning.{Run}
 use Rattle.bpf_machine.proofs.ArrayLemmas.{running_end, running_first, running_go_on, running_skip}
-use Rattle.bpf_machine.proofs.run.Goals as goal
+use Rattle.bpf_machine.proofs.run_copy.Goals as goal
 
 pub running-init : goal.running-init
 running-init g c = (refl, refl, refl, running_first _ c.args.packet.now _ c.requires.accepted)

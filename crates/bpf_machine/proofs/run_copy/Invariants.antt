@@ -2,7 +2,7 @@ use Rattle.std.proofs.Common.{◌≡◌, ◌-◌, length}
 use Rattle.bpf_machine.specs.declared.execute.TheConstants.{CELL_COUNT}
 use Rattle.bpf_verify.specs.Path.{program_at}
 use Rattle.bpf_machine.proofs.ArrayLemmas.{IsRunning}
-use Rattle.bpf_machine.proofs.run.Given as goal
+use Rattle.bpf_machine.proofs.run_copy.Given as goal
 
 abbrev pub invariant-running : goal.invariant-running
 invariant-running g l =
