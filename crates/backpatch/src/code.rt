@@ -85,6 +85,7 @@ impl<'a, A: Allocator> Code<'a, A> {
 
     /// Writes a test: it goes to `yes` where it holds and to `no` where it does not. Where an exit can be more than 256 places
     /// behind it, too far for the jump of a test, it goes there by a JA. Fails where an allocation is refused.
+    #[inline(always)]
     pub fn branch(
         &mut self,
         test: Test,
@@ -125,6 +126,7 @@ impl<'a, A: Allocator> Code<'a, A> {
     }
 
     // Notes a jump of the test at the place, or of a JA that it leads to.
+    #[inline(always)]
     fn note(
         &mut self,
         far: bool,

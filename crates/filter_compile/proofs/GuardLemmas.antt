@@ -45,10 +45,6 @@ module _ (known on if_no : Known) (truth : List ℕ → Truth) (weight : ℕ) {c
   Guards-asked = Guards-landed empty near
       (Writes-means (λ at_yes at_no words h. Tests-decided false (Holds known) (Holds on) (HoldsWhere (Some if_no)) truth at_yes at_no words (λ packet x g. tt) on_yes on_no h) writes) landed
 
-  -- the same where there is cause
-  pub Guards-used : (used : Bool) → used ≡ true → Guards (Tests (Holds known) (Holds on) (HoldsWhere (Some if_no)) (λ packet. where_so used (truth packet))) (weight_where used weight) c0 c2 n n'
-  Guards-used used is = subst (λ b. Guards (Tests (Holds known) (Holds on) (HoldsWhere (Some if_no)) (λ packet. where_so b (truth packet))) (weight_where b weight) c0 c2 n n') (sym is) Guards-asked
-
 -- ---- pieces
 
 -- what is known to be true goes there at once

@@ -1,6 +1,7 @@
 pub mod PacketLemmas
 pub mod ValueLemmas
 pub mod ArithmeticLemmas
+mod CellLemmas
 pub mod TestLemmas
 pub mod HeaderLemmas
 pub mod GuardLemmas

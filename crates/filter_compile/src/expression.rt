@@ -10,6 +10,7 @@ ghost use Rattle.filter_tree.specs.View.{tree_of};
 ghost use Rattle.packet_facts.specs.Known.{Holds};
 ghost use Rattle.filter_compile.specs.body.Piece.{Tests};
 
+use crate::SHORT;
 use crate::primitive::primitive;
 use crate::relation::relation;
 use crate::sides::Sides;
@@ -17,6 +18,19 @@ use backpatch::{Code, Exit};
 use filter_tree::Expr;
 use packet_facts::Known;
 use std::alloc::{AllocError, Allocator};
+
+// A place where the first of two parts ends at last. Where no jump can be far, the end of both is near enough, and the second
+// one need not be weighed.
+fn first_end<B: Allocator>(end: u32, right: &Expr<B>) -> u32
+    requires room { weight_of (tree_of right.now) ≤ end }
+    ensures behind { end ≤ result + weight_of (tree_of right.now) }
+    ensures within { result ≤ end }
+{
+    if end < SHORT {
+        return end;
+    }
+    end - right.weight()
+}
 
 /// Writes the code of an expression, which ends at the place `end` at last.
 pub(crate) fn expression<'a, A: Allocator, B: Allocator>(
@@ -47,7 +61,7 @@ pub(crate) fn expression<'a, A: Allocator, B: Allocator>(
             })
         }
         Expr::And(left, right) => {
-            let first_end = end - right.weight();
+            let first_end = first_end(end, right);
             let mut on = code.exit(first_end);
             let first = expression(code, left, known, first_end, &mut on, no)?;
             code.land(&on);
@@ -58,7 +72,7 @@ pub(crate) fn expression<'a, A: Allocator, B: Allocator>(
             })
         }
         Expr::Or(left, right) => {
-            let first_end = end - right.weight();
+            let first_end = first_end(end, right);
             let mut on = code.exit(first_end);
             let first = expression(code, left, known, first_end, yes, &mut on)?;
             code.land(&on);

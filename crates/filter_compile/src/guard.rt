@@ -47,6 +47,20 @@ pub(crate) fn guard_ip<'a, A: Allocator>(
     if !must_ask(used, known.ip()) {
         return Ok(Passed::at_once(known));
     }
+    ask_ip(code, known, no)
+}
+
+// Apart from what comes before it: else a guard that has nothing to write clears room for what this needs.
+#[inline(never)]
+fn ask_ip<'a, A: Allocator>(
+    code: &mut Code<'a, A>,
+    known: Known,
+    no: &mut Exit<'a, A>,
+) -> Result<Passed, AllocError>
+    requires room { length code.old + 5 ≤ MAX_INSTRUCTIONS }
+    requires behind { length code.old + 5 ≤ no.old.by }
+    ensures guards { IfOk result (λ passed. Guards (Tests (Holds known) (Holds passed.on) (HoldsWhere passed.no) is_ip) 5 code.old code.new no.old no.new) }
+{
     let mut on = code.exit(code.len() + 5);
     is_ip(code, &mut on, no)?;
     code.land(&on);
@@ -70,6 +84,20 @@ pub(crate) fn guard_protocol<'a, A: Allocator>(
     if !must_ask(used, known.protocol(n)) {
         return Ok(Passed::at_once(known));
     }
+    ask_protocol(code, n, known, no)
+}
+
+#[inline(never)]
+fn ask_protocol<'a, A: Allocator>(
+    code: &mut Code<'a, A>,
+    n: u8,
+    known: Known,
+    no: &mut Exit<'a, A>,
+) -> Result<Passed, AllocError>
+    requires room { length code.old + 4 ≤ MAX_INSTRUCTIONS }
+    requires behind { length code.old + 4 ≤ no.old.by }
+    ensures guards { IfOk result (λ passed. Guards (Tests (Holds known) (Holds passed.on) (HoldsWhere passed.no) (is_protocol n)) 4 code.old code.new no.old no.new) }
+{
     let mut on = code.exit(code.len() + 4);
     is_protocol(code, n, &mut on, no)?;
     code.land(&on);
@@ -128,6 +156,19 @@ pub(crate) fn guard_first_fragment<'a, A: Allocator>(
     if !used {
         return Ok(Passed::at_once(known));
     }
+    ask_first_fragment(code, known, no)
+}
+
+#[inline(never)]
+fn ask_first_fragment<'a, A: Allocator>(
+    code: &mut Code<'a, A>,
+    known: Known,
+    no: &mut Exit<'a, A>,
+) -> Result<Passed, AllocError>
+    requires room { length code.old + 4 ≤ MAX_INSTRUCTIONS }
+    requires behind { length code.old + 4 ≤ no.old.by }
+    ensures guards { IfOk result (λ passed. Guards (Tests (Holds known) (Holds passed.on) (HoldsWhere passed.no) is_first_fragment) 4 code.old code.new no.old no.new) }
+{
     let mut on = code.exit(code.len() + 4);
     is_first_fragment(code, &mut on, no)?;
     code.land(&on);

@@ -2,7 +2,7 @@
 //! accept exactly the packets that the expressions mean.
 #![tactic(auto)]
 
-ghost use Rattle.std.specs.Prelude.{◌≡◌, ◌<◌, ◌≤◌, Err, IfOk, length, ◌↔◌};
+ghost use Rattle.std.specs.Prelude.{◌≡◌, ◌<◌, ◌≤◌, Err, IfOk, false, length, min, true, ◌↔◌};
 ghost use Rattle.bpf_verify.specs.Accepted.{IsAccepted};
 ghost use Rattle.bpf_verify.specs.declared.TheConstants.{CELLS, MAX_INSTRUCTIONS};
 ghost use Rattle.filter_tree.specs.Measure.{cells_of, size_of};
@@ -63,10 +63,10 @@ pub fn compile<A: Allocator, B: Allocator + Clone>(
     ensures no_far_jump { size_of (tree_of expr.now) ≤ SHORT → IfOk result (λ program. HasNoFarJump program.words) }
     ensures accepted { IfOk result (λ program. IsAccepted program.words) }
 {
-    if expr.cells() > CELLS {
+    let size = expr.size();
+    if exceeds_cells(expr, size) {
         return Err(CompileFault::CellsExceeded);
     }
-    let size = expr.size();
     if size > MAX_INSTRUCTIONS as u32 {
         return Err(CompileFault::TooLong);
     }
@@ -87,4 +87,15 @@ pub fn compile<A: Allocator, B: Allocator + Clone>(
     code.land(&no);
     code.push(Insn::ReturnConstant(0))?;
     Ok(Program::charged(code.into_words(), size))
+}
+
+// Up to this size an expression has fewer cells than there are.
+const FEW: u32 = 64;
+
+fn exceeds_cells<A: Allocator>(expr: &Expr<A>, size: u32) -> bool
+    requires size { size ≡ min (size_of (tree_of expr.now)) u32.MAX }
+    ensures exceeds { result ≡ true → CELLS < cells_of (tree_of expr.now) }
+    ensures within { result ≡ false → cells_of (tree_of expr.now) ≤ CELLS }
+{
+    size > FEW && expr.cells() > CELLS
 }

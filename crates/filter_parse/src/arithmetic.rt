@@ -63,6 +63,7 @@ impl<'a, A: Allocator> Parser<'a, A> {
     }
 
     /// Appends a whole operand to the output. What it is the right side of is reduced by the next lookahead.
+    #[inline(always)]
     pub(crate) fn put_operand(&mut self, item: Item) -> Result<(), ParseFault>
         ensures put { MatchResult result
             (λ _. parsing_of self.new ≡ parsing Number (from_top self.old.stack) (self.old.output.entries.items ++ item ∷ []))

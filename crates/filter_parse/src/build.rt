@@ -1,6 +1,6 @@
 //! The tree of an expression in postfix order: its last part is taken first, and then the parts that this one stands over.
 
-ghost use Rattle.std.specs.Prelude.{◌≡◌, ◌<◌, IfOk, OnOk, length};
+ghost use Rattle.std.specs.Prelude.{◌≡◌, ◌<◌, OnOk, length};
 ghost use Rattle.filter_tree.specs.View.{arith_tree_of, tree_of};
 ghost use Rattle.filter_parse.specs.body.Stack.{from_top};
 ghost use Rattle.filter_parse.specs.body.Postfix.{HasArithmetic, HasTree, arith_parts, tree_parts};
@@ -8,36 +8,52 @@ ghost use Rattle.filter_parse.specs.body.Postfix.{HasArithmetic, HasTree, arith_
 use crate::OutOfMemory;
 use crate::item::Item;
 use crate::stack::Stack;
-use filter_tree::{Arith, Expr};
+use filter_tree::{Arith, Expr, Primitive};
 use std::alloc::Allocator;
 
-// Its own function: else each turn of the recursion clears room for every failure that gives a tree back.
+// Each part is made where it is to stand: else each turn of the recursions clears room for the whole parts that they answer.
+
 #[inline(never)]
-fn boxed<T: Drop, A: Allocator + Clone>(alloc: &A, value: T) -> Result<Box<T, A>, OutOfMemory>
-    ensures { IfOk result (λ b. b.value ≡ value) }
-{
-    Ok(Box::new(alloc.clone()?, value)?)
+fn arithmetic_place<A: Allocator + Clone>(alloc: &A) -> Result<Box<Arith<A>, A>, OutOfMemory> {
+    Ok(Box::new(alloc.clone()?, Arith::Length)?)
+}
+
+#[inline(never)]
+fn place<A: Allocator + Clone>(alloc: &A) -> Result<Box<Expr<A>, A>, OutOfMemory> {
+    Ok(Box::new(alloc.clone()?, Expr::Primitive(Primitive::Ip))?)
 }
 
 fn arithmetic<'a, A: Allocator + Clone>(
     alloc: &'a A,
     parts: &mut Stack<'a, Item, A>,
-) -> Result<Arith<A>, OutOfMemory>
+    to: &mut Arith<A>,
+) -> Result<(), OutOfMemory>
     requires { HasArithmetic (from_top parts.old) }
-    ensures taken { IfOk result (λ a. from_top parts.old ≡ arith_parts (arith_tree_of a) (from_top parts.new)) }
+    ensures taken { OnOk result (from_top parts.old ≡ arith_parts (arith_tree_of to.new) (from_top parts.new)) }
     ensures fewer { OnOk result (length (from_top parts.new) < length (from_top parts.old)) }
 {
     match parts.pop() {
-        Some(Item::Number(n)) => Ok(Arith::Number(n)),
-        Some(Item::Length) => Ok(Arith::Length),
+        Some(Item::Number(n)) => {
+            *to = Arith::Number(n);
+            Ok(())
+        }
+        Some(Item::Length) => {
+            *to = Arith::Length;
+            Ok(())
+        }
         Some(Item::Access(protocol, size)) => {
-            let index = boxed(alloc, arithmetic(alloc, parts)?)?;
-            Ok(Arith::Accessor(protocol, index, size))
+            let mut index = arithmetic_place(alloc)?;
+            arithmetic(alloc, parts, &mut index)?;
+            *to = Arith::Accessor(protocol, index, size);
+            Ok(())
         }
         Some(Item::Operate(operator)) => {
-            let right = Box::new(alloc.clone()?, arithmetic(alloc, parts)?)?;
-            let left = arithmetic(alloc, parts)?;
-            Ok(Arith::Operation(Box::new(alloc.clone()?, left)?, operator, right))
+            let mut right = arithmetic_place(alloc)?;
+            arithmetic(alloc, parts, &mut right)?;
+            let mut left = arithmetic_place(alloc)?;
+            arithmetic(alloc, parts, &mut left)?;
+            *to = Arith::Operation(left, operator, right);
+            Ok(())
         }
         Some(Item::Primitive(_)) => unreachable!(),
         Some(Item::Relate(_)) => unreachable!(),
@@ -48,35 +64,50 @@ fn arithmetic<'a, A: Allocator + Clone>(
     }
 }
 
-/// Takes the last tree from some parts.
+/// Takes the last tree from some parts, and puts it to its place.
 pub(crate) fn build<'a, A: Allocator + Clone>(
     alloc: &'a A,
     parts: &mut Stack<'a, Item, A>,
-) -> Result<Expr<A>, OutOfMemory>
+    to: &mut Expr<A>,
+) -> Result<(), OutOfMemory>
     requires { HasTree (from_top parts.old) }
-    ensures taken { IfOk result (λ e. from_top parts.old ≡ tree_parts (tree_of e) (from_top parts.new)) }
+    ensures taken { OnOk result (from_top parts.old ≡ tree_parts (tree_of to.new) (from_top parts.new)) }
     ensures fewer { OnOk result (length (from_top parts.new) < length (from_top parts.old)) }
 {
     match parts.pop() {
-        Some(Item::Primitive(primitive)) => Ok(Expr::Primitive(primitive)),
+        Some(Item::Primitive(primitive)) => {
+            *to = Expr::Primitive(primitive);
+            Ok(())
+        }
         Some(Item::Relate(relator)) => {
-            let right = arithmetic(alloc, parts)?;
-            let left = arithmetic(alloc, parts)?;
-            Ok(Expr::Relation(left, relator, right))
+            let mut right = Arith::Length;
+            arithmetic(alloc, parts, &mut right)?;
+            let mut left = Arith::Length;
+            arithmetic(alloc, parts, &mut left)?;
+            *to = Expr::Relation(left, relator, right);
+            Ok(())
         }
         Some(Item::Negate) => {
-            let inner = boxed(alloc, build(alloc, parts)?)?;
-            Ok(Expr::Not(inner))
+            let mut inner = place(alloc)?;
+            build(alloc, parts, &mut inner)?;
+            *to = Expr::Not(inner);
+            Ok(())
         }
         Some(Item::Conjoin) => {
-            let right = boxed(alloc, build(alloc, parts)?)?;
-            let left = boxed(alloc, build(alloc, parts)?)?;
-            Ok(Expr::And(left, right))
+            let mut right = place(alloc)?;
+            build(alloc, parts, &mut right)?;
+            let mut left = place(alloc)?;
+            build(alloc, parts, &mut left)?;
+            *to = Expr::And(left, right);
+            Ok(())
         }
         Some(Item::Disjoin) => {
-            let right = boxed(alloc, build(alloc, parts)?)?;
-            let left = boxed(alloc, build(alloc, parts)?)?;
-            Ok(Expr::Or(left, right))
+            let mut right = place(alloc)?;
+            build(alloc, parts, &mut right)?;
+            let mut left = place(alloc)?;
+            build(alloc, parts, &mut left)?;
+            *to = Expr::Or(left, right);
+            Ok(())
         }
         Some(Item::Number(_)) => unreachable!(),
         Some(Item::Length) => unreachable!(),

@@ -5,9 +5,9 @@ use filter_tree::{Operator, Primitive, Protocol, Relation, Size};
 /// A part of an expression, which takes the parts that it stands over from those before it.
 #[derive(Clone, Copy, Debug, Default, PartialEq, Eq)]
 pub(crate) enum Item {
-    Number(u32),
     #[default]
     Length,
+    Number(u32),
     Access(Protocol, Size),
     Operate(Operator),
     Primitive(Primitive),

@@ -32,7 +32,7 @@ mod token;
 use build::build;
 use depth::is_too_deep;
 pub use fault::ParseFault;
-use filter_tree::Expr;
+use filter_tree::{Expr, Primitive};
 use parser::Parser;
 use std::alloc::Allocator;
 
@@ -62,7 +62,9 @@ pub fn parse<A: Allocator + Clone>(alloc: A, text: &[u8]) -> Result<Expr<A>, Par
     if is_too_deep(&alloc, parser.output.entries())? {
         return Err(ParseFault::TooDeep { at: text.len() });
     }
-    Ok(build(&alloc, &mut parser.output)?)
+    let mut tree = Expr::Primitive(Primitive::Ip);
+    build(&alloc, &mut parser.output, &mut tree)?;
+    Ok(tree)
 }
 
 /// No tokens spell two trees, so a text has at most one. A text with a tree has no fault, and each other text at most one.

@@ -18,6 +18,7 @@ use std::alloc::Allocator;
 
 impl<'a, A: Allocator> Parser<'a, A> {
     /// Reduces what the lookahead leaves whole.
+    #[inline(always)]
     pub(crate) fn reduce(&mut self, lookahead: Option<Token>) -> Result<(), OutOfMemory>
         ensures reduced { OnOk result (parsing_of self.new ≡ reduced lookahead (parsing_of self.old)) }
         ensures brackets { self.new.brackets ≡ self.old.brackets }
@@ -29,6 +30,7 @@ impl<'a, A: Allocator> Parser<'a, A> {
         }
     }
 
+    #[inline(always)]
     fn reduce_number(&mut self, lookahead: Option<Token>) -> Result<(), OutOfMemory>
         requires { self.old.state ≡ Number }
         ensures reduced { OnOk result (parsing_of self.new ≡ reduced lookahead (parsing_of self.old)) }
@@ -50,6 +52,7 @@ impl<'a, A: Allocator> Parser<'a, A> {
         Ok(())
     }
 
+    #[inline(always)]
     fn reduce_name(
         &mut self,
         protocol: Protocol,

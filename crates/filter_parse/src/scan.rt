@@ -95,6 +95,7 @@ fn lexeme(text: &[u8], c: u8, rest: &[u8]) -> Lexeme
 }
 
 /// Finds the next token of a text, at a place or behind blanks that stand there.
+#[inline(always)]
 pub(crate) fn next_token(text: &[u8], at: usize) -> Option<Found>
     requires { at ≤ length text.now }
     ensures found { MatchOption result

@@ -26,7 +26,10 @@ impl Accesses {
         ensures udp { result.udp ≡ accesses_of_both (arith_tree_of left.now) (arith_tree_of right.now) Udp }
         ensures icmp { result.icmp ≡ accesses_of_both (arith_tree_of left.now) (arith_tree_of right.now) Icmp }
     {
-        Accesses::of(left).or(Accesses::of(right))
+        let mut used = Accesses::none();
+        used.add(right);
+        used.add(left);
+        used
     }
 
     /// Tests whether any of them is a transport protocol's, `tcp`, `udp` or `icmp`.
@@ -43,17 +46,38 @@ impl Accesses {
         self.ip || self.any_transport()
     }
 
-    fn of<A: Allocator>(arith: &Arith<A>) -> Accesses
-        ensures ip { result.ip ≡ accesses (arith_tree_of arith.now) Ip }
-        ensures tcp { result.tcp ≡ accesses (arith_tree_of arith.now) Tcp }
-        ensures udp { result.udp ≡ accesses (arith_tree_of arith.now) Udp }
-        ensures icmp { result.icmp ≡ accesses (arith_tree_of arith.now) Icmp }
+    // Adds those of an arithmetic expression.
+    fn add<A: Allocator>(&mut self, arith: &Arith<A>)
+        ensures ip { self.new.ip ≡ (accesses (arith_tree_of arith.now) Ip || self.old.ip) }
+        ensures tcp { self.new.tcp ≡ (accesses (arith_tree_of arith.now) Tcp || self.old.tcp) }
+        ensures udp { self.new.udp ≡ (accesses (arith_tree_of arith.now) Udp || self.old.udp) }
+        ensures icmp { self.new.icmp ≡ (accesses (arith_tree_of arith.now) Icmp || self.old.icmp) }
     {
         match arith {
-            Arith::Number(_) => Accesses::none(),
-            Arith::Length => Accesses::none(),
-            Arith::Accessor(own, index, _) => Accesses::only(*own).or(Accesses::of(index)),
-            Arith::Operation(left, _, right) => Accesses::of(left).or(Accesses::of(right)),
+            Arith::Number(_) => {}
+            Arith::Length => {}
+            Arith::Accessor(own, index, _) => {
+                self.add(index);
+                self.note(*own);
+            }
+            Arith::Operation(left, _, right) => {
+                self.add(right);
+                self.add(left);
+            }
+        }
+    }
+
+    fn note(&mut self, protocol: Protocol)
+        ensures ip { self.new.ip ≡ (is_same protocol Ip || self.old.ip) }
+        ensures tcp { self.new.tcp ≡ (is_same protocol Tcp || self.old.tcp) }
+        ensures udp { self.new.udp ≡ (is_same protocol Udp || self.old.udp) }
+        ensures icmp { self.new.icmp ≡ (is_same protocol Icmp || self.old.icmp) }
+    {
+        match protocol {
+            Protocol::Ip => self.ip = true,
+            Protocol::Tcp => self.tcp = true,
+            Protocol::Udp => self.udp = true,
+            Protocol::Icmp => self.icmp = true,
         }
     }
 
@@ -65,28 +89,6 @@ impl Accesses {
             tcp: false,
             udp: false,
             icmp: false,
-        }
-    }
-
-    fn only(protocol: Protocol) -> Accesses
-        ensures { result ≡ record { ip = is_same protocol Ip; tcp = is_same protocol Tcp; udp = is_same protocol Udp; icmp = is_same protocol Icmp } }
-    {
-        Accesses {
-            ip: matches!(protocol, Protocol::Ip),
-            tcp: matches!(protocol, Protocol::Tcp),
-            udp: matches!(protocol, Protocol::Udp),
-            icmp: matches!(protocol, Protocol::Icmp),
-        }
-    }
-
-    fn or(self, other: Accesses) -> Accesses
-        ensures { result ≡ record { ip = self.ip || other.ip; tcp = self.tcp || other.tcp; udp = self.udp || other.udp; icmp = self.icmp || other.icmp } }
-    {
-        Accesses {
-            ip: self.ip || other.ip,
-            tcp: self.tcp || other.tcp,
-            udp: self.udp || other.udp,
-            icmp: self.icmp || other.icmp,
         }
     }
 }

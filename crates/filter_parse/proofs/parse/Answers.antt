@@ -33,5 +33,5 @@ build-requires g c = (omega arith, parts-tree c.args.text.now c.read.new.self.ou
 
 pub returns-clause-parses : goal.returns-clause-parses
 returns-clause-parses g c =
-    tree-says c.args.text.now c.read.new.self.output.entries.items c.entries.result.now (tree_of c.in_ok-build.field-0) (from_top c.build.new.parts)
+    tree-says c.args.text.now c.read.new.self.output.entries.items c.entries.result.now (tree_of c.build.new.to) (from_top c.build.new.parts)
     c.in_ok-read.ensures c.entries.ensures (c.in_ok-is_too_deep.ensures.shallow c.if-branch.false) c.in_ok-build.ensures.taken

@@ -1,13 +1,8 @@
-use Rattle.std.proofs.Common.{◌+◌, ◌≤◌, arith, length, refl, subst}
-use Rattle.filter_tree.specs.Measure.{weight_where}
+use Rattle.std.proofs.Common.{refl}
 use Rattle.filter_tree.specs.Outcome.{where_so}
 use Rattle.filter_tree.specs.Primitive.{is_first_fragment}
-use Rattle.backpatch.proofs.WritesLemmas.{landable}
-use Rattle.filter_compile.proofs.GuardLemmas.{Guards-left_out, Guards-used, unused, yes_where}
+use Rattle.filter_compile.proofs.GuardLemmas.{Guards-left_out, unused, yes_where}
 use Rattle.filter_compile.proofs.guard.guard_first_fragment.Goals as goal
-
-pub land-requires-clause-open : goal.land-requires-clause-open
-land-requires-clause-open g c = landable c.exit-on.ensures.empty c.in_ok-is_first_fragment.ensures.writes
 
 pub returns-then-first_fragment : goal.returns-then-first_fragment
 returns-then-first_fragment g c = record {
@@ -22,7 +17,4 @@ returns-then-not-used g c = record {
 }
 
 pub returns : goal.returns
-returns g c = record {
-  guards = let by = c.exit-on.ensures.by in let long = c.len.ensures.length in let used = c.if-not-used.false in
-      Guards-used c.args.known c.with_first_fragment.result c.args.known is_first_fragment 4 c.exit-on.ensures.empty (let room = subst (λ b. length c.args.code.now + weight_where b 4 ≤ c.args.no.now.by) used c.requires.behind in omega arith) c.in_ok-is_first_fragment.ensures.writes c.land.ensures.landed c.with_first_fragment.ensures.holds (λ packet x h is. h) c.args.used used;
-}
+returns g c = record { guards = rw (c.if-not-used.false) c.ask_first_fragment.ensures.guards }

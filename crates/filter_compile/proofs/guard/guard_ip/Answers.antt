@@ -1,13 +1,7 @@
-use Rattle.std.proofs.Common.{◌+◌, ◌≤◌, arith, length, subst}
-use Rattle.filter_tree.specs.Measure.{weight_where}
 use Rattle.filter_tree.specs.Outcome.{where_so}
 use Rattle.filter_tree.specs.Primitive.{is_ip}
-use Rattle.backpatch.proofs.WritesLemmas.{landable}
-use Rattle.filter_compile.proofs.GuardLemmas.{Guards-left_out, Guards-used}
+use Rattle.filter_compile.proofs.GuardLemmas.{Guards-left_out}
 use Rattle.filter_compile.proofs.guard.guard_ip.Goals as goal
-
-pub land-requires-clause-open : goal.land-requires-clause-open
-land-requires-clause-open g c = landable c.exit-on.ensures.empty c.in_ok-is_ip.ensures.writes
 
 pub returns-then-not-must_ask : goal.returns-then-not-must_ask
 returns-then-not-must_ask g c = record {
@@ -16,7 +10,4 @@ returns-then-not-must_ask g c = record {
 }
 
 pub returns : goal.returns
-returns g c = record {
-  guards = let by = c.exit-on.ensures.by in let long = c.len.ensures.length in let used = c.must_ask.ensures.used c.if-not-must_ask.false in
-      Guards-used c.args.known c.with_ip.result c.without_ip.result is_ip 5 c.exit-on.ensures.empty (let room = subst (λ b. length c.args.code.now + weight_where b 5 ≤ c.args.no.now.by) used c.requires.behind in omega arith) c.in_ok-is_ip.ensures.writes c.land.ensures.landed c.with_ip.ensures.holds c.without_ip.ensures.holds c.args.used used;
-}
+returns g c = record { guards = rw (c.must_ask.ensures.used c.if-not-must_ask.false) c.ask_ip.ensures.guards }

@@ -13,7 +13,7 @@ pub arithmetic-requires-in-Some-Relate : goal.arithmetic-requires-in-Some-Relate
 arithmetic-requires-in-Some-Relate g t c =
     let s = from_top c.args.parts.now in
     let top = ap Some (sym c.in-Some-Relate.field-0-is) ∙ sym c.in-Some-Relate.is ∙ c.pop.ensures.top in
-    (omega arith, has-relation-left _ s _ _ c.requires top (sym c.pop.ensures.below ∙ c.in_ok-right-in-Some-Relate.ensures.taken))
+    (omega arith, has-relation-left _ s _ _ c.requires top (sym c.pop.ensures.below ∙ c.in_ok-arithmetic-in-Some-Relate.ensures.taken))
 
 pub build-requires : goal.build-requires
 build-requires g t c κs within =
