@@ -1,5 +1,5 @@
 -- What the operator does for a line while each version that was replaced is free.
-use Rattle.std.proofs.Common.{Contains, ◌≡◌, ◌∙◌, ◌+◌, ◌<◌, ◌≤◌, ◌++◌, ◌∷◌, List, [], add-one, ap, arith, length, length-append, refl, subst, suc, sym, ℕ, ⊎_elim}
+use Rattle.std.proofs.Common.{Contains, ◌≡◌, ◌∙◌, ◌+◌, ◌<◌, ◌≤◌, ◌++◌, ◌∷◌, List, [], add-one, ap, arith, inl, inr, length, length-append, refl, subst, suc, sym, ℕ, ⊎_elim}
 use Rattle.std.proofs.lemmas.Bool.{cases_lt}
 use mathlib.Core.Logic.{dite}
 use mathlib.Core.Option.{some}
@@ -16,7 +16,7 @@ use Rattle.versions.proofs.LogLemmas.{IsFree-on}
 use Rattle.versions.proofs.ShapeLemmas.{rows_is}
 use Rattle.read_section.specs.Operator.{OperatorValue, scanned}
 use Rattle.read_section.specs.Operator.{HasFreeRow}
-use Rattle.retire.specs.Publish.{IsFillOf, Publishes, Scanned, ScansEach, after_scans}
+use Rattle.retire.specs.Publish.{IsFormFill, Publishes, Scanned, ScansEach, after_scans}
 use Rattle.retire.specs.Sweep.{Sweeps}
 use Rattle.retire.specs.declared.fault.PublishFault.TheVariants.{Busy, Exhausted, TooBig}
 use Rattle.retire.proofs.PublishLemmas.{looked_keeps, number_found}
@@ -56,11 +56,15 @@ next_number version config next line answer (swept reclaimed short spells) = tt
 
 -- ---- fills change no number
 
-number_after-fills : (r : ℕ) (words : List ℕ) (fills older : List Entry) → ((newest : Entry) → Contains fills newest → IsFillOf r words newest) → number_after (fills ++ older) ≡ number_after older
-number_after-fills r words [] older filled = refl
-number_after-fills r words (newest ∷ fills) older filled =
-    ap (λ (e : Entry). number_by e.step (number_after (fills ++ older))) (filled newest (0, omega arith, refl)).2
-    ∙ number_after-fills r words fills older (λ later c. filled later (contains_later newest later fills c))
+form_fill : (r : ℕ) (config : List Group) (pages : List ℕ) (older : List Entry) (newest : Entry) → IsFormFill r config pages newest → number_by newest.step (number_after older) ≡ number_after older
+form_fill r config pages older newest (inl fill) = ap (λ (e : Entry). number_by e.step (number_after older)) fill.2
+form_fill r config pages older newest (inr part) = ap (λ (e : Entry). number_by e.step (number_after older)) part.fill
+
+number_after-fills : (r : ℕ) (config : List Group) (pages : List ℕ) (fills older : List Entry) → ((newest : Entry) → Contains fills newest → IsFormFill r config pages newest) → number_after (fills ++ older) ≡ number_after older
+number_after-fills r config pages [] older filled = refl
+number_after-fills r config pages (newest ∷ fills) older filled =
+    form_fill r config pages (fills ++ older) newest (filled newest (0, omega arith, refl))
+    ∙ number_after-fills r config pages fills older (λ later c. filled later (contains_later newest later fills c))
 
 -- ---- the ready state
 
@@ -120,7 +124,7 @@ module _ (before : OperatorValue) (now : Standing) (stands : Stands before now) 
     number_published : number_after after.view.log ≡ now.version + 1
     number_published =
         ap number_after publishes.log
-        ∙ ap suc (number_after-fills publishes.taken _ publishes.fills publishes.found.view.log publishes.filled ∙ number_found before publishes.found publishes.looked ∙ sym stands.version)
+        ∙ ap suc (number_after-fills publishes.taken config publishes.pages publishes.fills publishes.found.view.log publishes.filled ∙ number_found before publishes.found publishes.looked ∙ sym stands.version)
         ∙ sym (add-one now.version)
 
     stands_published : (version : ℕ) (next : TextConfig) → version ≡ now.version + 1 → AgreesNow next after.view → Stands after (record now { version = version; config = next })

@@ -1,7 +1,9 @@
 -- A worker's steps from outside to the version that it holds.
-use Rattle.std.proofs.Common.{Contains, ◌≡◌, ℕ, zero, suc, ◌+◌, ◌/◌, ◌%◌, ◌<◌, List, [], ◌∷◌, ◌++◌, None, Option, Some, ap, append_assoc, arith, length, length-append, refl, slice_index_or, subst, sym, ◌∙◌}
-use Rattle.config_image.specs.Image.{Group, row}
+use Rattle.std.proofs.Common.{Contains, ◌≡◌, ℕ, zero, suc, ◌+◌, ◌/◌, ◌%◌, ◌<◌, ◌≤◌, List, [], ◌∷◌, ◌++◌, None, Option, Some, ap, append_assoc, arith, length, length-append, refl, slice_index_or, subst, sym, ◌∙◌}
+use Rattle.config_image.specs.declared.TheConstants.{ROW_WORDS}
+use Rattle.config_image.specs.Image.{Group, image, row}
 use Rattle.config_image.specs.Lookup.{BeginsWithImage}
+use Rattle.config_image.proofs.LengthLemmas.{within_charge}
 use Rattle.config_image.proofs.RowLemmas.{row_holds}
 use Rattle.versions.specs.declared.layout.TheConstants.{ROWS}
 use Rattle.versions.specs.declared.view.Stage.{Stage}
@@ -10,22 +12,23 @@ use Rattle.versions.specs.declared.view.WorkerView.{WorkerView}
 use Rattle.versions.specs.View.{BeginsWith, IsTold, after_announce, after_peek, after_pin, read_word_of, stage_after_peek}
 use Rattle.versions.specs.Legal.{MayPeek}
 use Rattle.versions.specs.Table.{the_shape}
-use Rattle.read_section.specs.declared.worker.Held.{Held}
 use Rattle.read_section.specs.Layout.{IsPublishable}
 use Rattle.read_section.specs.body.Seat.{TellsStage}
-use Rattle.read_section.specs.Section.{HoldsLastSeen, held_version, held_words}
+use Rattle.read_section.specs.declared.found.Found.{Found}
+use Rattle.read_section.specs.body.Found.{Knows, KnowsIn}
+use Rattle.read_section.specs.Section.{HoldsLastSeen, held_version, held_words, version_of}
 use Rattle.read_section.specs.body.Steps.{Sees}
 use Rattle.read_section.specs.View.{Shows}
 use Rattle.read_section.specs.Worker.{Enters, IsInside, IsOutside, WorkerValue, left, left_from, steps}
 use Rattle.read_section.proofs.WorkerSeatLemmas.{some_row, version_is}
 use Rattle.read_section.proofs.WorkerSeatLemmas as seat
 
-pub may_peek_at : (held : Option Held) (stage : Stage) → TellsStage held stage → MayPeek stage
+pub may_peek_at : (held : Option ℕ) (stage : Stage) → TellsStage held stage → MayPeek stage
 may_peek_at None Outside at = tt
 may_peek_at None (Peeked n) at = tt
 may_peek_at None (Announced k) at = absurd at
 may_peek_at None (Inside k n r) at = absurd at
-may_peek_at (Some h) stage at = subst MayPeek (sym at.0) tt
+may_peek_at (Some n) stage at = subst MayPeek (sym at.1) tt
 
 -- a worker that left, or made no step, is outside
 pub IsOutside-left : (view : WorkerView (List Group)) → MayPeek (left view).stage → IsOutside (left view).stage
@@ -117,5 +120,13 @@ seen_on before after entered = subst (λ (w : WorkerValue). IsTold before.view.s
 pub number_seen : (worker : WorkerValue) → HoldsLastSeen worker → length worker.view.seen ≡ suc (held_version worker)
 number_seen worker last = let number = last.number in ap length last.last_seen ∙ omega (arith, length-append last.older (last.config ∷ []))
 
-pub in_some_row : (y : ℕ) → y % ROWS < the_shape.rows
-in_some_row y = subst (λ (n : ℕ). y % ROWS < n) (sym Rattle.versions.proofs.ShapeLemmas.rows_is) (omega arith)
+-- a section that begins knows its row, and of nothing else where it stands
+pub nothing_known : (worker : WorkerValue) (version row : ℕ) (found : Found) → IsInside worker.view.stage version row → row < ROWS → HoldsLastSeen worker → found.form ≡ 0 → found.len ≡ 0 → Knows worker.view row found
+nothing_known worker version row found inside below last no_form no_len =
+    let number : version ≡ length last.older = sym (ap version_of inside) ∙ last.number in
+    let seen : version < length worker.view.seen = let more = ap length last.last_seen in omega (arith, length-append last.older (last.config ∷ [])) in
+    let same : slice_index_or worker.view.seen version [] ≡ last.config = (λ j. slice_index_or (last.last_seen j) (number j) []) ∙ at_last last.older last.config [] in
+    let charge = last.publishable.1 in let covered = within_charge last.config last.publishable.0 in
+    let room : length (image last.config) ≤ ROW_WORDS = omega arith in
+    subst (λ (s : Stage). KnowsIn s worker.view.seen worker.view.pages row found) (sym inside)
+    (seen, ((refl, below), (subst (λ c. length (image c) ≤ ROW_WORDS) (sym same) room, (λ some. absurd (omega arith), λ some. absurd (omega arith)))))

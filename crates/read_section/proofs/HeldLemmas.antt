@@ -17,6 +17,7 @@ use Rattle.versions.proofs.HeldVersions.{IsKept, config_seen, held_is_kept, page
 use Rattle.versions.proofs.SafetyLemmas.{form_word, keeps_held, word_is_form}
 use Rattle.read_section.specs.declared.versions_rule.SeatView.{SeatView}
 use Rattle.read_section.specs.Layout.{IsPublishable}
+use Rattle.read_section.specs.body.Plays.{TellsWord}
 use Rattle.read_section.specs.VersionsRule.{IsLeftByTrace}
 use Rattle.read_section.specs.Held.{FetchesHeldWord, HeldWordsStand, HeldWordsStay, HeldWordsUnfilled, IsSeenWord}
 use Rattle.read_section.proofs.VersionsRuleLemmas.{now, reached, rule_now}
@@ -57,6 +58,11 @@ module _ {C : Type 0} (shape : Shape C) (IsPublishable : C → Type 0) {S : Type
   pub held_word : (place : ℕ) → IsSeenPlace shape view.seen view.pages n r place → IsSeenWord shape view n r place (slice_index s.words place)
   held_word place seen = let t = form_place place seen in
       (t.0, t.1, subst (IsFormWord shape r t.0 view.pages place) (sym (word_left place)) (form_word shape state r t.0 view.pages place (seen_holds t.0 t.1) t.2))
+
+  -- a word that is loaded is the version's, if the version has one there
+  pub tells_word : (place : ℕ) → TellsWord shape view.seen view.pages n r place (slice_index s.words place)
+  tells_word place = let seen = config_seen shape state rule view.number n r holder in let holds = seen_holds held.config seen in
+      record { config = held.config; seen = seen; counted = holds.counted; below = holds.below; word = λ y word. word_left place ∙ word_is_form shape state r held.config view.pages place y holds word }
 
   -- the word that the worker may see there is the one that stands there
   pub seen_word_is : (place x : ℕ) → IsSeenWord shape view n r place x → slice_index s.words place ≡ x

@@ -1,6 +1,12 @@
 mod ListLemmas
 mod VersionsRuleLemmas
 mod HeldLemmas
+mod HeldWordLemmas
+mod PartNameLemmas
+mod ReadLemmas
+mod SoughtLemmas
+mod RowReadLemmas
+mod AheadLemmas
 mod WorkerKept
 mod OperatorKept
 mod SeatKept
@@ -11,5 +17,6 @@ mod OpeningLemmas
 pub mod SectionLemmas
 mod EnterLemmas
 pub mod FilledLemmas
+mod PutLemmas
 mod KeeperLemmas
 mod PoolLemmas

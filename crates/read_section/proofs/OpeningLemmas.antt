@@ -13,7 +13,7 @@ use Rattle.versions.specs.State.{new_operator}
 use Rattle.versions.specs.World.{opened_with, opening_stored}
 use Rattle.versions.specs.Table.{the_shape}
 use Rattle.versions.proofs.TraceLemmas.{Coheres-start}
-use Rattle.versions.proofs.WorldLemmas.{IsOpening-stored, light, slice_get-end, slice_get-front}
+use Rattle.versions.proofs.WorldLemmas.{IsOpening-stored, has_room, light, slice_get-end, slice_get-front}
 use Rattle.read_section.specs.Layout.{IsPublishable}
 use Rattle.read_section.specs.Operator.{AreOpenedWorkers, opened_operator}
 use Rattle.read_section.specs.body.Seat.{operator_at}
@@ -31,11 +31,11 @@ module _ (config : List Group) where
 
   pub keeps_at_start : (words : List ℕ) → words ≡ (opened_with config).words → IsPublishable config → Kept config (opening words [] (first_seat the_shape config (opening_stored config)))
   keeps_at_start words is publishable = subst (λ ws. Kept config (opening ws [] (first_seat the_shape config (opening_stored config)))) (sym is)
-      (opens the_shape IsPublishable config (opening_stored config) (IsOpening-stored config (light config (charge_of config) refl publishable.1)) publishable)
+      (opens the_shape IsPublishable config (opening_stored config) (IsOpening-stored config (has_room config (charge_of config) publishable.0 refl publishable.1) (light config (charge_of config) refl publishable.1)) publishable)
 
   -- the length of the whole table
   pub length-opened : IsPublishable config → length (opened_with config).words ≡ (1 + the_shape.workers) + stored_words the_shape
-  length-opened publishable = (Coheres-start the_shape config (opening_stored config) (IsOpening-stored config (light config (charge_of config) refl publishable.1))).words_length
+  length-opened publishable = (Coheres-start the_shape config (opening_stored config) (IsOpening-stored config (has_room config (charge_of config) publishable.0 refl publishable.1) (light config (charge_of config) refl publishable.1))).words_length
 
   pub may_seat : (v : View) (n id : ℕ) → IsSeating v config n → n < the_shape.workers → Splits (Kept config) id v (without_spare v) (spare_alone the_shape v)
   may_seat v n id h low = subst (λ (y : View). Splits (Kept config) id y (without_spare y) (spare_alone the_shape y)) (sym h.view_is)

@@ -1,32 +1,26 @@
 -- The operator's seat, and what its steps leave.
-use Rattle.std.proofs.Common.{◌≡◌, ℕ, ◌+◌, ◌*◌, ◌%◌, ◌^◌, ◌<◌, ◌≤◌, List, ap, arith, inl, inr, refl, slice_index, subst, sym, ◌∙◌}
+use Rattle.std.proofs.Common.{◌≡◌, ℕ, ◌+◌, ◌*◌, ◌%◌, ◌^◌, ◌<◌, ◌≤◌, List, ap, arith, inl, inr, refl, subst, sym, ◌∙◌}
 use Rattle.std.proofs.lemmas.Nat.{mod-mul-add}
 use mathlib.Core.Option.{none}
 use Rattle.atomic_table.specs.Table.{Allows, step}
 use Rattle.atomic_table.specs.Seated.{TableId}
-use Rattle.config_image.specs.declared.TheConstants.{ROW_WORDS}
 use Rattle.config_image.specs.Image.{Group}
 use Rattle.member_group.specs.Charge.{charge_of}
 use Rattle.versions.specs.declared.layout.TheConstants.{LAST_NUMBER, ROWS, WORKERS}
 use Rattle.versions.specs.declared.view.OperatorView.{OperatorView}
-use Rattle.versions.specs.Layout.{HoldsForm, current_word, page_begin, pages_named, row_begin}
+use Rattle.versions.specs.Layout.{current_word, page_begin, row_begin}
 use Rattle.versions.specs.Free.{IsFreePage, IsFreeRow, number_after}
 use Rattle.versions.specs.Table.{the_shape}
-use Rattle.versions.proofs.ShapeLemmas.{holds, last_number_is, names_none, rows_is, workers_is}
+use Rattle.versions.proofs.ShapeLemmas.{last_number_is, rows_is, workers_is}
 use Rattle.versions.proofs.WorldLemmas.{light}
-use Rattle.read_section.specs.Layout.{HoldsConfig, IsPublishable}
-use Rattle.read_section.specs.body.Seat.{OperatorSeatValue, acts, operator_at, operator_or_none}
+use Rattle.read_section.specs.Layout.{IsPublishable}
+use Rattle.read_section.specs.body.Seat.{HoldsNamed, OperatorSeatValue, acts, operator_at, operator_or_none}
 use Rattle.read_section.specs.body.Plays.{fills, publishes, scans}
 use Rattle.read_section.specs.body.Seat.{IsOperatorSeat}
 use Rattle.read_section.specs.View.{TellsLog}
 use Rattle.read_section.specs.body.SeatView.{with_operator}
 use Rattle.read_section.proofs.OperatorKept.{allows_fill, allows_publish, allows_scan}
 use Rattle.read_section.proofs.WorkerSeatLemmas.{Kept, Seated, View}
-
--- a row that has the words of a configuration's row holds it, with the pages that the row names: none
-Holds-shape : (view : OperatorView (List Group)) (r : ℕ) (config : List Group) → HoldsConfig view r config → HoldsForm the_shape 0 view.stored r config (pages_named the_shape view.stored r)
-Holds-shape view r config h = subst (HoldsForm the_shape 0 view.stored r config) (sym (names_none view.stored r))
-    (holds 0 view.stored r config (λ i low. ap (slice_index view.stored) (let g : 0 + (r * ROW_WORDS + i) ≡ r * ROW_WORDS + i = omega arith in g) ∙ h i low))
 
 module _ (v : View) (h : IsOperatorSeat v) where
   abbrev view : OperatorView (List Group)
@@ -53,12 +47,12 @@ module _ (v : View) (h : IsOperatorSeat v) where
     may_fill_page q i place x free small e fits = allows_fill the_shape IsPublishable config slots' id (v, slots) view place x (step slots' place x 0 none) h.knows
         (inr (q, subst (λ (o : OperatorSeatValue). IsFreePage the_shape o.view q) (sym is) free, (i, small, e))) fits refl
 
-    pub may_publish : (r n x : ℕ) (new : List Group) → IsFreeRow the_shape operator.view r → HoldsConfig operator.view r new → IsPublishable new → n ≡ number_after operator.view.log + 1 → n ≤ the_shape.last_number → x ≡ current_word the_shape n r
+    pub may_publish : (r n x : ℕ) (new : List Group) → IsFreeRow the_shape operator.view r → HoldsNamed operator.view r new → IsPublishable new → n ≡ number_after operator.view.log + 1 → n ≤ the_shape.last_number → x ≡ current_word the_shape n r
         → Allows (Kept config) slots' id (v, slots) 0 (λ _. x) (λ _. publishes the_shape new (step slots' 0 x 0 none) (v, slots) x)
     may_publish r n x new free holds publishable number low e = let log_is = ap (λ (o : OperatorSeatValue). number_after o.view.log) is in
         allows_publish the_shape IsPublishable config slots' id (v, slots) view r x new (step slots' 0 x 0 none) h.knows
         (subst (λ (o : OperatorSeatValue). IsFreeRow the_shape o.view r) (sym is) free) (light new (charge_of new) refl publishable.1) publishable
-        (Holds-shape view r new (subst (λ (o : OperatorSeatValue). HoldsConfig o.view r new) (sym is) holds)) (omega arith) (e ∙ ap (λ (k : ℕ). current_word the_shape k r) (number ∙ ap (λ (k : ℕ). k + 1) (sym log_is))) refl
+        (subst (λ (o : OperatorSeatValue). HoldsNamed o.view r new) (sym is) holds) (omega arith) (e ∙ ap (λ (k : ℕ). current_word the_shape k r) (number ∙ ap (λ (k : ℕ). k + 1) (sym log_is))) refl
 
     pub may_scan : (w : ℕ) → w < the_shape.workers → Allows (Kept config) slots' id (v, slots) (1 + w) (λ x. x) (scans the_shape (step slots' (1 + w) 0 0 none) (v, slots))
     may_scan w low = allows_scan the_shape IsPublishable config slots' id (v, slots) view w (step slots' (1 + w) 0 0 none) h.knows low refl

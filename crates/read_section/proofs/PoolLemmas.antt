@@ -16,13 +16,8 @@ use Rattle.versions.proofs.BookLemmas.{free_below, free_row_is}
 use Rattle.versions.proofs.ListLemmas.{elem_below, elem_there, get_elem_or, has_or_not}
 use Rattle.versions.proofs.ShapeLemmas.{pages_is, rows_is, workers_is}
 use Rattle.read_section.specs.body.OperatorKept.{IsKeptBy}
+use Rattle.read_section.proofs.KeeperLemmas.{row_below}
 use Rattle.read_section.specs.Operator.{NeverShort}
-
--- behind its end a list gives 0
-past : (xs : List ℕ) (i : ℕ) → length xs ≤ i → slice_index xs i ≡ 0
-past [] i up = refl
-past (x ∷ xs) zero up = absurd (omega arith)
-past (x ∷ xs) (suc i) up = past xs i (omega arith)
 
 -- a list without the element at a place
 without : ℕ → List ℕ → List ℕ
@@ -71,7 +66,7 @@ in_back : (xs ys : List ℕ) (i q : ℕ) → slice_get ys i ≡ Some q → (k : 
 in_back [] ys i q at = (i, at)
 in_back (x ∷ xs) ys i q at = let t = in_back xs ys i q at in (suc t.0, t.1)
 
-module _ {A : Type 0} (view : OperatorView (List Group)) (config : List Group) (book : Book A) (reported : ℕ) (zeros words : List ℕ) (h : IsKeptBy view config book reported zeros words) where
+module _ {A : Type 0} (view : OperatorView (List Group)) (config : List Group) (book : Book A) (reported : ℕ) (zeros words pages : List ℕ) (h : IsKeptBy view config book reported zeros words pages) where
   some_worker : 0 < the_shape.workers
   some_worker = omega (arith, workers_is)
 
@@ -139,11 +134,6 @@ module _ {A : Type 0} (view : OperatorView (List Group)) (config : List Group) (
       (λ e. in_front (held rows) (all_held rows) k q (ap (λ (j : ℕ). slice_get (held j) k) (sym e) ∙ at))
       (λ other. let t = held_is_among q r rows k (omega arith) at in in_back (held rows) (all_held rows) t.0 q t.1)
 
-  row_below : (r m : ℕ) → get_elem? view.version_rows m ≡ some r → r < ROWS
-  row_below r m at = ⊎_elim (λ low. low)
-      (λ (up : ROWS ≤ r). let below = h.steps_told.below_last r m at in let none = past book.last r (let long = h.steps_told.last_length in omega (arith, rows_is)) in absurd (omega arith))
-      (cases_lt r ROWS)
-
   pub never_short : NeverShort view
   never_short (row, free) taken few =
       let low : row < ROWS = omega (arith, free.0, rows_is) in let most = bound_free row ROWS free low in
@@ -160,5 +150,5 @@ module _ {A : Type 0} (view : OperatorView (List Group)) (config : List Group) (
           let paged = elem_below view.version_pages n names.0 names.1 in let pages = h.version_pages_length in let rows = h.version_rows_length in
           let in_row = elem_there view.version_rows n (omega arith) in let there = named_is_held n q in_row.0 names (λ below. omega arith) in_row.1 in
           let below = h.steps_told.below_last in_row.0 n in_row.1 in
-          let among = held_is_among q in_row.0 ROWS there.0 (row_below in_row.0 n in_row.1) there.1 in let all = in_back taken (all_held ROWS) among.0 q among.1 in absurd (none all.0 all.1))
+          let among = held_is_among q in_row.0 ROWS there.0 (row_below _ _ _ _ _ _ _ h in_row.0 n in_row.1) there.1 in let all = in_back taken (all_held ROWS) among.0 q among.1 in absurd (none all.0 all.1))
           (cases_lt n book.free)

@@ -1,6 +1,5 @@
 -- What a worker knows inside a section.
-use Rattle.std.proofs.Common.{Contains, ◌≡◌, ℕ, zero, suc, ◌+◌, ◌/◌, ◌%◌, ◌<◌, List, [], ◌∷◌, ◌++◌, None, Option, Some, ap, arith, false, length, refl, slice_get, slice_index, slice_index_or, subst, sym, true, ◌∙◌, ⊎_elim}
-use Rattle.std.proofs.lemmas.List.{length-replicate}
+use Rattle.std.proofs.Common.{Contains, ◌≡◌, ℕ, ◌+◌, ◌/◌, ◌%◌, List, [], ◌∷◌, ◌++◌, None, Option, Some, ap, arith, false, if◌then◌else◌, length, refl, slice_index_or, subst, sym, true, ◌∙◌, ⊎_elim}
 use Rattle.std.specs.Option.{is_some}
 use Rattle.config_image.specs.Image.{Group, row}
 use Rattle.versions.specs.declared.step.Step.{Step}
@@ -17,7 +16,6 @@ use Rattle.versions.specs.Table.{the_shape}
 use Rattle.versions.proofs.ListLemmas.{contains_first}
 use Rattle.versions.proofs.RowLemmas.{length-row}
 use Rattle.versions.proofs.ShapeLemmas.{row_words_is}
-use Rattle.read_section.specs.declared.worker.Held.{Held}
 use Rattle.read_section.specs.body.Seat.{TellsStage}
 use Rattle.read_section.specs.Section.{EndsInFetches, IsFetchIn, IsWholeSection, SectionsAreWhole, at_pin, before_fetches, held_words, words_in}
 use Rattle.read_section.specs.body.Steps.{IsOwnLogOf}
@@ -77,42 +75,38 @@ EndsInFetches-outside worker out = let t = front_fetches worker.view.log in reco
 pub EndsInFetches-inside : (worker : WorkerValue) → IsOwnLogOf worker → EndsInFetches worker
 EndsInFetches-inside worker own = let t = fetched_log worker.view worker.view.log own.order own.fetched in record { fetches = t.0; log = t.1; each = λ j m q e stage c. t.2 e c }
 
-pub EndsInFetches-held : (held : Option Held) (worker : WorkerValue) → TellsStage held worker.view.stage → IsOwnLogOf worker → EndsInFetches worker
+pub EndsInFetches-held : (held : Option ℕ) (worker : WorkerValue) → TellsStage held worker.view.stage → IsOwnLogOf worker → EndsInFetches worker
 EndsInFetches-held None worker at own = EndsInFetches-outside worker at
-EndsInFetches-held (Some h) worker at own = EndsInFetches-inside worker own
+EndsInFetches-held (Some n) worker at own = EndsInFetches-inside worker own
 
 -- what a worker keeps of its section tells whether it is inside
-pub outside_of_none : (held : Option Held) (stage : Stage) → is_some held ≡ false → TellsStage held stage → IsOutside stage
+pub outside_of_none : (held : Option ℕ) (stage : Stage) → is_some held ≡ false → TellsStage held stage → IsOutside stage
 outside_of_none None stage e at = at
-outside_of_none (Some h) stage e at = absurd (true_false e)
+outside_of_none (Some n) stage e at = absurd (true_false e)
   where
     true_false : true ≡ false → ⊥
     true_false e = cc
 
-pub inside_of_some : (held : Option Held) (stage : Stage) → is_some held ≡ true → TellsStage held stage → (n : ℕ) × (r : ℕ) × IsInside stage n r
+pub inside_of_some : (held : Option ℕ) (stage : Stage) → is_some held ≡ true → TellsStage held stage → (n : ℕ) × (r : ℕ) × IsInside stage n r
 inside_of_some None stage e at = absurd (false_true e)
   where
     false_true : false ≡ true → ⊥
     false_true e = cc
-inside_of_some (Some h) stage e at = (h.version, h.row, at.0)
+inside_of_some (Some n) stage e at = (n, at.0, at.1)
 
-length-shape_row : (config : List Group) → length (row config) ≡ the_shape.row_words
+pub length-shape_row : (config : List Group) → length (row config) ≡ the_shape.row_words
 length-shape_row config = length-row config ∙ sym row_words_is
 
--- a section has as many words as a row
-pub length-held_words : (worker : WorkerValue) → length (held_words worker) ≡ the_shape.row_words
-length-held_words worker = go worker.view.stage
+-- a worker that is inside holds as many words as a row has, and else none
+pub length-held_words : (held : Option ℕ) (worker : WorkerValue) → TellsStage held worker.view.stage → length (held_words worker) ≡ (if is_some held then the_shape.row_words else 0)
+length-held_words None worker at = go worker.view.stage at
   where
-    go : (stage : Stage) → length (words_in stage worker.view.seen) ≡ the_shape.row_words
-    go Outside = length-replicate the_shape.row_words 0
-    go (Peeked n) = length-replicate the_shape.row_words 0
-    go (Announced k) = length-replicate the_shape.row_words 0
-    go (Inside k n r) = length-shape_row (slice_index_or worker.view.seen n [])
-
-pub word_there : (words : List ℕ) (i x : ℕ) → i < length words → x ≡ slice_index words i → slice_get words i ≡ Some x
-word_there [] i x low e = absurd (omega arith)
-word_there (w ∷ words) zero x low e = ap Some (sym e)
-word_there (w ∷ words) (suc i) x low e = word_there words i x (omega arith) e
+    go : (stage : Stage) → IsOutside stage → length (words_in stage worker.view.seen) ≡ 0
+    go Outside out = refl
+    go (Peeked n) out = refl
+    go (Announced k) out = absurd out
+    go (Inside k n r) out = absurd out
+length-held_words (Some n) worker (r, inside) = ap (λ (stage : Stage). length (words_in stage worker.view.seen)) inside ∙ length-shape_row (slice_index_or worker.view.seen n [])
 
 module _ (before inside last after : WorkerValue) (entered : Enters before inside) (same : at_pin last ≡ at_pin inside) (since : EndsInFetches last) (e : after ≡ steps left last) where
   -- right after the pin there is no fetch yet

@@ -1,5 +1,5 @@
 -- A worker's steps keep the rule, and what each tells.
-use Rattle.std.proofs.Common.{◌≡◌, ℕ, ◌+◌, ◌/◌, ◌≤◌, List, Some, [], ap, refl, set, slice_index, slice_index_or, subst, sym, ◌∙◌}
+use Rattle.std.proofs.Common.{◌≡◌, ℕ, ◌+◌, ◌/◌, ◌≤◌, List, Some, [], ap, refl, set, slice_index, slice_index_or, subst, sym}
 use Rattle.atomic_table.specs.Table.{Allows, Me, keeps}
 use Rattle.atomic_table.specs.Table as table
 use Rattle.versions.specs.declared.step.Step.TheVariants.{Announce, Fetch, Leave, Peek, Pin}
@@ -10,11 +10,10 @@ use Rattle.versions.specs.View.{after_announce, after_fetch, after_leave, after_
 use Rattle.versions.specs.Legal.{MayPeek}
 use Rattle.versions.specs.Safety.{IsOwnLog, IsSeenPlace}
 use Rattle.read_section.specs.declared.versions_rule.SeatView.{SeatView}
-use Rattle.read_section.specs.body.Plays.{IsWordIn, ShowsSeat, WorkerKnows, announces, fetches, leaves, peeks, pins}
-use Rattle.read_section.specs.Held.{IsSeenWord}
+use Rattle.read_section.specs.body.Plays.{ShowsSeat, TellsWord, WorkerKnows, announces, fetches, leaves, peeks, pins}
 use Rattle.read_section.specs.VersionsRule.{IsLeftByTrace}
 use Rattle.read_section.specs.body.SeatView.{with_worker}
-use Rattle.read_section.proofs.HeldLemmas.{held_word, holds_place}
+use Rattle.read_section.proofs.HeldLemmas.{holds_place, tells_word}
 use Rattle.read_section.proofs.VersionsRuleLemmas.{IsLeftByTrace-worker, for_worker, loaded, now, rule_now, shown}
 
 module _ {C : Type 0} (shape : Shape C) (IsPublishable : C → Type 0) {S : Type 0} (config : C) where
@@ -68,8 +67,8 @@ module _ {C : Type 0} (shape : Shape C) (IsPublishable : C → Type 0) {S : Type
   allows_fetch slots id me view k n r place at is no_spare stage seen here s kept deep there fits =
       let x : ℕ = slice_index s.words place in let mine = (kept.each_seat id me.0 there).worker view is in let st = now shape IsPublishable config s kept in
       let e : x ≡ slice_index st.words place = ap (λ ws. slice_index ws place) kept.words in let f : WorkerView C → WorkerView C = after_fetch place x in
-      let word : (j m q : ℕ) → view.stage ≡ Inside j m q → IsWordIn shape view m q at.word x = λ j m q stage' held.
-      subst (λ (p : ℕ). IsSeenWord shape view m q at.word (slice_index s.words p)) here (held_word shape IsPublishable config s kept id me.0 view j m q there is stage' at.word held) in
+      let word : (j m q : ℕ) → view.stage ≡ Inside j m q → TellsWord shape view.seen view.pages m q at.word x = λ j m q stage'.
+      subst (λ (p : ℕ). TellsWord shape view.seen view.pages m q at.word (slice_index s.words p)) here (tells_word shape IsPublishable config s kept id me.0 view j m q there is stage' at.word) in
       let step = IsLeftByTrace-worker shape IsPublishable config s kept id me.0 view (Fetch view.number place) x f st.words there is no_spare refl ((view, mine.1, (k, n, r, stage)), holds_place shape IsPublishable config s kept id me.0 view k n r there is stage place seen, e) refl in
       let same : after_fetch place x view ≡ after_fetch at.word x view = ap (λ (q : ℕ). after_fetch q x view) (sym here) in (
         with_worker me.0 (f view),
@@ -77,7 +76,7 @@ module _ {C : Type 0} (shape : Shape C) (IsPublishable : C → Type 0) {S : Type
         tt,
         loaded shape IsPublishable config s place (set s.views id (with_worker me.0 (f view)))
             (subst (λ ws. Kept record { words = ws; homes = s.homes; views = set s.views id (with_worker me.0 (f view)) }) (sym kept.words) step),
-        for_worker me.0 view is (λ b. WorkerKnows shape me (with_worker me.0 (f view), me.1) (after_fetch at.word x b) × ((j m q : ℕ) → b.stage ≡ Inside j m q → IsWordIn shape b m q at.word x))
+        for_worker me.0 view is (λ b. WorkerKnows shape me (with_worker me.0 (f view), me.1) (after_fetch at.word x b) × ((j m q : ℕ) → b.stage ≡ Inside j m q → TellsWord shape b.seen b.pages m q at.word x))
             (ap (λ (y : WorkerView C). let u : Me S (SeatView C) = (with_worker me.0 y, me.1) in u) same, word),
       )
 

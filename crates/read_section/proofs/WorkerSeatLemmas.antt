@@ -1,28 +1,27 @@
 -- A worker's seat, and what its steps leave.
-use Rattle.std.proofs.Common.{◌≡◌, ℕ, ◌+◌, ◌*◌, ◌/◌, ◌%◌, ◌<◌, List, [], ap, arith, get_or, inl, inr, refl, slice_index, slice_index_or, subst, sym, ◌∙◌}
+use Rattle.std.proofs.Common.{◌≡◌, ℕ, ◌+◌, ◌*◌, ◌/◌, ◌%◌, ◌<◌, List, ap, arith, refl, subst, sym, ◌∙◌}
 use mathlib.Core.Option.{none}
 use Rattle.atomic_table.specs.Table.{Allows, Me, step}
 use Rattle.atomic_table.specs.Seated.{TableId}
 use Rattle.config_image.specs.declared.TheConstants.{PAGE_WORDS, ROW_WORDS}
-use Rattle.config_image.specs.Image.{Group, row}
-use Rattle.versions.specs.declared.layout.TheConstants.{PAGES, POOL_BEGIN, ROWS, ROWS_BEGIN, WORKERS}
+use Rattle.config_image.specs.Image.{Group}
+use Rattle.versions.specs.declared.layout.TheConstants.{PAGES, POOL_BEGIN, ROWS, ROWS_BEGIN, TABLE_WORDS, WORKERS}
 use Rattle.versions.specs.declared.view.Stage.{Stage}
-use Rattle.versions.specs.declared.view.Stage.TheVariants.{Announced, Inside, Peeked}
+use Rattle.versions.specs.declared.view.Stage.TheVariants.{Announced, Inside, Outside, Peeked}
 use Rattle.versions.specs.declared.view.WorkerView.{WorkerView}
 use Rattle.versions.specs.Layout.{page_begin, row_begin, stored_words}
 use Rattle.versions.specs.View.{read_word_of}
 use Rattle.versions.specs.Legal.{MayPeek}
 use Rattle.versions.specs.Table.{the_shape}
-use Rattle.versions.proofs.ListLemmas.{get_elem_or, row_inside}
+use Rattle.versions.proofs.ListLemmas.{row_inside}
 use Rattle.versions.proofs.ShapeLemmas.{page_words_is, pages_is, row_words_is, rows_is, workers_is}
-use Rattle.versions.proofs.ShapeLemmas as shape
-use Rattle.versions.specs.Safety.{IsFormWord}
+use Rattle.versions.specs.Safety.{IsHeldPlace, IsHeldPlaceAt, IsSeenPlace}
 use Rattle.read_section.specs.declared.versions_rule.SeatView.{SeatView}
 use Rattle.read_section.specs.Layout.{IsPublishable}
-use Rattle.read_section.specs.body.Plays.{IsWordIn, ShowsSeat, announces, fetches, leaves, peeks, pins}
+use Rattle.read_section.specs.body.Plays.{ShowsSeat, TellsWord, announces, fetches, leaves, peeks, pins}
 use Rattle.read_section.specs.VersionsRule.{IsLeftByTrace}
 use Rattle.read_section.specs.body.Seat.{IsSeatAt, IsWorkerSeat}
-use Rattle.read_section.specs.body.Steps.{FetchesWord, Sees}
+use Rattle.read_section.specs.body.Steps.{Sees, SeesWord}
 use Rattle.read_section.specs.body.SeatView.{with_worker}
 use Rattle.read_section.specs.Worker.{IsInside, WorkerValue, steps}
 use Rattle.read_section.specs.body.Seat.{worker_at, worker_or_none}
@@ -61,12 +60,25 @@ page_place_fits q k low small = row_inside q PAGES k PAGE_WORDS (omega (arith, p
 pub place_fits : (r i : ℕ) → r < the_shape.rows → i < the_shape.row_words → r * ROW_WORDS + i < ROWS * ROW_WORDS
 place_fits r i low small = row_inside r ROWS i ROW_WORDS (omega (arith, rows_is)) (omega (arith, row_words_is))
 
+-- the words of the table as they are counted
+pub table_words : (place : ℕ) → place < TABLE_WORDS → place < (1 + the_shape.workers) + stored_words the_shape
+unfolding the_shape
+table_words place low = omega arith
+
 -- `current` split as it is computed
 pub version_is : (x : ℕ) → x / the_shape.rows ≡ x / ROWS
 version_is x = λ i. x / rows_is i
 
 pub row_is : (x : ℕ) → x % the_shape.rows ≡ x % ROWS
 row_is x = λ i. x % rows_is i
+
+-- a place of the version that is held is one of some version
+held_inside : (stage : Stage) (seen : List (List Group)) (pages : List ℕ) (place : ℕ) → IsHeldPlaceAt the_shape stage seen pages place
+    → (k : ℕ) × (n : ℕ) × (r : ℕ) × (stage ≡ Inside k n r) × IsSeenPlace the_shape seen pages n r place
+held_inside Outside seen pages place held = absurd held
+held_inside (Peeked n) seen pages place held = absurd held
+held_inside (Announced k) seen pages place held = absurd held
+held_inside (Inside k n r) seen pages place held = (k, n, r, refl, held)
 
 module _ (slots : List (ℕ × ℕ)) (seat table : TableId) (h : IsSeatAt slots seat table) where
   pub some_word : 0 < seat.words
@@ -116,15 +128,9 @@ module _ (v : View) (number : ℕ) (h : IsWorkerSeat v number) where
     may_leave n r stage = subst (λ (k : ℕ). Allows (Kept config) slots' id (v, slots) (1 + k) (λ _. 0) (λ _. leaves the_shape (step slots' (1 + number) 0 0 none) (v, slots) 0)) (sym h.numbered)
         (allows_leave the_shape IsPublishable config slots' id (v, slots) view (read_word_of worker.view.stage) n r (step slots' (1 + number) 0 0 none) h.knows h.no_spare (stage_is seat worker is (Inside (read_word_of worker.view.stage) n r) stage) (ap (λ (k : ℕ). 1 + k) h.numbered))
 
-    pub may_fetch : (n r i place : ℕ) → IsInside worker.view.stage n r → i < the_shape.row_words → place ≡ row_begin the_shape r + i → Allows (Kept config) slots' id (v, slots) place (λ x. x) (fetches the_shape (step slots' place 0 0 none) (v, slots))
-    may_fetch n r i place stage small e = allows_fetch the_shape IsPublishable config slots' id (v, slots) view (read_word_of worker.view.stage) n r place (step slots' place 0 0 none) h.knows h.no_spare (stage_is seat worker is (Inside (read_word_of worker.view.stage) n r) stage) (inl (i, small, e)) refl
+    pub may_fetch : (place : ℕ) → IsHeldPlace the_shape worker.view place → Allows (Kept config) slots' id (v, slots) place (λ x. x) (fetches the_shape (step slots' place 0 0 none) (v, slots))
+    may_fetch place held = let t = held_inside worker.view.stage worker.view.seen worker.view.pages place held in
+        allows_fetch the_shape IsPublishable config slots' id (v, slots) view t.0 t.1 t.2 place (step slots' place 0 0 none) h.knows h.no_spare (stage_is seat worker is (Inside t.0 t.1 t.2) t.3) (subst (λ (w : WorkerValue). IsSeenPlace the_shape w.view.seen w.view.pages t.1 t.2 place) (sym is) t.4) refl
 
-  -- what the form has at a place of a row is the row's word
-  row_word : (r i place x : ℕ) (config : List Group) (pages : List ℕ) → r < the_shape.rows → i < the_shape.row_words → place ≡ row_begin the_shape r + i → IsFormWord the_shape r config pages place x → x ≡ slice_index (row config) i
-  row_word r i place x config pages low small at (inl (j, inside, here, is)) = is ∙ (ap (λ (k : ℕ). get_or (the_shape.form.row config pages) k 0) (let g : j ≡ i = omega arith in g) ∙ ap (λ l. get_or l i 0) (shape.row_is config pages))
-  row_word r i place x config pages low small at (inr (part, is)) = let inside = row_inside r the_shape.rows i the_shape.row_words low small in let there = part.at in absurd (omega arith)
-
-  pub fetched_word : (seat : TableId) (worker : WorkerValue) → worker_at seat v ≡ worker → (n r i place x : ℕ) → IsInside worker.view.stage n r → r < the_shape.rows → i < the_shape.row_words → place ≡ row_begin the_shape r + i
-      → ((k m q : ℕ) → view.stage ≡ Inside k m q → IsWordIn the_shape view m q place x) → FetchesWord worker n i x
-  fetched_word seat worker is n r i place x stage low small e told = let t = told (read_word_of worker.view.stage) n r (stage_is seat worker is (Inside (read_word_of worker.view.stage) n r) stage) (inl (i, small, e)) in
-      row_word r i place x t.0 view.pages low small e t.2 ∙ (ap (λ (c : List Group). get_or (row c) i 0) (sym (get_elem_or view.seen n t.0 [] t.1)) ∙ ap (λ (w : WorkerValue). get_or (row (slice_index_or w.view.seen n [])) i 0) is)
+  pub SeesWord-told : (seat : TableId) (worker : WorkerValue) → worker_at seat v ≡ worker → (place x : ℕ) → ((k n r : ℕ) → view.stage ≡ Inside k n r → TellsWord the_shape view.seen view.pages n r place x) → SeesWord worker place x
+  SeesWord-told seat worker is place x told = subst (λ (w : WorkerValue). SeesWord w place x) is told

@@ -4,5 +4,6 @@ pub mod VersionsRule
 pub mod Held
 pub mod Worker
 pub mod Section
+pub mod Reads
 pub mod Operator
 pub mod body

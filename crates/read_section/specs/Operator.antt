@@ -1,12 +1,14 @@
 -- What a contract sees of an Operator: what it knows, and what it reported.
 use Rattle.std.specs.Prelude.{◌≡◌, ◌+◌, ◌++◌, ◌<◌, ◌≤◌, ◌↔◌, ◌∷◌, List, Some, [], length, slice_get, ℕ}
+use mathlib.Core.Option.{some}
+use lib.ListN.{get_elem?}
 use Rattle.atomic_table.specs.Seated.{TableId}
 use Rattle.config_image.specs.declared.TheConstants.{PAGE_LIMIT}
 use Rattle.config_image.specs.Image.{Group}
 use Rattle.versions.specs.declared.layout.TheConstants.{WORKERS}
 use Rattle.versions.specs.declared.step.Entry.{Entry}
 use Rattle.versions.specs.declared.view.OperatorView.{OperatorView}
-use Rattle.versions.specs.Layout.{current_word, page_begin, pages_named, row_begin, rows_begin}
+use Rattle.versions.specs.Layout.{HoldsForm, current_word, page_begin, pages_named, row_begin, rows_begin}
 use Rattle.versions.specs.View.{after_fill, after_peek, after_proposal, after_publish, after_scan, new_worker}
 use Rattle.versions.specs.Free.{IsFree, IsFreePage, IsFreeRow, number_after}
 use Rattle.versions.specs.State.{new_operator}
@@ -24,6 +26,13 @@ pub record OperatorValue : Type 0 where
 -- the configuration was published last
 abbrev pub IsCurrent : OperatorView (List Group) → List Group → Type 0
 IsCurrent view config = (older : List (List Group)) × (view.published ≡ older ++ config ∷ [])
+
+-- the current version stands in its row and in these pages, in the pooled form of the configuration
+pub record StandsIn (view : OperatorView (List Group)) (config : List Group) (pages : List ℕ) : Type 0 where
+  pub row : ℕ
+  pub in_row : get_elem? view.version_rows (number_after view.log) ≡ some row
+  pub holds : HoldsForm the_shape 0 view.stored row config pages
+  pub named : get_elem? view.version_pages (number_after view.log) ≡ some pages
 
 -- the operator after each of its single steps: a fill of a place of a row or of a page, the publication of a configuration from a
 -- row, a scan of worker w that told this log

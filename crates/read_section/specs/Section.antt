@@ -1,5 +1,5 @@
 -- What a contract sees of a Section: its worker, and what stays of it while its words are read.
-use Rattle.std.specs.Prelude.{◌≡◌, ◌+◌, ◌++◌, ◌∷◌, List, [], length, replicate, slice_index_or, ℕ}
+use Rattle.std.specs.Prelude.{◌≡◌, ◌+◌, ◌++◌, ◌∷◌, List, [], length, slice_index_or, ℕ}
 use Rattle.std.specs.Borrow.{GName}
 use Rattle.std.specs.List.{Contains}
 use Rattle.config_image.specs.Image.{Group, row}
@@ -37,9 +37,9 @@ held_version worker = version_of worker.view.stage
 
 abbrev pub words_in : Stage → List (List Group) → List ℕ
 words_in (Inside read_word n r) seen = row (slice_index_or seen n [])
-words_in _ seen = replicate the_shape.row_words 0
+words_in _ seen = []
 
--- the row of the version that a worker holds, as it has seen it: the image and zeros behind it; zeros alone where it holds none
+-- the row of the version that a worker holds, as it has seen it: the image and zeros behind it. There are none where it holds none
 abbrev pub held_words : WorkerValue → List ℕ
 held_words worker = words_in worker.view.stage worker.view.seen
 

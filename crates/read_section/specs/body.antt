@@ -2,4 +2,6 @@ pub mod SeatView
 pub mod Plays
 pub mod Steps
 pub mod Seat
+pub mod Found
+pub mod Sought
 pub mod OperatorKept

@@ -13,23 +13,30 @@ ghost use Rattle.versions.specs.declared.layout.TheConstants.{CHARGE_LIMIT};
 ghost use Rattle.read_section.specs.declared.fault.OpenFault.TheVariants as open_fault;
 ghost use Rattle.read_section.specs.Operator.{AreOpenedWorkers, opened_operator};
 
+mod current_pages;
 mod fault;
+mod found;
 mod operator;
 mod plays;
+mod reading;
 mod seat;
 mod section;
 mod versions_rule;
+mod whole;
 mod worker;
 
+use crate::current_pages::CurrentPages;
 use crate::seat::open_table;
+use config_image::page_count;
 pub use config_image::{PAGE_WORDS, ROW_WORDS};
 pub use fault::OpenFault;
 use member_group::Config;
 pub use operator::{Operator, Reclaimed};
-pub use section::{Section, sections_are_whole};
+pub use section::Section;
 use versions::{Book, opening_words};
 pub use versions::{CHARGE_LIMIT, LAST_NUMBER, PAGES, ROWS, WORKERS};
 pub use versions_rule::{SeatView, VersionsRule, held_words_stand};
+pub use whole::sections_are_whole;
 pub use worker::Worker;
 
 /// Opens a table at version 0, which is `config`, with its operator and its workers. Takes their memory from the
@@ -45,7 +52,9 @@ pub fn open(config: Config) -> Result<(Operator, Vec<Worker>), OpenFault>
     }
     let alloc = *config.allocator();
     let words = opening_words(&config)?;
-    let book = Book::at_start(alloc)?;
+    let count = page_count(&config) as usize;
+    let book = Book::at_start(alloc, count)?;
+    let pages = CurrentPages::first(alloc, count)?;
     let (seat, workers) = open_table(alloc, &words, &config)?;
-    Ok((Operator::opened(seat, config, book, words), workers))
+    Ok((Operator::opened(seat, config, book, words, pages), workers))
 }

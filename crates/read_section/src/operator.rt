@@ -1,28 +1,30 @@
 //! The operator: the one that fills rows and pages, publishes and reclaims, by single steps.
 
 ghost use Rattle.std.specs.Prelude.{◌≡◌, ◌+◌, ◌*◌, ◌<◌, ◌≤◌, ◌↔◌, IsTrue, List, MatchOption, [], length, slice_index, suc, ℕ};
-ghost use Rattle.config_image.specs.declared.TheConstants.{PAGE_WORDS, ROW_WORDS};
+ghost use Rattle.config_image.specs.declared.TheConstants.{PAGE_LIMIT, PAGE_WORDS, ROW_WORDS};
 ghost use Rattle.config_image.specs.Image.{Group, image};
+ghost use Rattle.config_image.specs.Pooled.{parts};
 ghost use Rattle.versions.specs.declared.layout.TheConstants.{LAST_NUMBER, ROWS, WORKERS};
 ghost use Rattle.versions.specs.declared.step.Entry.{Entry};
 ghost use Rattle.versions.specs.Book.{IsBookAtStart};
 ghost use Rattle.versions.specs.Free.{IsFree, IsFreePage, IsFreeRow, Names, number_after};
-ghost use Rattle.versions.specs.Layout.{stored_words};
-ghost use Rattle.versions.specs.World.{opened_with};
+ghost use Rattle.versions.specs.Layout.{HoldsForm, pages_named, stored_words};
+ghost use Rattle.versions.specs.World.{first_pages, opened_with};
 ghost use Rattle.versions.specs.Legal.{MayPeek};
 ghost use Rattle.versions.specs.Table.{the_shape};
 ghost use Rattle.read_section.specs.Layout.{HoldsConfig, IsPublishable, IsZeroFrom};
 ghost use Rattle.read_section.specs.body.OperatorKept.{KeepsZeros};
 ghost use Rattle.read_section.specs.body.Steps.{IsOwnLogOf};
-ghost use Rattle.read_section.specs.Operator.{IsCurrent, IsLeastFreePage, IsReport, Meets, NeverShort, filled, filled_page, opened_operator, published_from, scanned};
+ghost use Rattle.read_section.specs.Operator.{IsCurrent, IsLeastFreePage, StandsIn, IsReport, Meets, NeverShort, filled, filled_page, opened_operator, published_from, scanned};
 ghost use Rattle.read_section.specs.View.{TellsLog};
 
+use crate::current_pages::CurrentPages;
 use crate::seat::{OperatorSeat, WorkerSeat};
 use config_image::{ROW_WORDS, image_len};
 use member_group::Config;
 use std::alloc::Global;
 use std::marker::Model;
-use versions::{Book, PAGES, ROWS, ROWS_BEGIN, WORKERS};
+use versions::{Book, PAGES, ROWS, ROWS_BEGIN, WORKERS, row_names};
 
 /// The versions from `first` on, `count` of them, may be reused.
 #[derive(Clone, Copy, Debug, PartialEq, Eq)]
@@ -44,6 +46,7 @@ pub struct Operator {
     zeros: [usize; ROWS],
     // The table's words at its opening, with the words of the rows as the operator's fills left them.
     words: Vec<u64, Global>,
+    pages: CurrentPages,
 }
 
 impl Model for Operator {
@@ -54,7 +57,7 @@ impl Model for Operator {
 
     ghost view = { λ o. record { table = o.seat.table; view = o.seat.view; reported = o.reported } };
 
-    ghost invariant = { λ o. IsKeptBy o.seat.view o.config o.book o.reported o.zeros o.words.items };
+    ghost invariant = { λ o. IsKeptBy o.seat.view o.config o.book o.reported o.zeros o.words.items o.pages };
 }
 
 // Where the zeros of a row begin, after a word was stored at a place.
@@ -79,11 +82,13 @@ impl Operator {
         config: Config,
         book: Book,
         words: Vec<u64, Global>,
+        pages: CurrentPages,
     ) -> Operator
         requires seat { seat ≡ record { table = seat.table; view = (opened_operator seat.table config).view } }
         requires publishable { IsPublishable config }
-        requires book { IsBookAtStart [] book }
+        requires book { IsBookAtStart (first_pages (length (parts config))) book }
         requires words { words.items ≡ (opened_with config).words }
+        requires pages { pages ≡ first_pages (length (parts config)) }
         ensures { result ≡ opened_operator seat.table config }
     {
         let mut zeros = [0; ROWS];
@@ -95,6 +100,7 @@ impl Operator {
             reported: 0,
             zeros,
             words,
+            pages,
         }
     }
 
@@ -177,6 +183,16 @@ impl Operator {
         None
     }
 
+    /// Lends the pages of the current version, in its row's order.
+    ///
+    /// The current version's row and these pages hold its configuration: neither is free, so no fill reached them.
+    pub fn current_pages(&self) -> &[u32]
+        ensures stands { (config : List Group) → IsCurrent self.now.view config → StandsIn self.now.view config result.now }
+        ensures few { length result.now ≤ PAGE_LIMIT }
+    {
+        self.pages.as_slice()
+    }
+
     /// Makes one fill: stores a word at a place of a free page, counted from 0 in the page. Takes no memory.
     pub fn fill_page(&mut self, page: usize, place: usize, word: u64)
         requires free { IsFreePage the_shape self.old.view page }
@@ -188,16 +204,24 @@ impl Operator {
         self.seat.fill_page(page, place, word);
     }
 
-    /// Publishes, by one store of `current`, a configuration whose row a free row holds. Takes no memory.
+    /// Publishes, by one store of `current`, a configuration that a free row holds with the pages that it names. Takes no memory.
+    ///
+    /// The pages of the new version are those that the row's own words name, and these hold the configuration (`named`). They are not
+    /// free from then on (`pool_kept`).
     pub fn put(&mut self, row: usize, config: Config)
         requires free { IsFreeRow the_shape self.old.view row }
         requires holds { HoldsConfig self.old.view row config }
         requires publishable { IsPublishable config }
         requires number { number_after self.old.view.log < LAST_NUMBER }
         ensures one_publish { self.new ≡ published_from row config self.old }
+        ensures named { (pages : List ℕ) → HoldsForm the_shape 0 self.old.view.stored row config pages → pages_named the_shape self.old.view.stored row ≡ pages }
+        ensures pool_kept { (page : ℕ) → Names self.new.view (number_after self.new.view.log) page → IsFreePage the_shape self.new.view page → ⊥ }
     {
         self.seat.publish(&config, row, self.book.number + 1);
-        self.book.count_version(row, &[]);
+        let begin = ROWS_BEGIN + row * ROW_WORDS;
+        let names = row_names(&self.words[begin..begin + ROW_WORDS]);
+        self.book.count_version(row, names);
+        self.pages.replace(names);
         self.config = config;
     }
 

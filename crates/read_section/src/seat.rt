@@ -4,21 +4,22 @@
 ghost use Rattle.std.specs.Prelude.{◌≡◌, ◌+◌, ◌*◌, ◌<◌, ◌≤◌, ◌^◌, IfOk, List, Some, length, slice_index, ℕ};
 ghost use Rattle.std.specs.Arc.{arc_value};
 ghost use Rattle.config_image.specs.Image.{Group};
+ghost use Rattle.versions.specs.declared.layout.TheConstants.{TABLE_WORDS};
 ghost use Rattle.versions.specs.declared.step.Entry.{Entry};
 ghost use Rattle.versions.specs.declared.view.Stage.TheVariants.{Announced, Peeked};
 ghost use Rattle.versions.specs.Layout.{current_word, page_begin, pages_named, row_begin, rows_begin};
 ghost use Rattle.versions.specs.View.{IsTold, after_announce, after_fetch, after_fill, after_leave, after_peek, after_pin, after_scan, new_worker, read_word_after};
 ghost use Rattle.versions.specs.Free.{IsFreePage, IsFreeRow, number_after};
 ghost use Rattle.versions.specs.Legal.{MayPeek};
+ghost use Rattle.versions.specs.Safety.{IsHeldPlace};
 ghost use Rattle.versions.specs.Table.{the_shape};
 ghost use Rattle.versions.specs.World.{opened_with, opening_stored};
-ghost use Rattle.read_section.specs.Layout.{HoldsConfig, IsPublishable};
+ghost use Rattle.read_section.specs.Layout.{IsPublishable};
 ghost use Rattle.read_section.specs.View.{TellsLog};
 ghost use Rattle.read_section.specs.Worker.{IsInside, steps};
 ghost use Rattle.read_section.specs.Operator.{AreOpenedWorkers, opened_operator, put_in};
-ghost use Rattle.read_section.specs.body.Seat.{acts};
-ghost use Rattle.read_section.specs.body.Seat.{IsSeatAt, IsSeating};
-ghost use Rattle.read_section.specs.body.Steps.{FetchesWord, IsOwnLogOf, Sees};
+ghost use Rattle.read_section.specs.body.Seat.{HoldsNamed, IsSeatAt, IsSeating, acts};
+ghost use Rattle.read_section.specs.body.Steps.{IsOwnLogOf, Sees, SeesWord};
 
 use crate::plays::{
     Announce, Fetch, Fill, GiveWorker, Leave, NoteSeen, Peek, Pin, Proposal, Publish, Scan,
@@ -167,15 +168,14 @@ impl WorkerSeat {
         table.shared.load::<Pin>(&mut self.seat, 0)
     }
 
-    pub(crate) fn fetch(&mut self, version: u64, row: usize, i: usize) -> u64
-        requires inside { IsInside self.old.view.stage version row }
-        requires row { row < the_shape.rows }
-        requires i { i < the_shape.row_words }
-        ensures one_step { self.new ≡ steps (after_fetch (row_begin the_shape row + i) result) self.old }
-        ensures word { FetchesWord self.old version i result }
+    #[inline(always)]
+    pub(crate) fn fetch(&mut self, place: usize) -> u64
+        requires held { IsHeldPlace the_shape self.old.view place }
+        requires within { place < TABLE_WORDS }
+        ensures one_step { self.new ≡ steps (after_fetch place result) self.old }
+        ensures word { SeesWord self.old place result }
     {
         let table = &self.table;
-        let place = ROWS_BEGIN + row * ROW_WORDS + i;
         table.shared.load::<Fetch>(&mut self.seat, place)
     }
 
@@ -229,7 +229,7 @@ impl OperatorSeat {
     fn store_current<P: Proposal>(&mut self, config: &Config, row: usize, number: u64)
         requires proposal { P.config ≡ config.now }
         requires free { IsFreeRow the_shape self.old.view row }
-        requires holds { HoldsConfig self.old.view row config.now }
+        requires holds { HoldsNamed self.old.view row config.now }
         requires publishable { IsPublishable config.now }
         requires number { number ≡ number_after self.old.view.log + 1 }
         requires limited { number ≤ the_shape.last_number }
@@ -243,7 +243,7 @@ impl OperatorSeat {
 
     pub(crate) fn publish(&mut self, config: &Config, row: usize, number: u64)
         requires free { IsFreeRow the_shape self.old.view row }
-        requires holds { HoldsConfig self.old.view row config.now }
+        requires holds { HoldsNamed self.old.view row config.now }
         requires publishable { IsPublishable config.now }
         requires number { number ≡ number_after self.old.view.log + 1 }
         requires limited { number ≤ the_shape.last_number }

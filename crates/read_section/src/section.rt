@@ -1,22 +1,32 @@
 //! Read-side critical sections.
 
-ghost use Rattle.std.specs.Prelude.{◌≡◌, ◌<◌, Some, length, slice_get};
-ghost use Rattle.read_section.specs.Section.{EndsInFetches, SectionRest, SectionsAreWhole, borrow_of, fetched, held_version, held_words, section_rest, worker_of};
-ghost use Rattle.read_section.specs.Worker.{left, steps};
+ghost use Rattle.read_section.specs.body.Found.{Knows, KnowsIn-prop};
 
+use crate::found::{Found, Kept, NOTHING_FOUND};
+use crate::reading::read;
 use crate::worker::Worker;
 use bpf_insn::Words;
 use config_image::ROW_WORDS;
+use versions::ROWS;
 
 /// A worker's read-side critical section: the words of one version's row.
 ///
 /// A section cannot be dropped: `leave` or `abandon` spends it.
+// The row and where words were found are kept here, and not looked up in the worker at each word: a caller that has the section as
+// a local keeps them in registers while a program runs. No word that is answered is kept.
 pub struct Section<'a> {
     worker: &'a mut Worker,
+    kept: Kept,
+    ghost known: { Knows worker.now.view kept.row kept.found } by { KnowsIn-prop worker.now.view.stage worker.now.view.seen worker.now.view.pages kept.row kept.found },
 }
 
-/// The words of the section's row, `ROW_WORDS` of them: the image of the configuration, and then zeros. Each is one fetch.
+/// The words of the section's row, `ROW_WORDS` of them: the image of the configuration, and then zeros. Each is read by a few
+/// fetches, of which the last tells it. A word of a program in the part that was found last takes one.
 impl Words for Section<'_> {
+    ghost use Rattle.std.specs.Prelude.{◌≡◌, ◌<◌, Some, length, slice_get};
+    ghost use Rattle.read_section.specs.Reads.{FewFetches};
+    ghost use Rattle.read_section.specs.Section.{SectionRest, borrow_of, held_words, section_rest, worker_of};
+
     ghost Rest = { SectionRest };
 
     ghost words = { λ section. held_words (worker_of section) };
@@ -24,27 +34,51 @@ impl Words for Section<'_> {
     ghost rest = { λ section. section_rest section };
 
     fn count(&self) -> usize {
-        ROW_WORDS
+        if self.worker.is_inside() {
+            ROW_WORDS
+        } else {
+            0
+        }
     }
 
+    #[inline(always)]
     fn word(&mut self, i: usize) -> u64
         requires { i < length (held_words (worker_of self.old)) }
         ensures value { slice_get (held_words (worker_of self.old)) i ≡ Some result }
-        ensures one_fetch { worker_of self.new ≡ fetched i result (worker_of self.old) }
+        ensures few_fetches { FewFetches i result (worker_of self.old) (worker_of self.new) }
         ensures same_worker { borrow_of self.new ≡ borrow_of self.old }
         ensures words_kept { held_words (worker_of self.new) ≡ held_words (worker_of self.old) }
         ensures rest_kept { section_rest self.new ≡ section_rest self.old }
     {
-        self.worker.fetch(i)
+        let ahead = i.wrapping_sub(self.kept.found.at);
+        if ahead < self.kept.found.len {
+            return self.worker.fetch(self.kept.found.begin + ahead);
+        }
+        let (word, found) = read(self.worker, self.kept.row, self.kept.found, i);
+        self.kept.found = found;
+        word
     }
 }
 
 impl<'a> Section<'a> {
-    pub(crate) fn of(worker: &'a mut Worker) -> Section<'a>
+    ghost use Rattle.std.specs.Prelude.{◌≡◌, ◌<◌};
+    ghost use Rattle.read_section.specs.Section.{EndsInFetches, HoldsLastSeen, borrow_of, held_version, worker_of};
+    ghost use Rattle.read_section.specs.Worker.{IsInside, left, steps};
+
+    pub(crate) fn of(worker: &'a mut Worker, version: u64, row: usize) -> Section<'a>
+        requires inside { IsInside worker.old.view.stage version row }
+        requires row { row < ROWS }
+        requires last_seen { HoldsLastSeen worker.old }
         ensures same_worker { borrow_of result ≡ worker.entry.ghost_name }
         ensures worker { worker_of result ≡ worker.old }
     {
-        Section { worker }
+        Section {
+            worker,
+            kept: Kept {
+                row,
+                found: NOTHING_FOUND,
+            },
+        }
     }
 
     /// Tells the number of the section's version, counted from 0.
@@ -59,7 +93,7 @@ impl<'a> Section<'a> {
         ensures left_by_one_step { self.exit.0.now ≡ steps left (worker_of self.entry) }
         ensures ends_in_fetches { EndsInFetches (worker_of self.entry) }
     {
-        let Section { worker } = self;
+        let Section { worker, kept: _ } = self;
         worker.leave();
     }
 
@@ -68,12 +102,6 @@ impl<'a> Section<'a> {
     pub fn abandon(self)
         ensures abandoned_without_step { self.exit.0.now ≡ worker_of self.entry }
     {
-        let Section { worker: _ } = self;
+        let Section { worker: _, kept: _ } = self;
     }
 }
-
-/// Law: `enter`, calls that read the section's words by `Words` alone, and `leave` add to the worker's log its leave if it was
-/// inside, peek, announce, pin, fetches in the row that it holds, and leave: these steps and no others. It runs nothing.
-pub fn sections_are_whole()
-    ensures { SectionsAreWhole }
-{}

@@ -1,13 +1,16 @@
 //! Workers: the readers of the table.
 
-ghost use Rattle.std.specs.Prelude.{◌≡◌, ◌<◌, List, length, slice_index, suc, ℕ};
+ghost use Rattle.std.specs.Prelude.{◌≡◌, ◌<◌, List, if◌then◌else◌, length, suc, ℕ};
 ghost use Rattle.config_image.specs.Image.{Group};
-ghost use Rattle.versions.specs.View.{IsTold, after_peek};
+ghost use Rattle.versions.specs.declared.layout.TheConstants.{TABLE_WORDS};
+ghost use Rattle.versions.specs.View.{IsTold, after_fetch, after_peek};
+ghost use Rattle.versions.specs.Safety.{IsHeldPlace};
 ghost use Rattle.versions.specs.Table.{the_shape};
-ghost use Rattle.read_section.specs.Section.{EndsInFetches, HoldsLastSeen, borrow_of, fetched, held_version, held_words, worker_of};
+ghost use Rattle.read_section.specs.Section.{EndsInFetches, HoldsLastSeen, borrow_of, held_version, held_words, worker_of};
 ghost use Rattle.read_section.specs.View.{Shows};
 ghost use Rattle.read_section.specs.Worker.{Enters, IsOutside, left, steps};
 ghost use Rattle.read_section.specs.Operator.{Meets};
+ghost use Rattle.read_section.specs.body.Steps.{SeesWord};
 
 use crate::operator::Operator;
 use crate::seat::WorkerSeat;
@@ -15,20 +18,14 @@ use crate::section::Section;
 use std::marker::Model;
 use versions::ROWS;
 
-/// What a worker holds inside a section.
-#[derive(Clone, Copy, Debug)]
-pub(crate) struct Held {
-    pub(crate) version: u64,
-    pub(crate) row: usize,
-}
-
 /// A reader of the table. There are as many as `open` made.
 ///
 /// Contracts see its table, its log, and the versions that it has seen.
 #[derive(Drop)]
 pub struct Worker {
     seat: WorkerSeat,
-    held: Option<Held>,
+    // The number of the version that it holds.
+    held: Option<u64>,
 }
 
 impl Model for Worker {
@@ -67,11 +64,9 @@ impl Worker {
         let peeked = self.seat.peek();
         self.seat.announce(peeked / ROWS as u64);
         let pinned = self.seat.pin();
-        self.held = Some(Held {
-            version: pinned / ROWS as u64,
-            row: (pinned % ROWS as u64) as usize,
-        });
-        Section::of(self)
+        let version = pinned / ROWS as u64;
+        self.held = Some(version);
+        Section::of(self, version, (pinned % ROWS as u64) as usize)
     }
 
     /// Makes one peek, and the operator then one scan of this worker: what the operator published so far the worker has
@@ -97,23 +92,29 @@ impl Worker {
         self.seat.peek_told(&mut other.seat);
     }
 
-    // A word of the held version, by one fetch; 0 without a step where none is held.
-    pub(crate) fn fetch(&mut self, i: usize) -> u64
-        requires { i < the_shape.row_words }
-        ensures word { result ≡ slice_index (held_words self.old) i }
-        ensures one_fetch { self.new ≡ fetched i result self.old }
+    // A word of the held version, by one fetch.
+    #[inline(always)]
+    pub(crate) fn fetch(&mut self, place: usize) -> u64
+        requires held { IsHeldPlace the_shape self.old.view place }
+        requires within { place < TABLE_WORDS }
+        ensures word { SeesWord self.old place result }
+        ensures one_fetch { self.new ≡ steps (after_fetch place result) self.old }
     {
-        match self.held {
-            Some(held) => self.seat.fetch(held.version, held.row, i),
-            None => 0,
-        }
+        self.seat.fetch(place)
+    }
+
+    // Where it is, it holds a version, whose row has words.
+    pub(crate) fn is_inside(&self) -> bool
+        ensures { length (held_words self.now) ≡ (if result then the_shape.row_words else 0) }
+    {
+        self.held.is_some()
     }
 
     pub(crate) fn held_version(&self) -> u64
         ensures { result ≡ held_version self.now }
     {
         match self.held {
-            Some(held) => held.version,
+            Some(version) => version,
             None => 0,
         }
     }

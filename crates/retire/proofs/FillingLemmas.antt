@@ -1,49 +1,88 @@
 -- Fills of a row: the words that they leave, and what they keep.
-use Rattle.std.proofs.Common.{◌≡◌, ◌∙◌, ℕ, ◌+◌, ◌-◌, ◌*◌, ◌<◌, ◌≤◌, List, [], ◌∷◌, ◌++◌, ap, arith, drop, get_or, inl, inr, length, length-append, length-drop, refl, suc, slice_index, subst, sym, take, ⊎_elim}
-use Rattle.std.proofs.lemmas.List.{drop-set-add, get_or-append_right, get_or_append_left, length-take-le, take_more_set}
+use Rattle.std.proofs.Common.{◌≡◌, ◌∙◌, ℕ, ◌+◌, ◌-◌, ◌*◌, ◌<◌, ◌≤◌, List, [], ◌∷◌, ◌++◌, ap, append_assoc, arith, drop, get_or, inl, inr, length, length-append, length-drop, refl, suc, slice_index, subst, sym, take, ⊎_elim}
+use Rattle.std.proofs.lemmas.List.{drop-set-add, get_or-append_right, get_or-take, get_or_append_left, length-take-le, take_more_set}
+use Rattle.std.proofs.lemmas.Option.{get_or_from_slice_get}
 use mathlib.Core.Logic.{dite}
 use native.Mathlib.Decide.{dec_le, ℕ_discrete}
 use Rattle.config_image.specs.declared.TheConstants.{ROW_WORDS}
-use Rattle.config_image.specs.Image.{Group, image, row}
-use Rattle.config_image.specs.Lookup.{RowHolds}
+use Rattle.config_image.specs.Image.{Group, programs_begin}
+use Rattle.config_image.specs.Pooled.{ArePages, PooledRowTells, parts, pooled_row}
+use Rattle.config_image.proofs.PooledLemmas.{row_tells_with_room}
 use Rattle.versions.specs.declared.layout.TheConstants.{ROWS}
 use Rattle.versions.specs.declared.step.Step.TheVariants.{Fill}
-use Rattle.versions.specs.Layout.{row_begin, stored_words}
+use Rattle.versions.specs.declared.step.Entry.{Entry}
+use Rattle.versions.specs.View.{after_fill}
+use Rattle.versions.specs.Pooled.{HasRoom}
+use Rattle.versions.specs.Layout.{row_begin, rows_begin, stored_words}
 use Rattle.versions.specs.Step.{entry}
 use Rattle.versions.specs.Free.{IsFreeRow}
 use Rattle.versions.specs.Table.{the_shape}
-use Rattle.read_section.specs.Layout.{HoldsConfig}
 use Rattle.read_section.specs.Operator.{OperatorValue, filled}
-use Rattle.read_section.proofs.FilledLemmas.{front_filled, place_stored, rows_stored, word_at, word_filled, word_kept, words_are}
-use Rattle.retire.specs.body.Filling.{FillsFrom, FillsFront, FillsRow}
+use Rattle.read_section.proofs.FilledLemmas.{front_filled, place_stored, pool_word_kept, rows_stored, word_at, word_filled, word_kept, words_are}
+use Rattle.retire.specs.body.Filling.{Fills, FillsFrom, FillsFront, FillsRow, HoldsRow}
 use Rattle.retire.specs.Publish.{IsFillOf}
 use Rattle.retire.specs.body.Sink.{IsFilling, SinkValue, front_of, taken_of}
-use Rattle.retire.proofs.RowLemmas.{contains_first, image_word_of_row, zeros_behind_image}
+use Rattle.retire.proofs.RowLemmas.{contains_append, contains_first}
 
-pub no_fills : (o : OperatorValue) (r : ℕ) (words : List ℕ) → IsFreeRow the_shape o.view r → FillsFrom o o r words
-no_fills o r words free = record {
-  fills = [];
-  filled = λ newest c. absurd (let l = c.1 in omega arith);
-  log = refl;
-  others = λ q i ne inside. refl;
-  still_free = free;
-  number = refl;
-  published = refl;
-  version_rows = refl;
-  version_pages = refl;
-  scanned_logs = refl;
-  table = refl;
-  reported = refl;
-}
+module _ (IsFill : Entry → Type 0) where
+  pub no_steps : (o : OperatorValue) → Fills o o IsFill
+  no_steps o = record {
+    fills = [];
+    filled = λ newest c. absurd (let l = c.1 in omega arith);
+    log = refl;
+    free_rows = λ r free. free;
+    free_pages = λ q free. free;
+    number = refl;
+    published = refl;
+    version_rows = refl;
+    version_pages = refl;
+    scanned_logs = refl;
+    table = refl;
+    reported = refl;
+  }
 
--- the same fills by a list that has the same words at their places
-pub same_fills : (before now : OperatorValue) (r : ℕ) (words more : List ℕ) → FillsFrom before now r words → ((i : ℕ) → i < length words → (i < length more) × (slice_index more i ≡ slice_index words i)) → FillsFrom before now r more
-same_fills before now r words more h same = record {
+  pub one_step_more : (before now : OperatorValue) (place x : ℕ) → Fills before now IsFill → IsFill (entry (Fill place x) x)
+      → Fills before (record now { view = after_fill (rows_begin the_shape) place x now.view }) IsFill
+  one_step_more before now place x h is = record {
+    fills = entry (Fill place x) x ∷ h.fills;
+    filled = λ newest c. ⊎_elim (λ same. subst IsFill same is) (λ later. h.filled newest later) (contains_first (entry (Fill place x) x) newest h.fills c);
+    log = ap (λ l. entry (Fill place x) x ∷ l) h.log;
+    free_rows = h.free_rows;
+    free_pages = h.free_pages;
+    number = h.number;
+    published = h.published;
+    version_rows = h.version_rows;
+    version_pages = h.version_pages;
+    scanned_logs = h.scanned_logs;
+    table = h.table;
+    reported = h.reported;
+  }
+
+  -- fills after fills
+  pub steps_then : (before now after : OperatorValue) → Fills before now IsFill → Fills now after IsFill → Fills before after IsFill
+  steps_then before now after h more = record {
+    fills = more.fills ++ h.fills;
+    filled = λ newest c. ⊎_elim (more.filled newest) (h.filled newest) (contains_append more.fills h.fills newest c);
+    log = more.log ∙ (ap (λ l. more.fills ++ l) h.log ∙ sym (append_assoc more.fills h.fills before.view.log));
+    free_rows = λ r free. more.free_rows r (h.free_rows r free);
+    free_pages = λ q free. more.free_pages q (h.free_pages q free);
+    number = more.number ∙ h.number;
+    published = more.published ∙ h.published;
+    version_rows = more.version_rows ∙ h.version_rows;
+    version_pages = more.version_pages ∙ h.version_pages;
+    scanned_logs = more.scanned_logs ∙ h.scanned_logs;
+    table = more.table ∙ h.table;
+    reported = more.reported ∙ h.reported;
+  }
+
+-- the same fills, said in another way
+pub steps_on : (P Q : Entry → Type 0) → ((e : Entry) → P e → Q e) → (before after : OperatorValue) → Fills before after P → Fills before after Q
+steps_on P Q f before after h = record {
   fills = h.fills;
-  filled = λ newest c. let t = h.filled newest c in let s = same t.0 t.1 in (t.0, s.0, t.2 ∙ (λ j. entry (Fill (row_begin the_shape r + t.0) (sym s.1 j)) (sym s.1 j)));
+  filled = λ newest c. f newest (h.filled newest c);
   log = h.log;
-  others = h.others;
-  still_free = h.still_free;
+  free_rows = h.free_rows;
+  free_pages = h.free_pages;
   number = h.number;
   published = h.published;
   version_rows = h.version_rows;
@@ -53,26 +92,27 @@ same_fills before now r words more h same = record {
   reported = h.reported;
 }
 
+pub no_fills : (o : OperatorValue) (r : ℕ) (words : List ℕ) → IsFreeRow the_shape o.view r → FillsFrom o o r words
+no_fills o r words free = record { steps = no_steps (IsFillOf r words) o; others = λ q i ne in_rows inside. refl; pool = λ q k low small. refl; still_free = free }
+
+-- the same fills by a list that has the same words at their places
+pub same_fills : (before now : OperatorValue) (r : ℕ) (words more : List ℕ) → FillsFrom before now r words → ((i : ℕ) → i < length words → (i < length more) × (slice_index more i ≡ slice_index words i)) → FillsFrom before now r more
+same_fills before now r words more h same = record {
+  steps = steps_on (IsFillOf r words) (IsFillOf r more) (λ newest t. let s = same t.0 t.1 in (t.0, s.0, t.2 ∙ (λ j. entry (Fill (row_begin the_shape r + t.0) (sym s.1 j)) (sym s.1 j)))) before now h.steps;
+  others = h.others;
+  pool = h.pool;
+  still_free = h.still_free;
+}
+
 -- ---- one fill more
 
 module _ (before now after : OperatorValue) (r place word : ℕ) (low : r < ROWS) (small : place < ROW_WORDS) (whole : length now.view.stored ≡ stored_words the_shape) (e : after ≡ filled r place word now) where
   pub one_fill_more : (words : List ℕ) → FillsFrom before now r words → place < length words → word ≡ slice_index words place → FillsFrom before after r words
   one_fill_more words h inside is = subst (λ (o : OperatorValue). FillsFrom before o r words) (sym e) record {
-    fills = entry (Fill (row_begin the_shape r + place) word) word ∷ h.fills;
-    filled = λ newest c. ⊎_elim
-        (λ same. subst (IsFillOf r words) same (place, inside, λ i. entry (Fill (row_begin the_shape r + place) (is i)) (is i)))
-        (λ later. h.filled newest later)
-        (contains_first (entry (Fill (row_begin the_shape r + place) word) word) newest h.fills c);
-    log = ap (λ l. entry (Fill (row_begin the_shape r + place) word) word ∷ l) h.log;
-    others = λ q i ne far. word_kept now (filled r place word now) r place word low small whole refl q i far (inl ne) ∙ h.others q i ne far;
+    steps = one_step_more (IsFillOf r words) before now (row_begin the_shape r + place) word h.steps (place, inside, λ i. entry (Fill (row_begin the_shape r + place) (is i)) (is i));
+    others = λ q i ne in_rows far. word_kept now (filled r place word now) r place word low small whole refl q i far (inl ne) ∙ h.others q i ne in_rows far;
+    pool = λ q k under short. pool_word_kept now (filled r place word now) r place word low small whole refl q k ∙ h.pool q k under short;
     still_free = h.still_free;
-    number = h.number;
-    published = h.published;
-    version_rows = h.version_rows;
-    version_pages = h.version_pages;
-    scanned_logs = h.scanned_logs;
-    table = h.table;
-    reported = h.reported;
   }
 
   -- the first words of the row are one more
@@ -117,8 +157,8 @@ filling_begins lent now r is free = subst (λ (l : OperatorValue). IsFilling l n
 pub same_borrow : (sink : SinkValue) (borrow r : ℕ) (words : List ℕ) → taken_of sink ≡ borrow ∷ r ∷ words → sink.borrow ≡ borrow
 same_borrow sink borrow r words took = cc
 
-pub image_filled : (sink : SinkValue) (lent before after : OperatorValue) → after ≡ sink.operator → lent ≡ before → (borrow r : ℕ) (words : List ℕ) → taken_of sink ≡ borrow ∷ r ∷ words → IsFilling lent sink.operator sink.row sink.place → FillsFront before after r words
-image_filled sink lent before after last is borrow r words took h =
+pub front_is_filled : (sink : SinkValue) (lent before after : OperatorValue) → after ≡ sink.operator → lent ≡ before → (borrow r : ℕ) (words : List ℕ) → taken_of sink ≡ borrow ∷ r ∷ words → IsFilling lent sink.operator sink.row sink.place → FillsFront before after r words
+front_is_filled sink lent before after last is borrow r words took h =
     subst (λ (o : OperatorValue). FillsFront o after r words) is (subst (λ (o : OperatorValue). FillsFront lent o r words) (sym last)
     (subst (FillsFront lent sink.operator r) front (subst (λ (q : ℕ). FillsFront lent sink.operator q (front_of sink.operator sink.row sink.place)) same_row h.fills)))
   where
@@ -128,18 +168,11 @@ image_filled sink lent before after last is borrow r words took h =
     front : front_of sink.operator sink.row sink.place ≡ words
     front = cc
 
--- ---- the image is written: the row's other words are zeros then
+-- ---- the row's first words are written: the others are zeros then
 
-module _ (config : List Group) (h : RowHolds config) where
-  pub image_fills : (before now : OperatorValue) (r : ℕ) → length (image config) ≤ ROW_WORDS → FillsFrom before now r (image config) → FillsRow before now r config
-  image_fills before now r fits fills = same_fills before now r (image config) (row config) fills (λ i inside. (let whole = h.whole in omega arith, image_word_of_row config h i inside))
-
-  pub front_of_row : (now : OperatorValue) (r : ℕ) → ((i : ℕ) → i < length (image config) → word_at now r i ≡ slice_index (image config) i) → (i : ℕ) → i < length (image config) → word_at now r i ≡ slice_index (row config) i
-  front_of_row now r front i inside = front i inside ∙ sym (image_word_of_row config h i inside)
-
--- the first words of a row are the configuration's, and the words behind a place zeros
-abbrev pub HoldsFront : OperatorValue → ℕ → List Group → ℕ → Type 0
-HoldsFront o r config n = (i : ℕ) → i < n → word_at o r i ≡ slice_index (row config) i
+-- the first words of a row are the list's, and the words behind a place zeros
+abbrev pub HoldsFront : OperatorValue → ℕ → List ℕ → ℕ → Type 0
+HoldsFront o r words n = (i : ℕ) → i < n → word_at o r i ≡ slice_index words i
 
 abbrev pub ZerosBehind : OperatorValue → ℕ → ℕ → Type 0
 ZerosBehind o r from = (i : ℕ) → from ≤ i → i < ROW_WORDS → word_at o r i ≡ 0
@@ -150,10 +183,40 @@ module _ (now after : OperatorValue) (r place : ℕ) (low : r < ROWS) (small : p
       (λ same. ap (word_at after r) same ∙ word_filled now after r place 0 low small whole e)
       (λ other. word_kept now after r place 0 low small whole e r i inside (inr other) ∙ behind i (omega arith) inside)
 
-  pub front_kept : (n : ℕ) (config : List Group) → n ≤ place → HoldsFront now r config n → HoldsFront after r config n
-  front_kept n config up front i below = word_kept now after r place 0 low small whole e r i (omega arith) (inr (λ same. omega arith)) ∙ front i below
+  pub front_kept : (n : ℕ) (words : List ℕ) → n ≤ place → HoldsFront now r words n → HoldsFront after r words n
+  front_kept n words up front i below = word_kept now after r place 0 low small whole e r i (omega arith) (inr (λ same. omega arith)) ∙ front i below
 
-pub holds_all : (o : OperatorValue) (r len : ℕ) (config : List Group) → RowHolds config → len ≡ length (image config) → HoldsFront o r config len → ZerosBehind o r len → HoldsConfig o.view r config
-holds_all o r len config h is front behind i small = dite (dec_le (suc i) len)
-    (λ below. front i (omega arith))
-    (λ up. behind i (omega arith) small ∙ sym (zeros_behind_image config h i (omega arith) small))
+module _ (config : List Group) (pages : List ℕ) (room : HasRoom config) (are : ArePages config pages) where
+  abbrev tells : PooledRowTells config pages
+  tells = row_tells_with_room config pages room are
+
+  abbrev all : List ℕ
+  all = pooled_row config pages
+
+  abbrev front_len : ℕ
+  front_len = programs_begin config + length (parts config)
+
+  pub front_inside : front_len ≤ ROW_WORDS
+  front_inside = omega (arith, tells.inside, tells.short)
+
+  pub length-front : length (take front_len all) ≡ front_len
+  length-front = length-take-le front_len all (omega (arith, front_inside, tells.whole))
+
+  pub length-all : length all ≡ ROW_WORDS
+  length-all = tells.whole
+
+  -- the fills of the front are fills of the row
+  pub front_fills : (before now : OperatorValue) (r : ℕ) → FillsFrom before now r (take front_len all) → FillsRow before now r config pages
+  front_fills before now r fills = same_fills before now r (take front_len all) all fills
+      (λ i inside. (omega (arith, length-front, front_inside, tells.whole), sym (get_or-take front_len all i 0 (omega (arith, length-front)))))
+
+  pub front_holds : (now : OperatorValue) (r : ℕ) → ((i : ℕ) → i < length (take front_len all) → word_at now r i ≡ slice_index (take front_len all) i) → HoldsFront now r all front_len
+  front_holds now r front i inside = front i (omega (arith, length-front)) ∙ get_or-take front_len all i 0 inside
+
+  pub zero_behind : (i : ℕ) → front_len ≤ i → i < ROW_WORDS → slice_index all i ≡ 0
+  zero_behind i up low = get_or_from_slice_get all i 0 0 (tells.zeros i up low)
+
+  pub holds_all : (o : OperatorValue) (r len : ℕ) → len ≡ front_len → HoldsFront o r all len → ZerosBehind o r len → HoldsRow o r all
+  holds_all o r len is front behind i small = dite (dec_le (suc i) len)
+      (λ below. front i (omega arith))
+      (λ up. behind i (omega arith) small ∙ sym (zero_behind i (omega arith) small))

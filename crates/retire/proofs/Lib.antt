@@ -1,3 +1,4 @@
 pub mod RowLemmas
 pub mod FillingLemmas
+pub mod PageLemmas
 pub mod PublishLemmas

@@ -1,20 +1,24 @@
 -- Scans of all workers, and what a publication is made of.
-use Rattle.std.proofs.Common.{IfNone, ◌≡◌, ◌⊎◌, ℕ, ◌+◌, ◌*◌, ◌<◌, List, [], ◌∷◌, ◌++◌, None, Option, Some, ap, arith, inl, inr, length, refl, slice_index, subst, sym, ◌∙◌, ⊎_elim}
+use Rattle.std.proofs.Common.{IfNone, ◌≡◌, ◌⊎◌, ℕ, ◌+◌, ◌*◌, ◌<◌, List, [], ◌∷◌, ◌++◌, None, Option, Some, ap, arith, inl, inr, length, refl, slice_get, slice_index, subst, sym, ◌∙◌, ⊎_elim}
 use mathlib.Core.Logic.{dite}
 use native.Mathlib.Decide.{dec_le, ℕ_discrete}
-use Rattle.config_image.specs.declared.TheConstants.{ROW_WORDS}
+use Rattle.config_image.specs.declared.TheConstants.{PAGE_WORDS, ROW_WORDS}
 use Rattle.config_image.specs.Image.{Group}
+use Rattle.config_image.specs.Pooled.{parts, pooled_row}
+use Rattle.config_image.proofs.PooledLemmas.{parts_stand}
+use Rattle.std.proofs.lemmas.Option.{slice_get_within}
+use Rattle.versions.specs.declared.layout.TheConstants.{ROWS}
 use Rattle.versions.specs.declared.step.Step.TheVariants.{Publish}
 use Rattle.versions.specs.declared.step.Entry.{Entry}
-use Rattle.versions.specs.Layout.{current_word, pages_named}
+use Rattle.versions.specs.Layout.{HoldsForm, current_word, pages_named}
 use Rattle.versions.specs.Step.{entry}
 use Rattle.versions.specs.Free.{IsFree, IsReplaced, IsScannedClear, number_after}
 use Rattle.versions.specs.Table.{the_shape}
-use Rattle.retire.specs.body.Filling.{FillsRow}
-use Rattle.read_section.specs.Layout.{HoldsConfig}
+use Rattle.retire.specs.body.Filling.{Fills, FillsVersion, IsFillOfPart}
 use Rattle.read_section.specs.Operator.{HasFreeRow, OperatorValue, published_from, scanned}
-use Rattle.retire.specs.Publish.{HoldsBack, IsBusy, IsLeastFreeRow, LooksForRow, Publishes, Scanned, ScansEach, StandsInRow, TellLogs, after_scans}
+use Rattle.retire.specs.Publish.{HoldsBack, IsBusy, IsFillOf, IsFormFill, IsLeastFreeRow, LooksForRow, Publishes, Scanned, ScansEach, StandsInRow, TellLogs, after_scans}
 use Rattle.read_section.specs.View.{TellsLog}
+use Rattle.retire.proofs.FillingLemmas.{steps_on, steps_then}
 use Rattle.retire.proofs.RowLemmas.{contains_later, worker_inside}
 
 -- n workers were scanned so far
@@ -62,32 +66,69 @@ found_keeps f keeps before found looked = ⊎_elim (λ t. ap f t.1) (λ t. ap f 
 pub number_found : (before found : OperatorValue) → LooksForRow before found → number_after found.view.log ≡ number_after before.view.log
 number_found = found_keeps (λ (o : OperatorValue). number_after o.view.log) (λ w x log o. refl)
 
-pub publishes : (before found full after : OperatorValue) (r : ℕ) (config : List Group) → LooksForRow before found → IsLeastFreeRow found r → FillsRow found full r config → after ≡ published_from r config full → Publishes before after config
-publishes before found full after r config looked least h e =
-    let number = h.number ∙ number_found before found looked in subst (λ (o : OperatorValue). Publishes before o config) (sym e) record {
-      found = found;
-      looked = looked;
-      taken = r;
-      least = least;
-      fills = h.fills;
-      filled = h.filled;
-      log = λ i. entry (Publish r) (current_word the_shape (number i + 1) r) ∷ h.log i;
-      published = ap (λ l. l ++ config ∷ []) (h.published ∙ found_keeps (λ (o : OperatorValue). o.view.published) (λ w x log o. refl) before found looked);
-      version_rows = ap (λ l. l ++ r ∷ []) (h.version_rows ∙ found_keeps (λ (o : OperatorValue). o.view.version_rows) (λ w x log o. refl) before found looked);
-      version_pages = ap (λ l. l ++ pages_named the_shape full.view.stored r ∷ []) (h.version_pages ∙ found_keeps (λ (o : OperatorValue). o.view.version_pages) (λ w x log o. refl) before found looked);
-      proposal = refl;
-      scanned_logs = h.scanned_logs;
-      table = h.table ∙ found_keeps (λ (o : OperatorValue). o.table) (λ w x log o. refl) before found looked;
-      reported = h.reported ∙ found_keeps (λ (o : OperatorValue). o.reported) (λ w x log o. refl) before found looked;
-    }
+module _ (found full : OperatorValue) (r : ℕ) (config : List Group) (pages : List ℕ) (h : FillsVersion found full r config pages) where
+  -- all fills are of the pooled form
+  form_steps : Fills found full (IsFormFill r config pages)
+  form_steps = steps_then (IsFormFill r config pages) found h.middle full
+      (steps_on (IsFillOfPart pages (parts config)) (IsFormFill r config pages)
+      (λ e t. inr (record { index = t.index; page = t.page; k = t.k; x = t.x; part = t.part; page_is = t.page_is; part_is = t.part_is; word_is = t.word_is; fill = t.fill }))
+      found h.middle h.parts_filled.fills.steps)
+      (steps_on (IsFillOf r (pooled_row config pages)) (IsFormFill r config pages) (λ e t. inl t) h.middle full h.row_filled.steps)
 
-pub stands_in_row : (before found full after : OperatorValue) (r : ℕ) (config : List Group) → LooksForRow before found → FillsRow found full r config → HoldsConfig full.view r config → after ≡ published_from r config full → StandsInRow before after config
-stands_in_row before found full after r config looked h holds e = subst (λ (o : OperatorValue). StandsInRow before o config) (sym e) record {
-  taken = r;
-  version_rows = ap (λ l. l ++ r ∷ []) (h.version_rows ∙ found_keeps (λ (o : OperatorValue). o.view.version_rows) (λ w x log o. refl) before found looked);
-  holds = holds;
-  others = λ q i ne inside. h.others q i ne inside ∙ ap (λ l. slice_index l (q * ROW_WORDS + i)) (found_keeps (λ (o : OperatorValue). o.view.stored) (λ w x log o. refl) before found looked);
-}
+  page_low : (index page : ℕ) → slice_get pages index ≡ Some page → page < the_shape.pages
+  page_low index page at = (h.least.free index page at).0
+
+  short_part : (index k x : ℕ) (part : List ℕ) → slice_get (parts config) index ≡ Some part → slice_get part k ≡ Some x → k < PAGE_WORDS
+  short_part index k x part cut word = let fit = ((parts_stand config).sized index part cut).1 in omega (arith, slice_get_within part k x word)
+
+  pub full_holds : HoldsForm the_shape 0 full.view.stored r config pages
+  unfolding the_shape
+  full_holds = record {
+    counted = h.are.counted;
+    below = page_low;
+    fits = λ index part cut. ((parts_stand config).sized index part cut).1;
+    row = λ i low. ap (λ (n : ℕ). slice_index full.view.stored n) (let g : 0 + (r * ROW_WORDS + i) ≡ r * ROW_WORDS + i = omega arith in g) ∙ h.row_held i low;
+    standing = λ index page k x part at cut word.
+        ap (λ (n : ℕ). slice_index full.view.stored n) (let g : 0 + (ROWS * ROW_WORDS + (page * PAGE_WORDS + k)) ≡ ROWS * ROW_WORDS + (page * PAGE_WORDS + k) = omega arith in g)
+        ∙ h.row_filled.pool page k (page_low index page at) (short_part index k x part cut word) ∙ h.parts_filled.standing index page k x part at cut word;
+  }
+
+  pub version_number : number_after full.view.log ≡ number_after found.view.log
+  version_number = form_steps.number
+
+  pub publishes : (before after : OperatorValue) → LooksForRow before found → IsLeastFreeRow found r → pages_named the_shape full.view.stored r ≡ pages → after ≡ published_from r config full → Publishes before after config
+  publishes before after looked least named e =
+      let all = form_steps in let number = all.number ∙ number_found before found looked in subst (λ (o : OperatorValue). Publishes before o config) (sym e) record {
+        found = found;
+        looked = looked;
+        taken = r;
+        least = least;
+        pages = pages;
+        counted = h.are.counted;
+        new_pages = h.least;
+        fills = all.fills;
+        filled = all.filled;
+        log = λ i. entry (Publish r) (current_word the_shape (number i + 1) r) ∷ all.log i;
+        published = ap (λ l. l ++ config ∷ []) (all.published ∙ found_keeps (λ (o : OperatorValue). o.view.published) (λ w x log o. refl) before found looked);
+        version_rows = ap (λ l. l ++ r ∷ []) (all.version_rows ∙ found_keeps (λ (o : OperatorValue). o.view.version_rows) (λ w x log o. refl) before found looked);
+        version_pages = ap (λ l. full.view.version_pages ++ l ∷ []) named ∙ ap (λ l. l ++ pages ∷ []) (all.version_pages ∙ found_keeps (λ (o : OperatorValue). o.view.version_pages) (λ w x log o. refl) before found looked);
+        proposal = refl;
+        scanned_logs = all.scanned_logs;
+        table = all.table ∙ found_keeps (λ (o : OperatorValue). o.table) (λ w x log o. refl) before found looked;
+        reported = all.reported ∙ found_keeps (λ (o : OperatorValue). o.reported) (λ w x log o. refl) before found looked;
+      }
+
+  pub stands_in_row : (before after : OperatorValue) → LooksForRow before found → r < ROWS → pages_named the_shape full.view.stored r ≡ pages → after ≡ published_from r config full → StandsInRow before after config
+  stands_in_row before after looked low named e = let all = form_steps in subst (λ (o : OperatorValue). StandsInRow before o config) (sym e) record {
+    taken = r;
+    pages = pages;
+    version_rows = ap (λ l. l ++ r ∷ []) (all.version_rows ∙ found_keeps (λ (o : OperatorValue). o.view.version_rows) (λ w x log o. refl) before found looked);
+    version_pages = ap (λ l. full.view.version_pages ++ l ∷ []) named ∙ ap (λ l. l ++ pages ∷ []) (all.version_pages ∙ found_keeps (λ (o : OperatorValue). o.view.version_pages) (λ w x log o. refl) before found looked);
+    holds = full_holds;
+    others = λ q i ne in_rows inside. h.row_filled.others q i ne in_rows inside ∙ (h.parts_filled.fills.rows q i in_rows inside ∙ ap (λ l. slice_index l (q * ROW_WORDS + i)) (found_keeps (λ (o : OperatorValue). o.view.stored) (λ w x log o. refl) before found looked));
+    other_pages = λ q k none under inside. h.row_filled.pool q k under inside ∙ (h.parts_filled.fills.others q k none under inside
+        ∙ ap (λ l. slice_index l (ROWS * ROW_WORDS + (q * PAGE_WORDS + k))) (found_keeps (λ (o : OperatorValue). o.view.stored) (λ w x log o. refl) before found looked));
+  }
 
 pub busy : (before after : OperatorValue) → (HasFreeRow before.view → ⊥) → ScansEach before after → (HasFreeRow after.view → ⊥) → IsBusy before after
 busy before after none_before each none = record { none_before = none_before; scanned = each; none = none; held_back = held_back before after each }

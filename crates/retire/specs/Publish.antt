@@ -1,16 +1,17 @@
--- What a publication does: scans where no row is free, fills of one free row, and one store of `current`.
-use Rattle.std.specs.Prelude.{◌≡◌, ◌+◌, ◌++◌, ◌*◌, ◌<◌, ◌≤◌, ◌⊎◌, ◌∷◌, IsErrAnd, List, None, Result, [], length, slice_index, ℕ}
+-- What a publication does: scans where no row is free, fills of one free row and of free pages, and one store of `current`.
+use Rattle.std.specs.Prelude.{◌≡◌, ◌+◌, ◌++◌, ◌*◌, ◌<◌, ◌≤◌, ◌⊎◌, ◌∷◌, IsErrAnd, List, None, Result, Some, [], length, slice_get, slice_index, ℕ}
 use Rattle.std.specs.List.{Contains}
-use Rattle.config_image.specs.declared.TheConstants.{ROW_WORDS}
-use Rattle.config_image.specs.Image.{Group, row}
-use Rattle.versions.specs.declared.layout.TheConstants.{WORKERS}
+use Rattle.config_image.specs.declared.TheConstants.{PAGE_WORDS, ROW_WORDS}
+use Rattle.config_image.specs.Image.{Group}
+use Rattle.config_image.specs.Pooled.{parts, pooled_row}
+use Rattle.versions.specs.declared.layout.TheConstants.{PAGES, ROWS, WORKERS}
+use Rattle.versions.specs.declared.view.OperatorView.{OperatorView}
 use Rattle.versions.specs.declared.step.Step.TheVariants.{Fill, Publish}
 use Rattle.versions.specs.declared.step.Entry.{Entry}
-use Rattle.versions.specs.Layout.{current_word, pages_named, row_begin}
+use Rattle.versions.specs.Layout.{HoldsForm, current_word, page_begin, row_begin}
 use Rattle.versions.specs.Step.{entry}
-use Rattle.versions.specs.Free.{IsFree, IsFreeRow, IsReplaced, number_after}
+use Rattle.versions.specs.Free.{IsFree, IsFreePage, IsFreeRow, IsReplaced, number_after}
 use Rattle.versions.specs.Table.{the_shape}
-use Rattle.read_section.specs.Layout.{HoldsConfig}
 use Rattle.read_section.specs.View.{TellsLog}
 use Rattle.read_section.specs.Operator.{HasFreeRow, OperatorValue, scanned}
 
@@ -49,40 +50,74 @@ LooksForRow before after = (HasFreeRow before.view × (after ≡ before)) ⊎ ((
 abbrev pub IsFillOf : ℕ → List ℕ → Entry → Type 0
 IsFillOf r words newest = (i : ℕ) × (i < length words) × (newest ≡ entry (Fill (row_begin the_shape r + i) (slice_index words i)) (slice_index words i))
 
+-- a fill of a page by a word of the configuration's part that stands there
+pub record IsPartFill (config : List Group) (pages : List ℕ) (newest : Entry) : Type 0 where
+  pub index : ℕ
+  pub page : ℕ
+  pub k : ℕ
+  pub x : ℕ
+  pub part : List ℕ
+  pub page_is : slice_get pages index ≡ Some page
+  pub part_is : slice_get (parts config) index ≡ Some part
+  pub word_is : slice_get part k ≡ Some x
+  pub fill : newest ≡ entry (Fill (page_begin the_shape page + k) x) x
+
+-- a fill of the pooled form: of a word of row r, or of a word of a part
+abbrev pub IsFormFill : ℕ → List Group → List ℕ → Entry → Type 0
+IsFormFill r config pages newest = IsFillOf r (pooled_row config pages) newest ⊎ IsPartFill config pages newest
+
+-- the pages are free, and each is the least free one behind the one before it
+pub record AreLeastFree (view : OperatorView (List Group)) (pages : List ℕ) : Type 0 where
+  pub free : (index page : ℕ) → slice_get pages index ≡ Some page → IsFreePage the_shape view page
+  pub rise : (index later page other : ℕ) → index < later → slice_get pages index ≡ Some page → slice_get pages later ≡ Some other → page < other
+  pub least : (index page q : ℕ) → slice_get pages index ≡ Some page → IsFreePage the_shape view q → q < page → (j : ℕ) × (slice_get pages j ≡ Some q)
+
 -- the words of all rows but r are as they were
 abbrev pub KeepsOtherRows : ℕ → OperatorValue → OperatorValue → Type 0
-KeepsOtherRows r before after = (q i : ℕ) → (q ≡ r → ⊥) → i < ROW_WORDS
+KeepsOtherRows r before after = (q i : ℕ) → (q ≡ r → ⊥) → q < ROWS → i < ROW_WORDS
     → slice_index after.view.stored (q * ROW_WORDS + i) ≡ slice_index before.view.stored (q * ROW_WORDS + i)
+
+-- and so are the words of all pages but these
+abbrev pub KeepsOtherPages : List ℕ → OperatorValue → OperatorValue → Type 0
+KeepsOtherPages pages before after = (q k : ℕ) → ((index : ℕ) → slice_get pages index ≡ Some q → ⊥) → q < PAGES → k < PAGE_WORDS
+    → slice_index after.view.stored (ROWS * ROW_WORDS + (q * PAGE_WORDS + k)) ≡ slice_index before.view.stored (ROWS * ROW_WORDS + (q * PAGE_WORDS + k))
 
 -- the least of the rows that are free
 pub record IsLeastFreeRow (operator : OperatorValue) (r : ℕ) : Type 0 where
   pub free : IsFreeRow the_shape operator.view r
   pub least : (q : ℕ) → IsFreeRow the_shape operator.view q → r ≤ q
 
--- a configuration is published: a free row is looked for, the least is filled by words of the configuration's row, and stored
--- in `current` as that of the next version
+-- a configuration is published: a free row is looked for, the least free pages are taken for its parts, one for each, the pages and
+-- the least free row are filled by words of the pooled form, and the row is stored in `current` as that of the next version
 pub record Publishes (before after : OperatorValue) (config : List Group) : Type 0 where
   pub found : OperatorValue
   pub looked : LooksForRow before found
   pub taken : ℕ
   pub least : IsLeastFreeRow found taken
+  pub pages : List ℕ
+  pub counted : length pages ≡ length (parts config)
+  pub new_pages : AreLeastFree found.view pages
   pub fills : List Entry
-  pub filled : (newest : Entry) → Contains fills newest → IsFillOf taken (row config) newest
+  pub filled : (newest : Entry) → Contains fills newest → IsFormFill taken config pages newest
   pub log : after.view.log ≡ entry (Publish taken) (current_word the_shape (number_after before.view.log + 1) taken) ∷ (fills ++ found.view.log)
   pub published : after.view.published ≡ before.view.published ++ config ∷ []
   pub version_rows : after.view.version_rows ≡ before.view.version_rows ++ taken ∷ []
-  pub version_pages : after.view.version_pages ≡ before.view.version_pages ++ pages_named the_shape after.view.stored taken ∷ []
+  pub version_pages : after.view.version_pages ≡ before.view.version_pages ++ pages ∷ []
   pub proposal : after.view.proposal ≡ None
   pub scanned_logs : after.view.scanned_logs ≡ found.view.scanned_logs
   pub table : after.table ≡ before.table
   pub reported : after.reported ≡ before.reported
 
--- the version that was published stands in a row that holds the configuration's row now; no word of another row changed
+-- the version that was published stands in a row and in pages that hold the configuration now; no word of another row or another
+-- page changed
 pub record StandsInRow (before after : OperatorValue) (config : List Group) : Type 0 where
   pub taken : ℕ
+  pub pages : List ℕ
   pub version_rows : after.view.version_rows ≡ before.view.version_rows ++ taken ∷ []
-  pub holds : HoldsConfig after.view taken config
+  pub version_pages : after.view.version_pages ≡ before.view.version_pages ++ pages ∷ []
+  pub holds : HoldsForm the_shape 0 after.view.stored taken config pages
   pub others : KeepsOtherRows taken before after
+  pub other_pages : KeepsOtherPages pages before after
 
 -- some scan gave a word from 1 to m + 1
 abbrev pub HoldsBack : ℕ → List Scanned → Type 0

@@ -12,8 +12,10 @@ ghost use Rattle.retire.specs.Publish.{IsBusy, IsRefusedAs, Publishes, StandsInR
 ghost use Rattle.retire.specs.Sweep.{Sweeps};
 
 mod fault;
+mod pages;
 mod row;
 mod sink;
+mod version;
 
 pub use fault::PublishFault;
 use member_group::Config;
@@ -27,9 +29,9 @@ pub trait Retire {
 
     /// Publishes a configuration as the next version, and answers its number, counted from 0.
     ///
-    /// Fills the least free row and no other, but for zeros that stand there already, then stores `current`. Where no row is
-    /// free it first scans each read word once, and answers `Busy` if that freed none: it never waits for a grace period. Takes
-    /// no memory.
+    /// Fills the least free pages, one for each part of a program, and the least free row, but for zeros that stand there already,
+    /// and no others, then stores `current`. Where no row is free it first scans each read word once, and answers `Busy` if that
+    /// freed none: it never waits for a grace period. Takes no memory.
     fn publish(&mut self, config: Config) -> Result<u64, (PublishFault, Config)>
         ensures published_exactly { OnOk result (Publishes (operator self.old) (operator self.new) config) }
         ensures filled_row { OnOk result (StandsInRow (operator self.old) (operator self.new) config) }
@@ -64,7 +66,7 @@ impl Retire for Operator {
         let Some(row) = row::look_for_row(self) else {
             return Err((PublishFault::Busy, config));
         };
-        row::fill_row(self, row, &config);
+        version::fill_version(self, row, &config);
         self.put(row, config);
         Ok(self.number())
     }

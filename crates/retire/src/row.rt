@@ -1,16 +1,15 @@
 //! Free rows: how one is found, and how it is filled.
 
 ghost use Rattle.std.specs.Prelude.{◌≡◌, ◌≤◌, IfNone, IfSome};
-ghost use Rattle.config_image.specs.declared.TheConstants.{ROW_WORDS};
+ghost use Rattle.config_image.specs.Pooled.{ArePages, pooled_row};
 ghost use Rattle.versions.specs.Free.{IsFreeRow};
 ghost use Rattle.versions.specs.Table.{the_shape};
-ghost use Rattle.read_section.specs.Layout.{HoldsConfig, IsPublishable};
+ghost use Rattle.read_section.specs.Layout.{IsPublishable};
 ghost use Rattle.read_section.specs.Operator.{HasFreeRow};
 ghost use Rattle.retire.specs.Publish.{IsBusy, IsLeastFreeRow, LooksForRow, ScansEach};
-ghost use Rattle.retire.specs.body.Filling.{FillsRow};
+ghost use Rattle.retire.specs.body.Filling.{FillsRow, HoldsRow};
 
-use crate::sink::fill_image;
-use config_image::image_len;
+use crate::sink::fill_front;
 use member_group::Config;
 use read_section::Operator;
 use std::marker::Brand;
@@ -49,15 +48,15 @@ pub(crate) fn look_for_row(operator: &mut Operator) -> Option<usize>
     free_row(operator)
 }
 
-// Fills a row until it holds the configuration's, zeros that stand already left alone.
-pub(crate) fn fill_row(operator: &mut Operator, row: usize, config: &Config)
+// Fills a row until it is the configuration's, where its parts stand in these pages; zeros that stand already are left alone.
+pub(crate) fn fill_row(operator: &mut Operator, row: usize, config: &Config, pages: &[u32])
     requires free { IsFreeRow the_shape operator.old.view row }
     requires publishable { IsPublishable config.now }
-    ensures fills { FillsRow operator.old operator.new row config.now }
-    ensures holds { HoldsConfig operator.new.view row config.now }
+    requires pages { ArePages config.now pages.now }
+    ensures fills { FillsRow operator.old operator.new row config.now pages.now }
+    ensures holds { HoldsRow operator.new row (pooled_row config.now pages.now) }
 {
-    let len = image_len(config);
-    fill_image::<Brand>(operator, row, config);
+    let len = fill_front::<Brand>(operator, row, config, pages);
     let end = operator.zeros_from(row);
     for place in len..end {
         operator.fill(row, end - 1 - (place - len), 0);

@@ -1,15 +1,17 @@
-//! A row as a sink of words: the image of a configuration is written into it in one pass.
+//! A row as a sink of words: the row of a configuration in the pooled form is written into it in one pass.
 
-ghost use Rattle.std.specs.Prelude.{◌≡◌, ◌-◌, ◌≤◌, length, ℕ};
+ghost use Rattle.std.specs.Prelude.{◌≡◌, ◌+◌, ◌-◌, length, take, ℕ};
 ghost use Rattle.config_image.specs.declared.TheConstants.{ROW_WORDS};
-ghost use Rattle.config_image.specs.Image.{image};
+ghost use Rattle.config_image.specs.Image.{programs_begin};
+ghost use Rattle.config_image.specs.Pooled.{ArePages, parts, pooled_row};
 ghost use Rattle.versions.specs.Free.{IsFreeRow};
 ghost use Rattle.versions.specs.Table.{the_shape};
+ghost use Rattle.read_section.specs.Layout.{IsPublishable};
 ghost use Rattle.read_section.specs.Operator.{OperatorValue};
 ghost use Rattle.retire.specs.body.Filling.{FillsFront};
 ghost use Rattle.retire.specs.body.Sink.{taken_of};
 
-use config_image::{ROW_WORDS, WordSink, write_image};
+use config_image::{ROW_WORDS, WordSink, write_pooled};
 use member_group::Config;
 use read_section::Operator;
 use std::marker::{Brand, Model, PhantomData};
@@ -55,12 +57,20 @@ impl<L: Lent> WordSink for RowSink<'_, L> {
     }
 }
 
-// Fills the first places of a free row by the words of a configuration's image.
-pub(crate) fn fill_image<L: Lent>(operator: &mut Operator, row: usize, config: &Config)
+// Fills the first places of a free row by the words of a configuration's row that are not its last zeros, and tells how many there
+// are.
+pub(crate) fn fill_front<L: Lent>(
+    operator: &mut Operator,
+    row: usize,
+    config: &Config,
+    pages: &[u32],
+) -> usize
     requires lent { L.operator ≡ operator.old }
     requires free { IsFreeRow the_shape operator.old.view row }
-    requires fits { length (image config.now) ≤ ROW_WORDS }
-    ensures { FillsFront operator.old operator.new row (image config.now) }
+    requires publishable { IsPublishable config.now }
+    requires pages { ArePages config.now pages.now }
+    ensures front { FillsFront operator.old operator.new row (take (programs_begin config.now + length (parts config.now)) (pooled_row config.now pages.now)) }
+    ensures len { result ≡ programs_begin config.now + length (parts config.now) }
 {
     let mut sink = RowSink::<L> {
         operator,
@@ -68,11 +78,13 @@ pub(crate) fn fill_image<L: Lent>(operator: &mut Operator, row: usize, config: &
         place: 0,
         lent: PhantomData,
     };
-    write_image(config, &mut sink);
+    write_pooled(config, pages, &mut sink);
+    let len = sink.place;
     let RowSink {
         operator: _operator,
         row: _,
         place: _,
         lent: _,
     } = sink;
+    len
 }

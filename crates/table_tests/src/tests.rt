@@ -3,6 +3,7 @@
 mod history;
 mod numbered;
 mod pages;
+mod pooled;
 mod publications;
 mod random_steps;
 mod sections;

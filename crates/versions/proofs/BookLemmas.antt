@@ -1,5 +1,6 @@
 -- What the operator's book tells of free versions and rows, and that it goes on telling it after each of the operator's steps.
-use Rattle.std.proofs.Common.{◌≡◌, ◌≢◌, ℕ, zero, suc, ◌+◌, ◌<◌, ◌≤◌, ◌↔◌, ◌⊎◌, List, Some, [], ◌∷◌, ◌++◌, ap, drop, arith, get_or, get_or-set_other, get_or-set_same, inl, inr, length, length-append, length-set, refl, replicate, set, slice_get, slice_index, sym, ◌∙◌, ⊎_elim}
+use Rattle.std.specs.List.{range_with_len}
+use Rattle.std.proofs.Common.{◌-◌, ◌≡◌, ◌≢◌, ℕ, zero, suc, ◌+◌, ◌<◌, ◌≤◌, ◌↔◌, ◌⊎◌, List, Some, [], ◌∷◌, ◌++◌, ap, drop, arith, get_or, get_or-set_other, get_or-set_same, inl, inr, length, length-append, length-set, refl, replicate, set, slice_get, slice_index, sym, ◌∙◌, ⊎_elim}
 use Rattle.std.proofs.lemmas.List.{length-replicate}
 use mathlib.Core.Logic.{dite}
 use native.Mathlib.Decide.{ℕ_discrete}
@@ -50,6 +51,13 @@ used_next number (p ∷ pages) uses (suc i) low = used_next number pages uses i 
 pub used_more : (number k : ℕ) (pages uses : List ℕ) (i : ℕ) → i < length pages → k ≡ number → used_by number (drop (i + 1) pages) (set uses (get_or pages i 0) k) ≡ used_by number (drop i pages) uses
 used_more number k pages uses i low is = ap (λ (j : ℕ). used_by number (drop j pages) (set uses (get_or pages i 0) k)) (let g : i + 1 ≡ suc i = omega arith in g)
     ∙ (ap (λ (j : ℕ). used_by number (drop (suc i) pages) (set uses (get_or pages i 0) j)) is ∙ used_next number pages uses i low)
+
+-- the pages from one on, up to a number of them
+pub used_first : (page count : ℕ) (uses : List ℕ) → page < count → used_by 1 (range_with_len (page + 1) (count - (page + 1))) (set uses page 1) ≡ used_by 1 (range_with_len page (count - page)) uses
+used_first page count uses low = ap (λ (n : ℕ). used_by 1 (range_with_len page n) uses) (let g : suc (count - (page + 1)) ≡ count - page = omega arith in g)
+
+pub used_none : (page count : ℕ) (uses : List ℕ) → count ≤ page → uses ≡ used_by 1 (range_with_len page (count - page)) uses
+used_none page count uses up = ap (λ (n : ℕ). used_by 1 (range_with_len page n) uses) (let g : 0 ≡ count - page = omega arith in g)
 
 used_up : (number : ℕ) (pages uses : List ℕ) (i : ℕ) → length pages ≤ i → used_by number (drop i pages) uses ≡ uses
 used_up number [] uses zero up = refl

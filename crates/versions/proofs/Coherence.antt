@@ -151,17 +151,17 @@ module _ {C : Type 0} (shape : Shape C) where
   }
 
   -- what is set beside the row and the parts changes neither
-  pub holds-set : (words : List ℕ) (p x r : ℕ) (config : C) (pages : List ℕ) → ((i : ℕ) → i < shape.row_words → rows_begin shape + (r * shape.row_words + i) ≢ p)
-      → ((index page k : ℕ) → slice_get pages index ≡ Some page → k < shape.page_words → rows_begin shape + (all_rows shape + (page * shape.page_words + k)) ≢ p)
-      → HoldsForm shape (rows_begin shape) words r config pages → HoldsForm shape (rows_begin shape) (set words p x) r config pages
-  holds-set words p x r config pages beside_row beside_parts h = record {
+  pub holds-set : (from : ℕ) (words : List ℕ) (p x r : ℕ) (config : C) (pages : List ℕ) → ((i : ℕ) → i < shape.row_words → from + (r * shape.row_words + i) ≢ p)
+      → ((index page k : ℕ) → slice_get pages index ≡ Some page → k < shape.page_words → from + (all_rows shape + (page * shape.page_words + k)) ≢ p)
+      → HoldsForm shape from words r config pages → HoldsForm shape from (set words p x) r config pages
+  holds-set from words p x r config pages beside_row beside_parts h = record {
     counted = h.counted;
     below = h.below;
     fits = h.fits;
-    row = λ i small. get_or-set_other words p (rows_begin shape + (r * shape.row_words + i)) x 0 (beside_row i small) ∙ h.row i small;
+    row = λ i small. get_or-set_other words p (from + (r * shape.row_words + i)) x 0 (beside_row i small) ∙ h.row i small;
     standing = λ index page k y part at cut word.
         let small = slice_get_within part k y word in let fit = h.fits index part cut in
-        get_or-set_other words p (rows_begin shape + (all_rows shape + (page * shape.page_words + k))) x 0 (beside_parts index page k at (omega arith)) ∙ h.standing index page k y part at cut word;
+        get_or-set_other words p (from + (all_rows shape + (page * shape.page_words + k))) x 0 (beside_parts index page k at (omega arith)) ∙ h.standing index page k y part at cut word;
   }
 
   -- a log of worker w, one step longer

@@ -1,9 +1,9 @@
 -- The kept numbers after a legal step mirror the state after it.
-use Rattle.std.proofs.Common.{◌≡◌, ℕ, ◌+◌, ◌-◌, ◌/◌, ◌<◌, ◌≤◌, List, [], ap, arith, length, refl, set, slice_index_or, subst, sym, ◌∙◌, ⊎_elim}
+use Rattle.std.proofs.Common.{◌≡◌, ℕ, ◌+◌, ◌-◌, ◌/◌, ◌<◌, ◌≤◌, List, Some, [], ap, arith, length, refl, set, slice_get, slice_index_or, subst, sym, ◌∙◌, ⊎_elim}
 use mathlib.Core.Option.{some}
 use lib.ListN.{get_elem?}
 use Rattle.config_image.specs.Image.{Group}
-use Rattle.versions.specs.declared.layout.TheConstants.{LAST_NUMBER, ROWS, TABLE_WORDS, WORKERS}
+use Rattle.versions.specs.declared.layout.TheConstants.{LAST_NUMBER, PAGES, ROWS, TABLE_WORDS, WORKERS}
 use Rattle.versions.specs.declared.progress.Progress.{Progress}
 use Rattle.versions.specs.declared.step.Step.{Step}
 use Rattle.versions.specs.declared.step.Step.TheVariants.{Announce, Fetch, Fill, Leave, Peek, Pin, Publish, Scan}
@@ -18,10 +18,12 @@ use Rattle.versions.specs.Book.{IsBook, IsCleared, with_version_in}
 use Rattle.versions.specs.body.Mirror.{IsMirror, moved}
 use Rattle.versions.proofs.BookLemmas.{IsBook-filled, IsBook-published, IsBook-scanned}
 use Rattle.versions.specs.Table.{the_shape}
+use Rattle.versions.specs.Pooled.{pages_in}
+use Rattle.versions.proofs.DecisionLemmas.{pages_same}
 use Rattle.versions.proofs.ListLemmas.{elem_below}
 use Rattle.versions.proofs.MirrorLemmas.{IsMirror-moved, IsMirror-operator, stage_there}
 use Rattle.versions.proofs.TraceLemmas.{Coheres-reached}
-use Rattle.versions.proofs.ShapeLemmas.{last_number_is, names_none, page_below, place_below, rows_is, workers_is}
+use Rattle.versions.proofs.ShapeLemmas.{last_number_is, page_below, pages_is, place_below, rows_is, workers_is}
 
 module _ {A : Type 0} (s : State (List Group)) (reached : IsReached the_shape s) (words : List ℕ) (progress : Progress A) (m : IsMirror the_shape s words progress) where
   pub worker_below : (w : ℕ) (step : Step) (x : ℕ) → IsNextOf s w step x → w < WORKERS
@@ -51,12 +53,16 @@ module _ {A : Type 0} (s : State (List Group)) (reached : IsReached the_shape s)
   follows_fill place word x legal = IsMirror-operator the_shape s words progress m (after_fill (rows_begin the_shape) place x s.operator) (set s.words place x) (set words place x) progress refl
       (IsBook-filled the_shape s.operator progress.book m.book (rows_begin the_shape) place x) (ap (λ l. set l place x) m.words_same)
 
-  pub follows_publish : (r x : ℕ) → IsLegalStep the_shape s (Publish r) x → IsMirror the_shape (after_step the_shape s (Publish r) x) (set words 0 x) (record progress { book = with_version_in r [] progress.book })
-  follows_publish r x legal =
-      let h = Coheres-reached the_shape s reached in let named = pages_named the_shape s.operator.stored r in let book : Book A = with_version_in r [] progress.book in
+  pub follows_publish : (r x : ℕ) (pages : List ℕ) → pages ≡ pages_in words r → IsLegalStep the_shape s (Publish r) x → IsMirror the_shape (after_step the_shape s (Publish r) x) (set words 0 x) (record progress { book = with_version_in r pages progress.book })
+  follows_publish r x pages is legal =
+      let h = Coheres-reached the_shape s reached in let named = pages_named the_shape s.operator.stored r in let book : Book A = with_version_in r pages progress.book in
       IsMirror-operator the_shape s words progress m (after_publish r x named s.operator) (set s.words 0 x) (set words 0 x) (record progress { book = book }) refl
-      (subst (λ l. IsBook the_shape (after_publish r x named s.operator) (with_version_in r l progress.book)) (names_none s.operator.stored r)
+      (subst (λ l. IsBook the_shape (after_publish r x named s.operator) (with_version_in r l progress.book)) (sym (is ∙ pages_same s reached words progress m r legal.0.free.0))
       (IsBook-published the_shape s.operator progress.book m.book r x named legal.0.free.0 h.version_rows_length h.version_pages_length legal.0.holds.below)) (ap (λ l. set l 0 x) m.words_same)
+
+  -- the pages that the row names are pages of the pool
+  pub published_pages : (r x : ℕ) (pages : List ℕ) → pages ≡ pages_in words r → IsLegalStep the_shape s (Publish r) x → (index page : ℕ) → slice_get pages index ≡ Some page → page < PAGES
+  published_pages r x pages is legal index page at = let low = legal.0.holds.below index page (ap (λ l. slice_get l index) (sym (is ∙ pages_same s reached words progress m r legal.0.free.0)) ∙ at) in omega (arith, pages_is)
 
   pub follows_scan : (place x : ℕ) (book' : Book A) → (length progress.book.cleared ≡ WORKERS → IsCleared (place - 1) x progress.book book') → IsLegalStep the_shape s (Scan place) x
       → IsMirror the_shape (after_step the_shape s (Scan place) x) words (record progress { book = book' })

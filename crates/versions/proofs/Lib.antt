@@ -9,7 +9,9 @@ pub mod TraceLemmas
 pub mod ReuseLemmas
 pub mod SafetyLemmas
 pub mod ShapeLemmas
-mod PooledLemmas
+pub mod PooledLemmas
+pub mod FormLemmas
+pub mod OpenedLemmas
 pub mod BookLemmas
 pub mod MirrorLemmas
 pub mod RowLemmas

@@ -91,7 +91,7 @@ same_row size r q i j small low e = sym (div-mul-add r size i small) ∙ (ap (λ
 pub row_inside : (r rows i size : ℕ) → r < rows → i < size → r * size + i < rows * size
 row_inside r rows i size low small = let h : suc r * size ≤ rows * size = mul-le-mul_right size low in omega (arith, suc-mul r size)
 
-some_number : (x y : ℕ) → Some x ≡ Some y → x ≡ y
+pub some_number : (x y : ℕ) → Some x ≡ Some y → x ≡ y
 some_number x y e = cc
 
 pub none_at : (p q : ℕ) (l : List ℕ) → p ≢ q → ((j : ℕ) → slice_get l j ≡ Some q → ⊥) → (j : ℕ) → slice_get (p ∷ l) j ≡ Some q → ⊥

@@ -32,7 +32,7 @@ module _ {C : Type 0} (shape : Shape C) where
     kept = λ m config q pages f g. dite (ℕ_discrete q r)
         (λ same. inl (IsFree-of_row shape s.operator r m free (f ∙ ap some same)))
         (λ other. inr (
-          holds-set shape s.words p x q config pages
+          holds-set shape (rows_begin shape) s.words p x q config pages
               (λ j l e. other (same_row shape.row_words q r j i l small (omega arith)))
               (λ index page k at l e. omega arith),
           ap shape.form.named (beside_set s.operator.stored (q * shape.row_words) shape.row_words (r * shape.row_words + i) x (beside_row q r i shape.row_words small other)),
@@ -45,7 +45,7 @@ module _ {C : Type 0} (shape : Shape C) where
     kept = λ m config r pages f g. ⊎_elim
         (λ (t : (j : ℕ) × (slice_get pages j ≡ Some q)). inl (free.1 m (pages, g, t)))
         (λ none. let low = h.rows_below m r f in inr (
-          holds-set shape s.words p x r config pages
+          holds-set shape (rows_begin shape) s.words p x r config pages
               (λ j l e. let in_rows = row_inside r shape.rows j shape.row_words low l in omega arith)
               (λ index page j at l e. none index (at ∙ ap Some (same_row shape.page_words page q j k l small (omega arith)))),
           ap shape.form.named (beside_set s.operator.stored (r * shape.row_words) shape.row_words (all_rows shape + (q * shape.page_words + k)) x

@@ -25,16 +25,3 @@ row_behind_image config i len low is up = padded_behind ROW_WORDS (image config)
 pub length-row : (config : List Group) → length (row config) ≡ ROW_WORDS
 unfolding row
 length-row config = length-padded ROW_WORDS (image config)
-
--- a list that begins with n zeros and the first words of a row, with the next word of the row
-pub next_of_row : (n i x : ℕ) (items items' words : List ℕ) → items ≡ replicate n 0 ++ take i words → items' ≡ items ++ x ∷ [] → x ≡ get_or words i 0 → i < length words → items' ≡ replicate n 0 ++ take (i + 1) words
-next_of_row n i x items items' words front more is low =
-    more ∙ (ap (λ l. l ++ x ∷ []) front ∙ (append_assoc (replicate n 0) (take i words) (x ∷ []) ∙ ap (λ l. replicate n 0 ++ l) (ap (λ (k : ℕ). take i words ++ k ∷ []) is ∙ sym (take_more words i 0 low))))
-
--- the same with the whole row, then filled up with zeros
-pub whole_row : (n i all len : ℕ) (items items' words : List ℕ) → items ≡ replicate n 0 ++ take i words → length words ≤ i → len ≡ length items → n + length words ≤ all
-    → items' ≡ take all items ++ replicate (all - len) 0 → items' ≡ (replicate n 0 ++ words) ++ replicate (all - (n + length words)) 0
-whole_row n i all len items items' words front up is fits filled =
-    let full : items ≡ replicate n 0 ++ words = front ∙ ap (λ l. replicate n 0 ++ l) (take_all i words up) in
-    let long : length items ≡ n + length words = ap length full ∙ (length-append (replicate n 0) words ∙ ap (λ (k : ℕ). k + length words) (length-replicate {A = ℕ} n 0)) in
-    filled ∙ (ap (λ l. l ++ replicate (all - len) 0) (take_all all items (omega arith) ∙ full) ∙ ap (λ (k : ℕ). (replicate n 0 ++ words) ++ replicate k 0) (ap (λ (k : ℕ). all - k) (is ∙ long)))

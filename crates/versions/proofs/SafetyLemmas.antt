@@ -137,7 +137,7 @@ module _ {C : Type 0} (shape : Shape C) where
   word_is_form s r config pages place x holds (inr (part, is)) = ap (slice_index s.words) (let e = part.at in let g : place ≡ rows_begin shape + (all_rows shape + (part.page * shape.page_words + part.k)) = omega arith in g)
       ∙ holds.standing part.index part.page part.k x part.part part.page_is part.part_is is
 
-  version_place : (s : State C) (n r place : ℕ) (kept : IsKept shape s n r) → IsWordOf shape s n place → IsInRow shape r place ⊎ IsPartPlace shape kept.config kept.pages place
+  pub version_place : (s : State C) (n r place : ℕ) (kept : IsKept shape s n r) → IsWordOf shape s n place → IsInRow shape r place ⊎ IsPartPlace shape kept.config kept.pages place
   version_place s n r place kept (inl (q, at, in_row)) = inl (subst (λ (k : ℕ). IsInRow shape k place) (elem_same s.operator.version_rows n q r at kept.in_row) in_row)
   version_place s n r place kept (inr (config, pages, published, named, part)) = inr (subst (λ l. IsPartPlace shape kept.config l place) (elem_same s.operator.version_pages n pages kept.pages named kept.in_pages)
       (subst (λ (c : C). IsPartPlace shape c pages place) (elem_same s.operator.published n config kept.config published kept.published) part))

@@ -1,12 +1,13 @@
 -- The shape of the switch's table, in numbers.
-use Rattle.std.proofs.Common.{◌≡◌, ℕ, ◌+◌, ◌-◌, ◌*◌, ◌/◌, ◌%◌, ◌<◌, ◌≤◌, List, Some, [], arith, get_or, refl, slice_get, sym, ◌∙◌, ap}
+use Rattle.std.proofs.Common.{◌≡◌, ℕ, ◌+◌, ◌-◌, ◌*◌, ◌/◌, ◌%◌, ◌<◌, ◌≤◌, List, arith, refl, ◌∙◌, ap}
 use Rattle.std.proofs.lemmas.Nat.{div-add-mod', div-mul-add}
 use Rattle.std.proofs.Math.Nat.{mod-lt}
 use Rattle.config_image.specs.declared.TheConstants.{PAGE_WORDS, ROW_WORDS}
-use Rattle.config_image.specs.Image.{Group, row}
+use Rattle.config_image.specs.Image.{Group}
+use Rattle.config_image.specs.Pooled.{pages_of, parts, pooled_row}
 use Rattle.member_group.specs.Charge.{charge_of}
 use Rattle.versions.specs.declared.layout.TheConstants.{LAST_NUMBER, CHARGE_LIMIT, PAGES, POOL_BEGIN, ROWS, ROWS_BEGIN, TABLE_WORDS, WORKERS}
-use Rattle.versions.specs.Layout.{HoldsForm, IsInPage, IsInRow, IsPartPlace, page_begin, pages_named, rows_begin, stored_words}
+use Rattle.versions.specs.Layout.{IsInPage, IsInRow, page_begin, pages_named, row_at, stored_words}
 use Rattle.versions.specs.Table.{the_shape}
 
 pub workers_is : the_shape.workers ≡ WORKERS
@@ -41,24 +42,17 @@ pub page_words_is : the_shape.page_words ≡ PAGE_WORDS
 unfolding the_shape
 page_words_is = refl
 
-pub row_is : (config : List Group) (pages : List ℕ) → the_shape.form.row config pages ≡ row config
+pub row_is : (config : List Group) (pages : List ℕ) → the_shape.form.row config pages ≡ pooled_row config pages
 unfolding the_shape
 row_is config pages = refl
 
--- no version names a page, and nothing stands in pages
-pub names_none : (stored : List ℕ) (r : ℕ) → pages_named the_shape stored r ≡ []
+pub parts_is : (config : List Group) → the_shape.form.parts config ≡ parts config
 unfolding the_shape
-names_none stored r = refl
+parts_is config = refl
 
-pub no_parts : (config : List Group) → the_shape.form.parts config ≡ []
+pub named_is : (stored : List ℕ) (r : ℕ) → pages_named the_shape stored r ≡ pages_of (row_at the_shape stored r)
 unfolding the_shape
-no_parts config = refl
-
-pub none_there : (index : ℕ) {A : Type 0} (x : A) → slice_get [] index ≡ Some x → ⊥
-none_there index x e = cc
-
-pub no_part_place : (config : List Group) (pages : List ℕ) (place : ℕ) → IsPartPlace the_shape config pages place → ⊥
-no_part_place config pages place at = none_there at.index at.part (ap (λ l. slice_get l at.index) (sym (no_parts config)) ∙ at.part_is)
+named_is stored r = refl
 
 -- a place of a row, in numbers
 pub in_row : (r place i : ℕ) → i < ROW_WORDS → place ≡ (ROWS_BEGIN + r * ROW_WORDS) + i → IsInRow the_shape r place
@@ -111,24 +105,6 @@ row_below_pool r place low h = let t = in_row_numbers r place h in let inside = 
 
 pub page_below : (q place : ℕ) → q < the_shape.pages → IsInPage the_shape q place → place < TABLE_WORDS
 page_below q place low h = let t = in_page_numbers q place h in let inside = t.1 in let e = t.2 in omega (arith, pages_is)
-
--- a row of the table holds a configuration where it has the words of the configuration's row
-pub holds_numbers : (words : List ℕ) (r : ℕ) (config : List Group) → HoldsForm the_shape (rows_begin the_shape) words r config []
-    → (i : ℕ) → i < ROW_WORDS → get_or words ((ROWS_BEGIN + r * ROW_WORDS) + i) 0 ≡ get_or (row config) i 0
-unfolding the_shape
-holds_numbers words r config h i low = ap (λ (k : ℕ). get_or words k 0) (let g : (ROWS_BEGIN + r * ROW_WORDS) + i ≡ ROWS_BEGIN + (r * ROW_WORDS + i) = omega arith in g) ∙ h.row i low
-
--- in words in which the rows begin at the place `from`
-pub holds : (from : ℕ) (words : List ℕ) (r : ℕ) (config : List Group) → ((i : ℕ) → i < ROW_WORDS → get_or words (from + (r * ROW_WORDS + i)) 0 ≡ get_or (row config) i 0)
-    → HoldsForm the_shape from words r config []
-unfolding the_shape
-holds from words r config h = record {
-  counted = refl;
-  below = λ index page at. absurd (none_there index page at);
-  fits = λ index part at. absurd (none_there index part at);
-  row = h;
-  standing = λ index page k x part at cut word. absurd (none_there index page at);
-}
 
 pub stored_is : stored_words the_shape ≡ ROWS * ROW_WORDS + PAGES * PAGE_WORDS
 unfolding the_shape

@@ -1,22 +1,30 @@
--- The form in which programs stand in pages (docs/SWITCH.md, "The pooled form"), as a form of the table. No version is stored so yet.
-use Rattle.std.specs.Prelude.{◌≡◌, ◌+◌, ◌*◌, ◌<◌, ◌≤◌, List, length, slice_index, ℕ}
+-- What a row in the pooled form and its pages tell, wherever they stand in the table (docs/SWITCH.md, "The pooled form").
+use Rattle.std.specs.Prelude.{◌≡◌, ◌+◌, ◌*◌, ◌/◌, ◌%◌, ◌<◌, ◌≤◌, List, drop, length, slice_index, take, ℕ}
 use Rattle.config_image.specs.declared.TheConstants.{ROW_WORDS}
 use Rattle.config_image.specs.Image.{Group, image}
-use Rattle.config_image.specs.Pooled.{PooledFormTells, pages_of, parts, pooled_row}
-use Rattle.versions.specs.Layout.{Form, HoldsForm, all_rows, pages_named, row_at, stored_words}
-use Rattle.versions.specs.Table.{stored_by, the_shape}
+use Rattle.config_image.specs.Pooled.{PooledFormTells}
+use Rattle.versions.specs.Layout.{HoldsForm, all_rows, pages_named, row_at, rows_begin, stored_words}
+use Rattle.versions.specs.Table.{the_shape}
 
--- the words of a row, the parts of all programs, and the pages that the row's names give
-abbrev pub pooled_form : Form (List Group)
-pooled_form = record { row = pooled_row; parts = parts; named = pages_of }
+-- a configuration whose image a row has room for
+abbrev pub HasRoom : List Group → Type 0
+HasRoom config = length (image config) ≤ ROW_WORDS
 
 -- word k of page q, in words in which the rows begin at the place `from`
 abbrev pub page_word : ℕ → List ℕ → ℕ → ℕ → ℕ
 page_word from words q k = slice_index words (from + (all_rows the_shape + (q * the_shape.page_words + k)))
 
--- where row r and these pages hold a configuration in this form, they tell each word of the row that has the image, and the row
--- names just these pages
+-- the names of pages among the words of a row: each has a page in its low 16 bits (`pages_of`)
+abbrev pub names_in : List ℕ → List ℕ
+names_in row = take (slice_index row 0 % 65536) (drop (slice_index row 0 / 65536 % 65536) row)
+
+-- the pages that row r names, in the words of the whole table
+abbrev pub pages_in : List ℕ → ℕ → List ℕ
+pages_in table r = pages_named the_shape (drop (rows_begin the_shape) table) r
+
+-- where row r and these pages hold a configuration, they tell each word of the row that has the image, and the row names just these
+-- pages
 abbrev pub PooledFormStands : Type 0
 PooledFormStands = (words : List ℕ) (r : ℕ) (config : List Group) (pages : List ℕ) → length words ≡ stored_words the_shape → r < the_shape.rows
-    → length (image config) ≤ ROW_WORDS → HoldsForm (stored_by pooled_form) 0 words r config pages
-    → PooledFormTells config (row_at the_shape words r) pages (page_word 0 words) × (pages_named (stored_by pooled_form) words r ≡ pages)
+    → HasRoom config → HoldsForm the_shape 0 words r config pages
+    → PooledFormTells config (row_at the_shape words r) pages (page_word 0 words) × (pages_named the_shape words r ≡ pages)

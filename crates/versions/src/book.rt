@@ -1,13 +1,15 @@
 //! The operator's book of its own steps: how far versions are, what each row held last, which version named each page last, and
 //! what scans showed clear.
 
-ghost use Rattle.std.specs.Prelude.{◌≡◌, ◌<◌, ◌↔◌, IfOk, IsTrue, List, [], length, slice_get, Some, ℕ};
+ghost use Rattle.std.specs.Prelude.{◌≡◌, ◌<◌, ◌≤◌, ◌↔◌, IfOk, IsTrue, List, length, map, slice_get, Some, ℕ};
 ghost use Rattle.config_image.specs.Image.{Group};
+ghost use Rattle.config_image.specs.Pooled.{page_of};
 ghost use Rattle.versions.specs.declared.view.OperatorView.{OperatorView};
 ghost use Rattle.versions.specs.Book.{IsBook, IsBookAtStart, IsCleared, with_version_in};
 ghost use Rattle.versions.specs.Free.{IsFree, IsFreePage, IsFreeRow};
 ghost use Rattle.versions.specs.Legal.{MayFill};
 ghost use Rattle.versions.specs.Table.{the_shape};
+ghost use Rattle.versions.specs.World.{first_pages};
 
 use crate::freedom::{clear_below, least};
 use crate::layout::{LAST_NUMBER, PAGES, POOL_BEGIN, ROW_WORDS, ROWS, ROWS_BEGIN, WORKERS};
@@ -32,11 +34,15 @@ pub struct Book<A: Allocator = Global> {
 }
 
 impl<A: Allocator> Book<A> {
-    /// The book of an operator that made no step: version 0 is in row 0 and names no page, and nothing was scanned.
-    pub fn at_start(alloc: A) -> Result<Book<A>, AllocError>
-        ensures at_start { IfOk result (IsBookAtStart []) }
+    /// The book of an operator that made no step: version 0 is in row 0 and names the first `count` pages, and nothing was scanned.
+    pub fn at_start(alloc: A, count: usize) -> Result<Book<A>, AllocError>
+        requires { count ≤ PAGES }
+        ensures at_start { IfOk result (IsBookAtStart (first_pages count)) }
     {
-        let last_use = PageUses::none(alloc)?;
+        let mut last_use = PageUses::none(alloc)?;
+        for page in 0..count {
+            last_use.name(page, 1);
+        }
         let mut last = [0; ROWS];
         last[0] = 1;
         Ok(Book {
@@ -84,18 +90,18 @@ impl<A: Allocator> Book<A> {
         self.page_is_free((place - POOL_BEGIN) / PAGE_WORDS)
     }
 
-    /// Counts a publication from a row that names these pages.
-    pub fn count_version(&mut self, row: usize, pages: &[u32])
+    /// Counts a publication from a row with these names of pages (`row_names`).
+    pub fn count_version(&mut self, row: usize, names: &[u64])
         requires row { row < ROWS }
-        requires pages { (index page : ℕ) → slice_get pages.now index ≡ Some page → page < PAGES }
+        requires pages { (index page : ℕ) → slice_get (map page_of names.now) index ≡ Some page → page < PAGES }
         requires number { self.old.number < LAST_NUMBER }
-        ensures counted { self.new ≡ with_version_in row pages.now self.old }
+        ensures counted { self.new ≡ with_version_in row (map page_of names.now) self.old }
     {
         self.number += 1;
         let number = self.number + 1;
         self.last[row] = number;
-        for page in pages {
-            self.last_use.name(*page as usize, number);
+        for name in names {
+            self.last_use.name((*name % 65536) as usize, number);
         }
     }
 

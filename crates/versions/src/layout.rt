@@ -1,8 +1,8 @@
-//! The words of the table (docs/TABLE.md, "The words"): where rows and pages stand, and whether a row holds a configuration's.
+//! The words of the table (docs/TABLE.md, "The words"): where rows and pages stand.
 
-ghost use Rattle.std.specs.Prelude.{◌≡◌, ◌<◌, IsTrue, [], length, slice_index, ◌↔◌};
+ghost use Rattle.std.specs.Prelude.{◌≡◌, ◌<◌, IsTrue, slice_index, ◌↔◌};
 ghost use Rattle.config_image.specs.Image.{row};
-ghost use Rattle.versions.specs.Layout.{HoldsForm, IsInRow, rows_begin};
+ghost use Rattle.versions.specs.Layout.{IsInRow};
 ghost use Rattle.versions.specs.Table.{the_shape};
 
 pub use config_image::ROW_WORDS;
@@ -52,7 +52,7 @@ pub(crate) fn is_in_row(row: usize, place: usize) -> bool
     place >= ROWS_BEGIN && (place - ROWS_BEGIN) / ROW_WORDS == row
 }
 
-/// Tells word `i` of the row of a configuration, counted from 0: a word of its image, and 0 behind that.
+/// Tells word `i` of a row that has the image of a configuration, counted from 0, and 0 behind that: what a section shows.
 pub fn row_word<A: Allocator>(config: &Config<A>, i: usize) -> u64
     requires { i < ROW_WORDS }
     ensures { result ≡ slice_index (row config.now) i }
@@ -62,19 +62,4 @@ pub fn row_word<A: Allocator>(config: &Config<A>, i: usize) -> u64
     } else {
         0
     }
-}
-
-// Tests the words of a row of the table against a configuration's, in one pass.
-pub(crate) fn holds_row<A: Allocator>(words: &[u64], row: usize, config: &Config<A>) -> bool
-    requires table { length words.now ≡ TABLE_WORDS }
-    requires row { row < ROWS }
-    ensures holds { IsTrue result ↔ HoldsForm the_shape (rows_begin the_shape) words.now row config.now [] }
-{
-    let begin = ROWS_BEGIN + row * ROW_WORDS;
-    for i in 0..ROW_WORDS {
-        if words[begin + i] != row_word(config, i) {
-            return false;
-        }
-    }
-    true
 }

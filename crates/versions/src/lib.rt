@@ -15,6 +15,7 @@ ghost use Rattle.versions.specs.Safety.{FetchesPublished, InEveryTrace, KeepsHel
 
 mod book;
 mod fault;
+mod form;
 mod freedom;
 mod layout;
 mod page_uses;
@@ -25,6 +26,7 @@ mod world;
 
 pub use book::Book;
 pub use fault::StepFault;
+pub use form::row_names;
 pub use freedom::free_versions;
 pub use layout::{
     CHARGE_LIMIT, LAST_NUMBER, PAGES, POOL_BEGIN, ROWS, ROWS_BEGIN, TABLE_WORDS, WORKERS,
@@ -68,8 +70,8 @@ pub fn every_form()
     ensures one_word { (form : Form (List Group)) → InEveryTrace (stored_by form) (StepsOnOneWord (stored_by form)) }
 {}
 
-/// Law: where a row and the pages that it names hold a configuration in the pooled form, they tell each word of the row that has
-/// its image, and the row names just these pages. So `every_form` speaks of it too. It runs nothing.
+/// Law: where a row and some pages hold a configuration, they tell each word of the row that has its image, and the row names
+/// just these pages. It runs nothing.
 pub fn pooled_form_stands()
     ensures { PooledFormStands }
 {}

@@ -1,13 +1,15 @@
 //! How far the actors of a world are: where each worker is, and the operator's book. It decides which steps are legal.
 
-ghost use Rattle.std.specs.Prelude.{◌≡◌, ◌+◌, ◌<◌, IfOk, MatchOption, length, slice_get};
+ghost use Rattle.std.specs.Prelude.{◌≡◌, ◌+◌, ◌<◌, ◌≤◌, IfOk, MatchOption, length, slice_get};
 ghost use Rattle.std.specs.Option.{option_map};
 ghost use Rattle.versions.specs.declared.step.Step.TheVariants.{Announce, Fetch, Fill, Leave, Peek, Pin, Publish, Scan};
 ghost use Rattle.versions.specs.View as view;
-ghost use Rattle.versions.specs.body.Mirror.{BeginsAtStart, Decides, DecidesProposed, DecidesPublish, Follows, IsFollowed, moved};
+ghost use Rattle.versions.specs.World.{first_pages};
+ghost use Rattle.versions.specs.body.Mirror.{BeginsAtStart, Decides, DecidesProposed, DecidesPublish, FitsRow, Follows, IsFollowed, moved};
 
 use crate::book::Book;
-use crate::layout::{LAST_NUMBER, ROWS, TABLE_WORDS, WORKERS, holds_row, is_in_row};
+use crate::form::{holds_form, is_version_word, row_names, row_of};
+use crate::layout::{LAST_NUMBER, PAGES, ROWS, TABLE_WORDS, WORKERS};
 use crate::step::Step;
 use crate::view::Stage;
 use member_group::Config;
@@ -109,7 +111,7 @@ impl<A: Allocator> Progress<A> {
         let Stage::Inside { row, .. } = self.stage(worker)? else {
             return None;
         };
-        if !is_in_row(row, place) || place >= TABLE_WORDS {
+        if row >= ROWS || place >= TABLE_WORDS || !is_version_word(words, row, place) {
             return None;
         }
         Some(words[place])
@@ -139,7 +141,8 @@ impl<A: Allocator> Progress<A> {
         row: usize,
         proposal: Option<&Config<B>>,
     ) -> Option<u64>
-        requires { length words.now ≡ TABLE_WORDS }
+        requires table { length words.now ≡ TABLE_WORDS }
+        requires room { FitsRow (option_map (λ config. config.now) proposal) }
         ensures { DecidesPublish words.now self.now (option_map (λ config. config.now) proposal.entry) row result }
     {
         let Some(config) = proposal else {
@@ -147,7 +150,7 @@ impl<A: Allocator> Progress<A> {
         };
         if !self.book.is_free(row)
             || self.book.number >= LAST_NUMBER
-            || !holds_row(words, row, config)
+            || !holds_form(words, row, config)
         {
             return None;
         }
@@ -170,7 +173,8 @@ impl<A: Allocator> Progress<A> {
         proposal: Option<&Config<B>>,
         step: Step,
     ) -> Option<u64>
-        requires { length words.now ≡ TABLE_WORDS }
+        requires table { length words.now ≡ TABLE_WORDS }
+        requires room { FitsRow (option_map (λ config. config.now) proposal) }
         ensures { DecidesProposed words.now self.now (option_map (λ config. config.now) proposal.entry) step result }
     {
         match step {
@@ -188,10 +192,11 @@ impl<A: Allocator> Progress<A> {
 
 // What a legal step changes.
 impl<A: Allocator> Progress<A> {
-    pub(crate) fn at_start(alloc: A) -> Result<Progress<A>, AllocError>
-        ensures { IfOk result BeginsAtStart }
+    pub(crate) fn at_start(alloc: A, count: usize) -> Result<Progress<A>, AllocError>
+        requires { count ≤ PAGES }
+        ensures { IfOk result (BeginsAtStart (first_pages count)) }
     {
-        let book = Book::at_start(alloc)?;
+        let book = Book::at_start(alloc, count)?;
         Ok(Progress {
             stages: [Stage::Outside; WORKERS],
             book,
@@ -224,8 +229,8 @@ impl<A: Allocator> Progress<A> {
             }
             Step::Fill { place, .. } => words[place] = word,
             Step::Publish { row } => {
+                self.book.count_version(row, row_names(row_of(words, row)));
                 words[0] = word;
-                self.book.count_version(row, &[]);
             }
             Step::Scan { place } => self.book.take_scan(place - 1, word),
         }

@@ -1,22 +1,25 @@
 //! A world: the table that makes one step at a time, for lists of steps that a reader chooses.
 
-ghost use Rattle.std.specs.Prelude.{◌≡◌, ◌+◌, ◌<◌, ◌⊎◌, ◌↔◌, IfErr, IfOk, None, OnErr, OnOk, slice_get, slice_set, ℕ};
+ghost use Rattle.std.specs.Prelude.{◌≡◌, ◌+◌, ◌++◌, ◌<◌, ◌≤◌, ◌⊎◌, ◌↔◌, IfErr, IfOk, None, OnErr, OnOk, flat_map, length, slice_get, slice_set, ℕ};
 ghost use Rattle.std.specs.Option.{option_map};
 ghost use Rattle.member_group.specs.Charge.{charge_of};
+ghost use Rattle.config_image.specs.Pooled.{parts, pooled_row};
 ghost use Rattle.versions.specs.declared.fault.StepFault.TheVariants.{NotLegal, OutOfMemory, TooBig};
 ghost use Rattle.versions.specs.declared.step.Event.TheVariants.{Proposed};
 ghost use Rattle.versions.specs.Legal.{IsLegalStep, IsReached};
 ghost use Rattle.versions.specs.Step.{place_of};
 ghost use Rattle.versions.specs.State.{after_event, after_step};
+ghost use Rattle.versions.specs.Pooled.{HasRoom};
 ghost use Rattle.versions.specs.Table.{the_shape};
-ghost use Rattle.versions.specs.World.{FailsWith, opened_with};
+ghost use Rattle.versions.specs.World.{FailsWith, first_pages, in_pages, opened_with};
 ghost use Rattle.versions.specs.body.Mirror.{IsDecided};
 ghost use Rattle.versions.specs.body.WorldKept.{proposal_by};
 
 use crate::fault::StepFault;
-use crate::layout::{CHARGE_LIMIT, ROW_WORDS, ROWS_BEGIN, TABLE_WORDS, row_word};
+use crate::layout::{CHARGE_LIMIT, POOL_BEGIN, ROWS_BEGIN, TABLE_WORDS};
 use crate::progress::Progress;
 use crate::step::{Event, Step};
+use config_image::{PAGE_LIMIT, PAGE_WORDS, Programs, ROW_WORDS, page_count, stored_word};
 use member_group::Config;
 use std::alloc::{AllocError, Allocator, Global};
 use std::marker::Model;
@@ -48,16 +51,51 @@ impl<A: Allocator> Model for World<A> {
     ghost invariant = { λ w. IsWorld w.opening w.events.items w.words.items w.progress w.proposal };
 }
 
-/// Makes the words of a table that opens with a configuration, in its memory: it is version 0, in row 0, all read words are
-/// 0, and so are the words of the other rows and of the pool.
+// Pushes the words of row 0 at an opening.
+fn push_row<A: Allocator, B: Allocator>(
+    config: &Config<B>,
+    words: &mut Vec<u64, A>,
+) -> Result<(), AllocError>
+    requires room { HasRoom config.now }
+    ensures pushed { IfOk result (λ unit. words.new.items ≡ words.old.items ++ pooled_row config.now (first_pages (length (parts config.now)))) }
+{
+    let mut pages = [0; PAGE_LIMIT];
+    let count = page_count(config) as usize;
+    for page in 0..count {
+        pages[page] = page as u32;
+    }
+    for i in 0..ROW_WORDS {
+        words.push(stored_word(config, &pages[..count], i))?;
+    }
+    Ok(())
+}
+
+// Pushes the words of all programs, each from the first word of a page on.
+fn push_programs<A: Allocator, B: Allocator>(
+    programs: Programs<'_, B>,
+    words: &mut Vec<u64, A>,
+) -> Result<(), AllocError>
+    ensures pushed { IfOk result (λ unit. words.new.items ≡ words.old.items ++ flat_map in_pages programs.entry) }
+{
+    for program in programs {
+        let end = words.len() + (program.len() + (PAGE_WORDS - 1)) / PAGE_WORDS * PAGE_WORDS;
+        words.extend_from_slice(program)?;
+        words.resize(end, 0)?;
+    }
+    Ok(())
+}
+
+/// Makes the words of a table that opens with a configuration, in its memory: it is version 0, in row 0 and the first pages, and
+/// all read words, other rows and other pages are 0. A row has room for a configuration that is not charged too much.
 pub fn opening_words<A: Allocator + Clone>(config: &Config<A>) -> Result<Vec<u64, A>, AllocError>
+    requires room { HasRoom config.now }
     ensures words { IfOk result (λ words. words.items ≡ (opened_with config.now).words) }
 {
     let mut words = Vec::with_capacity(config.allocator().clone()?, TABLE_WORDS)?;
     words.resize(ROWS_BEGIN, 0)?;
-    for i in 0..ROW_WORDS {
-        words.push(row_word(config, i))?;
-    }
+    push_row(config, &mut words)?;
+    words.resize(POOL_BEGIN, 0)?;
+    push_programs(Programs::of(config), &mut words)?;
     words.resize(TABLE_WORDS, 0)?;
     Ok(words)
 }
@@ -140,7 +178,8 @@ impl<A: Allocator> World<A> {
 }
 
 impl<A: Allocator + Clone> World<A> {
-    /// Opens a table with a configuration, in its memory: version 0, in row 0. The other rows and the pages are filled with zeros.
+    /// Opens a table with a configuration, in its memory: version 0, in row 0 and the first pages. The other rows and pages are filled
+    /// with zeros.
     ///
     /// Fails with `TooBig` where the charge is above `CHARGE_LIMIT`, else with `OutOfMemory` where memory was refused.
     pub fn new(config: Config<A>) -> Result<World<A>, StepFault>
@@ -152,7 +191,10 @@ impl<A: Allocator + Clone> World<A> {
             return Err(StepFault::TooBig);
         }
         let words = opening_words(&config)?;
-        let progress = Progress::at_start(config.allocator().clone()?)?;
+        let progress = Progress::at_start(
+            config.allocator().clone()?,
+            page_count(&config) as usize,
+        )?;
         let events = Vec::new(config.allocator().clone()?);
         Ok(World {
             opening: config,

@@ -261,7 +261,7 @@ const LONG_LINES: [(&str, &str, usize, &str); 6] = [
 ];
 
 #[test]
-fn lines_at_their_limits(rt: HostRuntime) -> Result<(), Fail> {
+fn too_long_packet_and_line(rt: HostRuntime) -> Result<(), Fail> {
     let alloc = rt.alloc();
     for (begin, text, count, reply) in LONG_LINES {
         let mut script = super::in_pieces(alloc, &[(begin, 1), (text, count)])?;

@@ -5,7 +5,7 @@ use bpf_verify::Program;
 use ipv4_fields::Endpoint;
 use member_group::{Command, Config};
 use packet_verdict::{Verdict, judge};
-use read_section::open;
+use read_section::{Worker, open};
 use std::alloc::Global;
 use std::test::Fail;
 
@@ -82,19 +82,24 @@ fn with_filter(alloc: Global, config: &Config, member: u32, number: u32) -> Resu
     )
 }
 
-fn judged(config: Config, packet: &[u8]) -> Result<Verdict, Fail> {
+// The verdict of the version that is current, in a section of its own.
+pub fn judged_by(worker: &mut Worker, packet: &[u8]) -> Result<Verdict, Fail> {
     if packet.len() > MAX_PACKET {
         return Err(Fail::from("a packet has at most 65,535 bytes"));
     }
-    let (_operator, mut workers) = open(config)?;
-    let mut worker = workers.pop().ok_or("no worker")?;
     let mut section = worker.enter();
     let verdict = judge(&mut section, packet);
     section.leave();
     Ok(verdict)
 }
 
-fn delivered(member: u16, bytes: usize) -> Verdict {
+fn judged(config: Config, packet: &[u8]) -> Result<Verdict, Fail> {
+    let (_operator, mut workers) = open(config)?;
+    let mut worker = workers.pop().ok_or("no worker")?;
+    judged_by(&mut worker, packet)
+}
+
+pub fn delivered(member: u16, bytes: usize) -> Verdict {
     Verdict::Deliver {
         group: KEY,
         member: u32::from(member),

@@ -12,11 +12,11 @@ use Rattle.versions.specs.Book.{IsBook}
 use Rattle.versions.specs.Free.{IsFree, number_after}
 use Rattle.versions.specs.Table.{the_shape}
 use Rattle.read_section.specs.Layout.{IsZeroFrom}
-use Rattle.read_section.specs.Operator.{IsCurrent}
+use Rattle.read_section.specs.Operator.{IsCurrent, StandsIn}
 
 -- what the operator keeps tells what its steps did: behind the place where the rows begin, `words` has the words of the rows, and
--- `zeros` has for each row a place from which on its words are 0
-pub record IsKeptBy {A : Type 0} (view : OperatorView (List Group)) (config : List Group) (book : Book A) (reported : ℕ) (zeros words : List ℕ) : Type 0 where
+-- `zeros` has for each row a place from which on its words are 0, and `pages` are those of the current version
+pub record IsKeptBy {A : Type 0} (view : OperatorView (List Group)) (config : List Group) (book : Book A) (reported : ℕ) (zeros words pages : List ℕ) : Type 0 where
   pub steps_told : IsBook the_shape view book
   pub number_limited : book.number ≤ LAST_NUMBER
   pub published_length : length view.published ≡ suc (number_after view.log)
@@ -28,6 +28,7 @@ pub record IsKeptBy {A : Type 0} (view : OperatorView (List Group)) (config : Li
   pub reused : (m later r : ℕ) → m < later → get_elem? view.version_rows m ≡ some r → get_elem? view.version_rows later ≡ some r → IsFree the_shape m view.log
   pub few_pages : (n : ℕ) (pages : List ℕ) → get_elem? view.version_pages n ≡ some pages → length pages ≤ PAGE_LIMIT
   pub current : IsCurrent view config
+  pub stands : StandsIn view config pages
   pub reported_free : (m : ℕ) → m < reported → IsFree the_shape m view.log
   pub zeros_length : length zeros ≡ ROWS
   pub zeros_limited : (row : ℕ) → row < ROWS → slice_index zeros row ≤ ROW_WORDS

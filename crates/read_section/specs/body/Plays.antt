@@ -1,5 +1,7 @@
 -- What each single step tells the seat that makes it: the word that it is on, what it gave, and what its actor knows then.
-use Rattle.std.specs.Prelude.{◌≡◌, ◌+◌, ◌%◌, List, Some, ℕ}
+use Rattle.std.specs.Prelude.{◌≡◌, ◌+◌, ◌%◌, ◌<◌, List, Some, length, slice_get, ℕ}
+use mathlib.Core.Option.{some}
+use lib.ListN.{get_elem?}
 use Rattle.std.specs.List.{Contains}
 use Rattle.atomic_table.specs.Table.{Me, Step}
 use Rattle.versions.specs.declared.step.Entry.{Entry}
@@ -8,9 +10,8 @@ use Rattle.versions.specs.declared.view.WorkerView.{WorkerView}
 use Rattle.versions.specs.declared.view.OperatorView.{OperatorView}
 use Rattle.versions.specs.Layout.{Shape, pages_named, rows_begin}
 use Rattle.versions.specs.View.{BeginsWith, after_announce, after_fetch, after_fill, after_leave, after_peek, after_pin, after_proposal, after_publish, after_scan}
-use Rattle.versions.specs.Safety.{IsOwnLog, IsSeenPlace}
+use Rattle.versions.specs.Safety.{IsFormWord, IsOwnLog}
 use Rattle.read_section.specs.declared.versions_rule.SeatView.{SeatView}
-use Rattle.read_section.specs.Held.{IsSeenWord}
 use Rattle.read_section.specs.View.{Shows, TellsLog}
 use Rattle.read_section.specs.body.SeatView.{with_operator, with_worker}
 
@@ -46,13 +47,18 @@ module _ {C : Type 0} (shape : Shape C) where
   pins IsPublishable at me x after = (view : WorkerView C) → me.0.worker ≡ Some view → (at.word ≡ 0)
       × ((seen : List C) × (pages : List ℕ) × ShowsSeat IsPublishable me.0 view x seen × WorkerKnows me after (after_pin shape.rows x seen pages view))
 
-  -- x is the word of version n at the place, where that is a word of it
-  abbrev pub IsWordIn : WorkerView C → ℕ → ℕ → ℕ → ℕ → Type 0
-  IsWordIn view n r place x = IsSeenPlace shape view.seen view.pages n r place → IsSeenWord shape view n r place x
+  -- x is the word that version n has at the place, if it has one there: n is one of the versions that the worker has seen, and
+  -- has the pages that the worker knows
+  pub record TellsWord (versions : List C) (pages : List ℕ) (n r place x : ℕ) : Type 0 where
+    pub config : C
+    pub seen : get_elem? versions n ≡ some config
+    pub counted : length pages ≡ length (shape.form.parts config)
+    pub below : (index page : ℕ) → slice_get pages index ≡ Some page → page < shape.pages
+    pub word : (y : ℕ) → IsFormWord shape r config pages place y → x ≡ y
 
   abbrev pub fetches : {S : Type 0} → Step S → Seated S → ℕ → Seated S → Type 0
   fetches at me x after = (view : WorkerView C) → me.0.worker ≡ Some view → WorkerKnows me after (after_fetch at.word x view)
-      × ((read_word n r : ℕ) → view.stage ≡ Inside read_word n r → IsWordIn view n r at.word x)
+      × ((read_word n r : ℕ) → view.stage ≡ Inside read_word n r → TellsWord view.seen view.pages n r at.word x)
 
   -- it stores 0; the log up to there is the worker's own, in the order of a worker's steps
   abbrev pub leaves : {S : Type 0} → Step S → Seated S → ℕ → Seated S → Type 0

@@ -1,17 +1,16 @@
 -- What a contract sees of a worker's seat and of the operator's, and which seats are theirs.
-use Rattle.std.specs.Prelude.{◌≡◌, ◌*◌, ◌+◌, ◌<◌, ◌≤◌, List, None, Option, Some, [], ℕ}
+use Rattle.std.specs.Prelude.{◌≡◌, ◌+◌, ◌<◌, ◌≤◌, List, None, Option, Some, [], ℕ}
 use Rattle.atomic_table.specs.Seated.{TableId}
 use Rattle.config_image.specs.Image.{Group}
 use Rattle.versions.specs.declared.view.Stage.{Stage}
 use Rattle.versions.specs.declared.view.WorkerView.{WorkerView}
 use Rattle.versions.specs.declared.view.OperatorView.{OperatorView}
-use Rattle.versions.specs.Layout.{stored_words}
+use Rattle.versions.specs.Layout.{HoldsForm, pages_named, stored_words}
 use Rattle.versions.specs.View.{new_worker}
 use Rattle.versions.specs.State.{new_operator}
 use Rattle.versions.specs.World.{opening_stored}
 use Rattle.versions.specs.Table.{the_shape}
 use Rattle.read_section.specs.declared.versions_rule.SeatView.{SeatView}
-use Rattle.read_section.specs.declared.worker.Held.{Held}
 use Rattle.read_section.specs.Worker.{IsInside, IsOutside, WorkerValue}
 
 abbrev pub worker_or_none : Option (WorkerView (List Group)) → WorkerView (List Group)
@@ -32,6 +31,10 @@ operator_or_none (Some view) = view
 
 abbrev pub operator_at : TableId → SeatView (List Group) → OperatorSeatValue
 operator_at table seat = record { table = table; view = operator_or_none seat.operator }
+
+-- the row of the operator's words and the pages that it names hold the configuration
+abbrev pub HoldsNamed : OperatorView (List Group) → ℕ → List Group → Type 0
+HoldsNamed view r config = HoldsForm the_shape 0 view.stored r config (pages_named the_shape view.stored r)
 
 -- the operator's seat after steps of its own
 abbrev pub acts : (OperatorView (List Group) → OperatorView (List Group)) → OperatorSeatValue → OperatorSeatValue
@@ -60,7 +63,7 @@ pub record IsOperatorSeat (view : SeatView (List Group)) : Type 0 where
 pub record IsSeating (view : SeatView (List Group)) (config : List Group) (n : ℕ) : Type 0 where
   pub view_is : view ≡ record { worker = None; operator = Some (new_operator the_shape config (opening_stored config)); spare = n; told = [] }
 
--- what a worker keeps of its section: none outside, and else the version that it holds, and its row
-abbrev pub TellsStage : Option Held → Stage → Type 0
+-- what a worker keeps of its section: none outside, and else the version that it holds
+abbrev pub TellsStage : Option ℕ → Stage → Type 0
 TellsStage None stage = IsOutside stage
-TellsStage (Some held) stage = IsInside stage held.version held.row × (held.row < the_shape.rows)
+TellsStage (Some n) stage = (r : ℕ) × IsInside stage n r

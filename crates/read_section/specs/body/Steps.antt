@@ -1,12 +1,14 @@
 -- What single steps tell a worker of versions and words.
-use Rattle.std.specs.Prelude.{◌≡◌, List, slice_index, slice_index_or, [], ℕ}
+use Rattle.std.specs.Prelude.{◌≡◌, List, ℕ}
 use Rattle.std.specs.List.{Contains}
-use Rattle.config_image.specs.Image.{Group, row}
+use Rattle.config_image.specs.Image.{Group}
+use Rattle.versions.specs.declared.view.Stage.TheVariants.{Inside}
 use Rattle.versions.specs.Safety.{IsOwnLog}
 use Rattle.versions.specs.Table.{the_shape}
 use Rattle.read_section.specs.Layout.{IsPublishable}
 use Rattle.read_section.specs.View.{Shows}
 use Rattle.read_section.specs.Worker.{WorkerValue}
+use Rattle.read_section.specs.body.Plays.{TellsWord}
 
 -- the worker's log is its own, in the order of a worker's steps
 abbrev pub IsOwnLogOf : WorkerValue → Type 0
@@ -18,6 +20,6 @@ pub record Sees (worker : WorkerValue) (x : ℕ) (seen : List (List Group)) : Ty
   pub publishable : (config : List Group) → Contains seen config → IsPublishable config
   pub own_log : IsOwnLogOf worker
 
--- x is the word at place i of the row of version n, as the worker has seen it
-abbrev pub FetchesWord : WorkerValue → ℕ → ℕ → ℕ → Type 0
-FetchesWord worker n i x = x ≡ slice_index (row (slice_index_or worker.view.seen n [])) i
+-- x is the word that the version which the worker holds has at the place, if it has one there
+abbrev pub SeesWord : WorkerValue → ℕ → ℕ → Type 0
+SeesWord worker place x = (read_word n r : ℕ) → worker.view.stage ≡ Inside read_word n r → TellsWord the_shape worker.view.seen worker.view.pages n r place x

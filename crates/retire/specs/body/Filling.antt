@@ -1,21 +1,26 @@
--- What fills of a row leave.
-use Rattle.std.specs.Prelude.{◌≡◌, ◌+◌, ◌++◌, ◌*◌, ◌<◌, List, length, slice_index, ℕ}
+-- What fills of a row and of pages leave.
+use Rattle.std.specs.Prelude.{◌≡◌, ◌+◌, ◌++◌, ◌*◌, ◌/◌, ◌%◌, ◌<◌, List, Some, length, slice_get, slice_index, ℕ}
 use Rattle.std.specs.List.{Contains}
-use Rattle.config_image.specs.declared.TheConstants.{ROW_WORDS}
-use Rattle.config_image.specs.Image.{Group, row}
+use Rattle.config_image.specs.declared.TheConstants.{PAGE_WORDS, ROW_WORDS}
+use Rattle.config_image.specs.Image.{Group}
+use Rattle.config_image.specs.Pooled.{ArePages, parts, pooled_row}
+use Rattle.versions.specs.declared.layout.TheConstants.{PAGES, ROWS}
 use Rattle.versions.specs.declared.step.Entry.{Entry}
-use Rattle.versions.specs.Free.{IsFreeRow, number_after}
+use Rattle.versions.specs.declared.step.Step.TheVariants.{Fill}
+use Rattle.versions.specs.Step.{entry}
+use Rattle.versions.specs.Free.{IsFreePage, IsFreeRow, number_after}
+use Rattle.versions.specs.Layout.{page_begin}
 use Rattle.versions.specs.Table.{the_shape}
 use Rattle.read_section.specs.Operator.{OperatorValue}
-use Rattle.retire.specs.Publish.{IsFillOf, KeepsOtherRows}
+use Rattle.retire.specs.Publish.{AreLeastFree, IsFillOf, KeepsOtherPages, KeepsOtherRows}
 
--- fills of places of a free row by the words that a list has there, and no other step
-pub record FillsFrom (before after : OperatorValue) (r : ℕ) (words : List ℕ) : Type 0 where
+-- fills, and no other step: each is one of these. What was free is free still
+pub record Fills (before after : OperatorValue) (IsFill : Entry → Type 0) : Type 0 where
   pub fills : List Entry
-  pub filled : (newest : Entry) → Contains fills newest → IsFillOf r words newest
+  pub filled : (newest : Entry) → Contains fills newest → IsFill newest
   pub log : after.view.log ≡ fills ++ before.view.log
-  pub others : KeepsOtherRows r before after
-  pub still_free : IsFreeRow the_shape after.view r
+  pub free_rows : (r : ℕ) → IsFreeRow the_shape before.view r → IsFreeRow the_shape after.view r
+  pub free_pages : (q : ℕ) → IsFreePage the_shape before.view q → IsFreePage the_shape after.view q
   pub number : number_after after.view.log ≡ number_after before.view.log
   pub published : after.view.published ≡ before.view.published
   pub version_rows : after.view.version_rows ≡ before.view.version_rows
@@ -24,11 +29,79 @@ pub record FillsFrom (before after : OperatorValue) (r : ℕ) (words : List ℕ)
   pub table : after.table ≡ before.table
   pub reported : after.reported ≡ before.reported
 
--- the list is a configuration's row
-abbrev pub FillsRow : OperatorValue → OperatorValue → ℕ → List Group → Type 0
-FillsRow before after r config = FillsFrom before after r (row config)
+-- the words of the whole pool, and those of all rows, are as they were
+abbrev pub KeepsPool : OperatorValue → OperatorValue → Type 0
+KeepsPool before after = (q k : ℕ) → q < PAGES → k < PAGE_WORDS
+    → slice_index after.view.stored (ROWS * ROW_WORDS + (q * PAGE_WORDS + k)) ≡ slice_index before.view.stored (ROWS * ROW_WORDS + (q * PAGE_WORDS + k))
+
+abbrev pub KeepsRows : OperatorValue → OperatorValue → Type 0
+KeepsRows before after = (q i : ℕ) → q < ROWS → i < ROW_WORDS → slice_index after.view.stored (q * ROW_WORDS + i) ≡ slice_index before.view.stored (q * ROW_WORDS + i)
+
+-- fills of places of a free row by the words that a list has there
+pub record FillsFrom (before after : OperatorValue) (r : ℕ) (words : List ℕ) : Type 0 where
+  pub steps : Fills before after (IsFillOf r words)
+  pub others : KeepsOtherRows r before after
+  pub pool : KeepsPool before after
+  pub still_free : IsFreeRow the_shape after.view r
+
+-- the list is a configuration's row, where its parts stand in these pages
+abbrev pub FillsRow : OperatorValue → OperatorValue → ℕ → List Group → List ℕ → Type 0
+FillsRow before after r config pages = FillsFrom before after r (pooled_row config pages)
+
+-- the row has the list's words then
+abbrev pub HoldsRow : OperatorValue → ℕ → List ℕ → Type 0
+HoldsRow operator r words = (i : ℕ) → i < ROW_WORDS → slice_index operator.view.stored (r * ROW_WORDS + i) ≡ slice_index words i
 
 -- the row begins with the list then
 pub record FillsFront (before after : OperatorValue) (r : ℕ) (words : List ℕ) : Type 0 where
   pub fills : FillsFrom before after r words
   pub front : (i : ℕ) → i < length words → slice_index after.view.stored (r * ROW_WORDS + i) ≡ slice_index words i
+
+-- ---- pages
+
+-- pages that are free and rise
+pub record AreFreePages (operator : OperatorValue) (pages : List ℕ) : Type 0 where
+  pub free : (index page : ℕ) → slice_get pages index ≡ Some page → IsFreePage the_shape operator.view page
+  pub rise : (index later page other : ℕ) → index < later → slice_get pages index ≡ Some page → slice_get pages later ≡ Some other → page < other
+
+-- a fill of a page by a word of a part
+pub record IsFillOfPart (pages : List ℕ) (cut : List (List ℕ)) (newest : Entry) : Type 0 where
+  pub index : ℕ
+  pub page : ℕ
+  pub k : ℕ
+  pub x : ℕ
+  pub part : List ℕ
+  pub page_is : slice_get pages index ≡ Some page
+  pub part_is : slice_get cut index ≡ Some part
+  pub word_is : slice_get part k ≡ Some x
+  pub fill : newest ≡ entry (Fill (page_begin the_shape page + k) x) x
+
+-- the words of parts stand in pages
+abbrev pub PartsAre : OperatorValue → List ℕ → List (List ℕ) → Type 0
+PartsAre operator pages cut = (index page k x : ℕ) (part : List ℕ) → slice_get pages index ≡ Some page → slice_get cut index ≡ Some part → slice_get part k ≡ Some x
+    → slice_index operator.view.stored (ROWS * ROW_WORDS + (page * PAGE_WORDS + k)) ≡ x
+
+-- fills of pages by words of parts, some or all
+pub record FillsPages (before after : OperatorValue) (pages : List ℕ) (cut : List (List ℕ)) : Type 0 where
+  pub steps : Fills before after (IsFillOfPart pages cut)
+  pub rows : KeepsRows before after
+  pub others : KeepsOtherPages pages before after
+
+-- all of them
+pub record FillsParts (before after : OperatorValue) (pages : List ℕ) (cut : List (List ℕ)) : Type 0 where
+  pub fills : FillsPages before after pages cut
+  pub standing : PartsAre after pages cut
+
+-- the first n words of a program stand in its pages
+abbrev pub BeginsIn : OperatorValue → List ℕ → List ℕ → ℕ → Type 0
+BeginsIn operator pages words n = (j : ℕ) → j < n
+    → slice_index operator.view.stored (ROWS * ROW_WORDS + (slice_index pages (j / PAGE_WORDS) * PAGE_WORDS + j % PAGE_WORDS)) ≡ slice_index words j
+
+-- the least free pages are chosen and filled by a configuration's parts, and then a row by its words, where the parts stand in them
+pub record FillsVersion (before after : OperatorValue) (r : ℕ) (config : List Group) (pages : List ℕ) : Type 0 where
+  pub least : AreLeastFree before.view pages
+  pub middle : OperatorValue
+  pub parts_filled : FillsParts before middle pages (parts config)
+  pub row_filled : FillsRow middle after r config pages
+  pub row_held : HoldsRow after r (pooled_row config pages)
+  pub are : ArePages config pages

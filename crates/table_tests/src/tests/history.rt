@@ -4,8 +4,9 @@ use std::test::Fail;
 use versions::Step::{self, Announce, Fetch, Fill, Leave, Peek, Pin, Publish, Scan};
 use versions::{PAGES, ROWS, TABLE_WORDS, WORKERS};
 
-// The image of the configuration without groups: its length, and the number of groups.
-pub const EMPTY_IMAGE: [u64; 2] = [2, 0];
+// The row of the configuration without groups, by docs/SWITCH.md, "The pooled form": the image's length, where the programs would
+// begin and no parts; and no groups.
+pub const EMPTY_ROW: [u64; 2] = [0x0002_0002_0000, 0];
 
 // Where a row begins, behind `current` and the read words; behind the table where there is no such row.
 pub fn begin_of(row: usize) -> usize {
@@ -112,7 +113,7 @@ impl History {
 
     fn holds_empty(&self, row: usize) -> bool {
         for i in 0..8192usize {
-            let wanted = EMPTY_IMAGE.get(i).copied().unwrap_or(0);
+            let wanted = EMPTY_ROW.get(i).copied().unwrap_or(0);
             if self.word(begin_of(row).wrapping_add(i)) != Some(wanted) {
                 return false;
             }

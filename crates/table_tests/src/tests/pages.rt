@@ -1,7 +1,6 @@
 //! Pages of the pool, and words of rows, as an operator tells and fills them.
 
 use super::numbered::config_of;
-use config_image::image_len;
 use read_section::{Operator, PAGE_WORDS, PAGES, ROW_WORDS, open};
 use std::test::Fail;
 
@@ -62,10 +61,8 @@ const FILLS: [(usize, usize, u64, bool, u64); 6] = [
 #[test]
 fn words_of_rows_are_told(rt: HostRuntime) -> Result<(), Fail> {
     let (mut operator, mut workers) = open(config_of(rt.alloc(), 0)?)?;
-    assert_eq!(rt;
-        operator.row_word(0, 0),
-        image_len(operator.config()) as u64
-    );
+    // The image's length, where programs would begin, and no part.
+    assert_eq!(rt; operator.row_word(0, 0), 0x0006_0006_0000);
     assert_eq!(rt; operator.row_word(15, 0), 0);
     for (row, place, word, may, after) in &FILLS {
         assert_eq!(rt;

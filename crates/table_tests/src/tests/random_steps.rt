@@ -2,7 +2,7 @@
 
 ghost use Rattle.std.specs.Prelude.{◌<◌};
 
-use super::history::{History, begin_of, begin_of_page};
+use super::history::{EMPTY_ROW, History, begin_of, begin_of_page};
 use member_group::Config;
 use std::test::Fail;
 use versions::Step::{self, Announce, Fetch, Fill, Leave, Peek, Pin, Publish, Scan};
@@ -37,7 +37,7 @@ impl Numbers {
             7 => Leave { worker },
             8 | 9 | 10 => Fill {
                 place: begin_of(row),
-                word: 2,
+                word: EMPTY_ROW[0],
             },
             11 => Fill {
                 place: begin_of(row).wrapping_add(1),
@@ -62,7 +62,7 @@ fn steps_in_no_order(rt: HostRuntime) -> Result<(), Fail> {
     let mut world = World::new(Config::new(rt.alloc()))?;
     let mut words = vec![in rt.alloc(); 0; TABLE_WORDS]?;
     if let Some(first) = words.get_mut(begin_of(0)) {
-        *first = 2;
+        *first = EMPTY_ROW[0];
     }
     let mut history = History {
         words,

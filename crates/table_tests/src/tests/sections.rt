@@ -1,6 +1,7 @@
 //! Sections and single steps, in a written order. `publications` has sections beside publications.
 
 ghost use Rattle.std.specs.Prelude.{◌≡◌, ◌++◌, ◌<◌, ◌≤◌, ◌∷◌, IfOk, [], length, suc};
+ghost use Rattle.config_image.specs.Pooled.{parts};
 ghost use Rattle.versions.specs.declared.layout.TheConstants.{LAST_NUMBER};
 ghost use Rattle.versions.specs.Free.{IsFreeRow, number_after};
 ghost use Rattle.versions.specs.Table.{the_shape};
@@ -11,6 +12,7 @@ ghost use Rattle.read_section.specs.Worker.{WorkerValue};
 use super::numbered::{applied, config_of, differing};
 use bpf_insn::Words;
 use bpf_verify::Program;
+use config_image::{page_count, stored_word};
 use ipv4_fields::Endpoint;
 use member_group::{Command, Config};
 use read_section::{
@@ -20,7 +22,6 @@ use read_section::{
 use std::alloc::Global;
 use std::process::Abort;
 use std::test::Fail;
-use versions::row_word;
 
 // Two groups, whose selectors have so many instructions: the charge is 10 more than theirs.
 fn with_selectors(alloc: Global, counts: [usize; 2]) -> Result<Config, Fail> {
@@ -61,16 +62,17 @@ fn opened(rt: &impl Abort, alloc: Global) -> Result<(Operator, Worker, Worker), 
     Ok((operator, first, last))
 }
 
-// Fills a row word by word, and publishes the configuration from it.
+// Fills a row word by word, and publishes the configuration from it, which has no programs.
 fn fill_and_put(operator: &mut Operator, row: usize, config: Config)
     requires free { IsFreeRow the_shape operator.old.view row }
     requires publishable { IsPublishable config }
+    requires no_pages { length (parts config) ≡ 0 }
     requires number { number_after operator.old.view.log < LAST_NUMBER }
     ensures published { operator.new.view.published ≡ operator.old.view.published ++ config ∷ [] }
     ensures same_table { operator.new.table ≡ operator.old.table }
 {
     for place in 0..ROW_WORDS {
-        operator.fill(row, place, row_word(&config, place));
+        operator.fill(row, place, stored_word(&config, &[], place));
     }
     operator.put(row, config);
 }
@@ -81,7 +83,10 @@ fn publish(rt: &impl Abort, alloc: Global, operator: &mut Operator, number: u32)
 {
     let row = number as usize;
     let config = config_of(alloc, number)?;
-    if config.charge() > CHARGE_LIMIT || operator.number() >= LAST_NUMBER {
+    if config.charge() > CHARGE_LIMIT
+        || page_count(&config) > 0
+        || operator.number() >= LAST_NUMBER
+    {
         return Err(Fail::from("a small configuration and a small number"));
     }
     if operator.is_free(row) {

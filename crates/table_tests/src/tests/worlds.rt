@@ -1,6 +1,6 @@
 //! Lists of steps: a worker that stalls before it announces, steps with their answers, and refused growths.
 
-use super::history::begin_of;
+use super::history::{EMPTY_ROW, begin_of};
 use bpf_verify::Program;
 use ipv4_fields::Endpoint;
 use linked_list_allocator::LocalHeap;
@@ -15,7 +15,8 @@ use versions::{ROWS, StepFault, TABLE_WORDS, WORKERS, World};
 fn publish(alloc: Global, world: &mut World) -> Result<u64, Fail> {
     for row in 0..ROWS {
         let place = begin_of(row);
-        if world.step(Fill { place, word: 2 }).is_ok() {
+        let word = EMPTY_ROW[0];
+        if world.step(Fill { place, word }).is_ok() {
             world.propose(Config::new(alloc))?;
             return Ok(world.step(Publish { row })?);
         }
@@ -36,7 +37,8 @@ fn free_rows(world: &mut World) -> usize {
     let mut count = 0;
     for row in 0..ROWS {
         let place = begin_of(row);
-        if world.step(Fill { place, word: 2 }).is_ok() {
+        let word = EMPTY_ROW[0];
+        if world.step(Fill { place, word }).is_ok() {
             count = row.min(count) + 1;
         }
     }
@@ -113,7 +115,7 @@ const ANSWERS: [(Step, Option<u64>); 37] = [
             worker: 0,
             place: 65,
         },
-        Some(2),
+        Some(0x0002_0002_0000),
     ),
     (
         Fetch {
@@ -179,9 +181,9 @@ const ANSWERS: [(Step, Option<u64>); 37] = [
     (
         Fill {
             place: 8257,
-            word: 2,
+            word: 0x0002_0002_0000,
         },
-        Some(2),
+        Some(0x0002_0002_0000),
     ),
     (Publish { row: 1 }, None),
     (Publish { row: 16 }, None),
@@ -221,13 +223,25 @@ fn steps_and_their_answers(rt: HostRuntime) -> Result<(), Fail> {
     Ok(())
 }
 
-// The group 10.0.0.2:53 with the member 7 at 127.0.0.1:9001, without programs, and its image.
+// The group 10.0.0.2:53 with the member 7 at 127.0.0.1:9001, without programs, and its row in the pooled form: its image, but for
+// the first word, which has the image's length, where programs would begin, and no parts.
 const GROUP: Endpoint = Endpoint {
     address: 0x0a00_0002,
     port: 53,
 };
 
-const GROUP_IMAGE: [u64; 10] = [10, 1, 0x0a00_0002_0035, 6, 1, 0, 7, 0x7f00_0001_2329, 0, 0];
+const GROUP_ROW: [u64; 10] = [
+    0x000a_000a_0000,
+    1,
+    0x0a00_0002_0035,
+    6,
+    1,
+    0,
+    7,
+    0x7f00_0001_2329,
+    0,
+    0,
+];
 
 fn with_group(alloc: Global) -> Result<Config, Fail> {
     let added = Config::new(alloc).apply(&Command::<Program<Global>>::AddGroup { key: GROUP });
@@ -244,10 +258,10 @@ fn with_group(alloc: Global) -> Result<Config, Fail> {
     joined.map_err(|_| Fail::from("the commands are applied"))
 }
 
-// Each word of the image is filled in row 5, and there is no publication before the last word that is not 0.
+// Each of these words is filled in row 5, and there is no publication before the last word that is not 0.
 fn fills_group(rt: &impl Abort, world: &mut World) -> Result<(), Fail> {
-    for (i, word) in GROUP_IMAGE.iter().enumerate() {
-        // The last word of the image is 0, as the row has it.
+    for (i, word) in GROUP_ROW.iter().enumerate() {
+        // The last of them is 0, as the row has it.
         if i < 8 {
             assert_eq!(rt; world.step(Publish { row: 5 }), Err(StepFault::NotLegal));
         }
@@ -262,7 +276,7 @@ fn fetches_group(rt: &impl Abort, world: &mut World) -> Result<(), Fail> {
     assert_eq!(rt; world.step(Peek { worker: 63 })?, 21);
     assert_eq!(rt; world.step(Announce { worker: 63 })?, 2);
     assert_eq!(rt; world.step(Pin { worker: 63 })?, 21);
-    for (i, word) in GROUP_IMAGE.iter().enumerate() {
+    for (i, word) in GROUP_ROW.iter().enumerate() {
         let place = begin_of(5).wrapping_add(i);
         assert_eq!(rt; world.step(Fetch { worker: 63, place })?, *word);
     }

@@ -1,5 +1,5 @@
 -- How what a world keeps beside its words goes with the state of the table, and what is said of the calls that use it.
-use Rattle.std.specs.Prelude.{◌≡◌, List, MatchOption, Option, Some, [], length, replicate, slice_get, slice_index_or, slice_set, ℕ}
+use Rattle.std.specs.Prelude.{◌≡◌, List, MatchOption, Option, Some, length, replicate, slice_get, slice_index_or, slice_set, ℕ}
 use mathlib.Core.Option.{some}
 use lib.ListN.{get_elem?}
 use Rattle.config_image.specs.Image.{Group}
@@ -14,6 +14,7 @@ use Rattle.versions.specs.View.{next_stage}
 use Rattle.versions.specs.State.{State, after_step}
 use Rattle.versions.specs.Legal.{IsLegalStep, IsReached}
 use Rattle.versions.specs.Book.{IsBook, IsBookAtStart}
+use Rattle.versions.specs.Pooled.{HasRoom}
 use Rattle.versions.specs.Table.{the_shape}
 
 module _ {C : Type 0} {A : Type 0} (shape : Shape C) where
@@ -28,15 +29,24 @@ module _ {C : Type 0} {A : Type 0} (shape : Shape C) where
 abbrev pub IsDecided : State (List Group) → Step → Option ℕ → Type 0
 IsDecided s step found = MatchOption found ((x : ℕ) → IsLegalStep the_shape s step x → ⊥) (IsLegalStep the_shape s step)
 
+-- rows have room for the configuration, where there is one
+abbrev pub FitsRow : Option (List Group) → Type 0
+FitsRow proposal = (config : List Group) → proposal ≡ Some config → HasRoom config
+
+-- rows have room for all that was published or proposed
+pub record AllHaveRoom (s : State (List Group)) : Type 0 where
+  pub published : (n : ℕ) (config : List Group) → get_elem? s.operator.published n ≡ some config → HasRoom config
+  pub proposed : FitsRow s.operator.proposal
+
 -- it is decided what word the step loads or stores, in each state that the words and numbers mirror
 abbrev pub Decides : {A : Type 0} → List ℕ → Progress A → Step → Option ℕ → Type 0
 Decides words progress step found =
-    (s : State (List Group)) → IsReached the_shape s → IsMirror the_shape s words progress → IsDecided s step found
+    (s : State (List Group)) → IsReached the_shape s → AllHaveRoom s → IsMirror the_shape s words progress → IsDecided s step found
 
 -- the same, where this was proposed last
 abbrev pub DecidesProposed : {A : Type 0} → List ℕ → Progress A → Option (List Group) → Step → Option ℕ → Type 0
 DecidesProposed words progress proposal step found =
-    (s : State (List Group)) → IsReached the_shape s → IsMirror the_shape s words progress → s.operator.proposal ≡ proposal → IsDecided s step found
+    (s : State (List Group)) → IsReached the_shape s → AllHaveRoom s → IsMirror the_shape s words progress → s.operator.proposal ≡ proposal → IsDecided s step found
 
 abbrev pub DecidesPublish : {A : Type 0} → List ℕ → Progress A → Option (List Group) → ℕ → Option ℕ → Type 0
 DecidesPublish words progress proposal r found = DecidesProposed words progress proposal (Publish r) found
@@ -52,10 +62,10 @@ abbrev pub IsFollowed : {A : Type 0} → List ℕ → Progress A → Step → �
 IsFollowed words progress step x =
     (s : State (List Group)) × IsReached the_shape s × IsMirror the_shape s words progress × IsLegalStep the_shape s step x
 
--- where all are at the start
-pub record BeginsAtStart {A : Type 0} (progress : Progress A) : Type 0 where
+-- where all are at the start, where version 0 names these pages
+pub record BeginsAtStart {A : Type 0} (pages : List ℕ) (progress : Progress A) : Type 0 where
   pub stages : progress.stages ≡ replicate the_shape.workers Outside
-  pub book : IsBookAtStart [] progress.book
+  pub book : IsBookAtStart pages progress.book
 
 -- the numbers after a step of a worker
 abbrev pub moved : {A : Type 0} → ℕ → Step → ℕ → Progress A → Progress A

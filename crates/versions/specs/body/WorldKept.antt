@@ -8,9 +8,10 @@ use Rattle.versions.specs.declared.step.Step.TheVariants.{Publish}
 use Rattle.versions.specs.declared.step.Event.{Event}
 use Rattle.versions.specs.declared.step.Event.TheVariants.{Proposed}
 use Rattle.versions.specs.Legal.{IsLegal}
+use Rattle.versions.specs.Pooled.{HasRoom}
 use Rattle.versions.specs.Table.{the_shape}
 use Rattle.versions.specs.World.{opened_with, world_after}
-use Rattle.versions.specs.body.Mirror.{IsMirror}
+use Rattle.versions.specs.body.Mirror.{AllHaveRoom, IsMirror}
 
 -- the place of the last proposal among the events, where nothing was published since
 abbrev pub IsProposalAt : List (Event (List Group)) → Option (List Group) → Option ℕ → Type 0
@@ -25,6 +26,8 @@ proposal_by _ found = found
 -- the events are legal, and the table, the numbers and the place tell the state after them
 pub record IsWorld {A : Type 0} (config : List Group) (events : List (Event (List Group))) (table : List ℕ) (progress : Progress A) (found : Option ℕ) : Type 0 where
   pub charge : the_shape.charge config ≤ the_shape.charge_limit
+  pub opened : HasRoom config
+  pub room : AllHaveRoom (world_after config events)
   pub legal : IsLegal the_shape (opened_with config) (reverse events)
   pub mirror : IsMirror the_shape (world_after config events) table progress
   pub table_length : length table ≡ TABLE_WORDS

@@ -45,5 +45,5 @@ zeros_begin-requires-clause-from c = c.self.invariant.zeros_limited c.args.row (
 
 pub invariant_of-self : goal.invariant_of-self
 invariant_of-self c = let zeros = c.zeros_begin.ensures in
-    subst (λ o. IsKeptBy o.view c.self.inside.config c.self.inside.book c.self.inside.reported (slice_set c.self.inside.zeros c.args.row c.zeros_begin.result) (slice_set c.self.inside.words.items (ROWS_BEGIN + c.args.row * ROW_WORDS + c.args.place) c.args.word)) (sym c.fill.ensures)
-    (IsKeptBy-filled _ _ _ _ _ _ c.self.invariant c.args.row c.args.place c.args.word c.zeros_begin.result (ROWS_BEGIN + c.args.row * ROW_WORDS + c.args.place) (row_inside c.args.row c.requires.free.0) c.requires.place zeros.zeros zeros.within refl)
+    subst (λ o. IsKeptBy o.view c.self.inside.config c.self.inside.book c.self.inside.reported (slice_set c.self.inside.zeros c.args.row c.zeros_begin.result) (slice_set c.self.inside.words.items (ROWS_BEGIN + c.args.row * ROW_WORDS + c.args.place) c.args.word) c.self.inside.pages) (sym c.fill.ensures)
+    (IsKeptBy-filled _ _ _ _ _ _ _ c.self.invariant c.args.row c.args.place c.args.word c.zeros_begin.result (ROWS_BEGIN + c.args.row * ROW_WORDS + c.args.place) (subst (λ (o : OperatorValue). IsFreeRow the_shape o.view c.args.row) (sym c.self.view_is) c.requires.free) (row_inside c.args.row c.requires.free.0) c.requires.place zeros.zeros zeros.within refl)

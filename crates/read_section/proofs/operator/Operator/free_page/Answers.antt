@@ -22,7 +22,7 @@ returns-then-page_is_free-clause-least c = record {
 }
 
 pub returns-then-page_is_free-clause-never_short : goal.returns-then-page_is_free-clause-never_short
-returns-then-page_is_free-clause-never_short c = subst (λ (o : OperatorValue). NeverShort o.view) c.self.view_is (never_short _ _ _ _ _ _ c.self.invariant)
+returns-then-page_is_free-clause-never_short c = subst (λ (o : OperatorValue). NeverShort o.view) c.self.view_is (never_short _ _ _ _ _ _ _ c.self.invariant)
 
 pub loop-page-preserved : goal.loop-page-preserved
 loop-page-preserved c = λ q from below free. dite (ℕ_discrete q c.loop-page.page)
@@ -34,4 +34,4 @@ pub returns-clause-least : goal.returns-clause-least
 returns-clause-least c = λ q from free. let end = c.loop-page-test.false in let low = free.0 in c.loop-page.invariant q from (omega (arith, pages_is)) free
 
 pub returns-clause-never_short : goal.returns-clause-never_short
-returns-clause-never_short c = subst (λ (o : OperatorValue). NeverShort o.view) c.self.view_is (never_short _ _ _ _ _ _ c.self.invariant)
+returns-clause-never_short c = subst (λ (o : OperatorValue). NeverShort o.view) c.self.view_is (never_short _ _ _ _ _ _ _ c.self.invariant)

@@ -1,12 +1,22 @@
-use Rattle.std.proofs.Common.{ap, arith, subst, sym}
+use Rattle.std.proofs.Common.{ap, arith, drop, length, map, refl, subst, sym, take, ◌*◌, ◌+◌, ◌-◌, ◌≡◌, ◌∙◌}
+use Rattle.std.proofs.lemmas.List.{length-map}
+use Rattle.config_image.specs.declared.TheConstants.{ROW_WORDS}
+use Rattle.config_image.specs.Pooled.{page_of}
+use Rattle.versions.specs.declared.layout.TheConstants.{ROWS_BEGIN}
 use Rattle.versions.specs.Free.{IsFreeRow, number_after}
+use Rattle.versions.specs.Layout.{HoldsForm, pages_named}
 use Rattle.versions.specs.Table.{the_shape}
 use Rattle.versions.proofs.ShapeLemmas.{last_number_is}
+use Rattle.read_section.specs.Layout.{HoldsConfig}
 use Rattle.read_section.specs.body.OperatorKept.{IsKeptBy}
 use Rattle.read_section.specs.Operator.{OperatorValue}
 use Rattle.read_section.proofs.FilledLemmas.{row_inside}
 use Rattle.read_section.proofs.KeeperLemmas.{IsKeptBy-published}
+use Rattle.read_section.proofs.PutLemmas.{holds_named, names_give, own_row, pages_are, pages_few, pages_fit}
 use Rattle.read_section.proofs.operator.Operator.put.Goals as goal
+
+pub publish-requires-clause-holds : goal.publish-requires-clause-holds
+publish-requires-clause-holds c = holds_named _ _ _ _ _ _ _ c.self.invariant c.args.row c.args.config c.requires.free.0 c.requires.publishable (subst (λ (o : OperatorValue). HoldsConfig o.view c.args.row c.args.config) (sym c.self.view_is) c.requires.holds)
 
 pub count_version-requires-clause-row : goal.count_version-requires-clause-row
 count_version-requires-clause-row c = row_inside c.args.row c.requires.free.0
@@ -23,7 +33,51 @@ publish-requires-clause-limited c = let number = c.self.invariant.steps_told.num
 pub count_version-requires-clause-number : goal.count_version-requires-clause-number
 count_version-requires-clause-number c = let number = c.self.invariant.steps_told.number in let same = ap (λ (o : OperatorValue). number_after o.view.log) c.self.view_is in let low = c.requires.number in omega arith
 
+pub overflow_mul-begin : goal.overflow_mul-begin
+overflow_mul-begin c = let low = row_inside c.args.row c.requires.free.0 in omega arith
+
+pub overflow_add-begin : goal.overflow_add-begin
+overflow_add-begin c = let low = row_inside c.args.row c.requires.free.0 in omega arith
+
+pub overflow_add-begin-2 : goal.overflow_add-begin-2
+overflow_add-begin-2 c = let low = row_inside c.args.row c.requires.free.0 in omega arith
+
+pub offset_bounds-deref-begin : goal.offset_bounds-deref-begin
+offset_bounds-deref-begin c = let low = row_inside c.args.row c.requires.free.0 in omega arith
+
+pub slice_bounds-row_names-end : goal.slice_bounds-row_names-end
+slice_bounds-row_names-end c = let low = row_inside c.args.row c.requires.free.0 in let long = c.self.invariant.words_length in let same = ap length c.deref.ensures.value in omega arith
+
+pub count_version-requires-clause-pages : goal.count_version-requires-clause-pages
+count_version-requires-clause-pages c = let q = c.requires in let low = q.free.0 in let begin = ROWS_BEGIN + c.args.row * ROW_WORDS in
+    let given = names_give _ _ _ _ _ _ _ c.self.invariant c.args.row c.args.config low q.publishable _ c.row_names-names.result.now
+    (ap (λ l. take ((begin + ROW_WORDS) - begin) (drop begin l)) c.deref.ensures.value ∙ own_row _ _ _ _ _ _ _ c.self.invariant c.args.row c.args.config low q.publishable begin (begin + ROW_WORDS) refl refl) c.row_names-names.ensures.pages in
+    let holds = subst (λ (o : OperatorValue). HoldsConfig o.view c.args.row c.args.config) (sym c.self.view_is) q.holds in
+    pages_fit _ _ _ _ _ _ _ c.self.invariant c.args.row c.args.config low q.publishable holds (map page_of c.row_names-names.result.now) given
+
+pub replace-requires : goal.replace-requires
+replace-requires c = let q = c.requires in let low = q.free.0 in let begin = ROWS_BEGIN + c.args.row * ROW_WORDS in
+    let given = names_give _ _ _ _ _ _ _ c.self.invariant c.args.row c.args.config low q.publishable _ c.row_names-names.result.now
+    (ap (λ l. take ((begin + ROW_WORDS) - begin) (drop begin l)) c.deref.ensures.value ∙ own_row _ _ _ _ _ _ _ c.self.invariant c.args.row c.args.config low q.publishable begin (begin + ROW_WORDS) refl refl) c.row_names-names.ensures.pages in
+    let holds = subst (λ (o : OperatorValue). HoldsConfig o.view c.args.row c.args.config) (sym c.self.view_is) q.holds in
+    omega (arith, pages_few _ _ _ _ _ _ _ c.self.invariant c.args.row c.args.config low q.publishable holds (map page_of c.row_names-names.result.now) given, length-map c.row_names-names.result.now page_of)
+
 pub invariant_of-self : goal.invariant_of-self
-invariant_of-self c = let number = c.self.invariant.steps_told.number in let same = ap (λ (o : OperatorValue). number_after o.view.log) c.self.view_is in let low = c.requires.number in
-    subst (λ o. IsKeptBy o.view c.args.config c.count_version.new.self c.self.inside.reported c.self.inside.zeros c.self.inside.words.items) (sym c.publish.ensures)
-    (IsKeptBy-published _ _ _ _ _ _ c.self.invariant c.args.row c.args.config c.count_version.new.self (subst (λ (o : OperatorValue). IsFreeRow the_shape o.view c.args.row) (sym c.self.view_is) c.requires.free) (omega arith) c.count_version.ensures.counted)
+invariant_of-self c = let q = c.requires in let low = q.free.0 in let begin = ROWS_BEGIN + c.args.row * ROW_WORDS in
+    let given = names_give _ _ _ _ _ _ _ c.self.invariant c.args.row c.args.config low q.publishable _ c.row_names-names.result.now
+    (ap (λ l. take ((begin + ROW_WORDS) - begin) (drop begin l)) c.deref.ensures.value ∙ own_row _ _ _ _ _ _ _ c.self.invariant c.args.row c.args.config low q.publishable begin (begin + ROW_WORDS) refl refl) c.row_names-names.ensures.pages in
+    let holds = subst (λ (o : OperatorValue). HoldsConfig o.view c.args.row c.args.config) (sym c.self.view_is) q.holds in
+    let number = c.self.invariant.steps_told.number in let same = ap (λ (o : OperatorValue). number_after o.view.log) c.self.view_is in let under = q.number in
+    subst (IsKeptBy c.publish.new.self.view c.args.config c.count_version.new.self c.self.inside.reported c.self.inside.zeros c.self.inside.words.items) (sym c.replace.ensures)
+    (subst (λ o. IsKeptBy o.view c.args.config c.count_version.new.self c.self.inside.reported c.self.inside.zeros c.self.inside.words.items (map page_of c.row_names-names.result.now)) (sym c.publish.ensures)
+    (IsKeptBy-published _ _ _ _ _ _ _ c.self.invariant c.args.row c.args.config (map page_of c.row_names-names.result.now) c.count_version.new.self (subst (λ (o : OperatorValue). IsFreeRow the_shape o.view c.args.row) (sym c.self.view_is) q.free) (omega arith)
+    (subst (HoldsForm the_shape 0 c.self.inside.seat.view.stored c.args.row c.args.config) (sym given) (holds_named _ _ _ _ _ _ _ c.self.invariant c.args.row c.args.config low q.publishable holds)) (sym given)
+    (pages_few _ _ _ _ _ _ _ c.self.invariant c.args.row c.args.config low q.publishable holds (map page_of c.row_names-names.result.now) given) c.count_version.ensures.counted))
+
+pub returns-clause-named : goal.returns-clause-named
+returns-clause-named c = λ pages holds. let q = c.requires in
+    subst (λ (o : OperatorValue). HoldsForm the_shape 0 o.view.stored c.args.row c.args.config pages → pages_named the_shape o.view.stored c.args.row ≡ pages) c.self.view_is
+    (λ x. pages_are _ _ _ _ _ _ _ c.self.invariant c.args.row c.args.config q.free.0 q.publishable (pages, x)) holds
+
+pub returns-clause-pool_kept : goal.returns-clause-pool_kept
+returns-clause-pool_kept c = λ page names free. let replaced = (free.1 _ names).0 in omega arith

@@ -6,8 +6,8 @@ use Rattle.versions.specs.declared.view.OperatorView.{OperatorView}
 use Rattle.versions.specs.Layout.{current_word, pages_named}
 use Rattle.versions.specs.View.{after_proposal, after_publish}
 use Rattle.versions.specs.Table.{the_shape}
-use Rattle.read_section.specs.Layout.{HoldsConfig, IsPublishable}
-use Rattle.read_section.specs.body.Seat.{acts}
+use Rattle.read_section.specs.Layout.{IsPublishable}
+use Rattle.read_section.specs.body.Seat.{HoldsNamed, acts}
 use Rattle.read_section.proofs.FilledLemmas.{row_inside}
 use Rattle.read_section.proofs.OperatorSeatLemmas.{IsOperatorSeat-on, current_is, may_publish, number_fits, operator_after, row_of_current}
 use Rattle.read_section.proofs.WorkerSeatLemmas.{IsSeatAt-on, some_word}
@@ -23,7 +23,7 @@ pub store-requires : goal.store-requires
 store-requires g c = let h = c.self.invariant in let shared = c.deref.result.now.shared in let own = h.1.same_table ∙ sym (ap (λ t. t.shared.table_id) c.deref.ensures) in let q = c.requires in let new : List Group = g.P.Proposal.config in let same : c.args.config.now ≡ new = sym q.proposal in (
   own,
   subst (λ (t : TableId). 0 < t.words) own (some_word _ _ _ h.1),
-  may_publish _ h.0 _ _ shared.key shared.table_id.slots c.self.inside.seat.id c.args.self.now c.self.view_is c.args.row c.args.number (c.args.number * ROWS + c.args.row) new q.free (subst (HoldsConfig c.args.self.now.view c.args.row) same q.holds)
+  may_publish _ h.0 _ _ shared.key shared.table_id.slots c.self.inside.seat.id c.args.self.now c.self.view_is c.args.row c.args.number (c.args.number * ROWS + c.args.row) new q.free (subst (HoldsNamed c.args.self.now.view c.args.row) same q.holds)
       (subst IsPublishable same q.publishable) q.number q.limited (current_is c.args.number c.args.row),
 )
 

@@ -1,10 +1,26 @@
-use Rattle.std.proofs.Common.{subst, ℕ, ◌<◌}
-use Rattle.read_section.specs.Section.{held_words, worker_of}
-use Rattle.read_section.proofs.SectionLemmas.{length-held_words, word_there}
+use Rattle.std.proofs.Common.{◌+◌, ◌-◌, ◌<◌, ◌≡◌, ◌≤◌, Some, ap, arith, refl, slice_get, subst, sym, ℕ, ◌∙◌}
+use Rattle.versions.specs.Safety.{IsHeldPlace}
+use Rattle.versions.specs.Table.{the_shape}
+use Rattle.read_section.specs.Section.{borrow_of, held_words, worker_of}
+use Rattle.read_section.specs.body.Steps.{SeesWord}
+use Rattle.read_section.proofs.AheadLemmas.{fast_held, fast_reads, fast_value, fast_within}
+use Rattle.read_section.proofs.ReadLemmas.{pinned_kept}
 use Rattle.read_section.proofs.section.SectionWords.word.Goals as goal
 
-pub fetch-requires : goal.fetch-requires
-fetch-requires c = subst (λ (n : ℕ). c.args.i < n) (length-held_words (worker_of c.args.self.now)) c.requires
+pub overflow_add-self : goal.overflow_add-self
+overflow_add-self c = let s = c.args.self.now in let within = fast_within (worker_of s) s.kept.row s.kept.found c.args.i s.known c.requires c.ranges.i.fits _ refl c.if-ahead-self.true in omega arith
 
-pub returns-clause-value : goal.returns-clause-value
-returns-clause-value c = word_there (held_words (worker_of c.args.self.now)) c.args.i c.fetch.result c.requires c.fetch.ensures.word
+pub fetch-requires-clause-held : goal.fetch-requires-clause-held
+fetch-requires-clause-held c = let s = c.args.self.now in fast_held (worker_of s) s.kept.row s.kept.found c.args.i s.known c.requires c.ranges.i.fits _ refl c.if-ahead-self.true
+
+pub fetch-requires-clause-within : goal.fetch-requires-clause-within
+fetch-requires-clause-within c = let s = c.args.self.now in fast_within (worker_of s) s.kept.row s.kept.found c.args.i s.known c.requires c.ranges.i.fits _ refl c.if-ahead-self.true
+
+pub returns-then-ahead-self-clause-value : goal.returns-then-ahead-self-clause-value
+returns-then-ahead-self-clause-value c = let s = c.args.self.now in fast_value (worker_of s) s.kept.row s.kept.found c.args.i s.known c.requires c.ranges.i.fits _ refl c.if-ahead-self.true c.fetch.result c.fetch.ensures.word
+
+pub returns-then-ahead-self-clause-few_fetches : goal.returns-then-ahead-self-clause-few_fetches
+returns-then-ahead-self-clause-few_fetches c = let s = c.args.self.now in fast_reads (worker_of s) s.kept.row s.kept.found c.args.i s.known c.requires c.ranges.i.fits _ refl c.if-ahead-self.true c.fetch.result c.fetch.new.self c.fetch.ensures.one_fetch
+
+pub returns-clause-rest_kept : goal.returns-clause-rest_kept
+returns-clause-rest_kept c = let s = c.args.self.now in λ j. record { borrow = borrow_of s; pinned = pinned_kept 13 c.args.i c.read-word.result.0 (worker_of s) c.read-word.new.worker c.read-word.ensures.few_fetches j }

@@ -1,7 +1,8 @@
-use Rattle.std.proofs.Common.{ap, subst, sym, ◌∙◌}
+use Rattle.std.proofs.Common.{ap, subst, sym, ◌%◌, ◌∙◌}
+use Rattle.versions.specs.declared.layout.TheConstants.{ROWS}
 use Rattle.read_section.specs.Section.{HoldsLastSeen, worker_of}
 use Rattle.read_section.specs.Worker.{Enters}
-use Rattle.read_section.proofs.EnterLemmas.{HoldsLastSeen-pinned, enters, in_some_row, may_peek_at, number_seen, peeked_stage, pinned_inside, seen_on}
+use Rattle.read_section.proofs.EnterLemmas.{HoldsLastSeen-pinned, enters, may_peek_at, number_seen, peeked_stage, pinned_inside, seen_on}
 use Rattle.read_section.proofs.worker.Worker.enter.Goals as goal
 
 pub announce-requires-clause-peeked : goal.announce-requires-clause-peeked
@@ -11,7 +12,7 @@ pub pin-pinned-requires : goal.pin-pinned-requires
 pin-pinned-requires c = (_, ap (λ w. w.view.stage) c.announce.ensures)
 
 pub invariant_of-self : goal.invariant_of-self
-invariant_of-self c = let may = may_peek_at c.self.inside.held _ c.self.invariant in let one = c.peek-peeked.ensures in let three = c.pin-pinned.ensures in let out = c.self.view_is ∙ c.leave.ensures.left in (pinned_inside c.args.self.now c.self.inside.seat may out _ c.peek-peeked.result one.0 one.2 _ _ c.pin-pinned.result three.0 three.1 c.announce.ensures three.3 one.1 three.2, in_some_row c.pin-pinned.result)
+invariant_of-self c = let may = may_peek_at c.self.inside.held _ c.self.invariant in let one = c.peek-peeked.ensures in let three = c.pin-pinned.ensures in let out = c.self.view_is ∙ c.leave.ensures.left in (c.pin-pinned.result % ROWS, pinned_inside c.args.self.now c.self.inside.seat may out _ c.peek-peeked.result one.0 one.2 _ _ c.pin-pinned.result three.0 three.1 c.announce.ensures three.3 one.1 three.2)
 
 pub returns-clause-entered_by_three_steps : goal.returns-clause-entered_by_three_steps
 returns-clause-entered_by_three_steps c = let may = may_peek_at c.self.inside.held _ c.self.invariant in let one = c.peek-peeked.ensures in let three = c.pin-pinned.ensures in let out = c.self.view_is ∙ c.leave.ensures.left in subst (Enters c.args.self.now) (sym c.of.ensures.worker) (enters c.args.self.now c.self.inside.seat may out _ c.peek-peeked.result one.0 one.2 _ _ c.pin-pinned.result three.0 three.1 c.announce.ensures three.3 one.1 three.2)
@@ -24,3 +25,9 @@ returns-clause-seen_grows c = let may = may_peek_at c.self.inside.held _ c.self.
 
 pub returns-clause-number_is_seen : goal.returns-clause-number_is_seen
 returns-clause-number_is_seen c = let may = may_peek_at c.self.inside.held _ c.self.invariant in let one = c.peek-peeked.ensures in let three = c.pin-pinned.ensures in let out = c.self.view_is ∙ c.leave.ensures.left in number_seen (worker_of c.of.result) (subst HoldsLastSeen (sym c.of.ensures.worker) (HoldsLastSeen-pinned c.args.self.now c.self.inside.seat may out _ c.peek-peeked.result one.0 one.2 _ _ c.pin-pinned.result three.0 three.1 c.announce.ensures three.3 one.1 three.2))
+
+pub of-requires-clause-inside : goal.of-requires-clause-inside
+of-requires-clause-inside c = let may = may_peek_at c.self.inside.held _ c.self.invariant in let one = c.peek-peeked.ensures in let three = c.pin-pinned.ensures in let out = c.self.view_is ∙ c.leave.ensures.left in pinned_inside c.args.self.now c.self.inside.seat may out _ c.peek-peeked.result one.0 one.2 _ _ c.pin-pinned.result three.0 three.1 c.announce.ensures three.3 one.1 three.2
+
+pub of-requires-clause-last_seen : goal.of-requires-clause-last_seen
+of-requires-clause-last_seen c = let may = may_peek_at c.self.inside.held _ c.self.invariant in let one = c.peek-peeked.ensures in let three = c.pin-pinned.ensures in let out = c.self.view_is ∙ c.leave.ensures.left in HoldsLastSeen-pinned c.args.self.now c.self.inside.seat may out _ c.peek-peeked.result one.0 one.2 _ _ c.pin-pinned.result three.0 three.1 c.announce.ensures three.3 one.1 three.2

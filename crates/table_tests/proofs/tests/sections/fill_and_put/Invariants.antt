@@ -1,5 +1,6 @@
-use Rattle.std.proofs.Common.{ℕ, ◌≡◌, ◌<◌, List, slice_index}
-use Rattle.config_image.specs.Image.{Group, row}
+use Rattle.std.proofs.Common.{ℕ, ◌≡◌, ◌<◌, List, [], slice_index}
+use Rattle.config_image.specs.Image.{Group}
+use Rattle.config_image.specs.Pooled.{pooled_row}
 use Rattle.versions.specs.Free.{IsFreeRow, number_after}
 use Rattle.versions.specs.Table.{the_shape}
 use Rattle.read_section.specs.Operator.{OperatorValue}
@@ -12,7 +13,7 @@ pub record FilledSoFar (before now : OperatorValue) (r : ℕ) (config : List Gro
   pub number : number_after now.view.log ≡ number_after before.view.log
   pub published : now.view.published ≡ before.view.published
   pub table : now.table ≡ before.table
-  pub front : (i : ℕ) → i < place → word_at now r i ≡ slice_index (row config) i
+  pub front : (i : ℕ) → i < place → word_at now r i ≡ slice_index (pooled_row config []) i
 
 abbrev pub invariant-loop-place : goal.invariant-loop-place
 invariant-loop-place l = FilledSoFar l.fn.operator l.operator l.row l.config l.place

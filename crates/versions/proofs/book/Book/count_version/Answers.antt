@@ -1,22 +1,27 @@
-use Rattle.std.proofs.Common.{◌+◌, ◌∙◌, ◌≡◌, ap, arith, drop, refl, set, slice_get, ℕ}
-use Rattle.std.proofs.lemmas.Option.{slice_get-get_or}
+use Rattle.std.proofs.Common.{◌+◌, ◌∙◌, ◌≡◌, ap, arith, drop, get_or, map, refl, set, slice_get, ℕ}
+use Rattle.std.proofs.lemmas.List.{get_or-map, length-map}
+use Rattle.config_image.specs.Pooled.{page_of}
 use Rattle.versions.specs.Book.{used_by}
 use Rattle.versions.proofs.BookLemmas.{counted_version, used_more}
+use Rattle.versions.proofs.FormLemmas.{page_at}
 use Rattle.versions.proofs.book.Book.count_version.Goals as goal
 
-pub loop-page-init : goal.loop-page-init
-loop-page-init g c = (refl, ap (set c.args.self.now.last c.args.row) (let e : c.args.self.now.number + 1 + 1 ≡ c.args.self.now.number + 2 = omega arith in e), refl, refl, refl)
+pub loop-name-init : goal.loop-name-init
+loop-name-init g c = (refl, ap (set c.args.self.now.last c.args.row) (let e : c.args.self.now.number + 1 + 1 ≡ c.args.self.now.number + 2 = omega arith in e), refl, refl, refl)
 
-pub loop-page-preserved : goal.loop-page-preserved
-loop-page-preserved g c = let was = c.loop-page.invariant in let low = c.loop-page-test.true in let number = c.args.self.now.number in (
+pub loop-name-preserved : goal.loop-name-preserved
+loop-name-preserved g c = let was = c.loop-name.invariant in let low = c.loop-name-test.true in let number = c.args.self.now.number in let pages = map page_of c.args.names.now in (
   was.0,
   was.1,
   was.2,
   was.3,
-  ap (used_by (number + 2) (drop (c.loop-page.page-index + 1) c.args.pages.now)) c.name.ensures
-      ∙ (used_more (number + 2) (number + 1 + 1) c.args.pages.now c.loop-page.self.last_use c.loop-page.page-index low (omega arith) ∙ was.4),
+  ap (used_by (number + 2) (drop (c.loop-name.name-index + 1) pages)) (c.name.ensures ∙ ap (λ (q : ℕ). set c.loop-name.self.last_use q (number + 1 + 1)) (Rattle.std.proofs.Common.sym (get_or-map page_of c.args.names.now c.loop-name.name-index 0 0 low)))
+      ∙ (used_more (number + 2) (number + 1 + 1) pages c.loop-name.self.last_use c.loop-name.name-index (omega (arith, length-map c.args.names.now page_of)) (omega arith) ∙ was.4),
 )
 
 pub returns : goal.returns
-returns g c = let was = c.loop-page.invariant in
-    record { counted = counted_version c.args.row c.loop-page.page-index c.args.pages.now c.args.self.now c.loop-page.self was.0 was.1 was.2 was.3 c.loop-page-test.false was.4 }
+returns g c = let was = c.loop-name.invariant in
+    record { counted = counted_version c.args.row c.loop-name.name-index (map page_of c.args.names.now) c.args.self.now c.loop-name.self was.0 was.1 was.2 was.3 (let end = c.loop-name-test.false in omega (arith, length-map c.args.names.now page_of)) was.4 }
+
+pub name-requires : goal.name-requires
+name-requires g c = c.requires.pages c.loop-name.name-index _ (page_at c.args.names.now c.loop-name.name-index c.loop-name-test.true)

@@ -5,4 +5,4 @@ true_false : true ≡ false → ⊥
 true_false e = cc
 
 pub returns-then-not-may_fill : goal.returns-then-not-may_fill
-returns-then-not-may_fill g c = λ s reached m x legal. true_false (sym ((c.may_fill.ensures.may_fill_exact s.operator m.book).1 legal.0) ∙ c.if-not-may_fill.true)
+returns-then-not-may_fill g c = λ s reached room m x legal. true_false (sym ((c.may_fill.ensures.may_fill_exact s.operator m.book).1 legal.0) ∙ c.if-not-may_fill.true)

@@ -7,5 +7,5 @@ use Rattle.versions.proofs.TraceLemmas.{Coheres-reached}
 use Rattle.versions.proofs.progress.Progress.leave_word.Goals as goal
 
 pub returns-in-Inside : goal.returns-in-Inside
-returns-in-Inside g c = λ s reached m. let held = c.in-Inside in
+returns-in-Inside g c = λ s reached room m. let held = c.in-Inside in
     next_of the_shape s c.args.words.now c.args.self.now m (Coheres-reached the_shape s reached) c.args.worker (Inside held.read_word held.version held.row) (Leave c.args.worker) 0 (sym c.stage.ensures ∙ c.in_ok-stage.was ∙ ap Some held.is) (held.read_word, held.version, held.row, refl, refl)

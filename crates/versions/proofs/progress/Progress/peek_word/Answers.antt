@@ -6,7 +6,7 @@ use Rattle.versions.proofs.TraceLemmas.{Coheres-reached}
 use Rattle.versions.proofs.progress.Progress.peek_word.Goals as goal
 
 pub returns-in_default : goal.returns-in_default
-returns-in_default g c = λ s reached m. (
+returns-in_default g c = λ s reached room m. (
   next_of the_shape s c.args.words.now c.args.self.now m (Coheres-reached the_shape s reached) c.args.worker c.in_ok-stage.field-0 (Peek c.args.worker) (slice_index c.args.words.now 0) (sym c.stage.ensures ∙ c.in_ok-stage.was) (may_peek c.in_ok-stage.field-0 c.in_default.not-Announced),
   ap (λ l. slice_index l 0) m.words_same,
 )

@@ -1,11 +1,13 @@
-use Rattle.std.proofs.Common.{◌+◌, [], arith, rules, subst, sym, set}
+use Rattle.std.proofs.Common.{◌+◌, ◌∙◌, ap, arith, map, rules, subst, sym, set}
+use Rattle.config_image.specs.Pooled.{page_of, pages_of}
+use Rattle.versions.proofs.FormLemmas.{pages_in_row}
 use Rattle.versions.specs.declared.step.Step.TheVariants.{Announce, Fetch, Leave, Peek, Pin}
 use Rattle.versions.specs.State.{after_step}
 use Rattle.versions.specs.Legal.{IsLegalStep}
 use Rattle.versions.specs.Book.{with_version_in}
 use Rattle.versions.specs.body.Mirror.{IsMirror, moved}
 use Rattle.versions.specs.Table.{the_shape}
-use Rattle.versions.proofs.FollowLemmas.{fill_below, follows_announce, follows_fetch, follows_fill, follows_leave, follows_peek, follows_pin, follows_publish, follows_scan, publish_below, worker_below}
+use Rattle.versions.proofs.FollowLemmas.{fill_below, follows_announce, follows_fetch, follows_fill, follows_leave, follows_peek, follows_pin, follows_publish, follows_scan, publish_below, published_pages, worker_below}
 use Rattle.versions.proofs.progress.Progress.take.Goals as goal
 
 pub offset_bounds-words-place : goal.offset_bounds-words-place
@@ -16,6 +18,11 @@ bounds-words-place g c = let t = c.requires.legal in let low = fill_below t.0 t.
 
 pub count_version-requires-clause-number : goal.count_version-requires-clause-number
 count_version-requires-clause-number g c = let t = c.requires.legal in (publish_below t.0 t.1 c.args.words.now c.args.self.now t.2 c.in-Publish.row c.args.word (subst (λ step. IsLegalStep the_shape t.0 step c.args.word) c.in-Publish.is t.3)).1
+
+pub count_version-requires-clause-pages : goal.count_version-requires-clause-pages
+count_version-requires-clause-pages g c = let t = c.requires.legal in
+    published_pages t.0 t.1 c.args.words.now c.args.self.now t.2 c.in-Publish.row c.args.word _ (c.row_names.ensures.pages ∙ ap pages_of c.row_of.ensures.words ∙ sym (pages_in_row c.args.words.now c.in-Publish.row))
+    (subst (λ step. IsLegalStep the_shape t.0 step c.args.word) c.in-Publish.is t.3)
 
 pub move_worker-requires-in-Fetch : goal.move_worker-requires-in-Fetch
 move_worker-requires-in-Fetch g c = let t = c.requires.legal in let a = c.in-Fetch in let legal = subst (λ step. IsLegalStep the_shape t.0 step c.args.word) a.is t.3 in
@@ -75,8 +82,8 @@ returns-in-Fill g c = λ s reached m legal. let a = c.in-Fill in
 pub returns-in-Publish : goal.returns-in-Publish
 returns-in-Publish g c = λ s reached m legal. let a = c.in-Publish in
     subst (λ book. IsMirror the_shape (after_step the_shape s c.args.step c.args.word) (set c.args.words.now 0 c.args.word) (record c.args.self.now { book = book })) (sym c.count_version.ensures.counted)
-    (subst (λ step. IsLegalStep the_shape s step c.args.word → IsMirror the_shape (after_step the_shape s step c.args.word) (set c.args.words.now 0 c.args.word) (record c.args.self.now { book = with_version_in a.row [] c.args.self.now.book })) (sym a.is)
-    (follows_publish s reached c.args.words.now c.args.self.now m a.row c.args.word) legal)
+    (subst (λ step. IsLegalStep the_shape s step c.args.word → IsMirror the_shape (after_step the_shape s step c.args.word) (set c.args.words.now 0 c.args.word) (record c.args.self.now { book = with_version_in a.row (map page_of c.row_names.result.now) c.args.self.now.book })) (sym a.is)
+    (follows_publish s reached c.args.words.now c.args.self.now m a.row c.args.word _ (c.row_names.ensures.pages ∙ ap pages_of c.row_of.ensures.words ∙ sym (pages_in_row c.args.words.now a.row))) legal)
 
 pub returns-in-Scan : goal.returns-in-Scan
 returns-in-Scan g c = λ s reached m legal. let a = c.in-Scan in

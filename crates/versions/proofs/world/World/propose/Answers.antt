@@ -1,7 +1,7 @@
 use Rattle.std.proofs.Common.{Some, [], ap, length, subst, sym, ◌++◌, ◌∙◌, ◌∷◌, ◌≡◌}
 use Rattle.versions.specs.declared.step.Event.TheVariants.{Proposed}
 use Rattle.versions.specs.body.WorldKept.{IsWorld}
-use Rattle.versions.proofs.WorldLemmas.{IsWorld-proposed, light}
+use Rattle.versions.proofs.WorldLemmas.{IsWorld-proposed, has_room, light}
 use Rattle.versions.proofs.world.World.propose.Goals as goal
 
 pub invariant_of-self-2 : goal.invariant_of-self-2
@@ -11,4 +11,4 @@ invariant_of-self-2 g c =
     let place : c.len-place.result ≡ length w.events.items = c.len-place.ensures ∙ (c.reserve.ensures.len ∙ w.events.ok.0) in
     subst (λ l. IsWorld w.opening l w.words.items w.progress (Some c.len-place.result)) (sym events)
     (subst (λ n. IsWorld w.opening (w.events.items ++ Proposed c.args.config ∷ []) w.words.items w.progress (Some n)) (sym place)
-    (IsWorld-proposed w.opening w.events.items w.words.items w.progress w.proposal c.args.config c.self.invariant (light c.args.config c.charge.result c.charge.ensures.charge_exact c.if-charge-gt-CHARGE_LIMIT.false)))
+    (IsWorld-proposed w.opening w.events.items w.words.items w.progress w.proposal c.args.config c.self.invariant (light c.args.config c.charge.result c.charge.ensures.charge_exact c.if-charge-gt-CHARGE_LIMIT.false) (has_room c.args.config c.charge.result c.charge.ensures.config c.charge.ensures.charge_exact c.if-charge-gt-CHARGE_LIMIT.false)))

@@ -16,7 +16,7 @@ use Rattle.versions.proofs.world.World.step.Goals as goal
 pub take-requires-clause-legal : goal.take-requires-clause-legal
 take-requires-clause-legal g c = let w = c.self.inside in let h = c.self.invariant in let s = world_after w.opening w.events.items in (
   s,
-  IsReached-world w.opening w.events.items h.charge h.legal,
+  IsReached-world w.opening w.events.items h.opened h.charge h.legal,
   subst (λ l. IsMirror the_shape s l w.progress) (sym c.deref_mut.ensures.value) h.mirror,
   subst (λ (t : State (List Group)). IsLegalStep the_shape t c.args.step c.in-Some.word) (sym c.self.view_is) c.in-Some.ensures.decided,
 )

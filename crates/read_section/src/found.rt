@@ -1,0 +1,33 @@
+//! Where words of the version that is held stand, as far as its section knows.
+
+/// Where words stand. No word that is answered is kept.
+#[derive(Clone, Copy, Debug)]
+pub(crate) struct Found {
+    // The row's first word, 0 where it was not fetched yet: the image's length, where the programs begin, how many parts there are.
+    pub(crate) form: u64,
+    // Of the part that was found last: the place in the image of its first word, how many words it has (0: none was found), and the
+    // place in the table of that first word.
+    pub(crate) at: usize,
+    pub(crate) len: usize,
+    pub(crate) begin: usize,
+    // Its index, and the place in the table where the part behind it begins.
+    pub(crate) index: usize,
+    pub(crate) next: usize,
+}
+
+/// Nothing is known.
+pub(crate) const NOTHING_FOUND: Found = Found {
+    form: 0,
+    at: 0,
+    len: 0,
+    begin: 0,
+    index: 0,
+    next: 0,
+};
+
+/// What a section keeps beside its worker: the row of the version that is held, and where words stand.
+#[derive(Clone, Copy, Debug)]
+pub(crate) struct Kept {
+    pub(crate) row: usize,
+    pub(crate) found: Found,
+}

@@ -1,0 +1,267 @@
+//! Rows and pages in the pooled form (docs/SWITCH.md, "The pooled form"), as a world and an operator store them.
+
+use super::history::{begin_of, begin_of_page};
+use super::numbered::applied;
+use bpf_verify::Program;
+use ipv4_fields::Endpoint;
+use member_group::{Command, Config};
+use read_section::{Operator, open};
+use retire::Retire;
+use std::alloc::Global;
+use std::process::Abort;
+use std::test::Fail;
+use versions::Step::{Announce, Fetch, Fill, Peek, Pin, Publish};
+use versions::{StepFault, World};
+
+// 10.0.0.2:53
+const KEY: Endpoint = Endpoint {
+    address: 0x0a00_0002,
+    port: 53,
+};
+
+// `ret #0`
+const RETURN: u64 = 0x0006_0000_0000_0000;
+
+fn returns(alloc: Global, count: usize) -> Result<Program<Global>, Fail> {
+    match Program::new(vec![in alloc; RETURN; count]?) {
+        Ok(program) => Ok(program),
+        Err(_) => Err(Fail::from("returns are a program")),
+    }
+}
+
+fn with_group(alloc: Global) -> Result<Config, Fail> {
+    applied(&Config::new(alloc), Command::AddGroup { key: KEY })
+}
+
+// The group without members, whose selector is `ret #0`.
+fn with_selector(alloc: Global) -> Result<Config, Fail> {
+    let program = returns(alloc, 1)?;
+    applied(
+        &with_group(alloc)?,
+        Command::SetSelector { key: KEY, program },
+    )
+}
+
+// The group with one member, whose filter has 4096 instructions.
+fn with_long_filter(alloc: Global) -> Result<Config, Fail> {
+    let join = Command::Join {
+        key: KEY,
+        member: 0,
+        to: KEY,
+    };
+    let joined = applied(&with_group(alloc)?, join)?;
+    let program = returns(alloc, 4096)?;
+    applied(
+        &joined,
+        Command::SetFilter {
+            key: KEY,
+            member: 0,
+            program,
+        },
+    )
+}
+
+// The row of the group with a selector, where the program stands in page 0; the words behind it are 0.
+const SELECTOR_ROW: [u64; 8] = [
+    0x0007_0006_0001,
+    1,
+    0x0a00_0002_0035,
+    6,
+    0,
+    0x0006_0001,
+    0x0006_0000,
+    0,
+];
+
+#[test]
+fn pooled_empty_row(rt: HostRuntime) -> Result<(), Fail> {
+    let (operator, _workers) = open(Config::new(rt.alloc()))?;
+    for (place, word) in [0x0002_0002_0000, 0, 0].iter().enumerate() {
+        assert_eq!(rt; operator.row_word(0, place), *word, "place {place}");
+    }
+    assert_eq!(rt; operator.current_pages().len(), 0);
+    Ok(())
+}
+
+// The row and its page, as an operator tells them.
+fn operator_stores_selector(rt: &impl Abort, alloc: Global) -> Result<(), Fail> {
+    let (operator, _workers) = open(with_selector(alloc)?)?;
+    for (place, word) in SELECTOR_ROW.iter().enumerate() {
+        assert_eq!(rt; operator.row_word(0, place), *word, "place {place}");
+    }
+    assert!(rt; pages_are_from(&operator, 0, 1));
+    assert!(rt; !operator.page_is_free(0) && operator.page_is_free(1));
+    Ok(())
+}
+
+// The same, word by word.
+fn world_stores_selector(rt: &impl Abort, alloc: Global) -> Result<(), Fail> {
+    let world = World::new(with_selector(alloc)?)?;
+    for (place, word) in SELECTOR_ROW.iter().enumerate() {
+        let at = begin_of(0).wrapping_add(place);
+        assert_eq!(rt; world.word(at), Some(*word), "place {place}");
+    }
+    let page = begin_of_page(0);
+    assert_eq!(rt; world.word(page), Some(RETURN));
+    assert_eq!(rt; world.word(page.wrapping_add(1)), Some(0));
+    Ok(())
+}
+
+#[test]
+fn pooled_selector_row(rt: HostRuntime) -> Result<(), Fail> {
+    operator_stores_selector(&rt, rt.alloc())?;
+    world_stores_selector(&rt, rt.alloc())
+}
+
+// Enters on version 0 and fetches: its program's one word, and no other of the pool.
+#[test]
+fn pool_words_of_the_version_are_fetched(rt: HostRuntime) -> Result<(), Fail> {
+    let mut world = World::new(with_selector(rt.alloc())?)?;
+    let fetch = |place| Fetch { worker: 5, place };
+    for step in [Peek { worker: 5 }, Announce { worker: 5 }] {
+        assert!(rt; world.step(step).is_ok(), "{step:?}");
+    }
+    assert_eq!(rt;
+        world.step(fetch(begin_of_page(0))),
+        Err(StepFault::NotLegal)
+    );
+    assert_eq!(rt; world.step(Pin { worker: 5 }), Ok(0));
+    assert_eq!(rt; world.step(fetch(begin_of_page(0))), Ok(RETURN));
+    for place in [
+        begin_of_page(0).wrapping_add(1),
+        begin_of_page(0).wrapping_add(15),
+        begin_of_page(1),
+    ] {
+        assert_eq!(rt;
+            world.step(fetch(place)),
+            Err(StepFault::NotLegal),
+            "place {place}"
+        );
+    }
+    Ok(())
+}
+
+// Fills row 1 as the selector's row, with its program in a page.
+fn fills_row(rt: &impl Abort, world: &mut World, page: u64) -> Result<(), Fail> {
+    for (i, word) in SELECTOR_ROW.iter().enumerate() {
+        let named = if i == 6 {
+            word.wrapping_add(page)
+        } else {
+            *word
+        };
+        let place = begin_of(1).wrapping_add(i);
+        assert_eq!(rt; world.step(Fill { place, word: named }), Ok(named));
+    }
+    Ok(())
+}
+
+// A row is published where the page that it names has the program, and not before.
+#[test]
+fn row_is_published_with_its_pages(rt: HostRuntime) -> Result<(), Fail> {
+    let mut world = World::new(with_selector(rt.alloc())?)?;
+    world.propose(with_selector(rt.alloc())?)?;
+    fills_row(&rt, &mut world, 1)?;
+    assert_eq!(rt; world.step(Publish { row: 1 }), Err(StepFault::NotLegal));
+    let place = begin_of_page(1);
+    assert_eq!(rt;
+        world.step(Fill {
+            place,
+            word: RETURN
+        }),
+        Ok(RETURN)
+    );
+    assert_eq!(rt; world.step(Publish { row: 1 }), Ok(17));
+    // The page is not free then, nor is page 0, whose version is not scanned clear.
+    for place in [begin_of_page(0), begin_of_page(1)] {
+        assert_eq!(rt;
+            world.step(Fill { place, word: 1 }),
+            Err(StepFault::NotLegal)
+        );
+    }
+    Ok(())
+}
+
+// The page of the version before may be named again, without a fill.
+#[test]
+fn row_is_published_with_a_page_of_the_version_before(rt: HostRuntime) -> Result<(), Fail> {
+    let mut world = World::new(with_selector(rt.alloc())?)?;
+    world.propose(with_selector(rt.alloc())?)?;
+    fills_row(&rt, &mut world, 0)?;
+    assert_eq!(rt; world.step(Publish { row: 1 }), Ok(17));
+    Ok(())
+}
+
+// Whether the current pages are so many from this one on.
+fn pages_are_from(operator: &Operator, first: u32, count: usize) -> bool {
+    let mut wanted = first;
+    for page in operator.current_pages() {
+        if *page != wanted {
+            return false;
+        }
+        wanted = wanted.saturating_add(1);
+    }
+    operator.current_pages().len() == count
+}
+
+// Word 0, the filter's first name, behind 6 words of the group and 4 of its member, and its last name.
+const LONG_ROW: [(usize, u64); 4] = [
+    (0, 0x100a_000a_0100),
+    (10, 0x000a_0000),
+    (265, 0x0ffa_00ff),
+    (266, 0),
+];
+
+fn operator_stores_filter(rt: &impl Abort, alloc: Global) -> Result<(), Fail> {
+    let (operator, _workers) = open(with_long_filter(alloc)?)?;
+    for (place, word) in &LONG_ROW {
+        assert_eq!(rt; operator.row_word(0, *place), *word, "place {place}");
+    }
+    assert!(rt; pages_are_from(&operator, 0, 256));
+    assert_eq!(rt; operator.free_page(0), Some(256));
+    Ok(())
+}
+
+// The filter's first word, another of its first page, its last word, and the word behind it.
+const LONG_PAGES: [(usize, usize, u64); 4] = [
+    (0, 0, RETURN),
+    (0, 15, RETURN),
+    (255, 15, RETURN),
+    (256, 0, 0),
+];
+
+fn world_stores_filter(rt: &impl Abort, alloc: Global) -> Result<(), Fail> {
+    let world = World::new(with_long_filter(alloc)?)?;
+    for (page, k, word) in &LONG_PAGES {
+        let place = begin_of_page(*page).wrapping_add(*k);
+        assert_eq!(rt; world.word(place), Some(*word), "place {place}");
+    }
+    Ok(())
+}
+
+#[test]
+fn pooled_long_filter(rt: HostRuntime) -> Result<(), Fail> {
+    operator_stores_filter(&rt, rt.alloc())?;
+    world_stores_filter(&rt, rt.alloc())
+}
+
+// Each publication takes the least free pages: behind those of the versions before, and those again when these are free.
+#[test]
+fn new_pages_are_the_least_free_ones(rt: HostRuntime) -> Result<(), Fail> {
+    let (mut operator, _workers) = open(with_long_filter(rt.alloc())?)?;
+    for (number, first) in [(1u64, 256u32), (2, 512), (3, 768)] {
+        let published = operator.publish(with_long_filter(rt.alloc())?);
+        assert!(rt;
+            matches!(published, Ok(found) if found == number),
+            "version {number}"
+        );
+        assert!(rt; pages_are_from(&operator, first, 256), "version {number}");
+    }
+    let reclaimed = operator.sweep();
+    assert_eq!(rt; (reclaimed.first, reclaimed.count), (0, 3));
+    let published = operator.publish(with_long_filter(rt.alloc())?);
+    assert!(rt; matches!(published, Ok(4)));
+    assert!(rt; pages_are_from(&operator, 0, 256));
+    // The least free row, row 0, has the names of these pages.
+    assert_eq!(rt; operator.row_word(0, 265), 0x0ffa_00ff);
+    Ok(())
+}
