@@ -1,0 +1,31 @@
+//! How a program ended.
+
+ghost use Rattle.std.specs.Prelude.{◌≤◌, length};
+ghost use Rattle.bpf_verify.specs.Accepted.{IsAccepted};
+ghost use Rattle.dswitch_c.specs.Outcome.{IsRun};
+
+use bpf_machine::run;
+
+/// How a program ended.
+#[derive(Clone, Copy, Debug, PartialEq, Eq)]
+#[repr(C)]
+pub struct Outcome {
+    /// The number that it ended with.
+    pub value: u32,
+    /// How many instructions it met, the last one included.
+    pub steps: u32,
+}
+
+pub(crate) fn ran(words: &[u64], packet: &[u8]) -> Outcome
+    requires accepted { IsAccepted words.now }
+    requires packet { length packet.now ≤ 65535 }
+    ensures run { IsRun words.now packet.now result }
+    ensures within_length { result.steps ≤ length words.now }
+{
+    let mut list = words;
+    let outcome = run(&mut list, 0, words.len(), packet);
+    Outcome {
+        value: outcome.value,
+        steps: outcome.steps,
+    }
+}
