@@ -7,6 +7,7 @@ mod ReadLemmas
 mod SoughtLemmas
 mod RowReadLemmas
 mod AheadLemmas
+mod FrontLemmas
 mod WorkerKept
 mod OperatorKept
 mod SeatKept

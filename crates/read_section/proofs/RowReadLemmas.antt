@@ -70,6 +70,15 @@ module _ (worker : WorkerValue) (row : ℕ) (found : Found) (i : ℕ) (knows : K
   pub sought_there : found.form / 65536 % 65536 ≤ i → IsSought worker.view row found.form i
   sought_there from = let t = held_stage worker.view.stage worker.view.seen i held in sought_at t.0 t.1 t.2 t.3 from
 
+-- what stands before the programs is inside the image
+pub front_inside : (worker : WorkerValue) (row : ℕ) (found : Found) (i : ℕ) → Knows worker.view row found → i < length (held_words worker) → i < found.form / 65536 % 65536 → i < found.form / 2 ^ 32
+front_inside worker row found i knows held low =
+    let t = held_stage worker.view.stage worker.view.seen i held in let config = config_held worker t.1 in
+    let known = known_there worker t.0 t.1 t.2 t.3 row found knows in let formed = known.1.1.1.0 (omega arith) in
+    let told = tells config worker.view.pages known.1.1.0 (ArePages-table config worker.view.pages formed.1) in
+    let heads = ap (λ f. f / 65536 % 65536) formed.0 ∙ told.begin_part in let whole = ap (λ f. f / 2 ^ 32) formed.0 ∙ told.length_part in
+    let within = told.inside in omega arith
+
 -- a word of the part that is kept
 pub ahead_newest : (worker : WorkerValue) (row : ℕ) (found : Found) (i : ℕ) (knows : Knows worker.view row found) (ahead : IsAhead found i) (x : ℕ) (k n r : ℕ) → worker.view.stage ≡ Inside k n r
     → TellsWordAt (slice_index_or worker.view.seen n []) r worker.view.pages i (found.begin + (i - found.at)) x x

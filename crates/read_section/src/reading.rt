@@ -19,7 +19,8 @@ fn length_of(form: u64) -> usize
     (form >> 32) as usize
 }
 
-fn heads_of(form: u64) -> usize
+#[inline(always)]
+pub(crate) fn heads_of(form: u64) -> usize
     ensures { result ≡ form / 65536 % 65536 }
 {
     (form >> 16 & 0xffff) as usize

@@ -3,11 +3,11 @@
 ghost use Rattle.read_section.specs.body.Found.{Knows, KnowsIn-prop};
 
 use crate::found::{Found, Kept, NOTHING_FOUND};
-use crate::reading::read;
+use crate::reading::{heads_of, read};
 use crate::worker::Worker;
 use bpf_insn::Words;
 use config_image::ROW_WORDS;
-use versions::ROWS;
+use versions::{ROWS, ROWS_BEGIN};
 
 /// A worker's read-side critical section: the words of one version's row.
 ///
@@ -53,6 +53,11 @@ impl Words for Section<'_> {
         let ahead = i.wrapping_sub(self.kept.found.at);
         if ahead < self.kept.found.len {
             return self.worker.fetch(self.kept.found.begin + ahead);
+        }
+        if 0 < i && i < heads_of(self.kept.found.form) {
+            return self
+                .worker
+                .fetch(ROWS_BEGIN + self.kept.row * ROW_WORDS + i);
         }
         let (word, found) = read(self.worker, self.kept.row, self.kept.found, i);
         self.kept.found = found;

@@ -1,9 +1,10 @@
-use Rattle.std.proofs.Common.{◌+◌, ◌-◌, ◌<◌, ◌≡◌, ◌≤◌, Some, ap, arith, refl, slice_get, subst, sym, ℕ, ◌∙◌}
+use Rattle.std.proofs.Common.{◌+◌, ◌-◌, ◌/◌, ◌%◌, ◌<◌, ◌≡◌, ◌≤◌, Some, ap, arith, refl, slice_get, subst, sym, ℕ, ◌∙◌}
 use Rattle.versions.specs.Safety.{IsHeldPlace}
 use Rattle.versions.specs.Table.{the_shape}
 use Rattle.read_section.specs.Section.{borrow_of, held_words, worker_of}
 use Rattle.read_section.specs.body.Steps.{SeesWord}
 use Rattle.read_section.proofs.AheadLemmas.{fast_held, fast_reads, fast_value, fast_within}
+use Rattle.read_section.proofs.FrontLemmas.{front_held, front_reads, front_value}
 use Rattle.read_section.proofs.ReadLemmas.{pinned_kept}
 use Rattle.read_section.proofs.section.SectionWords.word.Goals as goal
 
@@ -24,3 +25,15 @@ returns-then-ahead-self-clause-few_fetches c = let s = c.args.self.now in fast_r
 
 pub returns-clause-rest_kept : goal.returns-clause-rest_kept
 returns-clause-rest_kept c = let s = c.args.self.now in λ j. record { borrow = borrow_of s; pinned = pinned_kept 13 c.args.i c.read-word.result.0 (worker_of s) c.read-word.new.worker c.read-word.ensures.few_fetches j }
+
+pub fetch-requires-then-i-heads_of-clause-held : goal.fetch-requires-then-i-heads_of-clause-held
+fetch-requires-then-i-heads_of-clause-held c = let s = c.args.self.now in let e = c.heads_of.ensures in let low = c.if-i-heads_of.true in
+    front_held (worker_of s) s.kept.row s.kept.found c.args.i s.known c.requires c.if-i-gt0.true (omega arith)
+
+pub returns-then-i-heads_of-clause-value : goal.returns-then-i-heads_of-clause-value
+returns-then-i-heads_of-clause-value c = let s = c.args.self.now in let e = c.heads_of.ensures in let low = c.if-i-heads_of.true in
+    front_value (worker_of s) s.kept.row s.kept.found c.args.i s.known c.requires c.if-i-gt0.true (omega arith) c.fetch-then-i-heads_of.result c.fetch-then-i-heads_of.ensures.word
+
+pub returns-then-i-heads_of-clause-few_fetches : goal.returns-then-i-heads_of-clause-few_fetches
+returns-then-i-heads_of-clause-few_fetches c = let s = c.args.self.now in let e = c.heads_of.ensures in let low = c.if-i-heads_of.true in
+    front_reads (worker_of s) s.kept.row s.kept.found c.args.i s.known c.requires c.if-i-gt0.true (omega arith) c.fetch-then-i-heads_of.result c.fetch-then-i-heads_of.new.self c.fetch-then-i-heads_of.ensures.one_fetch
