@@ -61,21 +61,22 @@ static bool is_chosen(const char *work) {
     return choices == 0;
 }
 
-/* Times a work: what it costs to begin is taken off, as the difference between two numbers of rounds. */
+/* Times a work: what it costs to begin, without a round, is taken off. */
 static void measure(const char *work, const struct contestant *list, int count, const void *about) {
     uint64_t rounds[CONTESTANTS];
     if (!is_chosen(work))
         return;
     for (int c = 0; c < count; c++) {
+        double begin = time_of(list[c].make, about, 0);
         rounds[c] = 1;
-        while (time_of(list[c].make, about, 2 * rounds[c]) - time_of(list[c].make, about, rounds[c]) < 2e6 && rounds[c] < 1u << 26)
+        while (time_of(list[c].make, about, rounds[c]) < 2e6 + 10 * begin && rounds[c] < 1u << 30)
             rounds[c] *= 2;
     }
     for (int repetition = 0; repetition < repetitions; repetition++)
         for (int c = 0; c < count; c++) {
-            double more = time_of(list[c].make, about, 2 * rounds[c]);
-            double less = time_of(list[c].make, about, rounds[c]);
-            printf("%s\t%s\t%.3f\n", work, list[c].name, (more - less) / rounds[c]);
+            double begin = time_of(list[c].make, about, 0);
+            double whole = time_of(list[c].make, about, rounds[c]);
+            printf("%s\t%s\t%.3f\n", work, list[c].name, (whole - begin) / rounds[c]);
         }
     fflush(stdout);
 }

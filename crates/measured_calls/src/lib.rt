@@ -1,7 +1,7 @@
 //! What bench/ measures of the version table: calls for a driver in C, each of which repeats one call of the table so many times.
 //!
 //! Each opens a table, gives the lines of a script to its operator, each ended by an LF, and then repeats. Opening is dear, so a driver
-//! measures with two numbers of rounds and takes the difference. Each answers how many rounds it made: all of them, or none where
+//! takes off what no rounds cost. Each answers how many rounds it made: all of them, or none where
 //! memory was refused.
 #![tactic(auto)]
 
