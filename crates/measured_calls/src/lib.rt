@@ -1,0 +1,60 @@
+//! What bench/ measures of the version table: calls for a driver in C, each of which repeats one call of the table so many times.
+//!
+//! Each opens a table, gives the lines of a script to its operator, each ended by an LF, and then repeats. Opening is dear, so a driver
+//! takes off what no rounds cost. Each answers how many rounds it made: all of them, or none where
+//! memory was refused.
+#![tactic(auto)]
+
+ghost use Rattle.std.specs.Prelude.{◌≡◌, ◌≤◌, ◌⊎◌, length};
+
+mod rounds;
+mod script;
+
+use rounds::{change, judge_rounds, line_rounds, section_rounds};
+use script::opened;
+use std::alloc::Global;
+
+/// Enters a section, reads its first word and leaves.
+#[unsafe(no_mangle)]
+pub extern "C" fn measured_section(alloc: Global, script: &[u8], rounds: u64) -> u64
+    ensures rounds { (result ≡ rounds) ⊎ (result ≡ 0) }
+{
+    match opened(alloc, script) {
+        Some((_operator, mut worker)) => section_rounds(&mut worker, rounds),
+        None => 0,
+    }
+}
+
+/// Enters a section, judges a packet there and leaves.
+#[unsafe(no_mangle)]
+pub extern "C" fn measured_judge(alloc: Global, script: &[u8], packet: &[u8], rounds: u64) -> u64
+    requires packet { length packet.now ≤ 65535 }
+    ensures rounds { (result ≡ rounds) ⊎ (result ≡ 0) }
+{
+    match opened(alloc, script) {
+        Some((_operator, mut worker)) => judge_rounds(&mut worker, packet, rounds),
+        None => 0,
+    }
+}
+
+/// Gives a line to the operator.
+#[unsafe(no_mangle)]
+pub extern "C" fn measured_line(alloc: Global, script: &[u8], text: &[u8], rounds: u64) -> u64
+    ensures rounds { (result ≡ rounds) ⊎ (result ≡ 0) }
+{
+    match opened(alloc, script) {
+        Some((mut operator, _worker)) => line_rounds(alloc, text, &mut operator, rounds),
+        None => 0,
+    }
+}
+
+/// Makes the next configuration, with another selector of the group 10.0.0.2:53, and publishes it where `publishes` is not 0.
+#[unsafe(no_mangle)]
+pub extern "C" fn measured_change(alloc: Global, script: &[u8], publishes: u64, rounds: u64) -> u64
+    ensures rounds { result ≤ rounds }
+{
+    match opened(alloc, script) {
+        Some((mut operator, _worker)) => change(alloc, &mut operator, publishes != 0, rounds),
+        None => 0,
+    }
+}

@@ -1,0 +1,77 @@
+//! The calls, repeated.
+
+ghost use Rattle.std.specs.Prelude.{◌≡◌, ◌≤◌, length};
+
+use bpf_insn::Words;
+use bpf_verify::Program;
+use control_line::line;
+use ipv4_fields::Endpoint;
+use member_group::{Command, Config};
+use packet_verdict::judge;
+use read_section::{Operator, Worker};
+use retire::Retire;
+use std::alloc::Global;
+
+pub(crate) fn section_rounds(worker: &mut Worker, rounds: u64) -> u64
+    ensures { result ≡ rounds }
+{
+    for _ in 0..rounds {
+        let mut section = worker.enter();
+        if section.count() > 0 {
+            let _ = section.word(0);
+        }
+        section.leave();
+    }
+    rounds
+}
+
+pub(crate) fn judge_rounds(worker: &mut Worker, packet: &[u8], rounds: u64) -> u64
+    requires { length packet.now ≤ 65535 }
+    ensures { result ≡ rounds }
+{
+    for _ in 0..rounds {
+        let mut section = worker.enter();
+        let _ = judge(&mut section, packet);
+        section.leave();
+    }
+    rounds
+}
+
+pub(crate) fn line_rounds(alloc: Global, text: &[u8], operator: &mut Operator, rounds: u64) -> u64
+    ensures { result ≡ rounds }
+{
+    for _ in 0..rounds {
+        let _ = line(alloc, text, operator);
+    }
+    rounds
+}
+
+// The configuration with a selector of one instruction, `ret #0`, for the group.
+fn changed(alloc: Global, config: &Config) -> Option<Config> {
+    let Ok(words) = vec![in alloc; 0x0006_0000_0000_0000; 1] else {
+        return None;
+    };
+    let key = Endpoint {
+        address: 0x0a00_0002,
+        port: 53,
+    };
+    let Ok(program) = Program::new(words) else {
+        return None;
+    };
+    config.apply(&Command::SetSelector { key, program }).ok()
+}
+
+/// Makes the next configuration, and publishes it where that is asked. Stops where it cannot.
+pub(crate) fn change(alloc: Global, operator: &mut Operator, publishes: bool, rounds: u64) -> u64
+    ensures { result ≤ rounds }
+{
+    for round in 0..rounds {
+        let Some(next) = changed(alloc, operator.config()) else {
+            return round;
+        };
+        if publishes && operator.publish(next).is_err() {
+            return round;
+        }
+    }
+    rounds
+}

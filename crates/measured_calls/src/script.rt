@@ -1,0 +1,28 @@
+//! A table at the configuration that a script makes.
+
+use control_line::line;
+use member_group::Config;
+use read_section::{Operator, Worker, open};
+use std::alloc::Global;
+
+// Gives each line that an LF ends to the operator. What it answers is passed over.
+fn give_lines(alloc: Global, script: &[u8], operator: &mut Operator) {
+    let mut from = 0;
+    for place in 0..script.len() {
+        if script[place] == b'\n' {
+            if from <= place {
+                let _ = line(alloc, &script[from..place], operator);
+            }
+            from = place + 1;
+        }
+    }
+}
+
+/// An operator at the script's configuration, and a worker of its table. `None` where memory was refused.
+pub(crate) fn opened(alloc: Global, script: &[u8]) -> Option<(Operator, Worker)> {
+    let Ok((mut operator, mut workers)) = open(Config::new(alloc)) else {
+        return None;
+    };
+    give_lines(alloc, script, &mut operator);
+    Some((operator, workers.pop()?))
+}
