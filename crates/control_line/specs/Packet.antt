@@ -1,10 +1,14 @@
 -- A packet as hexadecimal digits (docs/COMMANDS.md, "run").
-use Rattle.std.specs.Prelude.{◌≡◌, ◌<◌, ◌≤◌, ◌%◌, ◌*◌, List, Ok, length, ℕ}
+use Rattle.std.specs.Prelude.{◌≡◌, ◌<◌, ◌≤◌, ◌%◌, ◌*◌, List, Ok, length, unwrap_or, ℕ}
 use Rattle.std.specs.List.{AllPass}
 use Rattle.bpf_machine.specs.declared.TheConstants.{MAX_PACKET}
-use Rattle.hex.specs.Hex.{decode_of, is_hex_digit}
+use Rattle.hex.specs.Hex.{decode_of, hex_digit_value, is_hex_digit}
 use Rattle.control_line.specs.declared.reason.Reason.{Reason}
 use Rattle.control_line.specs.declared.reason.Reason.TheVariants.{BadForm, PacketTooLong}
+
+-- what a byte is worth as a hexadecimal digit of either case; 16 is no digit
+abbrev pub digit_worth : ℕ → ℕ
+digit_worth byte = unwrap_or (hex_digit_value byte) 16
 
 -- an even number of hexadecimal digits of either case, possibly none
 pub record IsHex (text : List ℕ) : Type 0 where

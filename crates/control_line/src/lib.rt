@@ -22,7 +22,7 @@ mod reply;
 mod request;
 
 use change::publish_change;
-pub use packet::packet_of_hex;
+pub use packet::{packet_of_hex, read_packet};
 use program::LineFault;
 use read_section::Operator;
 pub use reason::{Code, Reason};
