@@ -1,5 +1,4 @@
-use Rattle.std.proofs.Common.{◌*◌, ◌+◌, ◌/◌, ◌<◌, ◌≡◌, ◌≤◌, ◌^◌, Some, arith, inr, slice_get, subst, sym, ℕ, ◌∙◌}
-use Rattle.read_section.specs.Section.{held_words}
+use Rattle.std.proofs.Common.{◌≤◌, arith, inr, subst, sym, ℕ}
 use Rattle.read_section.specs.Worker.{WorkerValue}
 use Rattle.read_section.specs.body.Found.{Knows}
 use Rattle.read_section.proofs.ReadLemmas.{none_fetched, read_behind, read_last}

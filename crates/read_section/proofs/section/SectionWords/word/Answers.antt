@@ -1,10 +1,7 @@
-use Rattle.std.proofs.Common.{◌+◌, ◌-◌, ◌/◌, ◌%◌, ◌<◌, ◌≡◌, ◌≤◌, Some, ap, arith, inl, refl, slice_get, subst, sym, ℕ, ◌∙◌}
-use Rattle.versions.specs.Safety.{IsHeldPlace}
-use Rattle.versions.specs.Table.{the_shape}
-use Rattle.read_section.specs.Section.{borrow_of, held_words, worker_of}
+use Rattle.std.proofs.Common.{Some, ap, arith, inl, refl, subst, sym, ◌∙◌}
+use Rattle.read_section.specs.Section.{borrow_of, worker_of}
 use Rattle.read_section.specs.Worker.{WorkerValue}
 use Rattle.read_section.specs.body.Found.{Knows}
-use Rattle.read_section.specs.body.Steps.{SeesWord}
 use Rattle.read_section.proofs.AheadLemmas.{fast_held, fast_reads, fast_value, fast_within}
 use Rattle.read_section.proofs.FrontLemmas.{front_held, front_reads, front_value}
 use Rattle.read_section.proofs.ReadLemmas.{none_fetched, pinned_kept, read_last}
