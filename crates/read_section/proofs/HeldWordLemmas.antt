@@ -1,5 +1,5 @@
 -- Words of the version that is held: where they stand, and what a fetch of them gives.
-use Rattle.std.proofs.Common.{◌≡◌, ◌%◌, ◌^◌, ℕ, zero, suc, ◌*◌, ◌+◌, ◌-◌, ◌<◌, ◌≤◌, List, [], ◌∷◌, Some, ap, arith, get_or, inl, inr, length, refl, slice_get, slice_index, slice_index_or, subst, sym, ◌∙◌}
+use Rattle.std.proofs.Common.{◌≡◌, ◌%◌, ◌^◌, ℕ, ◌*◌, ◌+◌, ◌-◌, ◌<◌, ◌≤◌, List, [], Some, ap, arith, get_or, inl, inr, length, refl, slice_get, slice_index, slice_index_or, subst, sym, ◌∙◌}
 use Rattle.std.proofs.lemmas.Option.{get_or_from_slice_get, slice_get-get_or}
 use mathlib.Core.Option.{some}
 use lib.ListN.{get_elem?}
@@ -8,7 +8,7 @@ use Rattle.config_image.specs.Image.{Group, image, programs_begin}
 use Rattle.config_image.specs.Image as of
 use Rattle.config_image.specs.Pooled.{PartsStand, form_word, part_begin, parts, pooled_row}
 use Rattle.config_image.proofs.PooledLemmas.{parts_stand}
-use Rattle.versions.specs.declared.layout.TheConstants.{PAGES, POOL_BEGIN, ROWS, ROWS_BEGIN, TABLE_WORDS}
+use Rattle.versions.specs.declared.layout.TheConstants.{ROWS, ROWS_BEGIN, TABLE_WORDS}
 use Rattle.versions.specs.declared.view.Stage.{Stage}
 use Rattle.versions.specs.declared.view.Stage.TheVariants.{Announced, Inside, Outside, Peeked}
 use Rattle.versions.specs.Layout.{IsInPage, IsInRow, IsPartPlace, page_begin, row_begin}

@@ -17,7 +17,7 @@ use Rattle.config_image.specs.declared.TheConstants.{PAGE_LIMIT, PAGE_WORDS, ROW
 use Rattle.versions.specs.declared.layout.TheConstants.{LAST_NUMBER, ROWS, ROWS_BEGIN, WORKERS}
 use Rattle.versions.specs.declared.view.OperatorView.{OperatorView}
 use Rattle.versions.specs.declared.step.Step.TheVariants.{Fill, Publish, Scan}
-use Rattle.versions.specs.Layout.{HoldsForm, all_rows, current_word, page_begin, pages_named, row_begin, rows_begin, stored_words}
+use Rattle.versions.specs.Layout.{HoldsForm, all_rows, current_word, page_begin, pages_named, row_begin, rows_begin}
 use Rattle.versions.specs.Step.{entry}
 use Rattle.versions.specs.View.{after_fill, after_proposal, after_scan}
 use Rattle.versions.specs.Free.{IsFree, IsFreePage, IsFreeRow, number_after}

@@ -1,5 +1,5 @@
 -- The operator's steps keep the rule, and what each tells.
-use Rattle.std.proofs.Common.{Contains, ◌≡◌, ℕ, ◌+◌, ◌*◌, ◌%◌, ◌^◌, ◌-◌, ◌<◌, ◌≤◌, List, [], ◌∷◌, Some, ap, arith, get_or, refl, set, slice_index, subst, sym, ◌∙◌}
+use Rattle.std.proofs.Common.{Contains, ◌≡◌, ℕ, ◌+◌, ◌%◌, ◌^◌, ◌-◌, ◌<◌, ◌≤◌, List, [], ◌∷◌, Some, ap, arith, refl, set, slice_index, subst, sym, ◌∙◌}
 use Rattle.std.proofs.lemmas.List.{append-nil}
 use Rattle.std.proofs.lemmas.Nat.{mod-mul-add}
 use mathlib.Core.Option.{some, some-injective}

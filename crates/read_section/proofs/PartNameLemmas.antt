@@ -1,15 +1,13 @@
 -- What the names in a row in the pooled form tell of the parts, and what a search among them finds.
-use Rattle.std.proofs.Common.{◌≡◌, ℕ, ◌+◌, ◌*◌, ◌-◌, ◌/◌, ◌%◌, ◌<◌, ◌≤◌, List, Some, ap, arith, drop, get_or, inl, inr, length, length-drop, length-take, refl, slice_get, slice_index, subst, sym, take, ◌∙◌}
+use Rattle.std.proofs.Common.{◌≡◌, ℕ, ◌+◌, ◌*◌, ◌<◌, ◌≤◌, List, Some, ap, arith, drop, get_or, inl, inr, length, length-drop, length-take, slice_get, slice_index, sym, ◌∙◌}
 use Rattle.std.proofs.lemmas.Bool.{cases_lt}
 use Rattle.std.proofs.lemmas.List.{get_or-drop, get_or-take}
-use Rattle.std.specs.List.{All}
 use Rattle.std.proofs.lemmas.Option.{get_or_from_slice_get, slice_get-get_or, slice_get_within}
-use Rattle.config_image.specs.declared.TheConstants.{PAGE_LIMIT, ROW_WORDS}
+use Rattle.config_image.specs.declared.TheConstants.{ROW_WORDS}
 use Rattle.config_image.specs.Image.{Group, image, programs_begin}
 use Rattle.config_image.specs.Pooled.{ArePages, PartsStand, PooledRowTells, part_begin, parts, pooled_row}
 use Rattle.config_image.proofs.PooledLemmas.{row_tells_with_room}
 use Rattle.part_search.specs.declared.found.FoundPart.{FoundPart}
-use Rattle.versions.specs.declared.layout.TheConstants.{PAGES}
 use Rattle.read_section.specs.body.Found.{HasPages}
 use Rattle.read_section.specs.body.Sought.{names_of}
 use Rattle.part_search.specs.Names.{HoldsPlace, IsWithin, page_of, start_of}

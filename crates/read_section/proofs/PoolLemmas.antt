@@ -10,7 +10,7 @@ use Rattle.config_image.specs.Image.{Group}
 use Rattle.versions.specs.declared.book.Book.{Book}
 use Rattle.versions.specs.declared.layout.TheConstants.{PAGES, ROWS}
 use Rattle.versions.specs.declared.view.OperatorView.{OperatorView}
-use Rattle.versions.specs.Free.{IsFree, IsFreePage, IsFreeRow, Names}
+use Rattle.versions.specs.Free.{IsFree, IsFreeRow, Names}
 use Rattle.versions.specs.Table.{the_shape}
 use Rattle.versions.proofs.BookLemmas.{free_below, free_row_is}
 use Rattle.versions.proofs.ListLemmas.{elem_below, elem_there, get_elem_or, has_or_not}

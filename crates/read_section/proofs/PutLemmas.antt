@@ -3,17 +3,17 @@ use Rattle.std.proofs.Common.{◌≡◌, ◌∙◌, ℕ, ◌+◌, ◌-◌, ◌*�
 use Rattle.std.proofs.lemmas.List.{ext_get_or, get_or-drop, get_or-take, length-take-le}
 use Rattle.config_image.specs.declared.TheConstants.{PAGE_LIMIT, ROW_WORDS}
 use Rattle.config_image.specs.Image.{Group}
-use Rattle.config_image.specs.Pooled.{page_of, pages_of, parts}
+use Rattle.config_image.specs.Pooled.{page_of, pages_of}
 use Rattle.config_image.proofs.PooledLemmas.{few_in_row}
 use Rattle.member_group.specs.Charge.{charge_of}
 use Rattle.versions.specs.declared.book.Book.{Book}
-use Rattle.versions.specs.declared.layout.TheConstants.{PAGES, ROWS, ROWS_BEGIN, TABLE_WORDS}
+use Rattle.versions.specs.declared.layout.TheConstants.{PAGES, ROWS, ROWS_BEGIN}
 use Rattle.versions.specs.declared.view.OperatorView.{OperatorView}
-use Rattle.versions.specs.Layout.{HoldsForm, pages_named, row_at, stored_words}
+use Rattle.versions.specs.Layout.{HoldsForm, pages_named, row_at}
 use Rattle.versions.specs.Pooled.{HasRoom}
 use Rattle.versions.specs.Table.{the_shape}
 use Rattle.versions.proofs.PooledLemmas as pooled
-use Rattle.versions.proofs.ShapeLemmas.{named_is, pages_is, parts_is, row_words_is, rows_is}
+use Rattle.versions.proofs.ShapeLemmas.{named_is, pages_is, parts_is, rows_is}
 use Rattle.versions.proofs.WorldLemmas.{has_room}
 use Rattle.read_section.specs.Layout.{HoldsConfig, IsPublishable}
 use Rattle.read_section.specs.body.OperatorKept.{IsKeptBy}

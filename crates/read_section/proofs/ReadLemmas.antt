@@ -1,5 +1,5 @@
 -- Fetches of words of the version that is held, one after another.
-use Rattle.std.proofs.Common.{◌≡◌, ℕ, zero, suc, ◌+◌, ◌<◌, ◌≤◌, List, [], ◌∷◌, ◌++◌, ap, append_assoc, arith, length, length-append, refl, slice_index_or, subst, sym, ◌∙◌}
+use Rattle.std.proofs.Common.{◌≡◌, ℕ, suc, ◌<◌, List, [], ◌∷◌, ◌++◌, ap, append_assoc, arith, length-append, refl, slice_index_or, subst, sym, ◌∙◌}
 use Rattle.config_image.specs.Image.{Group}
 use Rattle.versions.specs.declared.step.Step.{Step}
 use Rattle.versions.specs.declared.step.Step.TheVariants.{Fetch}
@@ -13,7 +13,7 @@ use Rattle.versions.specs.Table.{the_shape}
 use Rattle.read_section.specs.Reads.{AreFetchesIn, Reads, TellsWordAt, with_log}
 use Rattle.read_section.specs.Section.{at_pin, before_fetch, before_fetches}
 use Rattle.read_section.specs.Worker.{WorkerValue, steps}
-use Rattle.read_section.specs.body.Sought.{Fetched, FetchedAtMost}
+use Rattle.read_section.specs.body.Sought.{Fetched}
 use Rattle.read_section.specs.body.Steps.{SeesWord}
 
 pub none_fetched : (worker : WorkerValue) → Fetched 0 worker worker

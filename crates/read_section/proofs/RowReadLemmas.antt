@@ -1,9 +1,9 @@
 -- What the last fetch of a read tells: of a word of the row, of a word of a part, and of the row's first word.
-use Rattle.std.proofs.Common.{◌≡◌, ◌⊎◌, ℕ, ◌+◌, ◌-◌, ◌/◌, ◌%◌, ◌*◌, ◌<◌, ◌≤◌, ◌^◌, List, [], Some, ap, arith, inl, inr, length, refl, slice_get, slice_index, slice_index_or, subst, sym, ◌∙◌, ⊎_elim}
+use Rattle.std.proofs.Common.{◌≡◌, ◌⊎◌, ℕ, ◌+◌, ◌-◌, ◌/◌, ◌%◌, ◌*◌, ◌<◌, ◌≤◌, ◌^◌, List, [], Some, ap, arith, length, refl, slice_get, slice_index_or, subst, sym, ◌∙◌, ⊎_elim}
 use Rattle.std.proofs.lemmas.Option.{get_or_from_slice_get, slice_get-get_or}
 use Rattle.config_image.specs.declared.TheConstants.{ROW_WORDS}
 use Rattle.config_image.specs.Image.{Group, image, programs_begin}
-use Rattle.config_image.specs.Pooled.{ArePages, PooledRowTells, form_word, pooled_row}
+use Rattle.config_image.specs.Pooled.{PooledRowTells, form_word, pooled_row}
 use Rattle.versions.specs.declared.layout.TheConstants.{ROWS_BEGIN}
 use Rattle.versions.specs.declared.view.Stage.TheVariants.{Inside}
 use Rattle.versions.specs.Layout.{row_begin}

@@ -1,24 +1,23 @@
 -- The search for the part of a word that is sought: its fetches, and what they tell.
-use Rattle.std.proofs.Common.{◌≡◌, ℕ, ◌*◌, ◌+◌, ◌-◌, ◌/◌, ◌%◌, ◌^◌, ◌<◌, ◌≤◌, List, [], Some, ap, arith, get_or, inl, inr, length, refl, slice_get, slice_index, slice_index_or, subst, sym, ◌∙◌}
+use Rattle.std.proofs.Common.{◌≡◌, ℕ, ◌*◌, ◌+◌, ◌-◌, ◌/◌, ◌%◌, ◌^◌, ◌<◌, ◌≤◌, List, [], Some, ap, arith, get_or, inl, inr, length, slice_get, slice_index, subst, sym, ◌∙◌}
 use Rattle.std.proofs.lemmas.Bool.{cases_lt}
 use Rattle.std.proofs.lemmas.Option.{get_or_from_slice_get, slice_get-get_or}
 use Rattle.config_image.specs.declared.TheConstants.{PAGE_LIMIT, PAGE_WORDS, ROW_WORDS}
 use Rattle.config_image.specs.Image.{Group, image, programs_begin}
-use Rattle.config_image.specs.Pooled.{ArePages, PartsStand, PooledRowTells, form_word, part_begin, parts, pooled_row}
+use Rattle.config_image.specs.Pooled.{ArePages, PooledRowTells, part_begin, parts, pooled_row}
 use Rattle.part_search.specs.declared.found.FoundPart.{FoundPart}
 use Rattle.part_search.specs.Names.{HoldsPlace, IsWithin, page_of, start_of}
-use Rattle.versions.specs.declared.layout.TheConstants.{POOL_BEGIN, ROWS, ROWS_BEGIN, TABLE_WORDS}
-use Rattle.versions.specs.declared.view.Stage.{Stage}
+use Rattle.versions.specs.declared.layout.TheConstants.{POOL_BEGIN, ROWS_BEGIN, TABLE_WORDS}
 use Rattle.versions.specs.declared.view.Stage.TheVariants.{Inside}
 use Rattle.versions.specs.Layout.{page_begin}
 use Rattle.versions.specs.Safety.{IsHeldPlace}
 use Rattle.versions.specs.Table.{the_shape}
 use Rattle.read_section.specs.declared.found.Found.{Found}
 use Rattle.read_section.specs.Worker.{WorkerValue}
-use Rattle.read_section.specs.body.Found.{HasPages, KnowsAt, KnowsIn, KnowsPart}
+use Rattle.read_section.specs.body.Found.{KnowsIn, KnowsPart}
 use Rattle.read_section.specs.body.Sought.{IsAhead, IsSought, names_of}
 use Rattle.read_section.specs.body.Steps.{SeesWord}
-use Rattle.read_section.proofs.HeldWordLemmas.{config_held, known_again, known_there, row_place_held, row_place_within, row_word_told}
+use Rattle.read_section.proofs.HeldWordLemmas.{config_held, known_again, row_place_held, row_place_within, row_word_told}
 use Rattle.read_section.proofs.PartNameLemmas as part
 use Rattle.read_section.proofs.WorkerSeatLemmas.{page_place_is}
 

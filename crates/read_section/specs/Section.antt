@@ -1,5 +1,5 @@
 -- What a contract sees of a Section: its worker, and what stays of it while its words are read.
-use Rattle.std.specs.Prelude.{◌≡◌, ◌+◌, ◌++◌, ◌∷◌, List, [], length, slice_index_or, ℕ}
+use Rattle.std.specs.Prelude.{◌≡◌, ◌++◌, ◌∷◌, List, [], length, slice_index_or, ℕ}
 use Rattle.std.specs.Borrow.{GName}
 use Rattle.std.specs.List.{Contains}
 use Rattle.config_image.specs.Image.{Group, row}
@@ -10,9 +10,7 @@ use Rattle.versions.specs.declared.step.Entry.{Entry}
 use Rattle.versions.specs.declared.view.WorkerView.{WorkerView}
 use Rattle.versions.specs.declared.view.Stage.{Stage}
 use Rattle.versions.specs.declared.view.Stage.TheVariants.{Inside, Outside}
-use Rattle.versions.specs.Layout.{row_begin}
 use Rattle.versions.specs.Step.{entry}
-use Rattle.versions.specs.View.{after_fetch}
 use Rattle.versions.specs.Safety.{IsHeldPlace}
 use Rattle.versions.specs.Table.{the_shape}
 use Rattle.read_section.specs.declared.section.Section.{Section}
@@ -63,14 +61,6 @@ pub record SectionRest : Type 0 where
 
 abbrev pub section_rest : Section → SectionRest
 section_rest section = record { borrow = borrow_of section; pinned = at_pin (worker_of section) }
-
-abbrev pub fetched_in : Stage → ℕ → ℕ → WorkerValue → WorkerValue
-fetched_in (Inside read_word n r) i x worker = steps (after_fetch (row_begin the_shape r + i) x) worker
-fetched_in _ i x worker = worker
-
--- one fetch more, of place i of the held row, which gave x; no step where no version is held
-abbrev pub fetched : ℕ → ℕ → WorkerValue → WorkerValue
-fetched i x worker = fetched_in worker.view.stage i x worker
 
 -- the step is a fetch of the worker, of a word of the version that it holds
 abbrev pub IsFetchIn : WorkerView (List Group) → Step → Type 0

@@ -13,7 +13,8 @@ use part_search::{FoundPart, Search};
 use versions::{POOL_BEGIN, ROWS_BEGIN};
 
 // The parts of a row's first word: the image's length, where the programs begin, how many parts there are.
-fn length_of(form: u64) -> usize
+#[inline(always)]
+pub(crate) fn length_of(form: u64) -> usize
     ensures { result ≡ form / 2 ^ 32 }
 {
     (form >> 32) as usize
@@ -137,8 +138,9 @@ fn read_image(worker: &mut Worker, row: usize, found: Found, i: usize) -> (u64, 
     (worker.fetch(found.begin + (i - found.at)), found)
 }
 
-// Word i where the row's first word is fetched first.
+// Word i, which is not the first, where the row's first word is fetched first.
 fn read_from_form(worker: &mut Worker, row: usize, found: Found, i: usize) -> (u64, Found)
+    requires some { 0 < i }
     requires known { Knows worker.old.view row found }
     requires held { i < length (held_words worker.old) }
     ensures value { slice_get (held_words worker.old) i ≡ Some result.0 }
@@ -162,25 +164,24 @@ fn read_from_form(worker: &mut Worker, row: usize, found: Found, i: usize) -> (u
         index,
         next,
     };
-    if i == 0 {
-        (length_of(form) as u64, found)
-    } else if length_of(form) <= i {
+    if length_of(form) <= i {
         (0, found)
     } else {
         read_image(worker, row, found, i)
     }
 }
 
-/// Reads word `i`, and tells what is known of places then.
+/// Reads word `i`, which is not the first, and tells what is known of places then.
 #[inline(never)]
 pub(crate) fn read(worker: &mut Worker, row: usize, found: Found, i: usize) -> (u64, Found)
+    requires some { 0 < i }
     requires known { Knows worker.old.view row found }
     requires held { i < length (held_words worker.old) }
     ensures value { slice_get (held_words worker.old) i ≡ Some result.0 }
     ensures few_fetches { FewFetches i result.0 worker.old worker.new }
     ensures known { Knows worker.old.view row result.1 }
 {
-    if 0 < i && i < length_of(found.form) {
+    if i < length_of(found.form) {
         read_image(worker, row, found, i)
     } else {
         read_from_form(worker, row, found, i)

@@ -3,7 +3,7 @@
 ghost use Rattle.read_section.specs.body.Found.{Knows, KnowsIn-prop};
 
 use crate::found::{Found, Kept, NOTHING_FOUND};
-use crate::reading::{heads_of, read};
+use crate::reading::{heads_of, length_of, read};
 use crate::worker::Worker;
 use bpf_insn::Words;
 use config_image::ROW_WORDS;
@@ -54,7 +54,13 @@ impl Words for Section<'_> {
         if ahead < self.kept.found.len {
             return self.worker.fetch(self.kept.found.begin + ahead);
         }
-        if 0 < i && i < heads_of(self.kept.found.form) {
+        if i == 0 {
+            let first = ROWS_BEGIN + self.kept.row * ROW_WORDS;
+            let form = self.worker.fetch(first);
+            self.kept.found.form = form;
+            return length_of(form) as u64;
+        }
+        if i < heads_of(self.kept.found.form) {
             return self
                 .worker
                 .fetch(ROWS_BEGIN + self.kept.row * ROW_WORDS + i);

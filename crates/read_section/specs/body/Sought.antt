@@ -1,5 +1,5 @@
 -- What the search for a part needs, and what it finds.
-use Rattle.std.specs.Prelude.{◌≡◌, ◌+◌, ◌++◌, ◌*◌, ◌/◌, ◌%◌, ◌<◌, ◌≤◌, List, [], drop, length, slice_index, slice_index_or, take, ℕ}
+use Rattle.std.specs.Prelude.{◌≡◌, ◌+◌, ◌++◌, ◌/◌, ◌%◌, ◌<◌, ◌≤◌, List, [], drop, length, slice_index, slice_index_or, take, ℕ}
 use Rattle.config_image.specs.declared.TheConstants.{ROW_WORDS}
 use Rattle.config_image.specs.Image.{Group, image, programs_begin}
 use Rattle.config_image.specs.Pooled.{form_word, part_begin, parts, pooled_row}

@@ -1,5 +1,5 @@
-use Rattle.std.proofs.Common.{◌+◌, ◌-◌, ◌/◌, ◌≡◌, ◌≤◌, arith, refl}
-use Rattle.read_section.proofs.SoughtLemmas.{found_ahead, found_known}
+use Rattle.std.proofs.Common.{arith, refl}
+use Rattle.read_section.proofs.SoughtLemmas.{found_known}
 use Rattle.read_section.proofs.reading.find_part.Goals as goal
 
 pub overflow_sub-result : goal.overflow_sub-result

@@ -1,4 +1,4 @@
-use Rattle.std.proofs.Common.{◌*◌, ◌+◌, ◌/◌, ◌%◌, ◌^◌, ◌<◌, ◌≡◌, ◌≤◌, [], arith, length, slice_index, slice_index_or, subst, sym, ℕ, ◌∙◌}
+use Rattle.std.proofs.Common.{◌*◌, ◌+◌, ◌/◌, ◌^◌, ◌<◌, ◌≡◌, [], arith, length, slice_index_or, subst, sym, ℕ, ◌∙◌}
 use Rattle.config_image.specs.declared.TheConstants.{ROW_WORDS}
 use Rattle.config_image.specs.Pooled.{part_begin, parts}
 use Rattle.versions.specs.declared.layout.TheConstants.{ROWS_BEGIN}

@@ -1,6 +1,6 @@
-use Rattle.std.proofs.Common.{◌+◌, ◌-◌, ◌/◌, ◌<◌, ◌≡◌, ◌≤◌, arith, refl}
+use Rattle.std.proofs.Common.{arith, refl}
 use Rattle.read_section.proofs.HeldWordLemmas.{known_there}
-use Rattle.read_section.proofs.SoughtLemmas.{again_ahead, again_known, behind_end, next_in_range}
+use Rattle.read_section.proofs.SoughtLemmas.{again_known, behind_end, next_in_range}
 use Rattle.read_section.proofs.reading.next_part.Goals as goal
 
 pub name_or_end-behind-requires-clause-index : goal.name_or_end-behind-requires-clause-index

@@ -1,9 +1,8 @@
-use Rattle.std.proofs.Common.{◌*◌, ◌+◌, ◌/◌, ◌<◌, ◌≡◌, ◌≤◌, ◌^◌, Some, ap, arith, inl, inr, slice_get, subst, sym, ℕ, ◌∙◌}
-use Rattle.read_section.specs.Section.{held_words}
+use Rattle.std.proofs.Common.{◌≤◌, arith, inr, subst, sym, ℕ}
 use Rattle.read_section.specs.Worker.{WorkerValue}
 use Rattle.read_section.specs.body.Found.{Knows}
 use Rattle.read_section.proofs.ReadLemmas.{none_fetched, read_behind, read_last}
-use Rattle.read_section.proofs.RowReadLemmas.{first_held, first_knows, first_newest, first_word, zero_word}
+use Rattle.read_section.proofs.RowReadLemmas.{first_held, first_knows, first_newest, zero_word}
 use Rattle.read_section.proofs.reading.read_from_form.Goals as goal
 
 pub fetch-form-requires-clause-held : goal.fetch-form-requires-clause-held
@@ -12,24 +11,13 @@ fetch-form-requires-clause-held c = first_held c.args.worker.now c.args.row c.ar
 pub read_image-requires-clause-known : goal.read_image-requires-clause-known
 read_image-requires-clause-known c = subst (λ (w : WorkerValue). Knows w.view c.args.row (record { form = c.fetch-form.result; at = c.args.found.at; len = c.args.found.len; begin = c.args.found.begin; index = c.args.found.index; next = c.args.found.next })) (sym c.fetch-form.ensures.one_fetch) (first_knows c.args.worker.now c.args.row c.args.found c.args.i c.requires.known c.requires.held c.fetch-form.result c.fetch-form.ensures.word)
 
-pub returns-then-i-eq0-clause-value : goal.returns-then-i-eq0-clause-value
-returns-then-i-eq0-clause-value c = first_word c.args.worker.now c.args.row c.args.found c.args.i c.requires.known c.requires.held c.fetch-form.result c.fetch-form.ensures.word c.if-i-eq0.true ∙ ap Some (sym c.length_of.ensures)
-
-pub returns-then-i-eq0-clause-few_fetches : goal.returns-then-i-eq0-clause-few_fetches
-returns-then-i-eq0-clause-few_fetches c = let w = c.args.worker.now in
-    read_last 0 w w (none_fetched w) c.fetch-form.new.self _ c.fetch-form.result c.fetch-form.ensures.one_fetch (first_held w c.args.row c.args.found c.args.i c.requires.known c.requires.held) 13 c.args.i _ (omega arith)
-    (first_newest w c.args.row c.args.found c.args.i c.requires.known c.requires.held c.fetch-form.result c.fetch-form.ensures.word _ (inl c.if-i-eq0.true))
-
-pub returns-then-i-eq0-clause-known : goal.returns-then-i-eq0-clause-known
-returns-then-i-eq0-clause-known c = first_knows c.args.worker.now c.args.row c.args.found c.args.i c.requires.known c.requires.held c.fetch-form.result c.fetch-form.ensures.word
-
 pub returns-then-length_of-i-clause-value : goal.returns-then-length_of-i-clause-value
-returns-then-length_of-i-clause-value c = zero_word c.args.worker.now c.args.row c.args.found c.args.i c.requires.known c.requires.held c.fetch-form.result c.fetch-form.ensures.word (subst (λ (n : ℕ). n ≤ c.args.i) c.length_of-else-i-eq0.ensures c.if-length_of-i.true)
+returns-then-length_of-i-clause-value c = zero_word c.args.worker.now c.args.row c.args.found c.args.i c.requires.known c.requires.held c.fetch-form.result c.fetch-form.ensures.word (subst (λ (n : ℕ). n ≤ c.args.i) c.length_of.ensures c.if-length_of-i.true)
 
 pub returns-then-length_of-i-clause-few_fetches : goal.returns-then-length_of-i-clause-few_fetches
 returns-then-length_of-i-clause-few_fetches c = let w = c.args.worker.now in
     read_last 0 w w (none_fetched w) c.fetch-form.new.self _ c.fetch-form.result c.fetch-form.ensures.one_fetch (first_held w c.args.row c.args.found c.args.i c.requires.known c.requires.held) 13 c.args.i _ (omega arith)
-    (first_newest w c.args.row c.args.found c.args.i c.requires.known c.requires.held c.fetch-form.result c.fetch-form.ensures.word _ (inr (subst (λ (n : ℕ). n ≤ c.args.i) c.length_of-else-i-eq0.ensures c.if-length_of-i.true)))
+    (first_newest w c.args.row c.args.found c.args.i c.requires.known c.requires.held c.fetch-form.result c.fetch-form.ensures.word _ (inr (subst (λ (n : ℕ). n ≤ c.args.i) c.length_of.ensures c.if-length_of-i.true)))
 
 pub returns-then-length_of-i-clause-known : goal.returns-then-length_of-i-clause-known
 returns-then-length_of-i-clause-known c = first_knows c.args.worker.now c.args.row c.args.found c.args.i c.requires.known c.requires.held c.fetch-form.result c.fetch-form.ensures.word

@@ -1,6 +1,5 @@
-use Rattle.std.proofs.Common.{Some, ◌+◌, ◌-◌, ◌/◌, ◌<◌, ◌≡◌, ◌≤◌, ◌^◌, ap, arith, get_or, inl, inr, refl, slice_get, slice_index, subst, sym, ℕ, ◌∙◌, ⊎_elim}
-use Rattle.std.proofs.lemmas.Option.{get_or_from_slice_get}
-use Rattle.read_section.proofs.HeldWordLemmas.{held_stage, image_word_held, known_there, part_in_programs, part_page, part_place_held, part_place_within, part_word_told, row_place_held, row_place_is, small_in_row}
+use Rattle.std.proofs.Common.{arith}
+use Rattle.read_section.proofs.HeldWordLemmas.{held_stage, image_word_held, known_there, part_place_held, part_place_within, part_word_told, row_place_held, small_in_row}
 use Rattle.read_section.proofs.ReadLemmas.{held_after, none_fetched, read_last, sees_before}
 use Rattle.read_section.proofs.RowReadLemmas.{ahead_newest, head_newest, head_word, sought_there}
 use Rattle.read_section.proofs.reading.read_image.Goals as goal

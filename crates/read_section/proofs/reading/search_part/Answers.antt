@@ -1,4 +1,4 @@
-use Rattle.std.proofs.Common.{◌*◌, ◌+◌, ◌/◌, ◌<◌, ◌^◌, [], Some, ap, arith, length, slice_get, slice_index_or, subst, suc, sym, ℕ, ◌∙◌, ◌≡◌}
+use Rattle.std.proofs.Common.{◌*◌, ◌+◌, ◌/◌, ◌^◌, [], Some, arith, length, slice_get, slice_index_or, subst, suc, sym, ℕ, ◌∙◌, ◌≡◌}
 use Rattle.config_image.specs.declared.TheConstants.{ROW_WORDS}
 use Rattle.config_image.specs.Image.{image}
 use Rattle.part_search.specs.Names.{HoldsPlace, IsWithin}

@@ -1,5 +1,4 @@
-use Rattle.std.proofs.Common.{◌≡◌, ◌∙◌, ◌++◌, ◌∷◌, [], ap, arith, length}
-use Rattle.versions.specs.World.{first_pages}
+use Rattle.std.proofs.Common.{◌∙◌, ◌++◌, ◌∷◌, [], ap, arith, length}
 use Rattle.read_section.proofs.FilledLemmas.{first_pages-more}
 use Rattle.read_section.proofs.current_pages.CurrentPages.first.Goals as goal
 

@@ -1,6 +1,5 @@
-use Rattle.std.proofs.Common.{length, subst, sym, ℕ, ◌<◌, ◌≡◌}
+use Rattle.std.proofs.Common.{subst, sym, ℕ, ◌<◌}
 use Rattle.versions.specs.Free.{IsFreePage}
-use Rattle.versions.specs.Layout.{stored_words}
 use Rattle.versions.specs.Table.{the_shape}
 use Rattle.versions.proofs.ShapeLemmas.{page_words_is}
 use Rattle.read_section.specs.body.OperatorKept.{IsKeptBy}

@@ -1,9 +1,7 @@
-use Rattle.std.proofs.Common.{ℕ, IsTrue, arith, false, refl, subst, sym, true, ◌<◌, ◌≡◌, ◌≤◌, ◌∙◌, ◌↔◌, ⊎_elim}
+use Rattle.std.proofs.Common.{IsTrue, arith, false, subst, sym, true, ◌<◌, ◌≡◌, ◌≤◌, ◌∙◌, ◌↔◌, ⊎_elim}
 use Rattle.std.proofs.lemmas.Bool.{cases_lt}
 use mathlib.Core.Logic.{dite}
 use native.Mathlib.Decide.{ℕ_discrete}
-use Rattle.versions.specs.declared.layout.TheConstants.{PAGES}
-use Rattle.versions.specs.declared.view.OperatorView.{OperatorView}
 use Rattle.versions.specs.Free.{IsFreePage}
 use Rattle.versions.specs.Table.{the_shape}
 use Rattle.versions.proofs.ShapeLemmas.{pages_is}

@@ -1,5 +1,4 @@
 use Rattle.std.proofs.Common.{ℕ, ◌<◌, ◌≤◌}
-use Rattle.versions.specs.declared.view.OperatorView.{OperatorView}
 use Rattle.versions.specs.Free.{IsFreePage}
 use Rattle.versions.specs.Table.{the_shape}
 use Rattle.read_section.proofs.operator.Operator.free_page.Given as goal

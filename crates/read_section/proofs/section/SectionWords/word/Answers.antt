@@ -1,11 +1,11 @@
-use Rattle.std.proofs.Common.{◌+◌, ◌-◌, ◌/◌, ◌%◌, ◌<◌, ◌≡◌, ◌≤◌, Some, ap, arith, refl, slice_get, subst, sym, ℕ, ◌∙◌}
-use Rattle.versions.specs.Safety.{IsHeldPlace}
-use Rattle.versions.specs.Table.{the_shape}
-use Rattle.read_section.specs.Section.{borrow_of, held_words, worker_of}
-use Rattle.read_section.specs.body.Steps.{SeesWord}
+use Rattle.std.proofs.Common.{Some, ap, arith, inl, refl, subst, sym, ◌∙◌}
+use Rattle.read_section.specs.Section.{borrow_of, worker_of}
+use Rattle.read_section.specs.Worker.{WorkerValue}
+use Rattle.read_section.specs.body.Found.{Knows}
 use Rattle.read_section.proofs.AheadLemmas.{fast_held, fast_reads, fast_value, fast_within}
 use Rattle.read_section.proofs.FrontLemmas.{front_held, front_reads, front_value}
-use Rattle.read_section.proofs.ReadLemmas.{pinned_kept}
+use Rattle.read_section.proofs.ReadLemmas.{none_fetched, pinned_kept, read_last}
+use Rattle.read_section.proofs.RowReadLemmas.{first_held, first_knows, first_newest, first_word}
 use Rattle.read_section.proofs.section.SectionWords.word.Goals as goal
 
 pub overflow_add-self : goal.overflow_add-self
@@ -28,12 +28,30 @@ returns-clause-rest_kept c = let s = c.args.self.now in λ j. record { borrow = 
 
 pub fetch-requires-then-i-heads_of-clause-held : goal.fetch-requires-then-i-heads_of-clause-held
 fetch-requires-then-i-heads_of-clause-held c = let s = c.args.self.now in let e = c.heads_of.ensures in let low = c.if-i-heads_of.true in
-    front_held (worker_of s) s.kept.row s.kept.found c.args.i s.known c.requires c.if-i-gt0.true (omega arith)
+    front_held (worker_of s) s.kept.row s.kept.found c.args.i s.known c.requires (omega arith) (omega arith)
 
 pub returns-then-i-heads_of-clause-value : goal.returns-then-i-heads_of-clause-value
 returns-then-i-heads_of-clause-value c = let s = c.args.self.now in let e = c.heads_of.ensures in let low = c.if-i-heads_of.true in
-    front_value (worker_of s) s.kept.row s.kept.found c.args.i s.known c.requires c.if-i-gt0.true (omega arith) c.fetch-then-i-heads_of.result c.fetch-then-i-heads_of.ensures.word
+    front_value (worker_of s) s.kept.row s.kept.found c.args.i s.known c.requires (omega arith) (omega arith) c.fetch-then-i-heads_of.result c.fetch-then-i-heads_of.ensures.word
 
 pub returns-then-i-heads_of-clause-few_fetches : goal.returns-then-i-heads_of-clause-few_fetches
 returns-then-i-heads_of-clause-few_fetches c = let s = c.args.self.now in let e = c.heads_of.ensures in let low = c.if-i-heads_of.true in
-    front_reads (worker_of s) s.kept.row s.kept.found c.args.i s.known c.requires c.if-i-gt0.true (omega arith) c.fetch-then-i-heads_of.result c.fetch-then-i-heads_of.new.self c.fetch-then-i-heads_of.ensures.one_fetch
+    front_reads (worker_of s) s.kept.row s.kept.found c.args.i s.known c.requires (omega arith) (omega arith) c.fetch-then-i-heads_of.result c.fetch-then-i-heads_of.new.self c.fetch-then-i-heads_of.ensures.one_fetch
+
+pub fetch-form-requires-clause-held : goal.fetch-form-requires-clause-held
+fetch-form-requires-clause-held c = let s = c.args.self.now in first_held (worker_of s) s.kept.row s.kept.found c.args.i s.known c.requires
+
+pub invariant_of-self-then-i-eq0 : goal.invariant_of-self-then-i-eq0
+invariant_of-self-then-i-eq0 c = let s = c.args.self.now in record {
+  known = subst (λ (w : WorkerValue). Knows w.view s.kept.row (record { form = c.fetch-form.result; at = s.kept.found.at; len = s.kept.found.len; begin = s.kept.found.begin; index = s.kept.found.index; next = s.kept.found.next })) (sym c.fetch-form.ensures.one_fetch)
+      (first_knows (worker_of s) s.kept.row s.kept.found c.args.i s.known c.requires c.fetch-form.result c.fetch-form.ensures.word);
+}
+
+pub returns-then-i-eq0-clause-value : goal.returns-then-i-eq0-clause-value
+returns-then-i-eq0-clause-value c = let s = c.args.self.now in
+    first_word (worker_of s) s.kept.row s.kept.found c.args.i s.known c.requires c.fetch-form.result c.fetch-form.ensures.word c.if-i-eq0.true ∙ ap Some (sym c.length_of.ensures)
+
+pub returns-then-i-eq0-clause-few_fetches : goal.returns-then-i-eq0-clause-few_fetches
+returns-then-i-eq0-clause-few_fetches c = let s = c.args.self.now in let w = worker_of s in
+    read_last 0 w w (none_fetched w) c.fetch-form.new.self _ c.fetch-form.result c.fetch-form.ensures.one_fetch (first_held w s.kept.row s.kept.found c.args.i s.known c.requires) 13 c.args.i _ (omega arith)
+    (first_newest w s.kept.row s.kept.found c.args.i s.known c.requires c.fetch-form.result c.fetch-form.ensures.word _ (inl c.if-i-eq0.true))
