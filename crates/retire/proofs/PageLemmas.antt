@@ -128,7 +128,7 @@ module _ (before : OperatorValue) (pages words : List ℕ) (free : AreFreePages 
   cut = parts_of words
 
   pub no_word_yet : FillsPages before before pages cut × BeginsIn before pages words 0
-  no_word_yet = (record { steps = no_steps (IsFillOfPart pages cut) before; rows = λ q i low small. refl; others = λ q k none low small. refl }, λ j low. absurd (omega arith))
+  no_word_yet = (record { steps = no_steps (IsFillOfPart before pages cut) before; rows = λ q i low small. refl; others = λ q k none low small. refl }, λ j low. absurd (omega arith))
 
   pub page_there : (n : ℕ) → n < length words → slice_get pages (n / PAGE_WORDS) ≡ Some (slice_index pages (n / PAGE_WORDS))
   page_there n low = slice_get-get_or pages (n / PAGE_WORDS) 0 (omega (arith, counted))
@@ -144,13 +144,14 @@ module _ (before : OperatorValue) (pages words : List ℕ) (free : AreFreePages 
       let in_pool : page < the_shape.pages = (free.free (n / PAGE_WORDS) page here).0 in
       let found = word_part (pages_for (length words)) words n low (omega arith) in (
         subst (λ (o : OperatorValue). FillsPages before o pages cut) (sym e) (record {
-          steps = one_step_more (IsFillOfPart pages cut) before now (page_begin the_shape page + place) (slice_index words n) h.steps (record {
+          steps = one_step_more (IsFillOfPart before pages cut) before now (page_begin the_shape page + place) (slice_index words n) h.steps (record {
             index = n / PAGE_WORDS;
             page = page;
             k = place;
             x = slice_index words n;
             part = found.0;
             page_is = here;
+            free = free.free (n / PAGE_WORDS) page here;
             part_is = found.1;
             word_is = ap (slice_get found.0) place_is ∙ found.2;
             fill = refl;
@@ -195,28 +196,30 @@ module _ (before now after : OperatorValue) (done own : List ℕ) (first second 
   abbrev Below : Type 0
   Below = (i page : ℕ) → slice_get done i ≡ Some page → page < PAGES
 
-  pub parts_then : Apart → Below → ((i : ℕ) (part : List ℕ) → slice_get first i ≡ Some part → length part ≤ PAGE_WORDS) → FillsParts before now done first → FillsParts now after own second → FillsParts before after (done ++ own) (first ++ second)
-  parts_then apart under sizes h more = record {
+  pub parts_then : Apart → Below → ((i page : ℕ) → slice_get own i ≡ Some page → IsFreePage the_shape before.view page) → ((i : ℕ) (part : List ℕ) → slice_get first i ≡ Some part → length part ≤ PAGE_WORDS) → FillsParts before now done first → FillsParts now after own second → FillsParts before after (done ++ own) (first ++ second)
+  parts_then apart under free sizes h more = record {
     fills = record {
-      steps = steps_then (IsFillOfPart (done ++ own) (first ++ second)) before now after
-          (steps_on (IsFillOfPart done first) (IsFillOfPart (done ++ own) (first ++ second)) (λ e t. record {
+      steps = steps_then (IsFillOfPart before (done ++ own) (first ++ second)) before now after
+          (steps_on (IsFillOfPart before done first) (IsFillOfPart before (done ++ own) (first ++ second)) (λ e t. record {
             index = t.index;
             page = t.page;
             k = t.k;
             x = t.x;
             part = t.part;
             page_is = slice_get-front done own t.index t.page t.page_is;
+            free = t.free;
             part_is = slice_get-front first second t.index t.part t.part_is;
             word_is = t.word_is;
             fill = t.fill;
           }) before now h.fills.steps)
-          (steps_on (IsFillOfPart own second) (IsFillOfPart (done ++ own) (first ++ second)) (λ e t. record {
+          (steps_on (IsFillOfPart now own second) (IsFillOfPart before (done ++ own) (first ++ second)) (λ e t. record {
             index = length done + t.index;
             page = t.page;
             k = t.k;
             x = t.x;
             part = t.part;
             page_is = slice_get-back done own t.index (length done) t.page t.page_is refl;
+            free = free t.index t.page t.page_is;
             part_is = slice_get-back first second t.index (length done) t.part t.part_is (sym same);
             word_is = t.word_is;
             fill = t.fill;
@@ -255,7 +258,7 @@ none_filled before pages all rest is = record {
   pages_are = refl;
   parts_are = sym is;
   counted = refl;
-  filled = record { fills = record { steps = no_steps (IsFillOfPart [] []) before; rows = λ q i low small. refl; others = λ q k none low small. refl }; standing = λ index page k x part at there word. absurd (none_some page at) };
+  filled = record { fills = record { steps = no_steps (IsFillOfPart before [] []) before; rows = λ q i low small. refl; others = λ q k none low small. refl }; standing = λ index page k x part at there word. absurd (none_some page at) };
 }
 
 module _ (before now : OperatorValue) (pages left : List ℕ) (all rest : List (List ℕ)) (free : AreFreePages before pages) (h : FillsSome before now pages left all rest) where
@@ -289,6 +292,7 @@ module _ (before now : OperatorValue) (pages left : List ℕ) (all rest : List (
         (λ i j page at there. let low = slice_get_within h.done i page at in
         let up = free.rise i (length h.done + j) page page (omega arith) (in_done i page at) (in_all j page (ap (λ l. slice_get l j) more_pages ∙ slice_get-front own left' j page there)) in omega arith)
         (λ i page at. under i page (in_done i page at))
+        (λ i page at. free.free (length h.done + i) page (in_all i page (ap (λ l. slice_get l i) more_pages ∙ slice_get-front own left' i page at)))
         (λ i part at. sizes i part (ap (λ l. slice_get l i) h.parts_are ∙ slice_get-front h.cut rest i part at))
         h.filled filled;
   }

@@ -1,11 +1,12 @@
 -- Scans of all workers, and what a publication is made of.
-use Rattle.std.proofs.Common.{IfNone, ◌≡◌, ◌⊎◌, ℕ, ◌+◌, ◌*◌, ◌<◌, List, [], ◌∷◌, ◌++◌, None, Option, Some, ap, arith, inl, inr, length, refl, slice_get, slice_index, subst, sym, ◌∙◌, ⊎_elim}
+use Rattle.std.proofs.Common.{IfNone, ◌≡◌, ◌⊎◌, ℕ, ◌+◌, ◌*◌, ◌<◌, List, [], ◌∷◌, ◌++◌, None, Option, Some, ap, arith, drop, inl, inr, length, refl, replicate, slice_get, slice_index, subst, sym, take, ◌≤◌, ◌∙◌, ⊎_elim}
 use mathlib.Core.Logic.{dite}
 use native.Mathlib.Decide.{dec_le, ℕ_discrete}
 use Rattle.config_image.specs.declared.TheConstants.{PAGE_WORDS, ROW_WORDS}
-use Rattle.config_image.specs.Image.{Group}
-use Rattle.config_image.specs.Pooled.{parts, pooled_row}
+use Rattle.config_image.specs.Image.{Group, image, programs_begin}
+use Rattle.config_image.specs.Pooled.{form_word, page_names, parts, pooled_row}
 use Rattle.config_image.proofs.PooledLemmas.{parts_stand}
+use Rattle.std.proofs.lemmas.List.{length-take}
 use Rattle.std.proofs.lemmas.Option.{slice_get_within}
 use Rattle.versions.specs.declared.layout.TheConstants.{ROWS}
 use Rattle.versions.specs.declared.step.Step.TheVariants.{Publish}
@@ -66,14 +67,23 @@ found_keeps f keeps before found looked = ⊎_elim (λ t. ap f t.1) (λ t. ap f 
 pub number_found : (before found : OperatorValue) → LooksForRow before found → number_after found.view.log ≡ number_after before.view.log
 number_found = found_keeps (λ (o : OperatorValue). number_after o.view.log) (λ w x log o. refl)
 
-module _ (found full : OperatorValue) (r : ℕ) (config : List Group) (pages : List ℕ) (h : FillsVersion found full r config pages) where
+short_take : {A : Type 0} → (n : ℕ) (xs : List A) → length (take n xs) ≤ n
+short_take n xs = omega (arith, length-take n xs)
+
+module _ (found full : OperatorValue) (r : ℕ) (config : List Group) (pages : List ℕ) (h : FillsVersion found full r config pages) (low : r < ROWS) where
+  row_short : length (pooled_row config pages) ≤ ROW_WORDS
+  unfolding pooled_row
+  row_short = short_take {A = ℕ} ROW_WORDS (form_word config ∷ (drop 1 (take (programs_begin config) (image config)) ++ page_names (programs_begin config) (parts config) pages ++ replicate ROW_WORDS 0))
+
   -- all fills are of the pooled form
-  form_steps : Fills found full (IsFormFill r config pages)
-  form_steps = steps_then (IsFormFill r config pages) found h.middle full
-      (steps_on (IsFillOfPart pages (parts config)) (IsFormFill r config pages)
-      (λ e t. inr (record { index = t.index; page = t.page; k = t.k; x = t.x; part = t.part; page_is = t.page_is; part_is = t.part_is; word_is = t.word_is; fill = t.fill }))
+  form_steps : Fills found full (IsFormFill found.view r config pages)
+  form_steps = steps_then (IsFormFill found.view r config pages) found h.middle full
+      (steps_on (IsFillOfPart found pages (parts config)) (IsFormFill found.view r config pages)
+      (λ e t. inr (record { index = t.index; page = t.page; k = t.k; x = t.x; part = t.part; page_is = t.page_is; free = t.free; part_is = t.part_is; word_is = t.word_is; fill = t.fill }))
       found h.middle h.parts_filled.fills.steps)
-      (steps_on (IsFillOf r (pooled_row config pages)) (IsFormFill r config pages) (λ e t. inl t) h.middle full h.row_filled.steps)
+      (steps_on (IsFillOf h.middle.view.stored r (pooled_row config pages)) (IsFormFill found.view r config pages)
+      (λ e t. inl (record { place = t.place; inside = t.inside; differs = λ same. t.differs (h.parts_filled.fills.rows r t.place low (omega (arith, t.inside, row_short)) ∙ same); fill = t.fill }))
+      h.middle full h.row_filled.steps)
 
   page_low : (index page : ℕ) → slice_get pages index ≡ Some page → page < the_shape.pages
   page_low index page at = (h.least.free index page at).0
@@ -118,8 +128,8 @@ module _ (found full : OperatorValue) (r : ℕ) (config : List Group) (pages : L
         reported = all.reported ∙ found_keeps (λ (o : OperatorValue). o.reported) (λ w x log o. refl) before found looked;
       }
 
-  pub stands_in_row : (before after : OperatorValue) → LooksForRow before found → r < ROWS → pages_named the_shape full.view.stored r ≡ pages → after ≡ published_from r config full → StandsInRow before after config
-  stands_in_row before after looked low named e = let all = form_steps in subst (λ (o : OperatorValue). StandsInRow before o config) (sym e) record {
+  pub stands_in_row : (before after : OperatorValue) → LooksForRow before found → pages_named the_shape full.view.stored r ≡ pages → after ≡ published_from r config full → StandsInRow before after config
+  stands_in_row before after looked named e = let all = form_steps in subst (λ (o : OperatorValue). StandsInRow before o config) (sym e) record {
     taken = r;
     pages = pages;
     version_rows = ap (λ l. l ++ r ∷ []) (all.version_rows ∙ found_keeps (λ (o : OperatorValue). o.view.version_rows) (λ w x log o. refl) before found looked);

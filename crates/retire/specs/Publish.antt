@@ -1,5 +1,5 @@
 -- What a publication does: scans where no row is free, fills of one free row and of free pages, and one store of `current`.
-use Rattle.std.specs.Prelude.{◌≡◌, ◌+◌, ◌++◌, ◌*◌, ◌<◌, ◌≤◌, ◌⊎◌, ◌∷◌, IsErrAnd, List, None, Result, Some, [], length, slice_get, slice_index, ℕ}
+use Rattle.std.specs.Prelude.{◌≡◌, ◌≢◌, ◌+◌, ◌++◌, ◌*◌, ◌<◌, ◌≤◌, ◌⊎◌, ◌∷◌, IsErrAnd, List, None, Result, Some, [], length, slice_get, slice_index, ℕ}
 use Rattle.std.specs.List.{Contains}
 use Rattle.config_image.specs.declared.TheConstants.{PAGE_WORDS, ROW_WORDS}
 use Rattle.config_image.specs.Image.{Group}
@@ -46,25 +46,30 @@ pub record ScansEach (before after : OperatorValue) : Type 0 where
 abbrev pub LooksForRow : OperatorValue → OperatorValue → Type 0
 LooksForRow before after = (HasFreeRow before.view × (after ≡ before)) ⊎ ((HasFreeRow before.view → ⊥) × ScansEach before after)
 
--- a fill of a place of row r by the word that a list has there
-abbrev pub IsFillOf : ℕ → List ℕ → Entry → Type 0
-IsFillOf r words newest = (i : ℕ) × (i < length words) × (newest ≡ entry (Fill (row_begin the_shape r + i) (slice_index words i)) (slice_index words i))
+-- a fill of a place of row r by the word that a list has there; another word stands there in `stored`
+pub record IsFillOf (stored : List ℕ) (r : ℕ) (words : List ℕ) (newest : Entry) : Type 0 where
+  pub place : ℕ
+  pub inside : place < length words
+  pub differs : slice_index stored (r * ROW_WORDS + place) ≢ slice_index words place
+  pub fill : newest ≡ entry (Fill (row_begin the_shape r + place) (slice_index words place)) (slice_index words place)
 
--- a fill of a page by a word of the configuration's part that stands there
-pub record IsPartFill (config : List Group) (pages : List ℕ) (newest : Entry) : Type 0 where
+-- a fill of a free page by a word of the configuration's part that stands there
+pub record IsPartFill (view : OperatorView (List Group)) (config : List Group) (pages : List ℕ) (newest : Entry) : Type 0 where
   pub index : ℕ
   pub page : ℕ
   pub k : ℕ
   pub x : ℕ
   pub part : List ℕ
   pub page_is : slice_get pages index ≡ Some page
+  pub free : IsFreePage the_shape view page
   pub part_is : slice_get (parts config) index ≡ Some part
   pub word_is : slice_get part k ≡ Some x
   pub fill : newest ≡ entry (Fill (page_begin the_shape page + k) x) x
 
--- a fill of the pooled form: of a word of row r, or of a word of a part
-abbrev pub IsFormFill : ℕ → List Group → List ℕ → Entry → Type 0
-IsFormFill r config pages newest = IsFillOf r (pooled_row config pages) newest ⊎ IsPartFill config pages newest
+-- a fill of the pooled form: of a word of row r that differs from the one that stood there, or of a word of a part in a page that
+-- was free
+abbrev pub IsFormFill : OperatorView (List Group) → ℕ → List Group → List ℕ → Entry → Type 0
+IsFormFill view r config pages newest = IsFillOf view.stored r (pooled_row config pages) newest ⊎ IsPartFill view config pages newest
 
 -- the pages are free, and each is the least free one behind the one before it
 pub record AreLeastFree (view : OperatorView (List Group)) (pages : List ℕ) : Type 0 where
@@ -98,7 +103,7 @@ pub record Publishes (before after : OperatorValue) (config : List Group) : Type
   pub counted : length pages ≡ length (parts config)
   pub new_pages : AreLeastFree found.view pages
   pub fills : List Entry
-  pub filled : (newest : Entry) → Contains fills newest → IsFormFill taken config pages newest
+  pub filled : (newest : Entry) → Contains fills newest → IsFormFill found.view taken config pages newest
   pub log : after.view.log ≡ entry (Publish taken) (current_word the_shape (number_after before.view.log + 1) taken) ∷ (fills ++ found.view.log)
   pub published : after.view.published ≡ before.view.published ++ config ∷ []
   pub version_rows : after.view.version_rows ≡ before.view.version_rows ++ taken ∷ []

@@ -29,8 +29,8 @@ pub trait Retire {
 
     /// Publishes a configuration as the next version, and answers its number, counted from 0.
     ///
-    /// Fills the least free pages, one for each part of a program, and the least free row, but for zeros that stand there already,
-    /// and no others, then stores `current`. Where no row is free it first scans each read word once, and answers `Busy` if that
+    /// Fills the least free pages, one for each part of a program, and of the least free row the words that are not there already,
+    /// then stores `current`. Where no row is free it first scans each read word once, and answers `Busy` if that
     /// freed none: it never waits for a grace period. Takes no memory.
     fn publish(&mut self, config: Config) -> Result<u64, (PublishFault, Config)>
         ensures published_exactly { OnOk result (Publishes (operator self.old) (operator self.new) config) }

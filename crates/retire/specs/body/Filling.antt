@@ -1,5 +1,5 @@
 -- What fills of a row and of pages leave.
-use Rattle.std.specs.Prelude.{◌≡◌, ◌+◌, ◌++◌, ◌*◌, ◌/◌, ◌%◌, ◌<◌, List, Some, length, slice_get, slice_index, ℕ}
+use Rattle.std.specs.Prelude.{◌≡◌, ◌≢◌, ◌⊎◌, ◌+◌, ◌++◌, ◌*◌, ◌/◌, ◌%◌, ◌<◌, List, Some, length, slice_get, slice_index, ℕ}
 use Rattle.std.specs.List.{Contains}
 use Rattle.config_image.specs.declared.TheConstants.{PAGE_WORDS, ROW_WORDS}
 use Rattle.config_image.specs.Image.{Group}
@@ -9,9 +9,9 @@ use Rattle.versions.specs.declared.step.Entry.{Entry}
 use Rattle.versions.specs.declared.step.Step.TheVariants.{Fill}
 use Rattle.versions.specs.Step.{entry}
 use Rattle.versions.specs.Free.{IsFreePage, IsFreeRow, number_after}
-use Rattle.versions.specs.Layout.{page_begin}
+use Rattle.versions.specs.Layout.{page_begin, stored_words}
 use Rattle.versions.specs.Table.{the_shape}
-use Rattle.read_section.specs.Operator.{OperatorValue}
+use Rattle.read_section.specs.Operator.{OperatorValue, filled}
 use Rattle.retire.specs.Publish.{AreLeastFree, IsFillOf, KeepsOtherPages, KeepsOtherRows}
 
 -- fills, and no other step: each is one of these. What was free is free still
@@ -37,9 +37,22 @@ KeepsPool before after = (q k : ℕ) → q < PAGES → k < PAGE_WORDS
 abbrev pub KeepsRows : OperatorValue → OperatorValue → Type 0
 KeepsRows before after = (q i : ℕ) → q < ROWS → i < ROW_WORDS → slice_index after.view.stored (q * ROW_WORDS + i) ≡ slice_index before.view.stored (q * ROW_WORDS + i)
 
+-- a word is stored at a place of a row, unless it stands there
+abbrev pub FillsOther : OperatorValue → OperatorValue → ℕ → ℕ → ℕ → Type 0
+FillsOther before after r place word =
+    ((slice_index before.view.stored (r * ROW_WORDS + place) ≢ word) × (length before.view.stored ≡ stored_words the_shape) × (after ≡ filled r place word before))
+    ⊎ ((slice_index before.view.stored (r * ROW_WORDS + place) ≡ word) × (after ≡ before))
+
+-- a word of a row is as it was, or as a list has it
+abbrev pub KeptOrFilled : OperatorValue → OperatorValue → ℕ → List ℕ → ℕ → Type 0
+KeptOrFilled before after r words i =
+    (slice_index after.view.stored (r * ROW_WORDS + i) ≡ slice_index before.view.stored (r * ROW_WORDS + i))
+    ⊎ ((i < length words) × (slice_index after.view.stored (r * ROW_WORDS + i) ≡ slice_index words i))
+
 -- fills of places of a free row by the words that a list has there
 pub record FillsFrom (before after : OperatorValue) (r : ℕ) (words : List ℕ) : Type 0 where
-  pub steps : Fills before after (IsFillOf r words)
+  pub steps : Fills before after (IsFillOf before.view.stored r words)
+  pub either : (i : ℕ) → i < ROW_WORDS → KeptOrFilled before after r words i
   pub others : KeepsOtherRows r before after
   pub pool : KeepsPool before after
   pub still_free : IsFreeRow the_shape after.view r
@@ -64,14 +77,15 @@ pub record AreFreePages (operator : OperatorValue) (pages : List ℕ) : Type 0 w
   pub free : (index page : ℕ) → slice_get pages index ≡ Some page → IsFreePage the_shape operator.view page
   pub rise : (index later page other : ℕ) → index < later → slice_get pages index ≡ Some page → slice_get pages later ≡ Some other → page < other
 
--- a fill of a page by a word of a part
-pub record IsFillOfPart (pages : List ℕ) (cut : List (List ℕ)) (newest : Entry) : Type 0 where
+-- a fill of a page that was free by a word of a part
+pub record IsFillOfPart (before : OperatorValue) (pages : List ℕ) (cut : List (List ℕ)) (newest : Entry) : Type 0 where
   pub index : ℕ
   pub page : ℕ
   pub k : ℕ
   pub x : ℕ
   pub part : List ℕ
   pub page_is : slice_get pages index ≡ Some page
+  pub free : IsFreePage the_shape before.view page
   pub part_is : slice_get cut index ≡ Some part
   pub word_is : slice_get part k ≡ Some x
   pub fill : newest ≡ entry (Fill (page_begin the_shape page + k) x) x
@@ -83,7 +97,7 @@ PartsAre operator pages cut = (index page k x : ℕ) (part : List ℕ) → slice
 
 -- fills of pages by words of parts, some or all
 pub record FillsPages (before after : OperatorValue) (pages : List ℕ) (cut : List (List ℕ)) : Type 0 where
-  pub steps : Fills before after (IsFillOfPart pages cut)
+  pub steps : Fills before after (IsFillOfPart before pages cut)
   pub rows : KeepsRows before after
   pub others : KeepsOtherPages pages before after
 
