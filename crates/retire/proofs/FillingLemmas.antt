@@ -32,6 +32,7 @@ module _ (IsFill : Entry → Type 0) where
     log = refl;
     free_rows = λ r free. free;
     free_pages = λ q free. free;
+    were_free = λ q free. free;
     number = refl;
     published = refl;
     version_rows = refl;
@@ -49,6 +50,7 @@ module _ (IsFill : Entry → Type 0) where
     log = ap (λ l. entry (Fill place x) x ∷ l) h.log;
     free_rows = h.free_rows;
     free_pages = h.free_pages;
+    were_free = h.were_free;
     number = h.number;
     published = h.published;
     version_rows = h.version_rows;
@@ -66,6 +68,7 @@ module _ (IsFill : Entry → Type 0) where
     log = more.log ∙ (ap (λ l. more.fills ++ l) h.log ∙ sym (append_assoc more.fills h.fills before.view.log));
     free_rows = λ r free. more.free_rows r (h.free_rows r free);
     free_pages = λ q free. more.free_pages q (h.free_pages q free);
+    were_free = λ q free. h.were_free q (more.were_free q free);
     number = more.number ∙ h.number;
     published = more.published ∙ h.published;
     version_rows = more.version_rows ∙ h.version_rows;
@@ -83,6 +86,7 @@ steps_on P Q f before after h = record {
   log = h.log;
   free_rows = h.free_rows;
   free_pages = h.free_pages;
+  were_free = h.were_free;
   number = h.number;
   published = h.published;
   version_rows = h.version_rows;

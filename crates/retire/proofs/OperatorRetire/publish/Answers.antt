@@ -2,7 +2,7 @@ use Rattle.std.proofs.Common.{ap, arith}
 use Rattle.versions.specs.Free.{number_after}
 use Rattle.read_section.specs.Operator.{OperatorValue}
 use Rattle.read_section.proofs.FilledLemmas.{row_inside}
-use Rattle.retire.proofs.PublishLemmas.{full_holds, number_found, publishes, stands_in_row, version_number}
+use Rattle.retire.proofs.PublishLemmas.{full_holds, number_found, publishes, shares, stands_in_row, version_number}
 use Rattle.retire.proofs.OperatorRetire.publish.Goals as goal
 
 pub put-requires-clause-free : goal.put-requires-clause-free
@@ -17,13 +17,18 @@ put-requires-clause-number c = let number = c.number.ensures in let is = number.
 
 pub returns-clause-published_exactly : goal.returns-clause-published_exactly
 returns-clause-published_exactly c = let t = c.fill_version.ensures in
-    publishes c.look_for_row.new.operator c.fill_version.new.operator c.in-Some.row c.args.config t.0 t.1 (row_inside c.in-Some.row c.in-Some.ensures.some.free.0) c.args.self.now c.put.new.self c.in-Some.ensures.looked c.in-Some.ensures.some
-    (c.put.ensures.named t.0 (full_holds _ _ c.in-Some.row c.args.config t.0 t.1 (row_inside c.in-Some.row c.in-Some.ensures.some.free.0))) c.put.ensures.one_publish
+    publishes c.look_for_row.new.operator c.fill_version.new.operator c.in-Some.row c.args.config t.0 t.1 (row_inside c.in-Some.row c.in-Some.ensures.some.free.0)
+    c.args.self.now c.in-Some.ensures.looked (c.put.ensures.named t.0 (full_holds _ _ c.in-Some.row c.args.config t.0 t.1 (row_inside c.in-Some.row c.in-Some.ensures.some.free.0))) c.put.new.self c.in-Some.ensures.some c.put.ensures.one_publish
+
+pub returns-clause-equal_programs_shared : goal.returns-clause-equal_programs_shared
+returns-clause-equal_programs_shared c = let t = c.fill_version.ensures in
+    shares c.look_for_row.new.operator c.fill_version.new.operator c.in-Some.row c.args.config t.0 t.1 (row_inside c.in-Some.row c.in-Some.ensures.some.free.0)
+    c.args.self.now c.in-Some.ensures.looked (c.put.ensures.named t.0 (full_holds _ _ c.in-Some.row c.args.config t.0 t.1 (row_inside c.in-Some.row c.in-Some.ensures.some.free.0))) c.put.new.self c.in-Some.ensures.some c.put.ensures.one_publish
 
 pub returns-clause-filled_row : goal.returns-clause-filled_row
 returns-clause-filled_row c = let t = c.fill_version.ensures in
-    stands_in_row c.look_for_row.new.operator c.fill_version.new.operator c.in-Some.row c.args.config t.0 t.1 (row_inside c.in-Some.row c.in-Some.ensures.some.free.0) c.args.self.now c.put.new.self c.in-Some.ensures.looked
-    (c.put.ensures.named t.0 (full_holds _ _ c.in-Some.row c.args.config t.0 t.1 (row_inside c.in-Some.row c.in-Some.ensures.some.free.0))) c.put.ensures.one_publish
+    stands_in_row c.look_for_row.new.operator c.fill_version.new.operator c.in-Some.row c.args.config t.0 t.1 (row_inside c.in-Some.row c.in-Some.ensures.some.free.0)
+    c.args.self.now c.in-Some.ensures.looked (c.put.ensures.named t.0 (full_holds _ _ c.in-Some.row c.args.config t.0 t.1 (row_inside c.in-Some.row c.in-Some.ensures.some.free.0))) c.put.new.self c.put.ensures.one_publish
 
 pub returns-clause-new_number : goal.returns-clause-new_number
 returns-clause-new_number c = let t = c.fill_version.ensures in let filled = version_number _ _ c.in-Some.row c.args.config t.0 t.1 (row_inside c.in-Some.row c.in-Some.ensures.some.free.0) in let found = number_found c.args.self.now c.look_for_row.new.operator c.in-Some.ensures.looked in
