@@ -8,6 +8,7 @@ use lib.ListN.{get_elem?}
 use Rattle.config_image.specs.Image.{Group}
 use Rattle.versions.specs.declared.step.Entry.{Entry}
 use Rattle.versions.specs.declared.step.Step.TheVariants.{Scan}
+use Rattle.versions.specs.declared.view.OperatorView.{OperatorView}
 use Rattle.versions.specs.Free.{IsFree, IsFreeRow, number_after, number_by}
 use Rattle.versions.specs.Step.{entry}
 use Rattle.versions.specs.Table.{the_shape}
@@ -56,15 +57,15 @@ next_number version config next line answer (swept reclaimed short spells) = tt
 
 -- ---- fills change no number
 
-form_fill : (r : ℕ) (config : List Group) (pages : List ℕ) (older : List Entry) (newest : Entry) → IsFormFill r config pages newest → number_by newest.step (number_after older) ≡ number_after older
-form_fill r config pages older newest (inl fill) = ap (λ (e : Entry). number_by e.step (number_after older)) fill.2
-form_fill r config pages older newest (inr part) = ap (λ (e : Entry). number_by e.step (number_after older)) part.fill
+form_fill : (view : OperatorView (List Group)) (r : ℕ) (config : List Group) (pages : List ℕ) (older : List Entry) (newest : Entry) → IsFormFill view r config pages newest → number_by newest.step (number_after older) ≡ number_after older
+form_fill view r config pages older newest (inl row) = ap (λ (e : Entry). number_by e.step (number_after older)) row.fill
+form_fill view r config pages older newest (inr part) = ap (λ (e : Entry). number_by e.step (number_after older)) part.fill
 
-number_after-fills : (r : ℕ) (config : List Group) (pages : List ℕ) (fills older : List Entry) → ((newest : Entry) → Contains fills newest → IsFormFill r config pages newest) → number_after (fills ++ older) ≡ number_after older
-number_after-fills r config pages [] older filled = refl
-number_after-fills r config pages (newest ∷ fills) older filled =
-    form_fill r config pages (fills ++ older) newest (filled newest (0, omega arith, refl))
-    ∙ number_after-fills r config pages fills older (λ later c. filled later (contains_later newest later fills c))
+number_after-fills : (view : OperatorView (List Group)) (r : ℕ) (config : List Group) (pages : List ℕ) (fills older : List Entry) → ((newest : Entry) → Contains fills newest → IsFormFill view r config pages newest) → number_after (fills ++ older) ≡ number_after older
+number_after-fills view r config pages [] older filled = refl
+number_after-fills view r config pages (newest ∷ fills) older filled =
+    form_fill view r config pages (fills ++ older) newest (filled newest (0, omega arith, refl))
+    ∙ number_after-fills view r config pages fills older (λ later c. filled later (contains_later newest later fills c))
 
 -- ---- the ready state
 
@@ -124,7 +125,7 @@ module _ (before : OperatorValue) (now : Standing) (stands : Stands before now) 
     number_published : number_after after.view.log ≡ now.version + 1
     number_published =
         ap number_after publishes.log
-        ∙ ap suc (number_after-fills publishes.taken config publishes.pages publishes.fills publishes.found.view.log publishes.filled ∙ number_found before publishes.found publishes.looked ∙ sym stands.version)
+        ∙ ap suc (number_after-fills publishes.found.view publishes.taken config publishes.pages publishes.fills publishes.found.view.log publishes.filled ∙ number_found before publishes.found publishes.looked ∙ sym stands.version)
         ∙ sym (add-one now.version)
 
     stands_published : (version : ℕ) (next : TextConfig) → version ≡ now.version + 1 → AgreesNow next after.view → Stands after (record now { version = version; config = next })

@@ -1,10 +1,10 @@
 -- Fills of a row: the words that they leave, and what they keep.
-use Rattle.std.proofs.Common.{◌≡◌, ◌∙◌, ℕ, ◌+◌, ◌-◌, ◌*◌, ◌<◌, ◌≤◌, List, [], ◌∷◌, ◌++◌, ap, append_assoc, arith, drop, get_or, inl, inr, length, length-append, length-drop, refl, suc, slice_index, subst, sym, take, ⊎_elim}
+use Rattle.std.proofs.Common.{◌≡◌, ◌≢◌, ◌∙◌, ℕ, ◌+◌, ◌-◌, ◌*◌, ◌<◌, ◌≤◌, List, [], ◌∷◌, ◌++◌, add-one, ap, append_assoc, arith, drop, get_or, inl, inr, length, length-append, length-drop, refl, suc, slice_index, subst, sym, take, zero, ⊎_elim}
 use Rattle.std.proofs.lemmas.List.{drop-set-add, get_or-append_right, get_or-take, get_or_append_left, length-take-le, take_more_set}
 use Rattle.std.proofs.lemmas.Option.{get_or_from_slice_get}
 use mathlib.Core.Logic.{dite}
 use native.Mathlib.Decide.{dec_le, ℕ_discrete}
-use Rattle.config_image.specs.declared.TheConstants.{ROW_WORDS}
+use Rattle.config_image.specs.declared.TheConstants.{PAGE_WORDS, ROW_WORDS}
 use Rattle.config_image.specs.Image.{Group, programs_begin}
 use Rattle.config_image.specs.Pooled.{ArePages, PooledRowTells, parts, pooled_row}
 use Rattle.config_image.proofs.PooledLemmas.{row_tells_with_room}
@@ -19,8 +19,8 @@ use Rattle.versions.specs.Free.{IsFreeRow}
 use Rattle.versions.specs.Table.{the_shape}
 use Rattle.read_section.specs.Operator.{OperatorValue, filled}
 use Rattle.read_section.proofs.FilledLemmas.{front_filled, place_stored, pool_word_kept, rows_stored, word_at, word_filled, word_kept, words_are}
-use Rattle.retire.specs.body.Filling.{Fills, FillsFrom, FillsFront, FillsRow, HoldsRow}
-use Rattle.retire.specs.Publish.{IsFillOf}
+use Rattle.retire.specs.body.Filling.{Fills, FillsFrom, FillsFront, FillsOther, FillsRow, HoldsRow, KeepsPool}
+use Rattle.retire.specs.Publish.{IsFillOf, KeepsOtherRows}
 use Rattle.retire.specs.body.Sink.{IsFilling, SinkValue, front_of, taken_of}
 use Rattle.retire.proofs.RowLemmas.{contains_append, contains_first}
 
@@ -32,6 +32,7 @@ module _ (IsFill : Entry → Type 0) where
     log = refl;
     free_rows = λ r free. free;
     free_pages = λ q free. free;
+    were_free = λ q free. free;
     number = refl;
     published = refl;
     version_rows = refl;
@@ -49,6 +50,7 @@ module _ (IsFill : Entry → Type 0) where
     log = ap (λ l. entry (Fill place x) x ∷ l) h.log;
     free_rows = h.free_rows;
     free_pages = h.free_pages;
+    were_free = h.were_free;
     number = h.number;
     published = h.published;
     version_rows = h.version_rows;
@@ -66,6 +68,7 @@ module _ (IsFill : Entry → Type 0) where
     log = more.log ∙ (ap (λ l. more.fills ++ l) h.log ∙ sym (append_assoc more.fills h.fills before.view.log));
     free_rows = λ r free. more.free_rows r (h.free_rows r free);
     free_pages = λ q free. more.free_pages q (h.free_pages q free);
+    were_free = λ q free. h.were_free q (more.were_free q free);
     number = more.number ∙ h.number;
     published = more.published ∙ h.published;
     version_rows = more.version_rows ∙ h.version_rows;
@@ -83,6 +86,7 @@ steps_on P Q f before after h = record {
   log = h.log;
   free_rows = h.free_rows;
   free_pages = h.free_pages;
+  were_free = h.were_free;
   number = h.number;
   published = h.published;
   version_rows = h.version_rows;
@@ -92,42 +96,88 @@ steps_on P Q f before after h = record {
   reported = h.reported;
 }
 
+-- ---- the first words of a row
+
+length-front_of : (o : OperatorValue) (r n : ℕ) → length (front_of o r n) ≡ n
+length-front_of o r zero = refl
+length-front_of o r (suc n) = length-append (front_of o r n) (word_at o r n ∷ []) ∙ (ap (λ (k : ℕ). k + 1) (length-front_of o r n) ∙ add-one n)
+
+same_front : (o p : OperatorValue) (r n : ℕ) → ((i : ℕ) → i < n → word_at p r i ≡ word_at o r i) → front_of p r n ≡ front_of o r n
+same_front o p r zero kept = refl
+same_front o p r (suc n) kept = ap (λ l. l ++ word_at p r n ∷ []) (same_front o p r n (λ i below. kept i (omega arith))) ∙ ap (λ (x : ℕ). front_of o r n ++ x ∷ []) (kept n (omega arith))
+
 pub no_fills : (o : OperatorValue) (r : ℕ) (words : List ℕ) → IsFreeRow the_shape o.view r → FillsFrom o o r words
-no_fills o r words free = record { steps = no_steps (IsFillOf r words) o; others = λ q i ne in_rows inside. refl; pool = λ q k low small. refl; still_free = free }
+no_fills o r words free =
+    record { steps = no_steps (IsFillOf o.view.stored r words) o; either = λ i small. inl refl; others = λ q i ne in_rows inside. refl; pool = λ q k low small. refl; still_free = free }
 
 -- the same fills by a list that has the same words at their places
 pub same_fills : (before now : OperatorValue) (r : ℕ) (words more : List ℕ) → FillsFrom before now r words → ((i : ℕ) → i < length words → (i < length more) × (slice_index more i ≡ slice_index words i)) → FillsFrom before now r more
 same_fills before now r words more h same = record {
-  steps = steps_on (IsFillOf r words) (IsFillOf r more) (λ newest t. let s = same t.0 t.1 in (t.0, s.0, t.2 ∙ (λ j. entry (Fill (row_begin the_shape r + t.0) (sym s.1 j)) (sym s.1 j)))) before now h.steps;
+  steps = steps_on (IsFillOf before.view.stored r words) (IsFillOf before.view.stored r more) (λ newest t. let s = same t.place t.inside in record {
+    place = t.place;
+    inside = s.0;
+    differs = λ e. t.differs (e ∙ s.1);
+    fill = t.fill ∙ (λ j. entry (Fill (row_begin the_shape r + t.place) (sym s.1 j)) (sym s.1 j));
+  }) before now h.steps;
+  either = λ i small. ⊎_elim inl (λ t. let s = same i t.0 in inr (s.0, t.1 ∙ sym s.1)) (h.either i small);
   others = h.others;
   pool = h.pool;
   still_free = h.still_free;
 }
 
--- ---- one fill more
+-- ---- one word more, unless it stands there
 
-module _ (before now after : OperatorValue) (r place word : ℕ) (low : r < ROWS) (small : place < ROW_WORDS) (whole : length now.view.stored ≡ stored_words the_shape) (e : after ≡ filled r place word now) where
-  pub one_fill_more : (words : List ℕ) → FillsFrom before now r words → place < length words → word ≡ slice_index words place → FillsFrom before after r words
-  one_fill_more words h inside is = subst (λ (o : OperatorValue). FillsFrom before o r words) (sym e) record {
-    steps = one_step_more (IsFillOf r words) before now (row_begin the_shape r + place) word h.steps (place, inside, λ i. entry (Fill (row_begin the_shape r + place) (is i)) (is i));
-    others = λ q i ne in_rows far. word_kept now (filled r place word now) r place word low small whole refl q i far (inl ne) ∙ h.others q i ne in_rows far;
-    pool = λ q k under short. pool_word_kept now (filled r place word now) r place word low small whole refl q k ∙ h.pool q k under short;
-    still_free = h.still_free;
+module _ (before now after : OperatorValue) (r place word : ℕ) (low : r < ROWS) (small : place < ROW_WORDS) (stored : FillsOther now after r place word) where
+  pub other_there : word_at after r place ≡ word
+  other_there = ⊎_elim (λ t. word_filled now after r place word low small t.1 t.2) (λ t. ap (λ (o : OperatorValue). word_at o r place) t.1 ∙ t.0) stored
+
+  pub other_kept : (i : ℕ) → i < ROW_WORDS → i ≢ place → word_at after r i ≡ word_at now r i
+  other_kept i inside ne = ⊎_elim (λ t. word_kept now after r place word low small t.1 t.2 r i inside (inr ne)) (λ t. ap (λ (o : OperatorValue). word_at o r i) t.1) stored
+
+  other_rows_kept : KeepsOtherRows r before now → KeepsOtherRows r before after
+  other_rows_kept h q i ne in_rows far = ⊎_elim
+      (λ t. word_kept now after r place word low small t.1 t.2 q i far (inl ne) ∙ h q i ne in_rows far)
+      (λ t. ap (λ (o : OperatorValue). word_at o q i) t.1 ∙ h q i ne in_rows far) stored
+
+  pool_kept : KeepsPool before now → KeepsPool before after
+  pool_kept h q k under short = ⊎_elim
+      (λ t. pool_word_kept now after r place word low small t.1 t.2 q k ∙ h q k under short)
+      (λ t. ap (λ (o : OperatorValue). slice_index o.view.stored (ROWS * ROW_WORDS + (q * PAGE_WORDS + k))) t.1 ∙ h q k under short) stored
+
+  -- a word that is to be stored was another one before, too
+  was_other : (words : List ℕ) → FillsFrom before now r words → word ≡ slice_index words place → word_at now r place ≢ word → word_at before r place ≢ slice_index words place
+  was_other words h is ne same = ⊎_elim (λ kept. ne (kept ∙ (same ∙ sym is))) (λ t. ne (t.1 ∙ sym is)) (h.either place small)
+
+  pub one_other_more : (words : List ℕ) → FillsFrom before now r words → place < length words → word ≡ slice_index words place → FillsFrom before after r words
+  one_other_more words h inside is = record {
+    steps = ⊎_elim
+        (λ t. subst (λ (o : OperatorValue). Fills before o (IsFillOf before.view.stored r words)) (sym t.2) (one_step_more (IsFillOf before.view.stored r words) before now (row_begin the_shape r + place) word h.steps (record {
+          place = place;
+          inside = inside;
+          differs = was_other words h is t.0;
+          fill = λ i. entry (Fill (row_begin the_shape r + place) (is i)) (is i);
+        })))
+        (λ t. subst (λ (o : OperatorValue). Fills before o (IsFillOf before.view.stored r words)) (sym t.1) h.steps) stored;
+    either = λ i far. dite (ℕ_discrete i place)
+        (λ same. inr (omega arith, ap (word_at after r) same ∙ (other_there ∙ (is ∙ ap (slice_index words) (sym same)))))
+        (λ ne. ⊎_elim (λ kept. inl (other_kept i far ne ∙ kept)) (λ t. inr (t.0, other_kept i far ne ∙ t.1)) (h.either i far));
+    others = other_rows_kept h.others;
+    pool = pool_kept h.pool;
+    still_free = ⊎_elim (λ t. subst (λ (o : OperatorValue). IsFreeRow the_shape o.view r) (sym t.2) h.still_free) (λ t. subst (λ (o : OperatorValue). IsFreeRow the_shape o.view r) (sym t.1) h.still_free) stored;
   }
 
   -- the first words of the row are one more
   pub front_grows : front_of after r (place + 1) ≡ front_of now r place ++ word ∷ []
-  front_grows = let words = now.view.stored in let begin = r * ROW_WORDS in
-      ap (λ l. take (place + 1) (drop begin l)) (words_are now after r place word low small whole e)
-      ∙ (ap (take (place + 1)) (drop-set-add begin words place word) ∙ take_more_set (drop begin words) place word (let inside = rows_stored (r * ROW_WORDS + place) (place_stored r place low small) in omega (arith, length-drop begin words)))
-
-  length_front : length (front_of now r place) ≡ place
-  length_front = let words = now.view.stored in length-take-le place (drop (r * ROW_WORDS) words) (let inside = rows_stored (r * ROW_WORDS + place) (place_stored r place low small) in omega (arith, length-drop (r * ROW_WORDS) words))
+  front_grows = ap (front_of after r) (add-one place)
+      ∙ (ap (λ l. l ++ word_at after r place ∷ []) (same_front now after r place (λ i below. other_kept i (omega arith) (λ same. omega arith)))
+      ∙ ap (λ (x : ℕ). front_of now r place ++ x ∷ []) other_there)
 
   pub one_word_more : FillsFront before now r (front_of now r place) → FillsFront before after r (front_of after r (place + 1))
   one_word_more h = subst (FillsFront before after r) (sym front_grows) record {
-    fills = one_fill_more words (same_fills before now r front words h.fills (λ i inside. (omega (arith, length-append front (word ∷ [])), earlier i inside))) (omega (arith, length-append front (word ∷ []), long)) last;
-    front = λ i inside. front_filled now after r place word low small whole e words last (λ j below. h.front j (omega (arith, long)) ∙ sym (earlier j (omega (arith, long)))) i (omega (arith, length-append front (word ∷ []), long));
+    fills = one_other_more words (same_fills before now r front words h.fills (λ i inside. (omega (arith, length-append front (word ∷ [])), earlier i inside))) (omega (arith, length-append front (word ∷ []), long)) last;
+    front = λ i inside. dite (ℕ_discrete i place)
+        (λ same. ap (word_at after r) same ∙ (other_there ∙ (last ∙ ap (slice_index words) (sym same))))
+        (λ ne. let below : i < length front = omega (arith, length-append front (word ∷ []), long) in other_kept i (omega (arith, long)) ne ∙ (h.front i below ∙ sym (earlier i below)));
   }
     where
       front : List ℕ
@@ -137,7 +187,7 @@ module _ (before now after : OperatorValue) (r place word : ℕ) (low : r < ROWS
       words = front ++ word ∷ []
 
       long : length front ≡ place
-      long = length_front
+      long = length-front_of now r place
 
       earlier : (i : ℕ) → i < length front → slice_index words i ≡ slice_index front i
       earlier i inside = get_or_append_left front (word ∷ []) 0 i inside
@@ -177,14 +227,14 @@ HoldsFront o r words n = (i : ℕ) → i < n → word_at o r i ≡ slice_index w
 abbrev pub ZerosBehind : OperatorValue → ℕ → ℕ → Type 0
 ZerosBehind o r from = (i : ℕ) → from ≤ i → i < ROW_WORDS → word_at o r i ≡ 0
 
-module _ (now after : OperatorValue) (r place : ℕ) (low : r < ROWS) (small : place < ROW_WORDS) (whole : length now.view.stored ≡ stored_words the_shape) (e : after ≡ filled r place 0 now) where
+module _ (now after : OperatorValue) (r place : ℕ) (low : r < ROWS) (small : place < ROW_WORDS) (stored : FillsOther now after r place 0) where
   pub one_zero_more : ZerosBehind now r (place + 1) → ZerosBehind after r place
   one_zero_more behind i up inside = dite (ℕ_discrete i place)
-      (λ same. ap (word_at after r) same ∙ word_filled now after r place 0 low small whole e)
-      (λ other. word_kept now after r place 0 low small whole e r i inside (inr other) ∙ behind i (omega arith) inside)
+      (λ same. ap (word_at after r) same ∙ other_there now now after r place 0 low small stored)
+      (λ other. other_kept now now after r place 0 low small stored i inside other ∙ behind i (omega arith) inside)
 
   pub front_kept : (n : ℕ) (words : List ℕ) → n ≤ place → HoldsFront now r words n → HoldsFront after r words n
-  front_kept n words up front i below = word_kept now after r place 0 low small whole e r i (omega arith) (inr (λ same. omega arith)) ∙ front i below
+  front_kept n words up front i below = other_kept now now after r place 0 low small stored i (omega arith) (λ same. omega arith) ∙ front i below
 
 module _ (config : List Group) (pages : List ℕ) (room : HasRoom config) (are : ArePages config pages) where
   abbrev tells : PooledRowTells config pages

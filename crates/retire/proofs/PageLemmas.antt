@@ -21,22 +21,17 @@ use Rattle.versions.proofs.MirrorLemmas.{none_some, some_same}
 use Rattle.versions.proofs.OpenedLemmas.{part_word, slice_get-front_or_back}
 use Rattle.versions.proofs.ShapeLemmas.{pages_is}
 use Rattle.versions.proofs.WorldLemmas.{slice_get-end, slice_get-front}
-use Rattle.read_section.specs.Operator.{HasFreeRow, IsLeastFreePage, NeverShort, OperatorValue, filled_page}
+use Rattle.read_section.specs.Operator.{OperatorValue, filled_page}
 use Rattle.read_section.proofs.FilledLemmas.{page_word_filled, page_word_kept, row_word_kept}
-use Rattle.retire.specs.Publish.{AreLeastFree}
-use Rattle.retire.specs.body.Filling.{AreFreePages, BeginsIn, Fills, FillsPages, FillsParts, IsFillOfPart, PartsAre}
+use Rattle.retire.specs.body.Filling.{AreFreePages, AreReady, BeginsIn, EachIsReady, Fills, FillsNew, FillsPages, FillsParts, IsFillOfPart, IsReady, PartsAre, StandsThere}
+use Rattle.retire.specs.body.Taking.{AllFree, IsCounted}
+use Rattle.retire.proofs.SharingLemmas.{slice_get-back}
 use Rattle.retire.proofs.FillingLemmas.{no_steps, one_step_more, steps_on, steps_then}
 
 -- ---- places in lists
 
-slice_get-back : {A : Type 0} → (xs ys : List A) (i j : ℕ) (x : A) → slice_get ys i ≡ Some x → length xs ≡ j → slice_get (xs ++ ys) (j + i) ≡ Some x
-slice_get-back [] ys i zero x at e = ap (slice_get ys) (let g : 0 + i ≡ i = omega arith in g) ∙ at
-slice_get-back [] ys i (suc j) x at e = absurd (omega arith)
-slice_get-back (y ∷ xs) ys i zero x at e = absurd (omega arith)
-slice_get-back (y ∷ xs) ys i (suc j) x at e = ap (slice_get (y ∷ (xs ++ ys))) (let g : suc j + i ≡ suc (j + i) = omega arith in g) ∙ slice_get-back xs ys i j x at (omega arith)
-
 -- the last element of a list, or one before it
-snoc_at : (xs : List ℕ) (x y : ℕ) (i : ℕ) → slice_get (xs ++ x ∷ []) i ≡ Some y → ((i < length xs) × (slice_get xs i ≡ Some y)) ⊎ ((i ≡ length xs) × (y ≡ x))
+pub snoc_at : (xs : List ℕ) (x y : ℕ) (i : ℕ) → slice_get (xs ++ x ∷ []) i ≡ Some y → ((i < length xs) × (slice_get xs i ≡ Some y)) ⊎ ((i ≡ length xs) × (y ≡ x))
 snoc_at [] x y zero at = inr (refl, some_same y x (sym at))
 snoc_at [] x y (suc i) at = absurd (none_some y at)
 snoc_at (z ∷ xs) x y zero at = inl (omega arith, at)
@@ -63,64 +58,6 @@ word_part (suc n) words j inside fits = by (word_part n) (cases_lt j PAGE_WORDS)
           ∙ (t.2 ∙ ap Some (get_or-drop PAGE_WORDS words (j - PAGE_WORDS) 0 ∙ ap (λ (k : ℕ). get_or words k 0) (let g : PAGE_WORDS + (j - PAGE_WORDS) ≡ j = omega arith in g))),
     )
 
--- ---- the pages that are chosen
-
-pub record Chosen (view : OperatorView (List Group)) (pages : List ℕ) (from : ℕ) : Type 0 where
-  pub least : AreLeastFree view pages
-  pub all : (q : ℕ) → IsFreePage the_shape view q → q < from → (j : ℕ) × (slice_get pages j ≡ Some q)
-  pub below : (index page : ℕ) → slice_get pages index ≡ Some page → page < from
-
-pub none_chosen : (view : OperatorView (List Group)) → Chosen view [] 0
-none_chosen view = record {
-  least = record { free = λ index page at. absurd (none_some page at); rise = λ index later page other up at there. absurd (none_some page at); least = λ index page q at free low. absurd (none_some page at) };
-  all = λ q free low. absurd (omega arith);
-  below = λ index page at. absurd (none_some page at);
-}
-
-pub one_chosen_more : (view : OperatorView (List Group)) (pages : List ℕ) (from page : ℕ) → Chosen view pages from → IsLeastFreePage view from page → Chosen view (pages ++ page ∷ []) (page + 1)
-one_chosen_more view pages from page h is = record {
-  least = record {
-    free = λ index q at. ⊎_elim (λ t. h.least.free index q t.1) (λ t. subst (λ (k : ℕ). IsFreePage the_shape view k) (sym t.1) is.free) (snoc_at pages page q index at);
-    rise = λ index later q other up at there. ⊎_elim
-        (λ last. ⊎_elim (λ first. h.least.rise index later q other up first.1 last.1) (λ first. absurd (omega (arith, first.0, last.0))) (snoc_at pages page q index at))
-        (λ last. ⊎_elim (λ first. omega (arith, h.below index q first.1, is.from_there, last.1)) (λ first. absurd (omega (arith, first.0, last.0))) (snoc_at pages page q index at))
-        (snoc_at pages page other later there);
-    least = λ index p q at free low. ⊎_elim
-        (λ t. in_front (h.least.least index p q t.1 free low))
-        (λ t. ⊎_elim (λ (under : q < from). in_front (h.all q free under)) (λ (up : from ≤ q). absurd (omega (arith, is.least q up free, t.1))) (cases_lt q from))
-        (snoc_at pages page p index at);
-  };
-  all = λ q free low. dite (ℕ_discrete q page)
-      (λ same. (length pages, slice_get-end pages page ∙ ap Some (sym same)))
-      (λ other. ⊎_elim (λ (under : q < from). in_front (h.all q free under)) (λ (up : from ≤ q). absurd (other (omega (arith, is.least q up free)))) (cases_lt q from));
-  below = λ index q at. ⊎_elim (λ t. omega (arith, h.below index q t.1, is.from_there)) (λ t. omega (arith, t.1)) (snoc_at pages page q index at);
-}
-  where
-    in_front : {q : ℕ} → ((j : ℕ) × (slice_get pages j ≡ Some q)) → (j : ℕ) × (slice_get (pages ++ page ∷ []) j ≡ Some q)
-    in_front {q} t = (t.0, slice_get-front pages (page ∷ []) t.0 q t.1)
-
--- there is one more, where a row is free
-pub some_page_left : (view : OperatorView (List Group)) (pages : List ℕ) (from : ℕ) → Chosen view pages from → NeverShort view → HasFreeRow view → length pages < PAGE_LIMIT → ((page : ℕ) → from ≤ page → IsFreePage the_shape view page → ⊥) → ⊥
-some_page_left view pages from h enough row few none =
-    let t = enough row pages few in ⊎_elim (λ (under : t.0 < from). let there = h.all t.0 t.1 under in t.2 there.0 there.1) (λ (up : from ≤ t.0). none t.0 up t.1) (cases_lt t.0 from)
-
--- pages that are taken, and one more
-pub chosen_grows : (view : OperatorView (List Group)) (pages : List ℕ) (index from page : ℕ) → index < length pages → Chosen view (take index pages) from → IsLeastFreePage view from page → Chosen view (take (index + 1) (set pages index page)) (page + 1)
-chosen_grows view pages index from page inside h is = subst (λ l. Chosen view l (page + 1)) (sym (take_more_set pages index page inside)) (one_chosen_more view (take index pages) from page h is)
-
-pub least_are_free : (operator : OperatorValue) (pages : List ℕ) → AreLeastFree operator.view pages → AreFreePages operator pages
-least_are_free operator pages h = record { free = h.free; rise = h.rise }
-
--- the first of some free pages
-pub front_free : (operator : OperatorValue) (pages : List ℕ) (n : ℕ) → AreFreePages operator pages → AreFreePages operator (take n pages)
-front_free operator pages n h = record {
-  free = λ i page at. h.free i page (in_all i page at);
-  rise = λ i j page other up at there. h.rise i j page other up (in_all i page at) (in_all j other there);
-}
-  where
-    in_all : (i page : ℕ) → slice_get (take n pages) i ≡ Some page → slice_get pages i ≡ Some page
-    in_all i page at = ap (λ l. slice_get l i) (sym (take-append-drop n pages)) ∙ slice_get-front (take n pages) (drop n pages) i page at
-
 -- ---- one program
 
 module _ (before : OperatorValue) (pages words : List ℕ) (free : AreFreePages before pages) (counted : length pages ≡ pages_for (length words)) where
@@ -128,7 +65,7 @@ module _ (before : OperatorValue) (pages words : List ℕ) (free : AreFreePages 
   cut = parts_of words
 
   pub no_word_yet : FillsPages before before pages cut × BeginsIn before pages words 0
-  no_word_yet = (record { steps = no_steps (IsFillOfPart pages cut) before; rows = λ q i low small. refl; others = λ q k none low small. refl }, λ j low. absurd (omega arith))
+  no_word_yet = (record { steps = no_steps (IsFillOfPart before pages cut) before; rows = λ q i low small. refl; others = λ q k none low small. refl }, λ j low. absurd (omega arith))
 
   pub page_there : (n : ℕ) → n < length words → slice_get pages (n / PAGE_WORDS) ≡ Some (slice_index pages (n / PAGE_WORDS))
   page_there n low = slice_get-get_or pages (n / PAGE_WORDS) 0 (omega (arith, counted))
@@ -144,19 +81,20 @@ module _ (before : OperatorValue) (pages words : List ℕ) (free : AreFreePages 
       let in_pool : page < the_shape.pages = (free.free (n / PAGE_WORDS) page here).0 in
       let found = word_part (pages_for (length words)) words n low (omega arith) in (
         subst (λ (o : OperatorValue). FillsPages before o pages cut) (sym e) (record {
-          steps = one_step_more (IsFillOfPart pages cut) before now (page_begin the_shape page + place) (slice_index words n) h.steps (record {
+          steps = one_step_more (IsFillOfPart before pages cut) before now (page_begin the_shape page + place) (slice_index words n) h.steps (record {
             index = n / PAGE_WORDS;
             page = page;
             k = place;
             x = slice_index words n;
             part = found.0;
             page_is = here;
+            free = free.free (n / PAGE_WORDS) page here;
             part_is = found.1;
             word_is = ap (slice_get found.0) place_is ∙ found.2;
             fill = refl;
           });
           rows = λ q i in_rows inside. row_word_kept now (filled_page page place (slice_index words n) now) page place (slice_index words n) in_pool small whole refl q i in_rows inside ∙ h.rows q i in_rows inside;
-          others = λ q k none under inside. page_word_kept now (filled_page page place (slice_index words n) now) page place (slice_index words n) in_pool small whole refl q k inside (inl (λ same. none (n / PAGE_WORDS) (here ∙ ap Some (sym same)))) ∙ h.others q k none under inside;
+          others = λ q k none under inside. page_word_kept now (filled_page page place (slice_index words n) now) page place (slice_index words n) in_pool small whole refl q k inside (inl (λ same. none (n / PAGE_WORDS) (here ∙ ap Some (sym same)) (free.free (n / PAGE_WORDS) q (here ∙ ap Some (sym same))))) ∙ h.others q k none under inside;
         }),
         λ j below. dite (ℕ_discrete j n)
             (λ same. ap (λ (i : ℕ). slice_index after.view.stored (ROWS * ROW_WORDS + (slice_index pages (i / PAGE_WORDS) * PAGE_WORDS + i % PAGE_WORDS))) same
@@ -187,113 +125,122 @@ module _ (before : OperatorValue) (pages words : List ℕ) (free : AreFreePages 
 
 -- ---- one program behind the others
 
-module _ (before now after : OperatorValue) (done own : List ℕ) (first second : List (List ℕ)) (same : length done ≡ length first) where
-  abbrev Apart : Type 0
-  Apart = (i j page : ℕ) → slice_get done i ≡ Some page → slice_get own j ≡ Some page → ⊥
+module _ (before now after : OperatorValue) (done own : List ℕ) (first second : List (List ℕ)) (same : length done ≡ length first) (under : (i page : ℕ) → slice_get done i ≡ Some page → page < PAGES)
+    (sizes : (i : ℕ) (part : List ℕ) → slice_get first i ≡ Some part → length part ≤ PAGE_WORDS) (h : FillsParts before now done first) where
+  abbrev IsFill : Entry → Type 0
+  IsFill = IsFillOfPart before (done ++ own) (first ++ second)
 
-  -- pages are below the pool's end
-  abbrev Below : Type 0
-  Below = (i page : ℕ) → slice_get done i ≡ Some page → page < PAGES
+  -- the words in the pages that are done stay
+  abbrev KeepsDone : Type 0
+  KeepsDone = (i page k : ℕ) → slice_get done i ≡ Some page → k < PAGE_WORDS
+      → slice_index after.view.stored (ROWS * ROW_WORDS + (page * PAGE_WORDS + k)) ≡ slice_index now.view.stored (ROWS * ROW_WORDS + (page * PAGE_WORDS + k))
 
-  pub parts_then : Apart → Below → ((i : ℕ) (part : List ℕ) → slice_get first i ≡ Some part → length part ≤ PAGE_WORDS) → FillsParts before now done first → FillsParts now after own second → FillsParts before after (done ++ own) (first ++ second)
-  parts_then apart under sizes h more = record {
-    fills = record {
-      steps = steps_then (IsFillOfPart (done ++ own) (first ++ second)) before now after
-          (steps_on (IsFillOfPart done first) (IsFillOfPart (done ++ own) (first ++ second)) (λ e t. record {
-            index = t.index;
-            page = t.page;
-            k = t.k;
-            x = t.x;
-            part = t.part;
-            page_is = slice_get-front done own t.index t.page t.page_is;
-            part_is = slice_get-front first second t.index t.part t.part_is;
-            word_is = t.word_is;
-            fill = t.fill;
-          }) before now h.fills.steps)
-          (steps_on (IsFillOfPart own second) (IsFillOfPart (done ++ own) (first ++ second)) (λ e t. record {
-            index = length done + t.index;
-            page = t.page;
-            k = t.k;
-            x = t.x;
-            part = t.part;
-            page_is = slice_get-back done own t.index (length done) t.page t.page_is refl;
-            part_is = slice_get-back first second t.index (length done) t.part t.part_is (sym same);
-            word_is = t.word_is;
-            fill = t.fill;
-          }) now after more.fills.steps);
-      rows = λ q i low small. more.fills.rows q i low small ∙ h.fills.rows q i low small;
-      others = λ q k none low small. more.fills.others q k (λ j at. none (length done + j) (slice_get-back done own j (length done) q at refl)) low small
-          ∙ h.fills.others q k (λ j at. none j (slice_get-front done own j q at)) low small;
-    };
-    standing = λ index page k x part at there word. stands index page k x part word (slice_get-front_or_back done own index page at) (slice_get-front_or_back first second index part there);
-  }
+  earlier_steps : Fills before now IsFill
+  earlier_steps = steps_on (IsFillOfPart before done first) IsFill (λ e t. record {
+    index = t.index;
+    page = t.page;
+    k = t.k;
+    x = t.x;
+    part = t.part;
+    page_is = slice_get-front done own t.index t.page t.page_is;
+    free = t.free;
+    part_is = slice_get-front first second t.index t.part t.part_is;
+    word_is = t.word_is;
+    fill = t.fill;
+  }) before now h.fills.steps
+
+  later_steps : Fills now after (IsFillOfPart now own second) → Fills now after IsFill
+  later_steps more = steps_on (IsFillOfPart now own second) IsFill (λ e t. record {
+    index = length done + t.index;
+    page = t.page;
+    k = t.k;
+    x = t.x;
+    part = t.part;
+    page_is = slice_get-back done own t.index (length done) t.page t.page_is refl;
+    free = h.fills.steps.were_free t.page t.free;
+    part_is = slice_get-back first second t.index (length done) t.part t.part_is (sym same);
+    word_is = t.word_is;
+    fill = t.fill;
+  }) now after more
+
+  both_stand : KeepsDone → PartsAre after own second → PartsAre after (done ++ own) (first ++ second)
+  both_stand kept stand index page k x part at there word = stands (slice_get-front_or_back done own index page at) (slice_get-front_or_back first second index part there)
     where
-      stands : (index page k x : ℕ) (part : List ℕ) → slice_get part k ≡ Some x
-          → ((index < length done) × (slice_get done index ≡ Some page)) ⊎ ((length done ≤ index) × (slice_get own (index - length done) ≡ Some page))
+      stands : ((index < length done) × (slice_get done index ≡ Some page)) ⊎ ((length done ≤ index) × (slice_get own (index - length done) ≡ Some page))
           → ((index < length first) × (slice_get first index ≡ Some part)) ⊎ ((length first ≤ index) × (slice_get second (index - length first) ≡ Some part))
           → slice_index after.view.stored (ROWS * ROW_WORDS + (page * PAGE_WORDS + k)) ≡ x
-      stands index page k x part word (inl (low, at)) (inl (below, there)) =
-          more.fills.others page k (λ j at'. apart index j page at at') (under index page at) (omega (arith, slice_get_within part k x word, sizes index part there)) ∙ h.standing index page k x part at there word
-      stands index page k x part word (inl (low, at)) (inr (up, there)) = absurd (omega arith)
-      stands index page k x part word (inr (up, at)) (inl (below, there)) = absurd (omega arith)
-      stands index page k x part word (inr (up, at)) (inr (up', there)) =
-          more.standing (index - length done) page k x part at (ap (slice_get second) (let g : index - length done ≡ index - length first = omega arith in g) ∙ there) word
+      stands (inl (low, at)) (inl (below, there)) = kept index page k at (omega (arith, slice_get_within part k x word, sizes index part there)) ∙ h.standing index page k x part at there word
+      stands (inl (low, at)) (inr (up, there)) = absurd (omega arith)
+      stands (inr (up, at)) (inl (below, there)) = absurd (omega arith)
+      stands (inr (up, at)) (inr (up', there)) = stand (index - length done) page k x part at (ap (slice_get second) (let g : index - length done ≡ index - length first = omega arith in g) ∙ there) word
 
--- so many programs are written, and these pages are left
+  -- the program is filled into free pages, which no earlier program has
+  pub parts_then : ((i j page : ℕ) → slice_get done i ≡ Some page → slice_get own j ≡ Some page → IsFreePage the_shape now.view page → ⊥) → FillsParts now after own second → FillsParts before after (done ++ own) (first ++ second)
+  parts_then apart more = record {
+    fills = record {
+      steps = steps_then IsFill before now after earlier_steps (later_steps more.fills.steps);
+      rows = λ q i low small. more.fills.rows q i low small ∙ h.fills.rows q i low small;
+      others = λ q k none low small.
+          more.fills.others q k (λ j at free. none (length done + j) (slice_get-back done own j (length done) q at refl) (h.fills.steps.were_free q free)) low small
+          ∙ h.fills.others q k (λ j at free. none j (slice_get-front done own j q at) free) low small;
+    };
+    standing = both_stand (λ i page k at small. more.fills.others page k (λ j at' free. apart i j page at at' free) (under i page at) small) more.standing;
+  }
+
+  -- the program stands there, and nothing is done
+  pub parts_stay : PartsAre now own second → after ≡ now → FillsParts before after (done ++ own) (first ++ second)
+  parts_stay stand e = record {
+    fills = record {
+      steps = subst (λ (o : OperatorValue). Fills before o IsFill) (sym e) earlier_steps;
+      rows = λ q i low small. ap (λ (o : OperatorValue). slice_index o.view.stored (q * ROW_WORDS + i)) e ∙ h.fills.rows q i low small;
+      others = λ q k none low small. ap (λ (o : OperatorValue). slice_index o.view.stored (ROWS * ROW_WORDS + (q * PAGE_WORDS + k))) e
+          ∙ h.fills.others q k (λ j at free. none j (slice_get-front done own j q at) free) low small;
+    };
+    standing = both_stand (λ i page k at small. ap (λ (o : OperatorValue). slice_index o.view.stored (ROWS * ROW_WORDS + (page * PAGE_WORDS + k))) e)
+        (subst (λ (o : OperatorValue). PartsAre o own second) (sym e) stand);
+  }
+
+-- ---- all programs, one behind the other
+
+-- what is ready stays ready, as long as only free pages are filled
+module _ (before now : OperatorValue) (pages : List ℕ) (cut : List (List ℕ)) (h : FillsPages before now pages cut) where
+  stands_on : (words own : List ℕ) → StandsThere before words own → StandsThere now words own
+  stands_on words own stands = record {
+    low = stands.low;
+    none_free = λ index page at free. stands.none_free index page at (h.steps.were_free page free);
+    stand = λ index page k x part at there word.
+        h.others page k (λ j there_too free. stands.none_free index page at free) (stands.low index page at) (let short = ((parts_of-cut words).sized index part there).1 in omega (arith, slice_get_within part k x word, short))
+        ∙ stands.stand index page k x part at there word;
+  }
+
+  free_on : (own : List ℕ) → AllFree before.view own → AllFree now.view own
+  free_on own free index page at = h.steps.free_pages page (free index page at)
+
+  ready_on : (words own : List ℕ) → AllFree before.view own ⊎ StandsThere before words own → AllFree now.view own ⊎ StandsThere now words own
+  ready_on words own ready = ⊎_elim (λ free. inl (free_on own free)) (λ stands. inr (stands_on words own stands)) ready
+
+-- so many programs are written, and these programs and pages are left
 pub record FillsSome (before now : OperatorValue) (pages left : List ℕ) (all rest : List (List ℕ)) : Type 0 where
   pub done : List ℕ
   pub cut : List (List ℕ)
   pub pages_are : pages ≡ done ++ left
-  pub parts_are : all ≡ cut ++ rest
+  pub parts_are : flat_map parts_of all ≡ cut ++ flat_map parts_of rest
   pub counted : length done ≡ length cut
   pub filled : FillsParts before now done cut
+  pub ready : EachIsReady before rest left
 
-pub none_filled : (before : OperatorValue) (pages : List ℕ) (all rest : List (List ℕ)) → rest ≡ all → FillsSome before before pages pages all rest
-none_filled before pages all rest is = record {
+pub none_filled : (before : OperatorValue) (pages : List ℕ) (all rest : List (List ℕ)) → AreReady before all pages → rest ≡ all → FillsSome before before pages pages all rest
+none_filled before pages all rest ready is = record {
   done = [];
   cut = [];
   pages_are = refl;
-  parts_are = sym is;
+  parts_are = ap (flat_map parts_of) (sym is);
   counted = refl;
-  filled = record { fills = record { steps = no_steps (IsFillOfPart [] []) before; rows = λ q i low small. refl; others = λ q k none low small. refl }; standing = λ index page k x part at there word. absurd (none_some page at) };
+  filled = record { fills = record { steps = no_steps (IsFillOfPart before [] []) before; rows = λ q i low small. refl; others = λ q k none low small. refl }; standing = λ index page k x part at there word. absurd (none_some page at) };
+  ready = subst (λ l. EachIsReady before l pages) (sym is) ready.each;
 }
 
-module _ (before now : OperatorValue) (pages left : List ℕ) (all rest : List (List ℕ)) (free : AreFreePages before pages) (h : FillsSome before now pages left all rest) where
-  in_all : (i page : ℕ) → slice_get left i ≡ Some page → slice_get pages (length h.done + i) ≡ Some page
-  in_all i page at = ap (λ l. slice_get l (length h.done + i)) h.pages_are ∙ slice_get-back h.done left i (length h.done) page at refl
-
-  in_done : (i page : ℕ) → slice_get h.done i ≡ Some page → slice_get pages i ≡ Some page
-  in_done i page at = ap (λ l. slice_get l i) h.pages_are ∙ slice_get-front h.done left i page at
-
-  pub left_free : AreFreePages now left
-  left_free = record {
-    free = λ i page at. h.filled.fills.steps.free_pages page (free.free (length h.done + i) page (in_all i page at));
-    rise = λ i j page other up at there. free.rise (length h.done + i) (length h.done + j) page other (omega arith) (in_all i page at) (in_all j other there);
-  }
-
-  -- there are pages left for the next program
-  pub left_counted : length pages ≡ length all → (words : List ℕ) (rest' : List (List ℕ)) → rest ≡ parts_of words ++ rest' → pages_for (length words) ≤ length left
-  left_counted counted words rest' is =
-      omega (arith, ap length h.pages_are, length-append h.done left, ap length h.parts_are, length-append h.cut rest, h.counted, counted, ap length is, length-append (parts_of words) rest', length-parts_of words)
-
-  pub one_program_more : (after : OperatorValue) (words own left' : List ℕ) (rest' : List (List ℕ)) → rest ≡ parts_of words ++ rest' → left ≡ own ++ left' → length own ≡ pages_for (length words)
-      → ((i : ℕ) (part : List ℕ) → slice_get all i ≡ Some part → length part ≤ PAGE_WORDS) → ((i page : ℕ) → slice_get pages i ≡ Some page → page < PAGES)
-      → FillsParts now after own (parts_of words) → FillsSome before after pages left' all rest'
-  one_program_more after words own left' rest' more_parts more_pages counted sizes under filled = record {
-    done = h.done ++ own;
-    cut = h.cut ++ parts_of words;
-    pages_are = h.pages_are ∙ (ap (λ l. h.done ++ l) more_pages ∙ sym (append_assoc h.done own left'));
-    parts_are = h.parts_are ∙ (ap (λ l. h.cut ++ l) more_parts ∙ sym (append_assoc h.cut (parts_of words) rest'));
-    counted = omega (arith, length-append h.done own, length-append h.cut (parts_of words), h.counted, counted, length-parts_of words);
-    filled = parts_then before now after h.done own h.cut (parts_of words) h.counted
-        (λ i j page at there. let low = slice_get_within h.done i page at in
-        let up = free.rise i (length h.done + j) page page (omega arith) (in_done i page at) (in_all j page (ap (λ l. slice_get l j) more_pages ∙ slice_get-front own left' j page there)) in omega arith)
-        (λ i page at. under i page (in_done i page at))
-        (λ i part at. sizes i part (ap (λ l. slice_get l i) h.parts_are ∙ slice_get-front h.cut rest i part at))
-        h.filled filled;
-  }
-
--- parts are short, and free pages lie in the pool
+-- parts are short
 pub short_parts : (programs : List (List ℕ)) (i : ℕ) (part : List ℕ) → slice_get (flat_map parts_of programs) i ≡ Some part → length part ≤ PAGE_WORDS
 short_parts [] i part at = absurd (none_some part at)
 short_parts (words ∷ rest) i part at = by (short_parts rest) (slice_get-front_or_back (parts_of words) (flat_map parts_of rest) i part (ap (λ l. slice_get l i) (sym (flat_map-cons parts_of words rest)) ∙ at))
@@ -303,17 +250,99 @@ short_parts (words ∷ rest) i part at = by (short_parts rest) (slice_get-front_
     by rec (inl (low, here)) = ((parts_of-cut words).sized i part here).1
     by rec (inr (up, there)) = rec (i - length (parts_of words)) part there
 
-pub low_pages : (operator : OperatorValue) (pages : List ℕ) → AreFreePages operator pages → (i page : ℕ) → slice_get pages i ≡ Some page → page < PAGES
-low_pages operator pages free i page at = omega (arith, (free.free i page at).0, pages_is)
+module _ (before now : OperatorValue) (pages left : List ℕ) (all rest : List (List ℕ)) (ready : AreReady before all pages) (h : FillsSome before now pages left all rest) where
+  in_all : (i page : ℕ) → slice_get left i ≡ Some page → slice_get pages (length h.done + i) ≡ Some page
+  in_all i page at = ap (λ l. slice_get l (length h.done + i)) h.pages_are ∙ slice_get-back h.done left i (length h.done) page at refl
+
+  in_done : (i page : ℕ) → slice_get h.done i ≡ Some page → slice_get pages i ≡ Some page
+  in_done i page at = ap (λ l. slice_get l i) h.pages_are ∙ slice_get-front h.done left i page at
+
+  module _ (words : List ℕ) (others : List (List ℕ)) (next : rest ≡ words ∷ others) where
+    abbrev next_own : List ℕ
+    next_own = take (pages_for (length words)) left
+
+    abbrev behind : List ℕ
+    behind = drop (pages_for (length words)) left
+
+    parts_next : flat_map parts_of rest ≡ parts_of words ++ flat_map parts_of others
+    parts_next = ap (flat_map parts_of) next ∙ flat_map-cons parts_of words others
+
+    -- there are pages left for the next program
+    pub left_counted : IsCounted all pages → pages_for (length words) ≤ length left
+    left_counted counted =
+        omega (arith, ap length h.pages_are, length-append h.done left, ap length h.parts_are, length-append h.cut (flat_map parts_of rest), h.counted, counted, ap length parts_next, length-append (parts_of words) (flat_map parts_of others), length-parts_of words)
+
+    next_ready : (AllFree before.view next_own ⊎ StandsThere before words next_own) × EachIsReady before others behind
+    next_ready = subst (λ l. EachIsReady before l left) next h.ready
+
+    own_in_left : (i page : ℕ) → slice_get next_own i ≡ Some page → slice_get left i ≡ Some page
+    own_in_left i page at = ap (λ l. slice_get l i) (sym (take-append-drop (pages_for (length words)) left)) ∙ slice_get-front next_own behind i page at
+
+    pub left_ready : IsReady now words next_own
+    left_ready = record {
+      rise = λ i j page other up at there free last_free. ready.rise (length h.done + i) (length h.done + j) page other (omega arith) (in_all i page (own_in_left i page at)) (in_all j other (own_in_left j other there))
+          (h.filled.fills.steps.were_free page free) (h.filled.fills.steps.were_free other last_free);
+      ready = ready_on before now h.done h.cut h.filled.fills words next_own next_ready.0;
+    }
+
+    pub one_program_more : IsCounted all pages → (after : OperatorValue) (left' : List ℕ) → left' ≡ behind → FillsNew now after words next_own → FillsSome before after pages left' all others
+    one_program_more counted after left' left_is new = subst (λ l. FillsSome before after pages l all others) (sym left_is) record {
+      done = h.done ++ next_own;
+      cut = h.cut ++ parts_of words;
+      pages_are = h.pages_are ∙ (ap (λ l. h.done ++ l) (sym (take-append-drop (pages_for (length words)) left)) ∙ sym (append_assoc h.done next_own behind));
+      parts_are = h.parts_are ∙ (ap (λ l. h.cut ++ l) parts_next ∙ sym (append_assoc h.cut (parts_of words) (flat_map parts_of others)));
+      counted = omega (arith, length-append h.done next_own, length-append h.cut (parts_of words), h.counted, length-take-le (pages_for (length words)) left (left_counted counted), length-parts_of words);
+      filled = ⊎_elim
+          (λ t. parts_then before now after h.done next_own h.cut (parts_of words) h.counted under sizes h.filled apart t.1)
+          (λ t. parts_stay before now after h.done next_own h.cut (parts_of words) h.counted under sizes h.filled t.0.stand t.1)
+          new;
+      ready = next_ready.1;
+    }
+      where
+        under : (i page : ℕ) → slice_get h.done i ≡ Some page → page < PAGES
+        under i page at = ready.low i page (in_done i page at)
+
+        sizes : (i : ℕ) (part : List ℕ) → slice_get h.cut i ≡ Some part → length part ≤ PAGE_WORDS
+        sizes i part at = short_parts all i part (ap (λ l. slice_get l i) h.parts_are ∙ slice_get-front h.cut (flat_map parts_of rest) i part at)
+
+        apart : (i j page : ℕ) → slice_get h.done i ≡ Some page → slice_get next_own j ≡ Some page → IsFreePage the_shape now.view page → ⊥
+        apart i j page at there free = let low = slice_get_within h.done i page at in let was = h.filled.fills.steps.were_free page free in
+            let up = ready.rise i (length h.done + j) page page (omega arith) (in_done i page at) (in_all j page (own_in_left j page there)) was was in omega arith
 
 -- all programs are written
-pub all_filled : (before now : OperatorValue) (pages left : List ℕ) (all rest : List (List ℕ)) → FillsSome before now pages left all rest → rest ≡ [] → length pages ≡ length all → FillsParts before now pages all
+pub all_filled : (before now : OperatorValue) (pages left : List ℕ) (all rest : List (List ℕ)) → FillsSome before now pages left all rest → rest ≡ [] → IsCounted all pages → FillsParts before now pages (flat_map parts_of all)
 all_filled before now pages left all rest h none counted =
-    let parts_are : all ≡ h.cut = h.parts_are ∙ (ap (λ l. h.cut ++ l) none ∙ append-nil h.cut) in
-    let left_none : length left ≡ 0 = omega (arith, ap length h.pages_are, length-append h.done left, ap length parts_are, h.counted) in
+    let parts_are : flat_map parts_of all ≡ h.cut = h.parts_are ∙ (ap (λ l. h.cut ++ l) (ap (flat_map parts_of) none) ∙ append-nil h.cut) in
+    let left_none : length left ≡ 0 = omega (arith, ap length h.pages_are, length-append h.done left, ap length parts_are, h.counted, counted) in
     let pages_are : pages ≡ h.done = h.pages_are ∙ (ap (λ l. h.done ++ l) (no_items left left_none) ∙ append-nil h.done) in
-    subst (λ l. FillsParts before now l all) (sym pages_are) (subst (FillsParts before now h.done) (sym parts_are) h.filled)
+    subst (λ l. FillsParts before now l (flat_map parts_of all)) (sym pages_are) (subst (FillsParts before now h.done) (sym parts_are) h.filled)
   where
     no_items : (xs : List ℕ) → length xs ≡ 0 → xs ≡ []
     no_items [] e = refl
     no_items (x ∷ xs) e = absurd (omega arith)
+
+-- ---- one program, which is new or stands there
+
+pub first_free : (operator : OperatorValue) (words own : List ℕ) (page : ℕ) → IsReady operator words own → slice_get own 0 ≡ Some page → IsFreePage the_shape operator.view page → AreFreePages operator own
+first_free operator words own page h at free = record {
+  free = all_free;
+  rise = λ index later q other up here there. h.rise index later q other up here there (all_free index q here) (all_free later other there);
+}
+  where
+    all_free : AllFree operator.view own
+    all_free = ⊎_elim (λ t. t) (λ stands. absurd (stands.none_free 0 page at free)) h.ready
+
+pub new_filled : (before after : OperatorValue) (words own : List ℕ) → AreFreePages before own → FillsParts before after own (parts_of words) → FillsNew before after words own
+new_filled before after words own free filled = inl (free.free, filled)
+
+-- no page is free, or there is none
+pub stays : (operator after : OperatorValue) (words own : List ℕ) → IsReady operator words own → ((page : ℕ) → slice_get own 0 ≡ Some page → IsFreePage the_shape operator.view page → ⊥) → length own ≡ pages_for (length words) → after ≡ operator → FillsNew operator after words own
+stays operator after words [] h none counted e = inr (
+  record {
+    low = λ index page at. absurd (none_some page at);
+    none_free = λ index page at. absurd (none_some page at);
+    stand = λ index page k x part at. absurd (none_some page at);
+  },
+  e,
+)
+stays operator after words (page ∷ own) h none counted e = ⊎_elim (λ free. absurd (none page refl (free 0 page refl))) (λ stands. inr (stands, e)) h.ready

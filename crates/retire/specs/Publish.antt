@@ -1,9 +1,12 @@
 -- What a publication does: scans where no row is free, fills of one free row and of free pages, and one store of `current`.
-use Rattle.std.specs.Prelude.{◌≡◌, ◌+◌, ◌++◌, ◌*◌, ◌<◌, ◌≤◌, ◌⊎◌, ◌∷◌, IsErrAnd, List, None, Result, Some, [], length, slice_get, slice_index, ℕ}
+use Rattle.std.specs.Prelude.{◌≡◌, ◌≢◌, ◌+◌, ◌++◌, ◌*◌, ◌<◌, ◌≤◌, ◌⊎◌, ◌∷◌, IsErrAnd, List, None, Result, Some, [], drop, length, slice_get, slice_index, take, ℕ}
+use mathlib.Core.Option.{some}
+use lib.ListN.{get_elem?}
 use Rattle.std.specs.List.{Contains}
 use Rattle.config_image.specs.declared.TheConstants.{PAGE_WORDS, ROW_WORDS}
 use Rattle.config_image.specs.Image.{Group}
-use Rattle.config_image.specs.Pooled.{parts, pooled_row}
+use Rattle.config_image.specs.Pooled.{pages_for, parts, pooled_row}
+use Rattle.config_image.specs.Walk.{words_of_programs}
 use Rattle.versions.specs.declared.layout.TheConstants.{PAGES, ROWS, WORKERS}
 use Rattle.versions.specs.declared.view.OperatorView.{OperatorView}
 use Rattle.versions.specs.declared.step.Step.TheVariants.{Fill, Publish}
@@ -13,7 +16,7 @@ use Rattle.versions.specs.Step.{entry}
 use Rattle.versions.specs.Free.{IsFree, IsFreePage, IsFreeRow, IsReplaced, number_after}
 use Rattle.versions.specs.Table.{the_shape}
 use Rattle.read_section.specs.View.{TellsLog}
-use Rattle.read_section.specs.Operator.{HasFreeRow, OperatorValue, scanned}
+use Rattle.read_section.specs.Operator.{HasFreeRow, IsCurrent, OperatorValue, scanned}
 
 -- the call refused, and this is the fault that it named
 abbrev pub IsRefusedAs : {T F C : Type 0} → F → Result T (F × C) → Type 0
@@ -46,40 +49,65 @@ pub record ScansEach (before after : OperatorValue) : Type 0 where
 abbrev pub LooksForRow : OperatorValue → OperatorValue → Type 0
 LooksForRow before after = (HasFreeRow before.view × (after ≡ before)) ⊎ ((HasFreeRow before.view → ⊥) × ScansEach before after)
 
--- a fill of a place of row r by the word that a list has there
-abbrev pub IsFillOf : ℕ → List ℕ → Entry → Type 0
-IsFillOf r words newest = (i : ℕ) × (i < length words) × (newest ≡ entry (Fill (row_begin the_shape r + i) (slice_index words i)) (slice_index words i))
+-- a fill of a place of row r by the word that a list has there; another word stands there in `stored`
+pub record IsFillOf (stored : List ℕ) (r : ℕ) (words : List ℕ) (newest : Entry) : Type 0 where
+  pub place : ℕ
+  pub inside : place < length words
+  pub differs : slice_index stored (r * ROW_WORDS + place) ≢ slice_index words place
+  pub fill : newest ≡ entry (Fill (row_begin the_shape r + place) (slice_index words place)) (slice_index words place)
 
--- a fill of a page by a word of the configuration's part that stands there
-pub record IsPartFill (config : List Group) (pages : List ℕ) (newest : Entry) : Type 0 where
+-- a fill of a free page by a word of the configuration's part that stands there
+pub record IsPartFill (view : OperatorView (List Group)) (config : List Group) (pages : List ℕ) (newest : Entry) : Type 0 where
   pub index : ℕ
   pub page : ℕ
   pub k : ℕ
   pub x : ℕ
   pub part : List ℕ
   pub page_is : slice_get pages index ≡ Some page
+  pub free : IsFreePage the_shape view page
   pub part_is : slice_get (parts config) index ≡ Some part
   pub word_is : slice_get part k ≡ Some x
   pub fill : newest ≡ entry (Fill (page_begin the_shape page + k) x) x
 
--- a fill of the pooled form: of a word of row r, or of a word of a part
-abbrev pub IsFormFill : ℕ → List Group → List ℕ → Entry → Type 0
-IsFormFill r config pages newest = IsFillOf r (pooled_row config pages) newest ⊎ IsPartFill config pages newest
+-- a fill of the pooled form: of a word of row r that differs from the one that stood there, or of a word of a part in a page that
+-- was free
+abbrev pub IsFormFill : OperatorView (List Group) → ℕ → List Group → List ℕ → Entry → Type 0
+IsFormFill view r config pages newest = IsFillOf view.stored r (pooled_row config pages) newest ⊎ IsPartFill view config pages newest
 
--- the pages are free, and each is the least free one behind the one before it
-pub record AreLeastFree (view : OperatorView (List Group)) (pages : List ℕ) : Type 0 where
-  pub free : (index page : ℕ) → slice_get pages index ≡ Some page → IsFreePage the_shape view page
-  pub rise : (index later page other : ℕ) → index < later → slice_get pages index ≡ Some page → slice_get pages later ≡ Some other → page < other
-  pub least : (index page q : ℕ) → slice_get pages index ≡ Some page → IsFreePage the_shape view q → q < page → (j : ℕ) × (slice_get pages j ≡ Some q)
+-- the pages of each program, where programs stand in pages one behind the other
+abbrev pub pages_of_each : List (List ℕ) → List ℕ → List (List ℕ)
+pages_of_each [] pages = []
+pages_of_each (words ∷ rest) pages = take (pages_for (length words)) pages ∷ pages_of_each rest (drop (pages_for (length words)) pages)
+
+-- one of the programs that stand in these pages has these words, and its own pages are these
+abbrev pub HasPages : List (List ℕ) → List ℕ → List ℕ → List ℕ → Type 0
+HasPages programs pages words own = (index : ℕ) × (slice_get programs index ≡ Some words) × (slice_get (pages_of_each programs pages) index ≡ Some own)
+
+-- a program takes the pages of a program of the version before that has the same words, and free pages where there is none
+abbrev pub TakesFor : OperatorView (List Group) → List (List ℕ) → List ℕ → List ℕ → List ℕ → Type 0
+TakesFor view earlier standing words own =
+    HasPages earlier standing words own ⊎ ((Contains earlier words → ⊥) × ((index page : ℕ) → slice_get own index ≡ Some page → IsFreePage the_shape view page))
+
+-- those of the pages that are free rise
+abbrev pub RiseWhereFree : OperatorView (List Group) → List ℕ → Type 0
+RiseWhereFree view pages = (index later page other : ℕ) → index < later → slice_get pages index ≡ Some page → slice_get pages later ≡ Some other
+    → IsFreePage the_shape view page → IsFreePage the_shape view other → page < other
+
+-- the programs of a version take their pages, one program behind the other, beside the programs of the version before and the pages
+-- where these stand; of the free pages they take the least ones, in order
+pub record TakesPages (view : OperatorView (List Group)) (earlier : List (List ℕ)) (standing : List ℕ) (programs : List (List ℕ)) (pages : List ℕ) : Type 0 where
+  pub each : (index : ℕ) (words own : List ℕ) → slice_get programs index ≡ Some words → slice_get (pages_of_each programs pages) index ≡ Some own → TakesFor view earlier standing words own
+  pub rise : RiseWhereFree view pages
+  pub least : (index page q : ℕ) → slice_get pages index ≡ Some page → IsFreePage the_shape view page → IsFreePage the_shape view q → q < page → (j : ℕ) × (slice_get pages j ≡ Some q)
 
 -- the words of all rows but r are as they were
 abbrev pub KeepsOtherRows : ℕ → OperatorValue → OperatorValue → Type 0
 KeepsOtherRows r before after = (q i : ℕ) → (q ≡ r → ⊥) → q < ROWS → i < ROW_WORDS
     → slice_index after.view.stored (q * ROW_WORDS + i) ≡ slice_index before.view.stored (q * ROW_WORDS + i)
 
--- and so are the words of all pages but these
-abbrev pub KeepsOtherPages : List ℕ → OperatorValue → OperatorValue → Type 0
-KeepsOtherPages pages before after = (q k : ℕ) → ((index : ℕ) → slice_get pages index ≡ Some q → ⊥) → q < PAGES → k < PAGE_WORDS
+-- and so are the words of all pages but those of these that were free
+abbrev pub KeepsOtherPages : OperatorView (List Group) → List ℕ → OperatorValue → OperatorValue → Type 0
+KeepsOtherPages view pages before after = (q k : ℕ) → ((index : ℕ) → slice_get pages index ≡ Some q → IsFreePage the_shape view q → ⊥) → q < PAGES → k < PAGE_WORDS
     → slice_index after.view.stored (ROWS * ROW_WORDS + (q * PAGE_WORDS + k)) ≡ slice_index before.view.stored (ROWS * ROW_WORDS + (q * PAGE_WORDS + k))
 
 -- the least of the rows that are free
@@ -87,8 +115,9 @@ pub record IsLeastFreeRow (operator : OperatorValue) (r : ℕ) : Type 0 where
   pub free : IsFreeRow the_shape operator.view r
   pub least : (q : ℕ) → IsFreeRow the_shape operator.view q → r ≤ q
 
--- a configuration is published: a free row is looked for, the least free pages are taken for its parts, one for each, the pages and
--- the least free row are filled by words of the pooled form, and the row is stored in `current` as that of the next version
+-- a configuration is published: a free row is looked for, and pages are taken for its parts, one for each, beside the version that is
+-- current. Of the pages those that are free, and of the least free row the words that differ, are filled by words of the pooled form,
+-- and the row is stored in `current` as that of the next version
 pub record Publishes (before after : OperatorValue) (config : List Group) : Type 0 where
   pub found : OperatorValue
   pub looked : LooksForRow before found
@@ -96,9 +125,13 @@ pub record Publishes (before after : OperatorValue) (config : List Group) : Type
   pub least : IsLeastFreeRow found taken
   pub pages : List ℕ
   pub counted : length pages ≡ length (parts config)
-  pub new_pages : AreLeastFree found.view pages
+  pub earlier : List Group
+  pub current : IsCurrent before.view earlier
+  pub standing : List ℕ
+  pub named : get_elem? before.view.version_pages (number_after before.view.log) ≡ some standing
+  pub takes : TakesPages found.view (words_of_programs earlier) standing (words_of_programs config) pages
   pub fills : List Entry
-  pub filled : (newest : Entry) → Contains fills newest → IsFormFill taken config pages newest
+  pub filled : (newest : Entry) → Contains fills newest → IsFormFill found.view taken config pages newest
   pub log : after.view.log ≡ entry (Publish taken) (current_word the_shape (number_after before.view.log + 1) taken) ∷ (fills ++ found.view.log)
   pub published : after.view.published ≡ before.view.published ++ config ∷ []
   pub version_rows : after.view.version_rows ≡ before.view.version_rows ++ taken ∷ []
@@ -108,16 +141,30 @@ pub record Publishes (before after : OperatorValue) (config : List Group) : Type
   pub table : after.table ≡ before.table
   pub reported : after.reported ≡ before.reported
 
--- the version that was published stands in a row and in pages that hold the configuration now; no word of another row or another
--- page changed
+-- no step is a fill of this page
+abbrev pub IsUnfilled : List Entry → ℕ → Type 0
+IsUnfilled steps page = (k x : ℕ) → k < PAGE_WORDS → Contains steps (entry (Fill (page_begin the_shape page + k) x) x) → ⊥
+
+-- a program whose words equal those of a program of the version before has the pages of such a program, and none of them is filled
+pub record SharesEqualPrograms (before after : OperatorValue) (config : List Group) : Type 0 where
+  pub publication : Publishes before after config
+  pub shared : (index : ℕ) (words own : List ℕ) → slice_get (words_of_programs config) index ≡ Some words → slice_get (pages_of_each (words_of_programs config) publication.pages) index ≡ Some own
+      → Contains (words_of_programs publication.earlier) words → HasPages (words_of_programs publication.earlier) publication.standing words own
+  pub unfilled : (index i page : ℕ) (words own : List ℕ) → slice_get (words_of_programs config) index ≡ Some words → slice_get (pages_of_each (words_of_programs config) publication.pages) index ≡ Some own
+      → Contains (words_of_programs publication.earlier) words → slice_get own i ≡ Some page → IsUnfilled publication.fills page
+
+-- the version that was published stands in a row and in pages that hold the configuration now; no word of another row changed, nor of
+-- another page or of one that was not free
 pub record StandsInRow (before after : OperatorValue) (config : List Group) : Type 0 where
+  pub found : OperatorValue
+  pub looked : LooksForRow before found
   pub taken : ℕ
   pub pages : List ℕ
   pub version_rows : after.view.version_rows ≡ before.view.version_rows ++ taken ∷ []
   pub version_pages : after.view.version_pages ≡ before.view.version_pages ++ pages ∷ []
   pub holds : HoldsForm the_shape 0 after.view.stored taken config pages
   pub others : KeepsOtherRows taken before after
-  pub other_pages : KeepsOtherPages pages before after
+  pub other_pages : KeepsOtherPages found.view pages before after
 
 -- some scan gave a word from 1 to m + 1
 abbrev pub HoldsBack : ℕ → List Scanned → Type 0

@@ -8,13 +8,15 @@ ghost use Rattle.std.specs.Prelude.{◌≡◌, ◌+◌, ◌<◌, ◌≤◌, ◌�
 ghost use Rattle.member_group.specs.Charge.{charge_of};
 ghost use Rattle.versions.specs.Free.{number_after};
 ghost use Rattle.read_section.specs.Operator.{OperatorValue};
-ghost use Rattle.retire.specs.Publish.{IsBusy, IsRefusedAs, Publishes, StandsInRow};
+ghost use Rattle.retire.specs.Publish.{IsBusy, IsRefusedAs, Publishes, SharesEqualPrograms, StandsInRow};
 ghost use Rattle.retire.specs.Sweep.{Sweeps};
 
 mod fault;
 mod pages;
 mod row;
 mod sink;
+mod standing;
+mod taken;
 mod version;
 
 pub use fault::PublishFault;
@@ -29,11 +31,13 @@ pub trait Retire {
 
     /// Publishes a configuration as the next version, and answers its number, counted from 0.
     ///
-    /// Fills the least free pages, one for each part of a program, and the least free row, but for zeros that stand there already,
-    /// and no others, then stores `current`. Where no row is free it first scans each read word once, and answers `Busy` if that
+    /// A program whose words equal those of a program of the current version takes its pages, and no fill is made for it. The others
+    /// take the least free pages, one for each part, and fill them. Of the least free row the words that are not there already are
+    /// filled. Then `current` is stored. Where no row is free it first scans each read word once, and answers `Busy` if that
     /// freed none: it never waits for a grace period. Takes no memory.
     fn publish(&mut self, config: Config) -> Result<u64, (PublishFault, Config)>
         ensures published_exactly { OnOk result (Publishes (operator self.old) (operator self.new) config) }
+        ensures equal_programs_shared { OnOk result (SharesEqualPrograms (operator self.old) (operator self.new) config) }
         ensures filled_row { OnOk result (StandsInRow (operator self.old) (operator self.new) config) }
         ensures new_number { IfOk result (λ number. number ≡ number_after (operator self.old).view.log + 1) }
 

@@ -9,7 +9,7 @@ ghost use Rattle.read_section.specs.Operator.{HasFreeRow};
 ghost use Rattle.retire.specs.Publish.{IsBusy, IsLeastFreeRow, LooksForRow, ScansEach};
 ghost use Rattle.retire.specs.body.Filling.{FillsRow, HoldsRow};
 
-use crate::sink::fill_front;
+use crate::sink::{fill_front, fill_other};
 use member_group::Config;
 use read_section::Operator;
 use std::marker::Brand;
@@ -48,7 +48,7 @@ pub(crate) fn look_for_row(operator: &mut Operator) -> Option<usize>
     free_row(operator)
 }
 
-// Fills a row until it is the configuration's, where its parts stand in these pages; zeros that stand already are left alone.
+// Fills a row until it is the configuration's, where its parts stand in these pages; words that stand already are left alone.
 pub(crate) fn fill_row(operator: &mut Operator, row: usize, config: &Config, pages: &[u32])
     requires free { IsFreeRow the_shape operator.old.view row }
     requires publishable { IsPublishable config.now }
@@ -59,6 +59,6 @@ pub(crate) fn fill_row(operator: &mut Operator, row: usize, config: &Config, pag
     let len = fill_front::<Brand>(operator, row, config, pages);
     let end = operator.zeros_from(row);
     for place in len..end {
-        operator.fill(row, end - 1 - (place - len), 0);
+        fill_other(operator, row, end - 1 - (place - len), 0);
     }
 }

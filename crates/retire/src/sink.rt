@@ -1,6 +1,6 @@
 //! A row as a sink of words: the row of a configuration in the pooled form is written into it in one pass.
 
-ghost use Rattle.std.specs.Prelude.{◌≡◌, ◌+◌, ◌-◌, length, take, ℕ};
+ghost use Rattle.std.specs.Prelude.{◌≡◌, ◌+◌, ◌-◌, ◌<◌, length, take, ℕ};
 ghost use Rattle.config_image.specs.declared.TheConstants.{ROW_WORDS};
 ghost use Rattle.config_image.specs.Image.{programs_begin};
 ghost use Rattle.config_image.specs.Pooled.{ArePages, parts, pooled_row};
@@ -8,7 +8,7 @@ ghost use Rattle.versions.specs.Free.{IsFreeRow};
 ghost use Rattle.versions.specs.Table.{the_shape};
 ghost use Rattle.read_section.specs.Layout.{IsPublishable};
 ghost use Rattle.read_section.specs.Operator.{OperatorValue};
-ghost use Rattle.retire.specs.body.Filling.{FillsFront};
+ghost use Rattle.retire.specs.body.Filling.{FillsFront, FillsOther};
 ghost use Rattle.retire.specs.body.Sink.{taken_of};
 
 use config_image::{ROW_WORDS, WordSink, write_pooled};
@@ -52,8 +52,19 @@ impl<L: Lent> WordSink for RowSink<'_, L> {
     ghost room = { λ sink. ROW_WORDS - sink.place };
 
     fn put(&mut self, word: u64) {
-        self.operator.fill(self.row, self.place, word);
+        fill_other(self.operator, self.row, self.place, word);
         self.place += 1;
+    }
+}
+
+// Stores a word at a place of a free row, unless it stands there already.
+pub(crate) fn fill_other(operator: &mut Operator, row: usize, place: usize, word: u64)
+    requires free { IsFreeRow the_shape operator.old.view row }
+    requires place { place < ROW_WORDS }
+    ensures { FillsOther operator.old operator.new row place word }
+{
+    if operator.row_word(row, place) != word {
+        operator.fill(row, place, word);
     }
 }
 

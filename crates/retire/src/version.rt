@@ -8,18 +8,17 @@ ghost use Rattle.retire.specs.body.Filling.{FillsVersion};
 
 use crate::pages::{choose_pages, fill_pages};
 use crate::row::fill_row;
-use config_image::page_count;
 use member_group::Config;
 use read_section::Operator;
 
-// Fills the least free pages, one for each part, and a free row, so that they hold the configuration.
+// Chooses pages, fills those that are free, and a free row, so that they hold the configuration.
 pub(crate) fn fill_version(operator: &mut Operator, row: usize, config: &Config)
     requires free { IsFreeRow the_shape operator.old.view row }
     requires publishable { IsPublishable config.now }
     ensures { (pages : List ℕ) × FillsVersion operator.old operator.new row config.now pages }
 {
-    let count = page_count(config) as usize;
-    let pages = choose_pages(operator, count);
-    fill_pages(operator, config, &pages[..count]);
-    fill_row(operator, row, config, &pages[..count]);
+    let taken = choose_pages(operator, config);
+    let pages = taken.as_slice();
+    fill_pages(operator, config, pages);
+    fill_row(operator, row, config, pages);
 }

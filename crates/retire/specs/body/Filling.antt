@@ -1,26 +1,28 @@
 -- What fills of a row and of pages leave.
-use Rattle.std.specs.Prelude.{◌≡◌, ◌+◌, ◌++◌, ◌*◌, ◌/◌, ◌%◌, ◌<◌, List, Some, length, slice_get, slice_index, ℕ}
+use Rattle.std.specs.Prelude.{◌≡◌, ◌≢◌, ◌⊎◌, ◌+◌, ◌++◌, ◌*◌, ◌/◌, ◌%◌, ◌<◌, ◌∷◌, List, Some, [], drop, length, slice_get, slice_index, take, ℕ}
 use Rattle.std.specs.List.{Contains}
 use Rattle.config_image.specs.declared.TheConstants.{PAGE_WORDS, ROW_WORDS}
 use Rattle.config_image.specs.Image.{Group}
-use Rattle.config_image.specs.Pooled.{ArePages, parts, pooled_row}
+use Rattle.config_image.specs.Pooled.{ArePages, pages_for, parts, parts_of, pooled_row}
 use Rattle.versions.specs.declared.layout.TheConstants.{PAGES, ROWS}
 use Rattle.versions.specs.declared.step.Entry.{Entry}
 use Rattle.versions.specs.declared.step.Step.TheVariants.{Fill}
 use Rattle.versions.specs.Step.{entry}
 use Rattle.versions.specs.Free.{IsFreePage, IsFreeRow, number_after}
-use Rattle.versions.specs.Layout.{page_begin}
+use Rattle.versions.specs.Layout.{page_begin, stored_words}
 use Rattle.versions.specs.Table.{the_shape}
-use Rattle.read_section.specs.Operator.{OperatorValue}
-use Rattle.retire.specs.Publish.{AreLeastFree, IsFillOf, KeepsOtherPages, KeepsOtherRows}
+use Rattle.read_section.specs.Operator.{OperatorValue, filled}
+use Rattle.retire.specs.Publish.{IsFillOf, KeepsOtherPages, KeepsOtherRows, RiseWhereFree}
+use Rattle.retire.specs.body.Taking.{AllFree, ChoosesPages, NoneFree}
 
--- fills, and no other step: each is one of these. What was free is free still
+-- fills, and no other step: each is one of these. What was free is free still, and no other page is
 pub record Fills (before after : OperatorValue) (IsFill : Entry → Type 0) : Type 0 where
   pub fills : List Entry
   pub filled : (newest : Entry) → Contains fills newest → IsFill newest
   pub log : after.view.log ≡ fills ++ before.view.log
   pub free_rows : (r : ℕ) → IsFreeRow the_shape before.view r → IsFreeRow the_shape after.view r
   pub free_pages : (q : ℕ) → IsFreePage the_shape before.view q → IsFreePage the_shape after.view q
+  pub were_free : (q : ℕ) → IsFreePage the_shape after.view q → IsFreePage the_shape before.view q
   pub number : number_after after.view.log ≡ number_after before.view.log
   pub published : after.view.published ≡ before.view.published
   pub version_rows : after.view.version_rows ≡ before.view.version_rows
@@ -37,9 +39,22 @@ KeepsPool before after = (q k : ℕ) → q < PAGES → k < PAGE_WORDS
 abbrev pub KeepsRows : OperatorValue → OperatorValue → Type 0
 KeepsRows before after = (q i : ℕ) → q < ROWS → i < ROW_WORDS → slice_index after.view.stored (q * ROW_WORDS + i) ≡ slice_index before.view.stored (q * ROW_WORDS + i)
 
+-- a word is stored at a place of a row, unless it stands there
+abbrev pub FillsOther : OperatorValue → OperatorValue → ℕ → ℕ → ℕ → Type 0
+FillsOther before after r place word =
+    ((slice_index before.view.stored (r * ROW_WORDS + place) ≢ word) × (length before.view.stored ≡ stored_words the_shape) × (after ≡ filled r place word before))
+    ⊎ ((slice_index before.view.stored (r * ROW_WORDS + place) ≡ word) × (after ≡ before))
+
+-- a word of a row is as it was, or as a list has it
+abbrev pub KeptOrFilled : OperatorValue → OperatorValue → ℕ → List ℕ → ℕ → Type 0
+KeptOrFilled before after r words i =
+    (slice_index after.view.stored (r * ROW_WORDS + i) ≡ slice_index before.view.stored (r * ROW_WORDS + i))
+    ⊎ ((i < length words) × (slice_index after.view.stored (r * ROW_WORDS + i) ≡ slice_index words i))
+
 -- fills of places of a free row by the words that a list has there
 pub record FillsFrom (before after : OperatorValue) (r : ℕ) (words : List ℕ) : Type 0 where
-  pub steps : Fills before after (IsFillOf r words)
+  pub steps : Fills before after (IsFillOf before.view.stored r words)
+  pub either : (i : ℕ) → i < ROW_WORDS → KeptOrFilled before after r words i
   pub others : KeepsOtherRows r before after
   pub pool : KeepsPool before after
   pub still_free : IsFreeRow the_shape after.view r
@@ -64,14 +79,15 @@ pub record AreFreePages (operator : OperatorValue) (pages : List ℕ) : Type 0 w
   pub free : (index page : ℕ) → slice_get pages index ≡ Some page → IsFreePage the_shape operator.view page
   pub rise : (index later page other : ℕ) → index < later → slice_get pages index ≡ Some page → slice_get pages later ≡ Some other → page < other
 
--- a fill of a page by a word of a part
-pub record IsFillOfPart (pages : List ℕ) (cut : List (List ℕ)) (newest : Entry) : Type 0 where
+-- a fill of a page that was free by a word of a part
+pub record IsFillOfPart (before : OperatorValue) (pages : List ℕ) (cut : List (List ℕ)) (newest : Entry) : Type 0 where
   pub index : ℕ
   pub page : ℕ
   pub k : ℕ
   pub x : ℕ
   pub part : List ℕ
   pub page_is : slice_get pages index ≡ Some page
+  pub free : IsFreePage the_shape before.view page
   pub part_is : slice_get cut index ≡ Some part
   pub word_is : slice_get part k ≡ Some x
   pub fill : newest ≡ entry (Fill (page_begin the_shape page + k) x) x
@@ -83,9 +99,9 @@ PartsAre operator pages cut = (index page k x : ℕ) (part : List ℕ) → slice
 
 -- fills of pages by words of parts, some or all
 pub record FillsPages (before after : OperatorValue) (pages : List ℕ) (cut : List (List ℕ)) : Type 0 where
-  pub steps : Fills before after (IsFillOfPart pages cut)
+  pub steps : Fills before after (IsFillOfPart before pages cut)
   pub rows : KeepsRows before after
-  pub others : KeepsOtherPages pages before after
+  pub others : KeepsOtherPages before.view pages before after
 
 -- all of them
 pub record FillsParts (before after : OperatorValue) (pages : List ℕ) (cut : List (List ℕ)) : Type 0 where
@@ -97,9 +113,38 @@ abbrev pub BeginsIn : OperatorValue → List ℕ → List ℕ → ℕ → Type 0
 BeginsIn operator pages words n = (j : ℕ) → j < n
     → slice_index operator.view.stored (ROWS * ROW_WORDS + (slice_index pages (j / PAGE_WORDS) * PAGE_WORDS + j % PAGE_WORDS)) ≡ slice_index words j
 
--- the least free pages are chosen and filled by a configuration's parts, and then a row by its words, where the parts stand in them
+-- the words of a program stand in its pages, which lie in the pool and are not free
+pub record StandsThere (operator : OperatorValue) (words own : List ℕ) : Type 0 where
+  pub low : (index page : ℕ) → slice_get own index ≡ Some page → page < PAGES
+  pub none_free : NoneFree operator.view own
+  pub stand : PartsAre operator own (parts_of words)
+
+-- a program can be filled into its pages, or stands there
+pub record IsReady (operator : OperatorValue) (words own : List ℕ) : Type 0 where
+  pub rise : RiseWhereFree operator.view own
+  pub ready : AllFree operator.view own ⊎ StandsThere operator words own
+
+-- so it is with programs one behind the other
+abbrev pub EachIsReady : OperatorValue → List (List ℕ) → List ℕ → Type 0
+EachIsReady operator [] pages = Unit {0}
+EachIsReady operator (words ∷ rest) pages =
+    (AllFree operator.view (take (pages_for (length words)) pages) ⊎ StandsThere operator words (take (pages_for (length words)) pages))
+    × EachIsReady operator rest (drop (pages_for (length words)) pages)
+
+-- and their free pages rise
+pub record AreReady (operator : OperatorValue) (programs : List (List ℕ)) (pages : List ℕ) : Type 0 where
+  pub each : EachIsReady operator programs pages
+  pub rise : RiseWhereFree operator.view pages
+  pub low : (index page : ℕ) → slice_get pages index ≡ Some page → page < PAGES
+
+-- a program is filled into its free pages, or it stands there and nothing is done
+abbrev pub FillsNew : OperatorValue → OperatorValue → List ℕ → List ℕ → Type 0
+FillsNew before after words own = (AllFree before.view own × FillsParts before after own (parts_of words)) ⊎ (StandsThere before words own × (after ≡ before))
+
+-- pages are chosen, the free ones are filled by a configuration's parts, and then a row by its words, where the parts stand in them
 pub record FillsVersion (before after : OperatorValue) (r : ℕ) (config : List Group) (pages : List ℕ) : Type 0 where
-  pub least : AreLeastFree before.view pages
+  pub chosen : ChoosesPages before.view config pages
+  pub low : (index page : ℕ) → slice_get pages index ≡ Some page → page < PAGES
   pub middle : OperatorValue
   pub parts_filled : FillsParts before middle pages (parts config)
   pub row_filled : FillsRow middle after r config pages

@@ -1,5 +1,5 @@
 -- What a contract sees of a row's sink.
-use Rattle.std.specs.Prelude.{◌∷◌, ◌*◌, ◌≤◌, List, [], drop, take, ℕ}
+use Rattle.std.specs.Prelude.{◌∷◌, ◌++◌, ◌+◌, ◌*◌, ◌≤◌, List, [], slice_index, suc, zero, ℕ}
 use Rattle.std.specs.Borrow.{GName}
 use Rattle.config_image.specs.declared.TheConstants.{ROW_WORDS}
 use Rattle.read_section.specs.Operator.{OperatorValue, opened_operator}
@@ -18,7 +18,8 @@ no_operator = opened_operator (record { words = 0; slots = 0; views_name = 0; at
 
 -- the first words of a row
 abbrev pub front_of : OperatorValue → ℕ → ℕ → List ℕ
-front_of operator r n = take n (drop (r * ROW_WORDS) operator.view.stored)
+front_of operator r zero = []
+front_of operator r (suc n) = front_of operator r n ++ slice_index operator.view.stored (r * ROW_WORDS + n) ∷ []
 
 -- what a sink took: its borrow's name and its row, so that they stay, and then the words of the row
 abbrev pub taken_of : SinkValue → List ℕ

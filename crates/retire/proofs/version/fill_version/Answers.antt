@@ -1,33 +1,34 @@
-use Rattle.std.proofs.Common.{◌≡◌, ◌∙◌, ap, length, subst, sym, take}
-use Rattle.config_image.specs.Pooled.{ArePages, parts}
+use Rattle.std.proofs.Common.{◌≡◌, ◌∙◌, List, ap, length, subst, sym, ℕ}
+use Rattle.config_image.specs.Pooled.{parts}
 use Rattle.config_image.proofs.ProgramLemmas.{parts-by_words}
 use Rattle.versions.proofs.FormLemmas.{are_pages}
 use Rattle.retire.specs.body.Filling.{FillsParts}
-use Rattle.retire.proofs.PageLemmas.{least_are_free, low_pages}
+use Rattle.retire.specs.body.Taking.{ChoosesPages}
+use Rattle.retire.proofs.ReadyLemmas.{chosen_counted, chosen_ready}
 use Rattle.retire.proofs.version.fill_version.Goals as goal
 
-pub fill_pages-requires-clause-free : goal.fill_pages-requires-clause-free
-fill_pages-requires-clause-free c = least_are_free c.args.operator.now (take c.page_count-count.result c.choose_pages-pages.result) c.choose_pages-pages.ensures.least
-
-pub fill_pages-requires-clause-counted : goal.fill_pages-requires-clause-counted
-fill_pages-requires-clause-counted c = c.choose_pages-pages.ensures.counted ∙ (c.page_count-count.ensures.exact ∙ ap length (parts-by_words c.args.config.now))
+pub fill_pages-requires-clause-ready : goal.fill_pages-requires-clause-ready
+fill_pages-requires-clause-ready c =
+    chosen_ready c.args.operator.now c.args.config.now c.as_slice-pages.result.now (subst (ChoosesPages c.args.operator.now.view c.args.config.now) (sym c.as_slice-pages.ensures) c.choose_pages-taken.ensures)
 
 pub fill_row-requires-clause-free : goal.fill_row-requires-clause-free
 fill_row-requires-clause-free c = c.fill_pages.ensures.fills.steps.free_rows c.args.row c.requires.free
 
 pub fill_row-requires-clause-pages : goal.fill_row-requires-clause-pages
-fill_row-requires-clause-pages c = are_pages c.args.config.now (take c.page_count-count.result c.choose_pages-pages.result) (c.choose_pages-pages.ensures.counted ∙ c.page_count-count.ensures.exact)
-    (low_pages c.args.operator.now (take c.page_count-count.result c.choose_pages-pages.result) (least_are_free c.args.operator.now (take c.page_count-count.result c.choose_pages-pages.result) c.choose_pages-pages.ensures.least))
+fill_row-requires-clause-pages c = let pages = c.as_slice-pages.result.now in let chosen = subst (ChoosesPages c.args.operator.now.view c.args.config.now) (sym c.as_slice-pages.ensures) c.choose_pages-taken.ensures in
+    are_pages c.args.config.now pages (chosen_counted c.args.operator.now c.args.config.now pages chosen) (chosen_ready c.args.operator.now c.args.config.now pages chosen).low
 
 pub returns : goal.returns
-returns c = let pages = take c.page_count-count.result c.choose_pages-pages.result in (
-  pages,
-  record {
-    least = c.choose_pages-pages.ensures.least;
-    middle = c.fill_pages.new.operator;
-    parts_filled = subst (FillsParts c.args.operator.now c.fill_pages.new.operator pages) (sym (parts-by_words c.args.config.now)) c.fill_pages.ensures;
-    row_filled = c.fill_row.ensures.fills;
-    row_held = c.fill_row.ensures.holds;
-    are = are_pages c.args.config.now pages (c.choose_pages-pages.ensures.counted ∙ c.page_count-count.ensures.exact) (low_pages c.args.operator.now pages (least_are_free c.args.operator.now pages c.choose_pages-pages.ensures.least));
-  },
-)
+returns c = let pages = c.as_slice-pages.result.now in let chosen = subst (ChoosesPages c.args.operator.now.view c.args.config.now) (sym c.as_slice-pages.ensures) c.choose_pages-taken.ensures in
+    let low = (chosen_ready c.args.operator.now c.args.config.now pages chosen).low in (
+      pages,
+      record {
+        chosen = chosen;
+        low = low;
+        middle = c.fill_pages.new.operator;
+        parts_filled = subst (FillsParts c.args.operator.now c.fill_pages.new.operator pages) (sym (parts-by_words c.args.config.now)) c.fill_pages.ensures;
+        row_filled = c.fill_row.ensures.fills;
+        row_held = c.fill_row.ensures.holds;
+        are = are_pages c.args.config.now pages (chosen_counted c.args.operator.now c.args.config.now pages chosen) low;
+      },
+    )

@@ -1,0 +1,17 @@
+use Rattle.std.proofs.Common.{◌≡◌, ◌≤◌, ◌+◌, ap, arith, length, subst, sym}
+use Rattle.config_image.specs.declared.TheConstants.{PAGE_LIMIT}
+use Rattle.config_image.specs.Pooled.{pages_for}
+use Rattle.retire.specs.body.Taking.{AreTaken}
+use Rattle.retire.proofs.SharingLemmas.{own_counted}
+use Rattle.retire.proofs.TakingLemmas.{equal_shared, new_taken, own_held, shared_too}
+use Rattle.retire.proofs.pages.take_for.Goals as goal
+
+pub share-requires : goal.share-requires
+share-requires c = let room = c.requires.room in let long = own_counted _ _ _ _ c.requires.passing.counted c.in-Some.ensures.some in record { room = omega (arith, long) }
+
+pub returns-in-Some-clause-taken : goal.returns-in-Some-clause-taken
+returns-in-Some-clause-taken c = let view = c.args.operator.now.view in
+    subst (AreTaken view) (sym c.share.ensures) (shared_too view c.args.taken.now c.requires.taken c.in-Some.own.now (own_held view _ _ _ _ c.requires.held c.in-Some.ensures.some))
+
+pub returns-in-Some-clause-one_more : goal.returns-in-Some-clause-one_more
+returns-in-Some-clause-one_more c = equal_shared c.args.operator.now.view _ _ _ c.args.taken.now c.share.new.self c.in-Some.own.now c.requires.passing.counted c.in-Some.ensures.some c.share.ensures

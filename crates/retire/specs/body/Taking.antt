@@ -1,0 +1,72 @@
+-- Which pages are taken for the programs of a version: those of equal programs of the version before, or free ones.
+use Rattle.std.specs.Prelude.{◌≡◌, ◌+◌, ◌++◌, ◌<◌, ◌≤◌, ◌∷◌, List, Some, drop, flat_map, length, slice_get, take, ℕ}
+use Rattle.config_image.specs.Image.{Group}
+use Rattle.config_image.specs.Pooled.{pages_for, parts_of}
+use Rattle.config_image.specs.Walk.{words_of_programs}
+use Rattle.versions.specs.declared.view.OperatorView.{OperatorView}
+use Rattle.versions.specs.Free.{IsFreePage}
+use Rattle.versions.specs.Table.{the_shape}
+use Rattle.read_section.specs.Operator.{IsCurrent, StandsIn}
+use Rattle.retire.specs.Publish.{HasPages, RiseWhereFree, TakesFor, TakesPages}
+
+-- there is a page for each part of the programs
+abbrev pub IsCounted : List (List ℕ) → List ℕ → Type 0
+IsCounted programs pages = length pages ≡ length (flat_map parts_of programs)
+
+-- the first of the programs has these words and these pages, and these are the programs and the pages behind it
+pub record IsNext (programs : List (List ℕ)) (pages words own : List ℕ) (others : List (List ℕ)) (left : List ℕ) : Type 0 where
+  pub first : programs ≡ words ∷ others
+  pub front : own ≡ take (pages_for (length words)) pages
+  pub behind : left ≡ drop (pages_for (length words)) pages
+
+-- what stands there now stood there before
+abbrev pub IsBehind : List (List ℕ) → List ℕ → List (List ℕ) → List ℕ → Type 0
+IsBehind programs pages others left = (words own : List ℕ) → HasPages others left words own → HasPages programs pages words own
+
+-- some programs were passed, and these are left
+pub record IsPassing (programs : List (List ℕ)) (pages : List ℕ) (others : List (List ℕ)) (left : List ℕ) : Type 0 where
+  pub counted : IsCounted programs pages
+  pub left_counted : IsCounted others left
+  pub behind : IsBehind programs pages others left
+
+-- ---- pages that are taken one after the other
+
+-- pages that were taken so far, and where the next free page is looked for
+pub record TakenValue : Type 0 where
+  pub pages : List ℕ
+  pub from : ℕ
+
+-- those of them that are free rise, and they are all free pages before `from`
+pub record AreTaken (view : OperatorView (List Group)) (taken : TakenValue) : Type 0 where
+  pub rise : RiseWhereFree view taken.pages
+  pub all : (q : ℕ) → IsFreePage the_shape view q → q < taken.from → (j : ℕ) × (slice_get taken.pages j ≡ Some q)
+  pub below : (index page : ℕ) → slice_get taken.pages index ≡ Some page → IsFreePage the_shape view page → page < taken.from
+
+abbrev pub AllFree : OperatorView (List Group) → List ℕ → Type 0
+AllFree view pages = (index page : ℕ) → slice_get pages index ≡ Some page → IsFreePage the_shape view page
+
+abbrev pub NoneFree : OperatorView (List Group) → List ℕ → Type 0
+NoneFree view pages = (index page : ℕ) → slice_get pages index ≡ Some page → IsFreePage the_shape view page → ⊥
+
+-- so many free pages more
+pub record TakesFree (view : OperatorView (List Group)) (before after : TakenValue) (count : ℕ) : Type 0 where
+  pub own : List ℕ
+  pub counted : length own ≡ count
+  pub free : AllFree view own
+  pub pages : after.pages ≡ before.pages ++ own
+
+-- the pages of one program more
+pub record TakesOneMore (view : OperatorView (List Group)) (earlier : List (List ℕ)) (standing words : List ℕ) (before after : TakenValue) : Type 0 where
+  pub own : List ℕ
+  pub counted : length own ≡ pages_for (length words)
+  pub takes : TakesFor view earlier standing words own
+  pub pages : after.pages ≡ before.pages ++ own
+
+-- pages are taken for all programs of a configuration, beside those of the current version
+pub record ChoosesPages (view : OperatorView (List Group)) (config : List Group) (pages : List ℕ) : Type 0 where
+  pub earlier : List Group
+  pub current : IsCurrent view earlier
+  pub standing : List ℕ
+  pub stands : StandsIn view earlier standing
+  pub takes : TakesPages view (words_of_programs earlier) standing (words_of_programs config) pages
+  pub counted : IsCounted (words_of_programs config) pages
