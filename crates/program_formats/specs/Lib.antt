@@ -1,0 +1,9 @@
+pub mod Item
+pub mod Ddd
+pub mod Hex
+pub mod Initialiser
+pub mod Fault
+pub mod body
+pub use Rattle.bpf_insn.specs.Table
+pub use Rattle.bpf_insn.specs.Word
+pub use Rattle.bpf_verify.specs.Accepted

@@ -1,0 +1,33 @@
+//! Why a text is no list of words.
+
+ghost use Rattle.std.specs.Prelude.{◌≡◌};
+ghost use Rattle.program_formats.specs.declared.fault.FormatFault.TheVariants.{OutOfMemory};
+
+use std::alloc::{AllocError, AllocFailed};
+
+/// Why a text is no list of words. Lines are counted from 1, empty ones included; a comma ends one as LF does.
+#[derive(Clone, Copy, Debug, PartialEq, Eq)]
+pub enum FormatFault {
+    /// D1: the first line that is not in the form of docs/MACHINE.md, "Programs as numbers".
+    Syntax { line: usize },
+    /// D2: the count in the first line is not the number of words.
+    Count,
+    /// D3: memory for the words was refused.
+    OutOfMemory,
+}
+
+impl From<AllocError> for FormatFault {
+    ghost from_gives = { λ _ fault. fault ≡ OutOfMemory };
+
+    fn from(_error: AllocError) -> FormatFault {
+        FormatFault::OutOfMemory
+    }
+}
+
+impl<T: Drop> From<AllocFailed<T>> for FormatFault {
+    ghost from_gives = { λ _ fault. fault ≡ OutOfMemory };
+
+    fn from(_error: AllocFailed<T>) -> FormatFault {
+        FormatFault::OutOfMemory
+    }
+}
