@@ -187,6 +187,34 @@ module _ {A : Type 0} (view : View) (config : List Group) (book : Book A) (repor
         zeros_stand = h.zeros_stand;
       }
 
+  -- another place is known from which on the words of a row are 0
+  pub IsKeptBy-zeros : (row from : ℕ) → row < ROWS → from ≤ ROW_WORDS → IsZeroFrom view row from → IsKeptBy view config book reported (set zeros row from) words pages
+  IsKeptBy-zeros row from low within zero_from = record {
+    steps_told = h.steps_told;
+    number_limited = h.number_limited;
+    published_length = h.published_length;
+    version_rows_length = h.version_rows_length;
+    version_pages_length = h.version_pages_length;
+    stored_length = h.stored_length;
+    words_length = h.words_length;
+    words_same = h.words_same;
+    reused = h.reused;
+    few_pages = h.few_pages;
+    current = h.current;
+    stands = h.stands;
+    reported_free = h.reported_free;
+    zeros_length = length-set zeros row from ∙ h.zeros_length;
+    zeros_limited = λ q low'. dite (ℕ_discrete q row)
+        (λ same. omega (arith, there q same))
+        (λ other. omega (arith, get_or-set_other zeros row q from 0 other, h.zeros_limited q low'));
+    zeros_stand = λ q low'. dite (ℕ_discrete q row)
+        (λ same. subst (λ (k : ℕ). IsZeroFrom view q k) (sym (there q same)) (subst (λ (r : ℕ). IsZeroFrom view r from) (sym same) zero_from))
+        (λ other. subst (λ (k : ℕ). IsZeroFrom view q k) (sym (get_or-set_other zeros row q from 0 other)) (h.zeros_stand q low'));
+  }
+    where
+      there : (q : ℕ) → q ≡ row → slice_index (set zeros row from) q ≡ from
+      there q same = ap (slice_index (set zeros row from)) same ∙ get_or-set_same zeros row from 0 (omega (arith, h.zeros_length))
+
   pub IsKeptBy-scanned : (w x : ℕ) (log : List Entry) (book' : Book A) → (length book.cleared ≡ WORKERS → IsCleared w x book book') → IsKeptBy (after_scan w x log view) config book' reported zeros words pages
   IsKeptBy-scanned w x log book' cleared = let c = cleared (h.steps_told.cleared_length ∙ workers_is) in record {
     steps_told = IsBook-scanned the_shape view book h.steps_told w x log book' c;

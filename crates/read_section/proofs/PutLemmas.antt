@@ -1,10 +1,11 @@
 -- What a publication takes from the row: the pages that its words name.
-use Rattle.std.proofs.Common.{◌≡◌, ◌∙◌, ℕ, ◌+◌, ◌-◌, ◌*◌, ◌<◌, ◌≤◌, List, Some, ap, arith, drop, get_or, length, length-drop, map, mul-le-mul_right, refl, slice_get, subst, suc, suc-mul, sym, take}
+use Rattle.std.proofs.Common.{◌≡◌, ◌∙◌, ℕ, ◌+◌, ◌-◌, ◌*◌, ◌/◌, ◌%◌, ◌<◌, ◌≤◌, List, Some, ap, arith, drop, get_or, length, length-drop, map, mul-le-mul_right, refl, slice_get, slice_index, subst, suc, suc-mul, sym, take}
 use Rattle.std.proofs.lemmas.List.{ext_get_or, get_or-drop, get_or-take, length-take-le}
 use Rattle.config_image.specs.declared.TheConstants.{PAGE_LIMIT, ROW_WORDS}
-use Rattle.config_image.specs.Image.{Group}
-use Rattle.config_image.specs.Pooled.{page_of, pages_of}
-use Rattle.config_image.proofs.PooledLemmas.{few_in_row}
+use Rattle.std.proofs.lemmas.Option.{get_or_from_slice_get}
+use Rattle.config_image.specs.Image.{Group, programs_begin}
+use Rattle.config_image.specs.Pooled.{ArePages, PooledRowTells, form_word, page_of, pages_of, parts, pooled_row}
+use Rattle.config_image.proofs.PooledLemmas.{few_in_row, row_tells_with_room}
 use Rattle.member_group.specs.Charge.{charge_of}
 use Rattle.versions.specs.declared.book.Book.{Book}
 use Rattle.versions.specs.declared.layout.TheConstants.{PAGES, ROWS, ROWS_BEGIN}
@@ -12,10 +13,11 @@ use Rattle.versions.specs.declared.view.OperatorView.{OperatorView}
 use Rattle.versions.specs.Layout.{HoldsForm, pages_named, row_at}
 use Rattle.versions.specs.Pooled.{HasRoom}
 use Rattle.versions.specs.Table.{the_shape}
+use Rattle.versions.proofs.FormLemmas.{are_pages}
 use Rattle.versions.proofs.PooledLemmas as pooled
 use Rattle.versions.proofs.ShapeLemmas.{named_is, pages_is, parts_is, rows_is}
 use Rattle.versions.proofs.WorldLemmas.{has_room}
-use Rattle.read_section.specs.Layout.{HoldsConfig, IsPublishable}
+use Rattle.read_section.specs.Layout.{HoldsConfig, IsPublishable, IsZeroFrom}
 use Rattle.read_section.specs.body.OperatorKept.{IsKeptBy}
 use Rattle.read_section.specs.body.Seat.{HoldsNamed}
 use Rattle.read_section.proofs.FilledLemmas.{place_stored}
@@ -70,3 +72,28 @@ module _ {A : Type 0} (view : OperatorView (List Group)) (config : List Group) (
 
     pub pages_few : (holds : HoldsConfig view row new) (given : List ℕ) → given ≡ pages_named the_shape view.stored row → length given ≤ PAGE_LIMIT
     pages_few holds given is = omega (arith, ap length (is ∙ pages_are holds), holds.1.counted, ap length (parts_is new), few_in_row new room)
+
+    -- behind the form the words of the row are 0, and the row's first word tells where that is
+    module _ (holds : HoldsConfig view row new) (first : ℕ) (is : first ≡ slice_index words (ROWS_BEGIN + row * ROW_WORDS)) where
+      are : ArePages new holds.0
+      are = are_pages new holds.0 (holds.1.counted ∙ ap length (parts_is new)) (λ index page at. omega (arith, holds.1.below index page at, pages_is))
+
+      tells : PooledRowTells new holds.0
+      tells = row_tells_with_room new holds.0 room are
+
+      form_word_at : (i : ℕ) → i < ROW_WORDS → slice_index view.stored (row * ROW_WORDS + i) ≡ slice_index (pooled_row new holds.0) i
+      unfolding the_shape
+      form_word_at i small = ap (slice_index view.stored) (let g : row * ROW_WORDS + i ≡ 0 + (row * ROW_WORDS + i) = omega arith in g) ∙ holds.1.row i small
+
+      first_is : first ≡ form_word new
+      first_is = is ∙ (ap (slice_index words) (let g : ROWS_BEGIN + row * ROW_WORDS ≡ ROWS_BEGIN + (row * ROW_WORDS + 0) = omega arith in g)
+          ∙ (h.words_same (row * ROW_WORDS + 0) (place_stored row 0 in_rows (omega arith)) ∙ (form_word_at 0 (omega arith) ∙ get_or_from_slice_get (pooled_row new holds.0) 0 (form_word new) 0 tells.form)))
+
+      end_is : first / 65536 % 65536 + first % 65536 ≡ programs_begin new + length (parts new)
+      end_is = ap (λ (n : ℕ). n / 65536 % 65536 + n % 65536) first_is ∙ (ap (λ (n : ℕ). n + form_word new % 65536) tells.begin_part ∙ ap (λ (n : ℕ). programs_begin new + n) tells.count_part)
+
+      pub end_within : first / 65536 % 65536 + first % 65536 ≤ ROW_WORDS
+      end_within = omega (arith, end_is, tells.inside, tells.short)
+
+      pub zero_behind : IsZeroFrom view row (first / 65536 % 65536 + first % 65536)
+      zero_behind = subst (IsZeroFrom view row) (sym end_is) (λ i up small. form_word_at i small ∙ get_or_from_slice_get (pooled_row new holds.0) i 0 0 (tells.zeros i up small))

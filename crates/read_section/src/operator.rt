@@ -1,6 +1,6 @@
 //! The operator: the one that fills rows and pages, publishes and reclaims, by single steps.
 
-ghost use Rattle.std.specs.Prelude.{◌≡◌, ◌+◌, ◌*◌, ◌<◌, ◌≤◌, ◌↔◌, IsTrue, List, MatchOption, [], length, slice_index, suc, ℕ};
+ghost use Rattle.std.specs.Prelude.{◌≡◌, ◌+◌, ◌*◌, ◌/◌, ◌%◌, ◌<◌, ◌≤◌, ◌↔◌, IsTrue, List, MatchOption, [], length, slice_index, suc, ℕ};
 ghost use Rattle.config_image.specs.declared.TheConstants.{PAGE_LIMIT, PAGE_WORDS, ROW_WORDS};
 ghost use Rattle.config_image.specs.Image.{Group, image};
 ghost use Rattle.config_image.specs.Pooled.{parts};
@@ -76,6 +76,13 @@ fn zeros_begin(from: usize, place: usize, word: u64) -> usize
     from
 }
 
+// Where the zeros of a row in the pooled form begin, by its first word: behind the names of its pages.
+fn form_end(first: u64) -> usize
+    ensures { result ≡ first / 65536 % 65536 + first % 65536 }
+{
+    (first / 65536 % 65536 + first % 65536) as usize
+}
+
 impl Operator {
     pub(crate) fn opened(
         seat: OperatorSeat,
@@ -130,7 +137,7 @@ impl Operator {
     /// Tells a place of a row from which on its words are 0, as the operator's own fills tell it. No step.
     ///
     /// It need not be the least: a fill of another word than 0 moves it behind that word, and a fill of 0 moves it down to its
-    /// own place only from right behind that.
+    /// own place only from right behind that. A publication moves it to the end of the form that the row holds.
     pub fn zeros_from(&self, row: usize) -> usize
         requires { row < ROWS }
         ensures zeros { IsZeroFrom self.now.view row result }
@@ -222,6 +229,7 @@ impl Operator {
         let names = row_names(&self.words[begin..begin + ROW_WORDS]);
         self.book.count_version(row, names);
         self.pages.replace(names);
+        self.zeros[row] = form_end(self.words[begin]);
         self.config = config;
     }
 

@@ -1,6 +1,6 @@
 -- Fills of a row: the words that they leave, and what they keep.
-use Rattle.std.proofs.Common.{◌≡◌, ◌≢◌, ◌∙◌, ℕ, ◌+◌, ◌-◌, ◌*◌, ◌<◌, ◌≤◌, List, [], ◌∷◌, ◌++◌, add-one, ap, append_assoc, arith, drop, get_or, inl, inr, length, length-append, length-drop, refl, suc, slice_index, subst, sym, take, zero, ⊎_elim}
-use Rattle.std.proofs.lemmas.List.{drop-set-add, get_or-append_right, get_or-take, get_or_append_left, length-take-le, take_more_set}
+use Rattle.std.proofs.Common.{◌≡◌, ◌≢◌, ◌∙◌, ℕ, ◌+◌, ◌-◌, ◌*◌, ◌<◌, ◌≤◌, List, [], ◌∷◌, ◌++◌, add-one, ap, append_assoc, arith, get_or, inl, inr, length, length-append, refl, suc, slice_index, subst, sym, take, zero, ⊎_elim}
+use Rattle.std.proofs.lemmas.List.{get_or-append_right, get_or-take, get_or_append_left, length-take-le}
 use Rattle.std.proofs.lemmas.Option.{get_or_from_slice_get}
 use mathlib.Core.Logic.{dite}
 use native.Mathlib.Decide.{dec_le, ℕ_discrete}
@@ -13,12 +13,12 @@ use Rattle.versions.specs.declared.step.Step.TheVariants.{Fill}
 use Rattle.versions.specs.declared.step.Entry.{Entry}
 use Rattle.versions.specs.View.{after_fill}
 use Rattle.versions.specs.Pooled.{HasRoom}
-use Rattle.versions.specs.Layout.{row_begin, rows_begin, stored_words}
+use Rattle.versions.specs.Layout.{row_begin, rows_begin}
 use Rattle.versions.specs.Step.{entry}
 use Rattle.versions.specs.Free.{IsFreeRow}
 use Rattle.versions.specs.Table.{the_shape}
-use Rattle.read_section.specs.Operator.{OperatorValue, filled}
-use Rattle.read_section.proofs.FilledLemmas.{front_filled, place_stored, pool_word_kept, rows_stored, word_at, word_filled, word_kept, words_are}
+use Rattle.read_section.specs.Operator.{OperatorValue}
+use Rattle.read_section.proofs.FilledLemmas.{pool_word_kept, word_at, word_filled, word_kept}
 use Rattle.retire.specs.body.Filling.{Fills, FillsFrom, FillsFront, FillsOther, FillsRow, HoldsRow, KeepsPool}
 use Rattle.retire.specs.Publish.{IsFillOf, KeepsOtherRows}
 use Rattle.retire.specs.body.Sink.{IsFilling, SinkValue, front_of, taken_of}

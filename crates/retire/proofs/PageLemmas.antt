@@ -1,26 +1,23 @@
 -- Pages: which are chosen, and what fills by the words of programs leave in them.
-use Rattle.std.proofs.Common.{◌≡◌, ◌∙◌, ◌≢◌, ◌⊎◌, ℕ, ◌+◌, ◌-◌, ◌*◌, ◌/◌, ◌%◌, ◌<◌, ◌≤◌, List, None, Some, [], ◌∷◌, ◌++◌, ap, append_assoc, arith, drop, get_or, inl, inr, length, length-append, length-drop, refl, set, slice_get, slice_index, subst, suc, sym, take, zero, ⊎_elim}
+use Rattle.std.proofs.Common.{◌≡◌, ◌∙◌, ◌≢◌, ◌⊎◌, ℕ, ◌+◌, ◌-◌, ◌*◌, ◌/◌, ◌%◌, ◌<◌, ◌≤◌, List, Some, [], ◌∷◌, ◌++◌, ap, append_assoc, arith, drop, get_or, inl, inr, length, length-append, length-drop, refl, slice_get, slice_index, subst, suc, sym, take, zero, ⊎_elim}
 use Rattle.std.specs.List.{flat_map}
 use Rattle.std.proofs.lemmas.Bool.{cases_lt}
-use Rattle.std.proofs.lemmas.List.{get_or-drop, get_or-take, length-take, length-take-le, append-nil, take-append-drop, take_more_set}
+use Rattle.std.proofs.lemmas.List.{get_or-drop, get_or-take, length-take, length-take-le, append-nil, take-append-drop}
 use Rattle.std.proofs.lemmas.List.Concat.{flat_map-cons}
 use Rattle.std.proofs.lemmas.Option.{get_or_from_slice_get, slice_get-get_or, slice_get_within}
 use mathlib.Core.Logic.{dite}
 use native.Mathlib.Decide.{ℕ_discrete}
-use Rattle.config_image.specs.declared.TheConstants.{PAGE_LIMIT, PAGE_WORDS, ROW_WORDS}
-use Rattle.config_image.specs.Image.{Group}
+use Rattle.config_image.specs.declared.TheConstants.{PAGE_WORDS, ROW_WORDS}
 use Rattle.config_image.specs.Pooled.{pages_for, parts_from, parts_of}
 use Rattle.config_image.proofs.PartsLemmas.{length-parts_of, parts_of-cut}
 use Rattle.versions.specs.declared.layout.TheConstants.{PAGES, ROWS}
 use Rattle.versions.specs.declared.step.Entry.{Entry}
-use Rattle.versions.specs.declared.view.OperatorView.{OperatorView}
 use Rattle.versions.specs.Free.{IsFreePage}
 use Rattle.versions.specs.Layout.{page_begin, stored_words}
 use Rattle.versions.specs.Table.{the_shape}
 use Rattle.versions.proofs.MirrorLemmas.{none_some, some_same}
 use Rattle.versions.proofs.OpenedLemmas.{part_word, slice_get-front_or_back}
-use Rattle.versions.proofs.ShapeLemmas.{pages_is}
-use Rattle.versions.proofs.WorldLemmas.{slice_get-end, slice_get-front}
+use Rattle.versions.proofs.WorldLemmas.{slice_get-front}
 use Rattle.read_section.specs.Operator.{OperatorValue, filled_page}
 use Rattle.read_section.proofs.FilledLemmas.{page_word_filled, page_word_kept, row_word_kept}
 use Rattle.retire.specs.body.Filling.{AreFreePages, AreReady, BeginsIn, EachIsReady, Fills, FillsNew, FillsPages, FillsParts, IsFillOfPart, IsReady, PartsAre, StandsThere}

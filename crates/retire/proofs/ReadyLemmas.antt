@@ -1,5 +1,5 @@
 -- The programs of a version whose pages are chosen: each is ready to be filled, or stands there.
-use Rattle.std.proofs.Common.{◌≡◌, ◌∙◌, ◌⊎◌, ℕ, ◌+◌, ◌*◌, ◌<◌, ◌≤◌, List, Some, [], ◌∷◌, ◌++◌, ap, arith, drop, inl, inr, length, refl, slice_get, slice_index, subst, suc, sym, take, zero, ⊎_elim}
+use Rattle.std.proofs.Common.{◌≡◌, ◌∙◌, ◌⊎◌, ℕ, ◌+◌, ◌*◌, ◌<◌, ◌≤◌, List, Some, [], ◌∷◌, ap, arith, drop, inl, inr, length, refl, slice_get, slice_index, subst, suc, sym, take, zero, ⊎_elim}
 use Rattle.std.specs.List.{flat_map}
 use Rattle.std.proofs.lemmas.List.{take-append-drop}
 use Rattle.std.proofs.lemmas.List.Concat.{flat_map-cons}

@@ -1,5 +1,5 @@
 -- Programs that stand in pages, one behind the other: which pages a program has.
-use Rattle.std.proofs.Common.{Bool, Contains, ◌==◌, ◌≡◌, ◌∙◌, ◌⊎◌, ℕ, ◌+◌, ◌-◌, ◌<◌, ◌≤◌, List, None, Some, [], ◌∷◌, ◌++◌, ap, arith, drop, false, inl, inr, length, length-append, length-drop, refl, slice_get, subst, suc, sym, take, true, zero, ⊎_elim}
+use Rattle.std.proofs.Common.{Bool, Contains, ◌==◌, ◌≡◌, ◌∙◌, ◌⊎◌, ℕ, ◌+◌, ◌-◌, ◌<◌, ◌≤◌, List, Some, [], ◌∷◌, ◌++◌, ap, arith, drop, false, inl, inr, length, length-append, length-drop, refl, slice_get, subst, suc, sym, take, true, zero}
 use Rattle.std.specs.List.{flat_map}
 use Rattle.std.proofs.lemmas.List.{drop-append-le, length-take-le, take-append-drop, take-append-le}
 use Rattle.std.proofs.Math.Seq.{take-length}

@@ -1,8 +1,8 @@
 -- Pages that are taken one after the other: free ones, or those of the current version.
-use Rattle.std.proofs.Common.{Contains, ◌≡◌, ◌∙◌, ◌⊎◌, ℕ, ◌+◌, ◌-◌, ◌<◌, ◌≤◌, List, Some, [], ◌∷◌, ◌++◌, ap, append_assoc, arith, drop, inl, inr, length, length-append, refl, slice_get, subst, suc, sym, take, zero, ⊎_elim}
+use Rattle.std.proofs.Common.{Contains, ◌≡◌, ◌∙◌, ℕ, ◌+◌, ◌-◌, ◌<◌, ◌≤◌, List, Some, [], ◌∷◌, ◌++◌, ap, append_assoc, arith, inl, inr, length, length-append, refl, slice_get, subst, sym, ⊎_elim}
 use Rattle.std.specs.List.{flat_map}
 use Rattle.std.proofs.lemmas.Bool.{cases_lt}
-use Rattle.std.proofs.lemmas.List.{append-nil, take-append-drop}
+use Rattle.std.proofs.lemmas.List.{append-nil}
 use Rattle.std.proofs.lemmas.List.Concat.{flat_map-append}
 use mathlib.Core.Logic.{dite}
 use native.Mathlib.Decide.{ℕ_discrete}
@@ -12,7 +12,7 @@ use Rattle.config_image.specs.Pooled.{pages_for, parts_of}
 use Rattle.versions.specs.declared.view.OperatorView.{OperatorView}
 use Rattle.versions.specs.Free.{IsFreePage, number_after}
 use Rattle.versions.specs.Table.{the_shape}
-use Rattle.versions.proofs.MirrorLemmas.{none_some, some_same}
+use Rattle.versions.proofs.MirrorLemmas.{none_some}
 use Rattle.versions.proofs.OpenedLemmas.{slice_get-front_or_back}
 use Rattle.versions.proofs.WorldLemmas.{slice_get-end, slice_get-front}
 use Rattle.read_section.specs.Operator.{HasFreeRow, IsLeastFreePage, NeverShort, StandsIn}

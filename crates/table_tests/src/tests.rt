@@ -7,4 +7,5 @@ mod pooled;
 mod publications;
 mod random_steps;
 mod sections;
+mod sharing;
 mod worlds;

@@ -1,5 +1,5 @@
 -- Which pages are taken for the programs of a version: those of equal programs of the version before, or free ones.
-use Rattle.std.specs.Prelude.{◌≡◌, ◌+◌, ◌++◌, ◌<◌, ◌≤◌, ◌∷◌, List, Some, drop, flat_map, length, slice_get, take, ℕ}
+use Rattle.std.specs.Prelude.{◌≡◌, ◌++◌, ◌<◌, ◌∷◌, List, Some, drop, flat_map, length, slice_get, take, ℕ}
 use Rattle.config_image.specs.Image.{Group}
 use Rattle.config_image.specs.Pooled.{pages_for, parts_of}
 use Rattle.config_image.specs.Walk.{words_of_programs}

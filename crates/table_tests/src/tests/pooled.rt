@@ -22,8 +22,8 @@ const KEY: Endpoint = Endpoint {
 // `ret #0`
 const RETURN: u64 = 0x0006_0000_0000_0000;
 
-fn returns(alloc: Global, count: usize) -> Result<Program<Global>, Fail> {
-    match Program::new(vec![in alloc; RETURN; count]?) {
+fn returns(alloc: Global, count: usize, bytes: u32) -> Result<Program<Global>, Fail> {
+    match Program::new(vec![in alloc; RETURN.wrapping_add(u64::from(bytes)); count]?) {
         Ok(program) => Ok(program),
         Err(_) => Err(Fail::from("returns are a program")),
     }
@@ -35,22 +35,26 @@ fn with_group(alloc: Global) -> Result<Config, Fail> {
 
 // The group without members, whose selector is `ret #0`.
 fn with_selector(alloc: Global) -> Result<Config, Fail> {
-    let program = returns(alloc, 1)?;
+    let program = returns(alloc, 1, 0)?;
     applied(
         &with_group(alloc)?,
         Command::SetSelector { key: KEY, program },
     )
 }
 
-// The group with one member, whose filter has 4096 instructions.
-fn with_long_filter(alloc: Global) -> Result<Config, Fail> {
+fn joined(config: &Config, member: u32) -> Result<Config, Fail> {
     let join = Command::Join {
         key: KEY,
-        member: 0,
+        member,
         to: KEY,
     };
-    let joined = applied(&with_group(alloc)?, join)?;
-    let program = returns(alloc, 4096)?;
+    applied(config, join)
+}
+
+// The group with one member, whose filter has 4096 instructions: each returns so many bytes.
+fn with_long_filter(alloc: Global, bytes: u32) -> Result<Config, Fail> {
+    let joined = joined(&with_group(alloc)?, 0)?;
+    let program = returns(alloc, 4096, bytes)?;
     applied(
         &joined,
         Command::SetFilter {
@@ -212,7 +216,7 @@ const LONG_ROW: [(usize, u64); 4] = [
 ];
 
 fn operator_stores_filter(rt: &impl Abort, alloc: Global) -> Result<(), Fail> {
-    let (operator, _workers) = open(with_long_filter(alloc)?)?;
+    let (operator, _workers) = open(with_long_filter(alloc, 0)?)?;
     for (place, word) in &LONG_ROW {
         assert_eq!(rt; operator.row_word(0, *place), *word, "place {place}");
     }
@@ -230,7 +234,7 @@ const LONG_PAGES: [(usize, usize, u64); 4] = [
 ];
 
 fn world_stores_filter(rt: &impl Abort, alloc: Global) -> Result<(), Fail> {
-    let world = World::new(with_long_filter(alloc)?)?;
+    let world = World::new(with_long_filter(alloc, 0)?)?;
     for (page, k, word) in &LONG_PAGES {
         let place = begin_of_page(*page).wrapping_add(*k);
         assert_eq!(rt; world.word(place), Some(*word), "place {place}");
@@ -244,12 +248,13 @@ fn pooled_long_filter(rt: HostRuntime) -> Result<(), Fail> {
     world_stores_filter(&rt, rt.alloc())
 }
 
-// Each publication takes the least free pages: behind those of the versions before, and those again when these are free.
+// Each publication of another filter takes the least free pages: behind those of the versions before, and those again when these are
+// free.
 #[test]
 fn new_pages_are_the_least_free_ones(rt: HostRuntime) -> Result<(), Fail> {
-    let (mut operator, _workers) = open(with_long_filter(rt.alloc())?)?;
-    for (number, first) in [(1u64, 256u32), (2, 512), (3, 768)] {
-        let published = operator.publish(with_long_filter(rt.alloc())?);
+    let (mut operator, _workers) = open(with_long_filter(rt.alloc(), 0)?)?;
+    for (number, bytes, first) in [(1u64, 1u32, 256u32), (2, 2, 512), (3, 3, 768)] {
+        let published = operator.publish(with_long_filter(rt.alloc(), bytes)?);
         assert!(rt;
             matches!(published, Ok(found) if found == number),
             "version {number}"
@@ -258,10 +263,34 @@ fn new_pages_are_the_least_free_ones(rt: HostRuntime) -> Result<(), Fail> {
     }
     let reclaimed = operator.sweep();
     assert_eq!(rt; (reclaimed.first, reclaimed.count), (0, 3));
-    let published = operator.publish(with_long_filter(rt.alloc())?);
+    let published = operator.publish(with_long_filter(rt.alloc(), 4)?);
     assert!(rt; matches!(published, Ok(4)));
     assert!(rt; pages_are_from(&operator, 0, 256));
     // The least free row, row 0, has the names of these pages.
     assert_eq!(rt; operator.row_word(0, 265), 0x0ffa_00ff);
+    Ok(())
+}
+
+// The row after a second member has joined: word 0, the filter's first name, which is behind one member record more, its last name,
+// and the word behind it.
+const JOINED_ROW: [(usize, u64); 4] = [
+    (0, 0x100e_000e_0100),
+    (14, 0x000e_0000),
+    (269, 0x0ffe_00ff),
+    (270, 0),
+];
+
+// A member without a filter joins: the long filter stays in its pages, and no other page is taken.
+#[test]
+fn pooled_long_filter_and_join(rt: HostRuntime) -> Result<(), Fail> {
+    let (mut operator, _workers) = open(with_long_filter(rt.alloc(), 0)?)?;
+    let next = joined(operator.config(), 1)?;
+    assert!(rt; matches!(operator.publish(next), Ok(1)));
+    for (place, word) in &JOINED_ROW {
+        assert_eq!(rt; operator.row_word(1, *place), *word, "place {place}");
+    }
+    assert!(rt; pages_are_from(&operator, 0, 256));
+    assert_eq!(rt; operator.free_page(0), Some(256));
+    assert_eq!(rt; operator.zeros_from(1), 270);
     Ok(())
 }

@@ -1,5 +1,4 @@
-use Rattle.std.proofs.Common.{◌≡◌, ◌∙◌, ap, length, refl, subst, sym, take, ℕ}
-use Rattle.config_image.specs.Pooled.{pages_for}
+use Rattle.std.proofs.Common.{◌∙◌, ap, refl, subst, sym, take, ℕ}
 use Rattle.retire.specs.body.Filling.{FillsNew, IsReady}
 use Rattle.retire.proofs.PageLemmas.{first_free, stays}
 use Rattle.retire.proofs.SharingLemmas.{true_false}

@@ -1,9 +1,7 @@
-use Rattle.std.proofs.Common.{◌≡◌, ◌≤◌, ◌+◌, ap, arith, length, subst, sym}
-use Rattle.config_image.specs.declared.TheConstants.{PAGE_LIMIT}
-use Rattle.config_image.specs.Pooled.{pages_for}
+use Rattle.std.proofs.Common.{arith, subst, sym}
 use Rattle.retire.specs.body.Taking.{AreTaken}
 use Rattle.retire.proofs.SharingLemmas.{own_counted}
-use Rattle.retire.proofs.TakingLemmas.{equal_shared, new_taken, own_held, shared_too}
+use Rattle.retire.proofs.TakingLemmas.{equal_shared, own_held, shared_too}
 use Rattle.retire.proofs.pages.take_for.Goals as goal
 
 pub share-requires : goal.share-requires

@@ -4,7 +4,7 @@ use Rattle.config_image.specs.Pooled.{pooled_row}
 use Rattle.member_group.specs.Charge.{charge_of}
 use Rattle.versions.proofs.WorldLemmas.{has_room}
 use Rattle.read_section.proofs.FilledLemmas.{row_inside}
-use Rattle.retire.proofs.FillingLemmas.{front_fills, front_holds, front_inside, front_kept, holds_all, length-all, one_other_more, one_zero_more, zero_behind}
+use Rattle.retire.proofs.FillingLemmas.{front_fills, front_holds, front_kept, holds_all, length-all, one_other_more, one_zero_more, zero_behind}
 use Rattle.retire.proofs.row.fill_row.Goals as goal
 
 pub zeros_from-end-requires : goal.zeros_from-end-requires

@@ -1,5 +1,4 @@
-use Rattle.std.proofs.Common.{◌≡◌, ◌∙◌, List, ap, length, subst, sym, ℕ}
-use Rattle.config_image.specs.Pooled.{parts}
+use Rattle.std.proofs.Common.{subst, sym}
 use Rattle.config_image.proofs.ProgramLemmas.{parts-by_words}
 use Rattle.versions.proofs.FormLemmas.{are_pages}
 use Rattle.retire.specs.body.Filling.{FillsParts}

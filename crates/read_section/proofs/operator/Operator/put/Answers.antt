@@ -1,4 +1,5 @@
-use Rattle.std.proofs.Common.{ap, arith, drop, length, map, refl, subst, sym, take, ◌*◌, ◌+◌, ◌-◌, ◌≡◌, ◌∙◌}
+use Rattle.std.proofs.Common.{ap, arith, drop, length, map, refl, set, subst, sym, take, ◌*◌, ◌+◌, ◌-◌, ◌≡◌, ◌≤◌, ◌∙◌, ℕ}
+use Rattle.std.proofs.lemmas.Grind.{get_or_default_zero}
 use Rattle.std.proofs.lemmas.List.{length-map}
 use Rattle.config_image.specs.declared.TheConstants.{ROW_WORDS}
 use Rattle.config_image.specs.Pooled.{page_of}
@@ -7,12 +8,12 @@ use Rattle.versions.specs.Free.{IsFreeRow, number_after}
 use Rattle.versions.specs.Layout.{HoldsForm, pages_named}
 use Rattle.versions.specs.Table.{the_shape}
 use Rattle.versions.proofs.ShapeLemmas.{last_number_is}
-use Rattle.read_section.specs.Layout.{HoldsConfig}
+use Rattle.read_section.specs.Layout.{HoldsConfig, IsZeroFrom}
 use Rattle.read_section.specs.body.OperatorKept.{IsKeptBy}
 use Rattle.read_section.specs.Operator.{OperatorValue}
 use Rattle.read_section.proofs.FilledLemmas.{row_inside}
-use Rattle.read_section.proofs.KeeperLemmas.{IsKeptBy-published}
-use Rattle.read_section.proofs.PutLemmas.{holds_named, names_give, own_row, pages_are, pages_few, pages_fit}
+use Rattle.read_section.proofs.KeeperLemmas.{IsKeptBy-published, IsKeptBy-zeros}
+use Rattle.read_section.proofs.PutLemmas.{end_within, holds_named, names_give, own_row, pages_are, pages_few, pages_fit, zero_behind}
 use Rattle.read_section.proofs.operator.Operator.put.Goals as goal
 
 pub publish-requires-clause-holds : goal.publish-requires-clause-holds
@@ -62,17 +63,25 @@ replace-requires c = let q = c.requires in let low = q.free.0 in let begin = ROW
     let holds = subst (λ (o : OperatorValue). HoldsConfig o.view c.args.row c.args.config) (sym c.self.view_is) q.holds in
     omega (arith, pages_few _ _ _ _ _ _ _ c.self.invariant c.args.row c.args.config low q.publishable holds (map page_of c.row_names-names.result.now) given, length-map c.row_names-names.result.now page_of)
 
+pub bounds-self-inside-row : goal.bounds-self-inside-row
+bounds-self-inside-row c = row_inside c.args.row c.requires.free.0
+
 pub invariant_of-self : goal.invariant_of-self
 invariant_of-self c = let q = c.requires in let low = q.free.0 in let begin = ROWS_BEGIN + c.args.row * ROW_WORDS in
     let given = names_give _ _ _ _ _ _ _ c.self.invariant c.args.row c.args.config low q.publishable _ c.row_names-names.result.now
     (ap (λ l. take ((begin + ROW_WORDS) - begin) (drop begin l)) c.deref.ensures.value ∙ own_row _ _ _ _ _ _ _ c.self.invariant c.args.row c.args.config low q.publishable begin (begin + ROW_WORDS) refl refl) c.row_names-names.ensures.pages in
     let holds = subst (λ (o : OperatorValue). HoldsConfig o.view c.args.row c.args.config) (sym c.self.view_is) q.holds in
     let number = c.self.invariant.steps_told.number in let same = ap (λ (o : OperatorValue). number_after o.view.log) c.self.view_is in let under = q.number in
-    subst (IsKeptBy c.publish.new.self.view c.args.config c.count_version.new.self c.self.inside.reported c.self.inside.zeros c.self.inside.words.items) (sym c.replace.ensures)
-    (subst (λ o. IsKeptBy o.view c.args.config c.count_version.new.self c.self.inside.reported c.self.inside.zeros c.self.inside.words.items (map page_of c.row_names-names.result.now)) (sym c.publish.ensures)
-    (IsKeptBy-published _ _ _ _ _ _ _ c.self.invariant c.args.row c.args.config (map page_of c.row_names-names.result.now) c.count_version.new.self (subst (λ (o : OperatorValue). IsFreeRow the_shape o.view c.args.row) (sym c.self.view_is) q.free) (omega arith)
+    let first = c.index.ensures ∙ get_or_default_zero c.self.inside.words.items begin c.index.result.now (let long = c.self.invariant.words_length in let inside = row_inside c.args.row low in omega arith) in
+    let zeros = set c.self.inside.zeros c.args.row c.form_end.result in
+    let within = subst (λ (n : ℕ). n ≤ ROW_WORDS) (sym c.form_end.ensures) (end_within _ _ _ _ _ _ _ c.self.invariant c.args.row c.args.config low q.publishable holds c.index.result.now first) in
+    let behind = subst (IsZeroFrom c.self.inside.seat.view c.args.row) (sym c.form_end.ensures) (zero_behind _ _ _ _ _ _ _ c.self.invariant c.args.row c.args.config low q.publishable holds c.index.result.now first) in
+    subst (IsKeptBy c.publish.new.self.view c.args.config c.count_version.new.self c.self.inside.reported zeros c.self.inside.words.items) (sym c.replace.ensures)
+    (subst (λ o. IsKeptBy o.view c.args.config c.count_version.new.self c.self.inside.reported zeros c.self.inside.words.items (map page_of c.row_names-names.result.now)) (sym c.publish.ensures)
+    (IsKeptBy-zeros _ _ _ _ _ _ _ (IsKeptBy-published _ _ _ _ _ _ _ c.self.invariant c.args.row c.args.config (map page_of c.row_names-names.result.now) c.count_version.new.self (subst (λ (o : OperatorValue). IsFreeRow the_shape o.view c.args.row) (sym c.self.view_is) q.free) (omega arith)
     (subst (HoldsForm the_shape 0 c.self.inside.seat.view.stored c.args.row c.args.config) (sym given) (holds_named _ _ _ _ _ _ _ c.self.invariant c.args.row c.args.config low q.publishable holds)) (sym given)
-    (pages_few _ _ _ _ _ _ _ c.self.invariant c.args.row c.args.config low q.publishable holds (map page_of c.row_names-names.result.now) given) c.count_version.ensures.counted))
+    (pages_few _ _ _ _ _ _ _ c.self.invariant c.args.row c.args.config low q.publishable holds (map page_of c.row_names-names.result.now) given) c.count_version.ensures.counted)
+    c.args.row c.form_end.result (row_inside c.args.row low) within behind))
 
 pub returns-clause-named : goal.returns-clause-named
 returns-clause-named c = λ pages holds. let q = c.requires in

@@ -1,4 +1,3 @@
-use Rattle.std.proofs.Common.{subst}
 use Rattle.retire.proofs.SharingLemmas.{further_behind, passing_from}
 use Rattle.retire.proofs.standing.Current.find_equal.Goals as goal
 

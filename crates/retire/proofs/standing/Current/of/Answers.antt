@@ -1,5 +1,3 @@
-use Rattle.std.proofs.Common.{◌∙◌, sym, subst, ap}
-use Rattle.retire.specs.body.Taking.{IsPassing}
 use Rattle.retire.proofs.SharingLemmas.{passing_from, stands_counted}
 use Rattle.retire.proofs.standing.Current.of.Goals as goal
 

@@ -1,5 +1,5 @@
 use Rattle.std.proofs.Common.{sym, ◌∙◌, ⊎_elim}
-use Rattle.retire.proofs.SharingLemmas.{further_behind, next_behind, next_counted, next_or_later, none_contained, true_false}
+use Rattle.retire.proofs.SharingLemmas.{further_behind, next_behind, next_counted, next_or_later, true_false}
 use Rattle.retire.proofs.standing.PagedPrograms.find.Goals as goal
 
 pub returns-then-same_words-clause-behind : goal.returns-then-same_words-clause-behind

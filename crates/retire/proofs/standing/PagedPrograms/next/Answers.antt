@@ -1,5 +1,4 @@
-use Rattle.std.proofs.Common.{◌≤◌, arith, length}
-use Rattle.config_image.specs.Pooled.{pages_for}
+use Rattle.std.proofs.Common.{arith}
 use Rattle.retire.proofs.SharingLemmas.{first_of}
 use Rattle.retire.proofs.standing.PagedPrograms.next.Goals as goal
 

@@ -1,5 +1,4 @@
-use Rattle.std.proofs.Common.{◌≡◌, ◌∙◌, ◌+◌, ◌<◌, ap, arith, length, subst, sym, ℕ}
-use Rattle.config_image.specs.declared.TheConstants.{PAGE_LIMIT}
+use Rattle.std.proofs.Common.{◌+◌, ap, arith, subst, sym, ℕ}
 use Rattle.versions.proofs.ShapeLemmas.{pages_is}
 use Rattle.read_section.specs.Operator.{IsLeastFreePage}
 use Rattle.retire.specs.body.Taking.{AreTaken, TakenValue, TakesFree}

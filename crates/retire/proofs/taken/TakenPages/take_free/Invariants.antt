@@ -1,4 +1,3 @@
-use Rattle.std.proofs.Common.{◌≡◌}
 use Rattle.retire.specs.body.Taking.{AreTaken, TakesFree}
 use Rattle.retire.proofs.taken.TakenPages.take_free.Given as goal
 
