@@ -98,7 +98,7 @@ fn append_groups<A: Allocator + Clone>(
     Ok(())
 }
 
-// What the commands make of a configuration. Each is a copy, with the programs that it keeps.
+// What the commands make of a configuration: another one, which shares the groups that it keeps.
 impl<A: Allocator + Clone> Config<A> {
     fn room_for_groups(&self, count: usize) -> Result<Vec<Group<A>, A>, OutOfMemory>
         ensures empty { IfOk result (λ groups. groups.items ≡ []) }
@@ -141,7 +141,7 @@ impl<A: Allocator + Clone> Config<A> {
         let old = self.groups();
         let mut groups = self.room_for_groups(old.len() + 1)?;
         append_groups(&mut groups, &old[..at])?;
-        groups.push(Group::new(key, self.allocator().clone()?))?;
+        groups.push(Group::new(key, self.allocator().clone()?)?)?;
         append_groups(&mut groups, &old[at..])?;
         Ok(Config { groups })
     }

@@ -21,16 +21,17 @@ use bpf_verify::{OutOfMemory, Program};
 use ipv4_fields::Endpoint;
 use std::alloc::Allocator;
 use std::marker::Model;
+use std::sync::Arc;
 
-/// A group: its key, its selector or none, and its members in the order of their indexes.
+// What a group is made of.
 #[derive(Drop)]
-pub struct Group<A: Allocator> {
+struct Parts<A: Allocator> {
     key: Endpoint,
     selector: Option<Program<A>>,
     members: Vec<Member<Program<A>>, A>,
 }
 
-impl<A: Allocator> Model for Group<A> {
+impl<A: Allocator> Model for Parts<A> {
     ghost use Rattle.bpf_verify.specs.Program.{ProgramValue};
     ghost use Rattle.member_group.specs.Group.{GroupOf};
 
@@ -39,26 +40,44 @@ impl<A: Allocator> Model for Group<A> {
     ghost view = { λ g. record { key = g.key; selector = g.selector; members = g.members.items } };
 }
 
+/// A group: its key, its selector or none, and its members in the order of their indexes.
+///
+/// It never changes, so configurations share the groups that they have in common, with their programs.
+#[derive(Drop)]
+pub struct Group<A: Allocator> {
+    parts: Arc<Parts<A>, A>,
+}
+
+impl<A: Allocator> Model for Group<A> {
+    ghost use Rattle.bpf_verify.specs.Program.{ProgramValue};
+    ghost use Rattle.member_group.specs.Group.{GroupOf};
+    ghost use Rattle.std.specs.Arc.{arc_value};
+
+    ghost Value = { GroupOf ProgramValue };
+
+    ghost view = { λ g. arc_value g.parts };
+}
+
 impl<A: Allocator> Group<A> {
     /// Tells the key.
     pub fn key(&self) -> Endpoint
         ensures key { result ≡ self.now.key }
     {
-        self.key
+        self.parts.key
     }
 
     /// Lends the selector.
     pub fn selector(&self) -> Option<&Program<A>>
         ensures selector { option_map (λ program. program.now) result ≡ self.now.selector }
     {
-        self.selector.as_ref()
+        self.parts.selector.as_ref()
     }
 
     /// Lends the members, in the order of their indexes.
     pub fn members(&self) -> &[Member<Program<A>>]
         ensures members { result.now ≡ self.now.members }
     {
-        self.members.as_slice()
+        self.parts.members.as_slice()
     }
 }
 
@@ -78,7 +97,7 @@ impl<A: Allocator> Group<A> {
         ensures charge { result ≡ charge_of_group self.now }
         ensures bounded { result < 2 ^ 32 }
     {
-        let mut charge = GROUP_WORDS as u64 + charge_of_program(&self.selector);
+        let mut charge = GROUP_WORDS as u64 + charge_of_program(&self.parts.selector);
         for member in self.members() {
             charge += MEMBER_WORDS as u64 + charge_of_program(&member.filter);
         }
@@ -86,60 +105,74 @@ impl<A: Allocator> Group<A> {
     }
 }
 
-// What the commands make of a group. Each is a copy, with the programs that it keeps.
+// What the commands make of a group: another group, with copies of the programs that it keeps.
 impl<A: Allocator + Clone> Group<A> {
-    pub(crate) fn new(key: Endpoint, alloc: A) -> Group<A>
-        ensures empty { result ≡ record { key = key; selector = None; members = [] } }
+    fn allocator(&self) -> &A {
+        self.parts.members.allocator()
+    }
+
+    fn of(
+        key: Endpoint,
+        selector: Option<Program<A>>,
+        members: Vec<Member<Program<A>>, A>,
+    ) -> Result<Group<A>, OutOfMemory>
+        ensures parts { IfOk result (λ group. group ≡ record { key = key; selector = selector; members = members.items }) }
     {
-        Group {
+        let alloc = members.allocator().clone()?;
+        let parts = Parts {
             key,
-            selector: None,
-            members: Vec::new(alloc),
-        }
+            selector,
+            members,
+        };
+        Ok(Group {
+            parts: Arc::new(alloc, parts)?,
+        })
+    }
+
+    pub(crate) fn new(key: Endpoint, alloc: A) -> Result<Group<A>, OutOfMemory>
+        ensures empty { IfOk result (λ group. group ≡ record { key = key; selector = None; members = [] }) }
+    {
+        Group::of(key, None, Vec::new(alloc))
     }
 
     fn room_for_members(&self, count: usize) -> Result<Vec<Member<Program<A>>, A>, OutOfMemory>
         ensures empty { IfOk result (λ members. members.items ≡ []) }
     {
-        Vec::with_capacity(self.members.allocator().clone()?, count)
+        Vec::with_capacity(self.allocator().clone()?, count)
     }
 
     // This group's key and selector, with other members.
     fn with_members(&self, members: Vec<Member<Program<A>>, A>) -> Result<Group<A>, OutOfMemory>
         ensures changed { IfOk result (λ group. group ≡ record { key = self.now.key; selector = self.now.selector; members = members.items }) }
     {
-        Ok(Group {
-            key: self.key,
-            selector: copy_program(&self.selector, members.allocator())?,
-            members,
-        })
+        let selector = copy_program(&self.parts.selector, self.allocator())?;
+        Group::of(self.key(), selector, members)
     }
 
     // This group's key and members, with another selector, or none.
     fn with_selector(&self, selector: Option<Program<A>>) -> Result<Group<A>, OutOfMemory>
         ensures changed { IfOk result (λ group. group ≡ with_selector selector self.now) }
     {
-        let mut members = self.room_for_members(self.members.len())?;
-        append_members(&mut members, &self.members)?;
-        Ok(Group {
-            key: self.key,
-            selector,
-            members,
-        })
+        let mut members = self.room_for_members(self.members().len())?;
+        append_members(&mut members, self.members())?;
+        Group::of(self.key(), selector, members)
     }
 
+    // The same group once more, for another configuration: nothing of it is copied.
     pub(crate) fn copy(&self) -> Result<Group<A>, OutOfMemory>
         ensures copied { IfOk result (λ copy. copy ≡ self.now) }
     {
-        self.with_selector(copy_program(&self.selector, self.members.allocator())?)
+        Ok(Group {
+            parts: Arc::try_clone(&self.parts)?,
+        })
     }
 
     fn with_member(&self, id: u32, to: Endpoint) -> Result<Group<A>, OutOfMemory>
         requires room { length self.now.members < MEMBER_LIMIT }
         ensures changed { IfOk result (λ group. group ≡ joined id to self.now) }
     {
-        let mut members = self.room_for_members(self.members.len() + 1)?;
-        append_members(&mut members, &self.members)?;
+        let mut members = self.room_for_members(self.members().len() + 1)?;
+        append_members(&mut members, self.members())?;
         members.push(Member {
             id,
             to,
@@ -154,8 +187,8 @@ impl<A: Allocator + Clone> Group<A> {
         requires inside { at < length self.now.members }
         ensures changed { IfOk result (λ group. group ≡ record { key = self.now.key; selector = self.now.selector; members = last_in_gap at self.now.members }) }
     {
-        let mut members = self.room_for_members(self.members.len() - 1)?;
-        append_with_last_in_gap(&mut members, &self.members, at)?;
+        let mut members = self.room_for_members(self.members().len() - 1)?;
+        append_with_last_in_gap(&mut members, self.members(), at)?;
         self.with_members(members)
     }
 
@@ -164,8 +197,8 @@ impl<A: Allocator + Clone> Group<A> {
         requires inside { at < length self.now.members }
         ensures changed { IfOk result (λ group. group ≡ record { key = self.now.key; selector = self.now.selector; members = slice_set self.now.members at member }) }
     {
-        let mut members = self.room_for_members(self.members.len())?;
-        append_with_member_at(&mut members, &self.members, at, member)?;
+        let mut members = self.room_for_members(self.members().len())?;
+        append_with_member_at(&mut members, self.members(), at, member)?;
         self.with_members(members)
     }
 
@@ -191,7 +224,7 @@ impl<A: Allocator + Clone> Group<A> {
         requires inside { at < length self.now.members }
         ensures changed { (id : ℕ) → IsOnlyAt (has_id id) self.now.members at → IfOk result (λ group. group ≡ locked id self.now) }
     {
-        let member = copy_member(&self.members()[at], self.members.allocator())?;
+        let member = copy_member(&self.members()[at], self.allocator())?;
         self.with_member_at(
             at,
             Member {
@@ -236,7 +269,7 @@ impl<A: Allocator + Clone> Group<A> {
         ensures answer { IsAnswer None (with_selector (Some program.now) self.now) result }
         ensures group { IfOk result IsGroup }
     {
-        let selector = program.clone_in(self.members.allocator().clone()?)?;
+        let selector = program.clone_in(self.allocator().clone()?)?;
         Ok(self.with_selector(Some(selector))?)
     }
 
@@ -245,7 +278,7 @@ impl<A: Allocator + Clone> Group<A> {
         ensures answer { IsAnswer (first_of (clear_selector_causes self.now)) (with_selector None self.now) result }
         ensures group { IfOk result IsGroup }
     {
-        if self.selector.is_none() {
+        if self.parts.selector.is_none() {
             return Err(Refusal::NoProgram);
         }
         Ok(self.with_selector(None)?)
@@ -266,7 +299,7 @@ impl<A: Allocator + Clone> Group<A> {
         if self.members()[at].locked {
             return Err(Refusal::Locked);
         }
-        let filter = program.clone_in(self.members.allocator().clone()?)?;
+        let filter = program.clone_in(self.allocator().clone()?)?;
         Ok(self.with_filter(at, Some(filter))?)
     }
 
