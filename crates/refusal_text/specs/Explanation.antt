@@ -7,13 +7,14 @@ use Rattle.refusal_text.specs.declared.table.TheConstants.{EXPLANATIONS}
 abbrev pub Row : Type 0
 Row = List ℕ × List ℕ
 
--- the codes: of assembly, publishing, texts, failures, compiling, configurations, words of instructions, threads, counters, opening,
--- expressions, sockets, the verifier, and workers
+-- the codes: of assembly, publishing, texts, programs in numbers, failures, compiling, configurations, words of instructions,
+-- threads, counters, opening, expressions, sockets, the verifier, and workers
 abbrev pub codes_explained : List (List ℕ)
 codes_explained =
     codes "A1" ∷ codes "A2" ∷ codes "A3" ∷ codes "A4" ∷ codes "A5" ∷ codes "A6" ∷
     codes "B1" ∷ codes "B2" ∷ codes "B3" ∷
     codes "C1" ∷ codes "C2" ∷ codes "C3" ∷
+    codes "D1" ∷ codes "D2" ∷ codes "D3" ∷
     codes "E1" ∷ codes "E2" ∷ codes "E3" ∷ codes "E4" ∷
     codes "F1" ∷ codes "F2" ∷ codes "F3" ∷
     codes "G1" ∷ codes "G2" ∷ codes "G3" ∷ codes "G4" ∷ codes "G5" ∷ codes "G6" ∷ codes "G7" ∷ codes "G8" ∷ codes "G9" ∷
