@@ -1,7 +1,7 @@
 -- Which codes are explained, and how (docs/COMMANDS.md, "Failures" and "Refusals").
 use Rattle.std.specs.Prelude.{◌≡◌, ◌+◌, ◌++◌, ◌∷◌, [], Contains, List, Option, codes, find, length, map, option_map, take, ℕ}
 use Rattle.std.specs.Str.{bytes_eq}
-use Rattle.refusal_text.specs.declared.table.TheConstants.{EXPLANATIONS}
+use Rattle.refusal_text.specs.declared.table.TheConstants.{EXPLANATIONS_FROM_G, EXPLANATIONS_TO_F}
 
 -- a code, and its text
 abbrev pub Row : Type 0
@@ -28,11 +28,17 @@ codes_explained =
     codes "X1" ∷ codes "X2" ∷
     []
 
--- the table
-abbrev pub explanations : List Row
-explanations = map (λ row. (row.0.now, row.1.now)) EXPLANATIONS
+-- the tables
+abbrev pub explanations_to_f : List Row
+explanations_to_f = map (λ row. (row.0.now, row.1.now)) EXPLANATIONS_TO_F
 
--- a row of the table has this code and this text
+abbrev pub explanations_from_g : List Row
+explanations_from_g = map (λ row. (row.0.now, row.1.now)) EXPLANATIONS_FROM_G
+
+abbrev pub explanations : List Row
+explanations = explanations_to_f ++ explanations_from_g
+
+-- a row of them has this code and this text
 abbrev pub IsExplanation : List ℕ → List ℕ → Type 0
 IsExplanation code text = Contains explanations (code, text)
 

@@ -1,6 +1,7 @@
-//! The codes with their explanations: the meanings, usual mistakes and causes of docs/COMMANDS.md, and what to do.
+//! The codes with their explanations: the meanings, usual mistakes and causes of docs/COMMANDS.md, and what to do. Two tables, since
+//! a check computes over the whole of one.
 
-pub const EXPLANATIONS: [(&str, &str); 59] = [
+pub const EXPLANATIONS_TO_F: [(&str, &str); 22] = [
     (
         "A1",
         "\
@@ -185,6 +186,9 @@ F3: Memory for the expression's program was refused.
 No command prints this code: a call of the libraries answers it. Where memory
 is refused the program says `failed E3` in its place.",
     ),
+];
+
+pub const EXPLANATIONS_FROM_G: [(&str, &str); 37] = [
     (
         "G1",
         "\

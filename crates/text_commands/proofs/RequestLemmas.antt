@@ -47,6 +47,12 @@ text_may_fail words fault WriteFailed kinds either memory = λ ask. elim kinds [
   | inr among ↦ subst (IsAmong (kind_of fault)) ask.0 among
 ]
 
+-- a stop by one refusal is one by another that follows
+pub stopped_alike : (refuses others : Reason → Type 0) (stop : Stop) → ((reason : Reason) → refuses reason → others reason) → IsStopBy refuses stop → IsStopBy others stop
+stopped_alike refuses others (Refused reason) follows stops = follows reason stops
+stopped_alike refuses others (Misformed fault) follows stops = stops
+stopped_alike refuses others (Failed failure) follows stops = stops
+
 module _ (known : Option (List ℕ)) where
   -- an input that is not read has some bytes
   some_input : List ℕ
@@ -77,10 +83,10 @@ module _ (known : Option (List ℕ)) where
   judge_stops_by_hex digits expression stop =
       stops_before (judge digits expression) (IsRefusalOfHex digits) stop (λ reason why. inl why)
 
-  pub compile_stops : (expression name : List ℕ) (stop : Stop) → IsStopBy (IsRefusalReason (compile expression name) some_input) stop
+  pub compile_stops : (expression name : List ℕ) (stop : Stop) → IsStopBy (IsRefusalReason (compile expression name) []) stop
       → IsStopOf (compile expression name) known stop
   compile_stops expression name stop =
-      stops_before (compile expression name) (IsRefusalReason (compile expression name) some_input) stop (λ reason why. why)
+      stops_before (compile expression name) (IsRefusalReason (compile expression name) []) stop (λ reason why. why)
 
   pub explain_stops : (code : List ℕ) (stop : Stop) → IsStopBy (IsRefusalOfCode code) stop → IsStopOf (explain code) known stop
   explain_stops code stop = stops_before (explain code) (IsRefusalOfCode code) stop (λ reason why. why)
@@ -90,7 +96,7 @@ module _ (known : Option (List ℕ)) where
   judge_stops digits expression packet stop spelt =
       stops_before (judge digits expression) (IsRefusalOfExpression expression) stop (λ reason why. inr (packet, spelt, why))
 
-  pub compile_found : (expression name : List ℕ) (answer : CommandResult) → IsResult (compile expression name) some_input answer
+  pub compile_found : (expression name : List ℕ) (answer : CommandResult) → IsResult (compile expression name) [] answer
       → IsResultOf (compile expression name) known answer
   compile_found expression name answer found = (some_input, is_input, found)
 

@@ -20,7 +20,7 @@ returns-in_err-packet-in-Judge-clause-stopped g c =
 
 pub judge-requires : goal.judge-requires
 judge-requires g c =
-    subst IsPacket (sym c.deref-in-Judge.ensures.value) (packet_of_spelt _ _ c.in_ok-packet-in-Judge.ensures.spelt)
+    subst IsPacket (sym c.deref.ensures.value) (packet_of_spelt _ _ c.in_ok-packet-in-Judge.ensures.spelt)
 
 pub returns-in_ok-at_first-in-First-clause-found :
     goal.returns-in_ok-at_first-in-First-clause-found
@@ -46,8 +46,8 @@ returns-in_ok-packet-in-Judge-clause-found g c =
     let known = g.R.Read.remaining c.args.input in
     let text = c.in-Judge.expression.now in
     let packet = c.in_ok-packet-in-Judge.packet.items in
-    let of_packet = subst (λ bytes. IfOk c.judge.result (IsJudgeAnswer bytes c.as_bytes-in-Judge.result.now)) c.deref-in-Judge.ensures.value c.judge.ensures.answer in
-    let found = subst (λ read. IfOk c.judge.result (IsJudgeAnswer packet read)) c.as_bytes-in-Judge.ensures.value of_packet in
+    let of_packet = subst (λ bytes. IfOk c.judge.result (IsJudgeAnswer bytes c.as_bytes.result.now)) c.deref.ensures.value c.judge.ensures.answer in
+    let found = subst (λ read. IfOk c.judge.result (IsJudgeAnswer packet read)) c.as_bytes.ensures.value of_packet in
     subst (λ request. IfOk c.judge.result (IsResultOf request known)) (sym (ap query_request c.in-Judge.is))
     (IfOk-weaker c.judge.result _ _ (λ answer. judge_found known _ text packet answer c.in_ok-packet-in-Judge.ensures.spelt) found)
 
@@ -57,7 +57,7 @@ returns-in_ok-packet-in-Judge-clause-stopped g c =
     let known = g.R.Read.remaining c.args.input in
     let text = c.in-Judge.expression.now in
     let packet = c.in_ok-packet-in-Judge.packet.items in
-    let refused = subst (λ read. IfErr c.judge.result (IsStopBy (IsRefusalOfExpression read))) c.as_bytes-in-Judge.ensures.value c.judge.ensures.refused in
+    let refused = subst (λ read. IfErr c.judge.result (IsStopBy (IsRefusalOfExpression read))) c.as_bytes.ensures.value c.judge.ensures.refused in
     subst (λ request. IfErr c.judge.result (IsStopOf request known)) (sym (ap query_request c.in-Judge.is))
     (IfErr-weaker c.judge.result _ _ (λ stop. judge_stops known _ text packet stop c.in_ok-packet-in-Judge.ensures.spelt) refused)
 
