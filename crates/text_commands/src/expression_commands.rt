@@ -14,11 +14,7 @@ use program_text::compiled;
 use std::alloc::Global;
 
 /// Compiles the expression, and prints the program in the format.
-pub fn compile(
-    alloc: Global,
-    format: OutputFormat,
-    text: &[u8],
-) -> Result<CommandResult, Stop>
+pub fn compile(alloc: Global, format: OutputFormat, text: &[u8]) -> Result<CommandResult, Stop>
     ensures answer { IfOk result (IsCompileAnswer format text.now) }
     ensures refused { IfErr result (IsStopBy (IsRefusalOfExpression text.now)) }
 {

@@ -28,11 +28,7 @@ fn accepted(words: Vec<u64>) -> Result<Program<Global>, Stop>
     }
 }
 
-fn read_program(
-    alloc: Global,
-    format: InputFormat,
-    text: &[u8],
-) -> Result<Program<Global>, Stop>
+fn read_program(alloc: Global, format: InputFormat, text: &[u8]) -> Result<Program<Global>, Stop>
     ensures program { IfOk result (λ program. IsProgramIn format text.now program.words) }
     ensures stopped { IfErr result (IsStopByProgram format text.now) }
 {

@@ -69,11 +69,7 @@ fn find_answer<R: Read + Drop>(
     }
 }
 
-fn check_input<R: Read + Drop>(
-    alloc: Global,
-    name: &str,
-    input: R,
-) -> Result<CommandResult, Stop>
+fn check_input<R: Read + Drop>(alloc: Global, name: &str, input: R) -> Result<CommandResult, Stop>
     ensures found { IfOk result (IsResultOf (check name.now) (R.remaining input)) }
     ensures stopped { IfErr result (IsStopOf (check name.now) (R.remaining input)) }
 {

@@ -23,7 +23,12 @@ const CHECKED: [(&str, &str, u8, &str); 16] = [
     ("ddd", "2\n128 0 0 0\n22 0 0 1\n", 1, "refused V4 1\n"),
     ("hex", IP_DDD, 1, "refused D1 1\n"),
     ("hex", "", 1, "refused V1\n"),
-    ("hex", "0080000000000000\n00ff000000000000", 1, "refused V3 1\n"),
+    (
+        "hex",
+        "0080000000000000\n00ff000000000000",
+        1,
+        "refused V3 1\n",
+    ),
     ("dd", "{ 0x16, 0, 0, 0x00000000 },", 1, "refused C1\n"),
     ("DDD", IP_DDD, 1, "refused C1\n"),
 ];
@@ -39,7 +44,13 @@ fn checks_by_format(rt: HostRuntime) -> Result<(), Fail> {
 
 // The packet is looked at before the format, and that before the program.
 const RUN: [(&str, &str, &str, u8, &str); 6] = [
-    (SAMPLE_PACKET, "ddd", IP_LINE, 0, "value 262144 steps 4 kept 29\n"),
+    (
+        SAMPLE_PACKET,
+        "ddd",
+        IP_LINE,
+        0,
+        "value 262144 steps 4 kept 29\n",
+    ),
     ("60", "ddd", IP_DDD, 0, "value 0 steps 4 kept 0\n"),
     ("", "hex", "0016000000000000", 0, "value 0 steps 1 kept 0\n"),
     ("0", "dd", "", 1, "refused C1\n"),
@@ -57,8 +68,18 @@ fn runs_by_format(rt: HostRuntime) -> Result<(), Fail> {
 }
 
 const PRINTED: [(&str, &str, u8, &str); 7] = [
-    ("asm", "less 28", 0, "charge 6\nld len\njgt #28,1,0\nret #65535\nret #0\n"),
-    ("ddd", "less 28", 0, "4\n128 0 0 0\n37 1 0 28\n6 0 0 65535\n6 0 0 0\n"),
+    (
+        "asm",
+        "less 28",
+        0,
+        "charge 6\nld len\njgt #28,1,0\nret #65535\nret #0\n",
+    ),
+    (
+        "ddd",
+        "less 28",
+        0,
+        "4\n128 0 0 0\n37 1 0 28\n6 0 0 65535\n6 0 0 0\n",
+    ),
     (
         "dd",
         "less 28",
