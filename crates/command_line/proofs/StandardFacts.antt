@@ -2,7 +2,7 @@
 use Rattle.std.proofs.Common.{◌≡◌, ◌∷◌, [], Some, codes, refl}
 use Rattle.clap.proofs.OnLiterals.{clap_on_literals}
 use Rattle.clap.specs.declared.error.kind.ErrorKind.TheVariants.{DisplayHelp, DisplayVersion, InvalidSubcommand, MissingRequiredArgument, MissingSubcommand, UnknownArgument, ValueValidation}
-use Rattle.command_line.specs.CommandLine.{explain, faults_in, flood, request_in, serve, tell}
+use Rattle.command_line.specs.CommandLine.{check, compile, explain, faults_in, flood, judge, request_in, run, serve, tell}
 
 in_first : faults_in (codes "first" ∷ []) ≡ []
 unfolding clap_on_literals
@@ -106,3 +106,23 @@ in_tell_of_too_long_a_time = refl
 in_tell_without_control : faults_in (codes "tell" ∷ codes "show" ∷ []) ≡ MissingRequiredArgument ∷ []
 unfolding clap_on_literals
 in_tell_without_control = refl
+
+in_check : request_in (codes "check" ∷ []) ≡ Some (check (codes "asm"))
+unfolding clap_on_literals
+in_check = refl
+
+in_check_of_a_format : request_in (codes "check" ∷ codes "--format" ∷ codes "ddd" ∷ []) ≡ Some (check (codes "ddd"))
+unfolding clap_on_literals
+in_check_of_a_format = refl
+
+in_compile_to_a_format : request_in (codes "compile" ∷ codes "--format=hex" ∷ codes "udp" ∷ []) ≡ Some (compile (codes "udp") (codes "hex"))
+unfolding clap_on_literals
+in_compile_to_a_format = refl
+
+in_run_of_a_format : request_in (codes "run" ∷ codes "--packet" ∷ codes "45" ∷ codes "--format" ∷ codes "hex" ∷ []) ≡ Some (run (codes "45") (codes "hex"))
+unfolding clap_on_literals
+in_run_of_a_format = refl
+
+in_judge_of_a_format : request_in (codes "run" ∷ codes "--packet" ∷ codes "45" ∷ codes "--expr" ∷ codes "udp" ∷ codes "--format" ∷ codes "hex" ∷ []) ≡ Some (judge (codes "45") (codes "udp"))
+unfolding clap_on_literals
+in_judge_of_a_format = refl

@@ -33,17 +33,21 @@ any_number_of id = record (new_rule id) { action = Some Append }
 abbrev pub first_line : App
 first_line = new_app (codes "first")
 
+-- `check`, with the format of the program or none
 abbrev pub check_line : App
-check_line = new_app (codes "check")
+check_line = with_rule (new_app (codes "check")) (named_argument (codes "format"))
 
--- `compile EXPR`
+-- `compile EXPR`, with a format or none
 abbrev pub compile_line : App
-compile_line = with_rule (new_app (codes "compile")) (required_argument (codes "EXPR"))
+compile_line =
+    with_rule (with_rule (new_app (codes "compile")) (required_argument (codes "EXPR"))) (named_argument (codes "format"))
 
--- `run --packet HEX`, and an expression or none
+-- `run --packet HEX`, with an expression or none, and a format or none
 abbrev pub run_line : App
 run_line =
-    with_rule (with_rule (new_app (codes "run")) (required_named_argument (codes "packet"))) (named_argument (codes "expr"))
+    with_rule
+    (with_rule (with_rule (new_app (codes "run")) (required_named_argument (codes "packet"))) (named_argument (codes "expr")))
+    (named_argument (codes "format"))
 
 -- `explain CODE`
 abbrev pub explain_line : App
@@ -119,9 +123,9 @@ HasMisuse kinds = (kind : ErrorKind) × IsAmong kind kinds × (kind ≢ DisplayH
 -- a command with its arguments
 pub data Request : Type 0 where
   first : Request
-  check : Request
-  compile : (expression : Text) → Request
-  run : (packet : Text) → Request
+  check : (format : Text) → Request
+  compile : (expression format : Text) → Request
+  run : (packet format : Text) → Request
   judge : (packet expression : Text) → Request
   explain : (code : Text) → Request
   replay : Request
@@ -131,9 +135,9 @@ pub data Request : Type 0 where
 
 abbrev pub query_request : Query → Request
 query_request query.First = first
-query_request query.Check = check
-query_request (query.Compile expression) = compile expression.now
-query_request (query.Run packet) = run packet.now
+query_request (query.Check format) = check format.now
+query_request (query.Compile expression format) = compile expression.now format.now
+query_request (query.Run packet format) = run packet.now format.now
 query_request (query.Judge packet expression) = judge packet.now expression.now
 query_request (query.Explain code) = explain code.now
 
@@ -144,10 +148,10 @@ request_of (subcommand.Flood workers) = flood workers.now
 request_of (subcommand.Serve front control workers) = serve front.now control.now workers.now
 request_of (subcommand.Tell control timeout lines) = tell control.now timeout.now (map (λ line. line.now) lines.items)
 
--- `run`, with an expression or without
-abbrev pub run_or_judge : Text → Option Text → Request
-run_or_judge packet None = run packet
-run_or_judge packet (Some expression) = judge packet expression
+-- `run`, with an expression, of which no program is read, or without
+abbrev pub run_or_judge : Text → Text → Option Text → Request
+run_or_judge packet format None = run packet format
+run_or_judge packet format (Some expression) = judge packet expression
 
 -- the value of an argument, which a required one has
 abbrev pub value_in : List Row → Text → Text
@@ -161,16 +165,20 @@ values_in rows id = unwrap_or (all_of id rows) []
 abbrev pub timeout_in : List Row → Text
 timeout_in rows = unwrap_or (first_of (codes "timeout") rows) (codes "1")
 
+-- assembly text, where no other format is given
+abbrev pub format_in : List Row → Text
+format_in rows = unwrap_or (first_of (codes "format") rows) (codes "asm")
+
 abbrev pub request_named : Text → List Row → Option Request
 request_named name rows =
     if bytes_eq name (codes "first")
     then Some first
     else if bytes_eq name (codes "check")
-    then Some check
+    then Some (check (format_in rows))
     else if bytes_eq name (codes "compile")
-    then Some (compile (value_in rows (codes "EXPR")))
+    then Some (compile (value_in rows (codes "EXPR")) (format_in rows))
     else if bytes_eq name (codes "run")
-    then Some (run_or_judge (value_in rows (codes "packet")) (first_of (codes "expr") rows))
+    then Some (run_or_judge (value_in rows (codes "packet")) (format_in rows) (first_of (codes "expr") rows))
     else if bytes_eq name (codes "explain")
     then Some (explain (value_in rows (codes "CODE")))
     else if bytes_eq name (codes "replay")

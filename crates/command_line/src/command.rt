@@ -5,7 +5,7 @@ ghost use Rattle.std.specs.Option.{option_map};
 ghost use Rattle.clap.specs.Walk.{first_of};
 ghost use Rattle.clap.specs.Words.{FailsBy, app_of, found_of, new_app, rows_of, rule_of};
 ghost use Rattle.clap.specs.declared.builder.command.Command.TheViews.{out-Command};
-ghost use Rattle.command_line.specs.CommandLine.{any_number_of, command_line, compile_line, explain_line, faults_in, flood_line, query_request, request_in, request_named, request_of, required_named_argument, run_line, run_or_judge, serve_line, tell_line, timeout_argument, timeout_in, value_in, values_in, workers_argument};
+ghost use Rattle.command_line.specs.CommandLine.{any_number_of, check_line, command_line, compile_line, explain_line, faults_in, flood_line, format_in, named_argument, query_request, request_in, request_named, request_of, required_named_argument, run_line, run_or_judge, serve_line, tell_line, timeout_argument, timeout_in, value_in, values_in, workers_argument};
 
 use crate::help;
 use clap::builder::ValueParser;
@@ -20,12 +20,17 @@ pub const MAX_TIMEOUT: u64 = 3600;
 #[derive(Clone, Copy, Debug, PartialEq, Eq)]
 pub enum Query<'a> {
     First,
-    Check,
+    /// `format` is the name of a format as it is written, and `"asm"` where none is. So it is below.
+    Check {
+        format: &'a str,
+    },
     Compile {
         expression: &'a str,
+        format: &'a str,
     },
     Run {
         packet: &'a str,
+        format: &'a str,
     },
     /// `run` with an expression in place of a program.
     Judge {
@@ -61,6 +66,28 @@ pub enum Subcommand<'a> {
     },
 }
 
+// `--format NAME`
+fn format_argument<'a>(alloc: Global, help: &'a str) -> Arg<'a>
+    ensures rule { rule_of result ≡ named_argument (codes "format") }
+    ensures local { result.global ≡ false }
+{
+    Arg::new(alloc, "format")
+        .long("format")
+        .value_name("NAME")
+        .help(help)
+}
+
+fn check_command<'a>(alloc: Global) -> Result<Command<'a>, AllocError>
+    ensures app { IfOk result (λ command. app_of command ≡ check_line) }
+    ensures local { IfOk result (λ command. (out-Command command).has_globals ≡ false) }
+{
+    let format = format_argument(alloc, help::INPUT_FORMAT);
+    Command::new(alloc, "check")
+        .about(help::CHECK)
+        .after_help(help::CHECK_MORE)
+        .arg(format)
+}
+
 fn compile_command<'a>(alloc: Global) -> Result<Command<'a>, AllocError>
     ensures app { IfOk result (λ command. app_of command ≡ compile_line) }
     ensures local { IfOk result (λ command. (out-Command command).has_globals ≡ false) }
@@ -68,30 +95,50 @@ fn compile_command<'a>(alloc: Global) -> Result<Command<'a>, AllocError>
     let expression = Arg::new(alloc, "EXPR")
         .required(true)
         .help(help::COMPILE_EXPRESSION);
+    let format = format_argument(alloc, help::OUTPUT_FORMAT);
     Command::new(alloc, "compile")
         .about(help::COMPILE)
         .after_help(help::COMPILE_MORE)
-        .arg(expression)
+        .arg(expression)?
+        .arg(format)
+}
+
+// `--packet HEX`
+fn packet_argument<'a>(alloc: Global) -> Arg<'a>
+    ensures rule { rule_of result ≡ required_named_argument (codes "packet") }
+    ensures local { result.global ≡ false }
+{
+    Arg::new(alloc, "packet")
+        .long("packet")
+        .value_name("HEX")
+        .required(true)
+        .help(help::RUN_PACKET)
+}
+
+// `--expr TEXT`
+fn expression_argument<'a>(alloc: Global) -> Arg<'a>
+    ensures rule { rule_of result ≡ named_argument (codes "expr") }
+    ensures local { result.global ≡ false }
+{
+    Arg::new(alloc, "expr")
+        .long("expr")
+        .value_name("TEXT")
+        .help(help::RUN_EXPRESSION)
 }
 
 fn run_command<'a>(alloc: Global) -> Result<Command<'a>, AllocError>
     ensures app { IfOk result (λ command. app_of command ≡ run_line) }
     ensures local { IfOk result (λ command. (out-Command command).has_globals ≡ false) }
 {
-    let packet = Arg::new(alloc, "packet")
-        .long("packet")
-        .value_name("HEX")
-        .required(true)
-        .help(help::RUN_PACKET);
-    let expression = Arg::new(alloc, "expr")
-        .long("expr")
-        .value_name("TEXT")
-        .help(help::RUN_EXPRESSION);
+    let packet = packet_argument(alloc);
+    let expression = expression_argument(alloc);
+    let format = format_argument(alloc, help::INPUT_FORMAT);
     Command::new(alloc, "run")
         .about(help::RUN)
         .after_help(help::RUN_MORE)
         .arg(packet)?
-        .arg(expression)
+        .arg(expression)?
+        .arg(format)
 }
 
 fn explain_command<'a>(alloc: Global) -> Result<Command<'a>, AllocError>
@@ -215,7 +262,7 @@ fn program<'a>(alloc: Global) -> Result<Command<'a>, AllocError>
         .no_binary_name(true)
         .subcommand_required(true)
         .subcommand(plain_command(alloc, "first", help::FIRST, help::FIRST_MORE))?
-        .subcommand(plain_command(alloc, "check", help::CHECK, help::CHECK_MORE))?
+        .subcommand(check_command(alloc)?)?
         .subcommand(compile_command(alloc)?)?
         .subcommand(run_command(alloc)?)?
         .subcommand(explain_command(alloc)?)?
@@ -252,13 +299,21 @@ fn timeout_of<'a>(found: &ArgMatches<'a>) -> &'a str
     found.get_str("timeout").unwrap_or("1")
 }
 
+fn format_of<'a>(found: &ArgMatches<'a>) -> &'a str
+    ensures { result.now ≡ format_in (rows_of (found_of found.now)) }
+{
+    found.get_str("format").unwrap_or("asm")
+}
+
 fn run_or_judge<'a>(found: &ArgMatches<'a>) -> Query<'a>
     ensures { query_request result
-        ≡ run_or_judge (value_in (rows_of (found_of found.now)) (codes "packet")) (first_of (codes "expr") (rows_of (found_of found.now))) }
+        ≡ run_or_judge (value_in (rows_of (found_of found.now)) (codes "packet")) (format_in (rows_of (found_of found.now)))
+        (first_of (codes "expr") (rows_of (found_of found.now))) }
 {
     let packet = value_of(found, "packet");
+    let format = format_of(found);
     match found.get_str("expr") {
-        None => Query::Run { packet },
+        None => Query::Run { packet, format },
         Some(expression) => Query::Judge { packet, expression },
     }
 }
@@ -273,9 +328,12 @@ fn subcommand_of<'a>(
 {
     let command = match name {
         "first" => Some(Subcommand::Query(Query::First)),
-        "check" => Some(Subcommand::Query(Query::Check)),
+        "check" => Some(Subcommand::Query(Query::Check {
+            format: format_of(found),
+        })),
         "compile" => Some(Subcommand::Query(Query::Compile {
             expression: value_of(found, "EXPR"),
+            format: format_of(found),
         })),
         "run" => Some(Subcommand::Query(run_or_judge(found))),
         "explain" => Some(Subcommand::Query(Query::Explain {

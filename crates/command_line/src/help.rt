@@ -28,36 +28,61 @@ Example:
   version 0 value 65535 steps 3 kept 29
   version 1 value 0 steps 1 kept 0";
 
-pub const CHECK: &str = "Check a BPF program in assembly text";
+pub const CHECK: &str = "Check a BPF program, in assembly text or in numbers";
+
+pub const INPUT_FORMAT: &str =
+    "The format of the program: asm, ddd or hex; without it assembly text (asm)";
+
+pub const OUTPUT_FORMAT: &str =
+    "The format of the program: asm, ddd, dd or hex; without it assembly text (asm)";
 
 pub const CHECK_MORE: &str = "\
-Reads assembly text from standard input; a line feed or `;` ends a line. Prints `accepted N`
-for a program of N instructions, with status 0. Else prints `refused CODE NUMBER`, with status 1:
+Reads a program from standard input, in the format NAME:
+  asm  assembly text; a line feed or `;` ends a line
+  ddd  what `tcpdump -ddd` prints: a count, then `code jt jf k` a line, in decimal; a comma ends
+       a line too
+  hex  a word a line, as sixteen hexadecimal digits: code, jt, jf and k
+Prints `accepted N` for a program of N instructions, with status 0. Else prints, with status 1:
+  refused C1 where NAME is none of these, before anything is read
   A1 to A5, and the line counted from 1, where the text is no assembly
+  D1, and the line counted from 1, where the text is not in the other format; D2, where the count
+  is not the number of instructions
   V1 to V11 where its instructions are no program, and the place of the instruction at fault,
   counted from 0 (V1, V2 and V10, which speak of the whole program, have no number)
 
-Example:
+Examples:
   $ echo 'ldb [9]; jeq #17,0,1; ret #65535; ret #0' | dswitch check
-  accepted 4";
+  accepted 4
+  $ echo '2,128 0 0 0,22 0 0 0' | dswitch check --format ddd
+  accepted 2";
 
 pub const COMPILE: &str = "Compile a filter expression to a BPF program";
 
 pub const COMPILE_EXPRESSION: &str = "The filter expression, as one argument";
 
 pub const COMPILE_MORE: &str = "\
-Reads no input. Prints `charge C`, the most instructions that such an expression comes to, and
-then the program as assembly text, which `check` and `run` read. Else prints, with status 1:
+Reads no input. Prints the program in the format NAME:
+  asm  `charge C`, the most instructions that such an expression comes to, and then assembly text
+  ddd, hex  as `check` and `run` read them, which read the assembly text, too
+  dd   what `tcpdump -dd` prints: initialisers of a `struct sock_filter` in C
+Else prints, with status 1:
+  refused C1 where NAME is none of these
   refused P1 PLACE to refused P5 PLACE, the byte counted from 0 where it is no expression
   refused F1 where its measure of scratch cells is above 16, refused F2 where C would be above 4096
 
-Example:
+Examples:
   $ dswitch compile 'less 28'
   charge 6
   ld len
   jgt #28,1,0
   ret #65535
-  ret #0";
+  ret #0
+  $ dswitch compile --format ddd 'less 28'
+  4
+  128 0 0 0
+  37 1 0 28
+  6 0 0 65535
+  6 0 0 0";
 
 pub const RUN: &str = "Run a BPF program or a filter expression on a packet";
 
@@ -67,9 +92,10 @@ pub const RUN_PACKET: &str =
 pub const RUN_EXPRESSION: &str = "Tests this filter expression, and reads no program";
 
 pub const RUN_MORE: &str = "\
-Without --expr it reads assembly text from standard input and prints `value V steps S kept B`:
-the program ended with V after S instructions and keeps B bytes, the lesser of V and the packet's
-length. With --expr it prints `accept` or `reject`. Else prints, with status 1:
+Without --expr it reads a program from standard input, as `check` does, and prints
+`value V steps S kept B`: the program ended with V after S instructions and keeps B bytes, the
+lesser of V and the packet's length. With --expr it prints `accept` or `reject`, and reads no
+program, whatever its format. Else prints, with status 1:
   refused C1 where HEX is no even number of digits, refused C3 where it is too long
   the codes of `check` for the program, those of `compile` for the expression
 

@@ -7,6 +7,7 @@ mod explaining;
 mod expressions;
 mod failures;
 mod flood;
+mod formats;
 mod packets;
 mod programs;
 mod replay;

@@ -87,3 +87,25 @@ pub is_some_alike : (answer : Option (Bor (List ℕ))) (known : Option (List ℕ
     → is_some answer ≡ is_some known
 is_some_alike None known same = ap is_some same
 is_some_alike (Some text) known same = ap is_some same
+
+-- ---- two tables, one behind the other
+
+pub beside_front : (front back : List Row) (code text : List ℕ) → text_beside front code ≡ Some text → text_beside (front ++ back) code ≡ Some text
+beside_front [] back code text found = cc
+beside_front (row ∷ front) back code text found = go (bytes_eq row.0 code) (beside_front front back code text) found
+  where
+    go : (b : Bool) → (text_beside front code ≡ Some text → text_beside (front ++ back) code ≡ Some text)
+        → beside (cond b (Some row) (find (λ r. bytes_eq r.0 code) front)) ≡ Some text
+        → beside (cond b (Some row) (find (λ r. bytes_eq r.0 code) (front ++ back))) ≡ Some text
+    go true later found = found
+    go false later found = later found
+
+pub beside_back : (front back : List Row) (code : List ℕ) → text_beside front code ≡ None → text_beside (front ++ back) code ≡ text_beside back code
+beside_back [] back code none = refl
+beside_back (row ∷ front) back code none = go (bytes_eq row.0 code) (beside_back front back code) none
+  where
+    go : (b : Bool) → (text_beside front code ≡ None → text_beside (front ++ back) code ≡ text_beside back code)
+        → beside (cond b (Some row) (find (λ r. bytes_eq r.0 code) front)) ≡ None
+        → beside (cond b (Some row) (find (λ r. bytes_eq r.0 code) (front ++ back))) ≡ text_beside back code
+    go true later none = cc
+    go false later none = later none

@@ -1,19 +1,20 @@
 -- Which codes are explained, and how (docs/COMMANDS.md, "Failures" and "Refusals").
 use Rattle.std.specs.Prelude.{◌≡◌, ◌+◌, ◌++◌, ◌∷◌, [], Contains, List, Option, codes, find, length, map, option_map, take, ℕ}
 use Rattle.std.specs.Str.{bytes_eq}
-use Rattle.refusal_text.specs.declared.table.TheConstants.{EXPLANATIONS}
+use Rattle.refusal_text.specs.declared.table.TheConstants.{EXPLANATIONS_FROM_G, EXPLANATIONS_TO_F}
 
 -- a code, and its text
 abbrev pub Row : Type 0
 Row = List ℕ × List ℕ
 
--- the codes: of assembly, publishing, texts, failures, compiling, configurations, words of instructions, threads, counters, opening,
--- expressions, sockets, the verifier, and workers
+-- the codes: of assembly, publishing, texts, programs in numbers, failures, compiling, configurations, words of instructions,
+-- threads, counters, opening, expressions, sockets, the verifier, and workers
 abbrev pub codes_explained : List (List ℕ)
 codes_explained =
     codes "A1" ∷ codes "A2" ∷ codes "A3" ∷ codes "A4" ∷ codes "A5" ∷ codes "A6" ∷
     codes "B1" ∷ codes "B2" ∷ codes "B3" ∷
     codes "C1" ∷ codes "C2" ∷ codes "C3" ∷
+    codes "D1" ∷ codes "D2" ∷ codes "D3" ∷
     codes "E1" ∷ codes "E2" ∷ codes "E3" ∷ codes "E4" ∷
     codes "F1" ∷ codes "F2" ∷ codes "F3" ∷
     codes "G1" ∷ codes "G2" ∷ codes "G3" ∷ codes "G4" ∷ codes "G5" ∷ codes "G6" ∷ codes "G7" ∷ codes "G8" ∷ codes "G9" ∷
@@ -27,11 +28,17 @@ codes_explained =
     codes "X1" ∷ codes "X2" ∷
     []
 
--- the table
-abbrev pub explanations : List Row
-explanations = map (λ row. (row.0.now, row.1.now)) EXPLANATIONS
+-- the tables
+abbrev pub explanations_to_f : List Row
+explanations_to_f = map (λ row. (row.0.now, row.1.now)) EXPLANATIONS_TO_F
 
--- a row of the table has this code and this text
+abbrev pub explanations_from_g : List Row
+explanations_from_g = map (λ row. (row.0.now, row.1.now)) EXPLANATIONS_FROM_G
+
+abbrev pub explanations : List Row
+explanations = explanations_to_f ++ explanations_from_g
+
+-- a row of them has this code and this text
 abbrev pub IsExplanation : List ℕ → List ℕ → Type 0
 IsExplanation code text = Contains explanations (code, text)
 

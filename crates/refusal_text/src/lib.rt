@@ -1,15 +1,15 @@
 //! What the codes of the program mean: of a refusal, a failure, or an answer of the libraries (docs/COMMANDS.md, "Failures" and
 //! "Refusals").
 //!
-//! `explanation` finds the text of a code. The codes and texts are one table, in `table`.
+//! `explanation` finds the text of a code. The codes and texts stand in `table`.
 #![tactic(auto)]
 
 ghost use Rattle.std.specs.Prelude.{◌≡◌, ◌↔◌, Contains, IfSome, IsSome, map, option_map};
-ghost use Rattle.refusal_text.specs.Explanation.{Explains, IsExplanation, codes_explained, text_beside};
+ghost use Rattle.refusal_text.specs.Explanation.{Explains, IsExplanation, codes_explained, explanations, explanations_from_g, explanations_to_f, text_beside};
 
 mod table;
 
-use table::EXPLANATIONS;
+use table::{EXPLANATIONS_FROM_G, EXPLANATIONS_TO_F};
 
 /// The explanation of a code: what it means, its usual cause and what to do, in lines of at most 80 bytes without the last line's
 /// end.
@@ -20,7 +20,28 @@ pub fn explanation(code: &str) -> Option<&'static str>
     ensures explanation { IfSome result (λ text. IsExplanation code.now text.now) }
     ensures names_code { IfSome result (λ text. Explains text.now code.now) }
 {
-    find_text(&EXPLANATIONS, code)
+    text_of(code)
+}
+
+fn text_of(code: &str) -> Option<&'static str>
+    ensures { option_map (λ text. text.now) result ≡ text_beside explanations code.now }
+{
+    match text_to_f(code) {
+        Some(text) => Some(text),
+        None => text_from_g(code),
+    }
+}
+
+fn text_to_f(code: &str) -> Option<&'static str>
+    ensures { option_map (λ text. text.now) result ≡ text_beside explanations_to_f code.now }
+{
+    find_text(&EXPLANATIONS_TO_F, code)
+}
+
+fn text_from_g(code: &str) -> Option<&'static str>
+    ensures { option_map (λ text. text.now) result ≡ text_beside explanations_from_g code.now }
+{
+    find_text(&EXPLANATIONS_FROM_G, code)
 }
 
 fn find_text<'a>(mut rows: &[(&str, &'a str)], code: &str) -> Option<&'a str>

@@ -1,6 +1,7 @@
-//! The codes with their explanations: the meanings, usual mistakes and causes of docs/COMMANDS.md, and what to do.
+//! The codes with their explanations: the meanings, usual mistakes and causes of docs/COMMANDS.md, and what to do. Two tables, since
+//! a check computes over the whole of one.
 
-pub const EXPLANATIONS: [(&str, &str); 56] = [
+pub const EXPLANATIONS_TO_F: [(&str, &str); 22] = [
     (
         "A1",
         "\
@@ -78,12 +79,13 @@ What to do: restart the switch, and send its rules again.",
         "\
 C1: The text is not one that was asked for. HEX has an odd number of digits or
 another character; a control line is none of its table; an address is no
-`a.b.c.d:p`; the CODE of `explain` is none of this page.
+`a.b.c.d:p`; the CODE of `explain` is none of this page; the NAME of `--format`
+is none of the command's.
 Usual mistake: `0x` before HEX, a digit lost in copying, or HEX with the
 spaces of `tcpdump -x`; two spaces in a line, a space at its end, a CR or an
 LF in a control datagram (`echo` adds an LF, `printf` does not), a leading
 zero as in `010.0.0.2:53`, a host name for an address, `packet` sent to
-`serve`, a code in small letters.
+`serve`, a code in small letters, `--format dd` where a program is read.
 What to do: write it in the form that `dswitch help COMMAND` shows;
 `dswitch help replay` shows the control lines.",
     ),
@@ -103,6 +105,29 @@ C3: The packet is too long. It has more than 65,535 bytes.
 Usual mistake: a whole capture in place of one packet.
 What to do: give one packet, from its IPv4 header to the end that this header
 tells.",
+    ),
+    (
+        "D1",
+        "\
+D1: A line of the program is not in the format that was named.
+Usual mistake: assembly text, or what `tcpdump -d` prints; two spaces, a
+leading zero, `0x` or a carriage return.
+What to do: correct the line that NUMBER tells, counted from 1 (a comma ends a
+line), or name another format by `--format`.",
+    ),
+    (
+        "D2",
+        "\
+D2: The program has another number of instructions than its first line says.
+Usual mistake: a line lost in copying.
+What to do: copy the whole program, or correct the count.",
+    ),
+    (
+        "D3",
+        "\
+D3: Memory for the program's words was refused.
+No command prints this code: a call of the libraries answers it. Where memory
+is refused the program says `failed E3` in its place.",
     ),
     (
         "E1",
@@ -161,6 +186,9 @@ F3: Memory for the expression's program was refused.
 No command prints this code: a call of the libraries answers it. Where memory
 is refused the program says `failed E3` in its place.",
     ),
+];
+
+pub const EXPLANATIONS_FROM_G: [(&str, &str); 37] = [
     (
         "G1",
         "\
@@ -356,8 +384,9 @@ What to do: write the program shorter, or split it.",
         "V3",
         "\
 V3: An instruction has an unknown opcode.
-Usual mistake: no assembly text gives it: only calls of the library that pass
-words.
+Usual mistake: an instruction of eBPF, or one that only the kernel has; no
+assembly text gives it, only a program in numbers, or words that are passed to
+the library.
 What to do: pass an opcode of the instruction set.",
     ),
     (

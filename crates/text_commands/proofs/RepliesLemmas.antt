@@ -135,9 +135,9 @@ module _ (input input' : InputValue) (output output' : OutputValue) (known befor
 
 pub before_anything : (request : Request) (known before : Option (List ℕ)) → WritesBefore request OutOfMemory known before before
 before_anything first known before = refl
-before_anything check known before = refl
-before_anything (compile expression) known before = refl
-before_anything (run digits) known before = refl
+before_anything (check name) known before = refl
+before_anything (compile expression name) known before = refl
+before_anything (run digits name) known before = refl
 before_anything (judge digits expression) known before = refl
 before_anything (flood workers) known before = refl
 before_anything (serve front control workers) known before = refl

@@ -5,9 +5,13 @@ use Rattle.bpf_machine.specs.Meaning.{Ret, cost_of, ending_of}
 use Rattle.bpf_verify.specs.Program.{ProgramValue}
 use Rattle.filter_tree.specs.Tree.{Tree}
 use Rattle.filter_tree.specs.Truth.{accepts}
-use Rattle.program_text.specs.Program.{IsAssembledTo, IsCompilable, IsProgramOfExpression}
+use Rattle.program_text.specs.Program.{IsCompilable, IsProgramOfExpression}
+use Rattle.text_commands.specs.Format.{IsProgramIn, listing_text}
+use Rattle.text_commands.specs.declared.format.InputFormat.{InputFormat}
+use Rattle.text_commands.specs.declared.format.OutputFormat.{OutputFormat}
+use Rattle.text_commands.specs.declared.format.OutputFormat.TheVariants.{Assembly, Dd, Ddd, Hex}
 use Rattle.text_commands.specs.declared.command_result.CommandResult.{CommandResult}
-use Rattle.text_commands.specs.declared.command_result.CommandResult.TheVariants.{Accepted, Compiled, Explained, Judged, Ran, Versions}
+use Rattle.text_commands.specs.declared.command_result.CommandResult.TheVariants.{Accepted, Compiled, Explained, Judged, Listed, Ran, Versions}
 use Rattle.refusal_text.specs.Explanation.{IsExplanation}
 use Rattle.text_commands.specs.FirstPath.{line_text}
 
@@ -18,16 +22,17 @@ answer_text (Accepted count) = codes "accepted " ++ decimal count ++ codes "\n"
 answer_text (Ran value steps kept) =
     codes "value " ++ decimal value ++ codes " steps " ++ decimal steps ++ codes " kept " ++ decimal kept ++ codes "\n"
 answer_text (Compiled charge listing) = codes "charge " ++ decimal charge ++ codes "\n" ++ string_bytes listing
+answer_text (Listed listing) = string_bytes listing
 answer_text (Judged true) = codes "accept\n"
 answer_text (Judged false) = codes "reject\n"
 answer_text (Explained text) = text.now ++ codes "\n"
 
--- ---- programs, given as assembly text
+-- ---- programs, given as texts
 
 -- the program's number of instructions
-abbrev pub IsCheckAnswer : List ℕ → CommandResult → Type 0
-IsCheckAnswer text (Accepted count) = (words : List ℕ) × IsAssembledTo text words × (count ≡ length words)
-IsCheckAnswer text _ = ⊥
+abbrev pub IsCheckAnswer : InputFormat → List ℕ → CommandResult → Type 0
+IsCheckAnswer format text (Accepted count) = (words : List ℕ) × IsProgramIn format text words × (count ≡ length words)
+IsCheckAnswer format text _ = ⊥
 
 -- the program ends so on the packet, after so many instructions, and keeps the lesser of its value and the packet's length
 pub record IsRunOfWords (words packet : List ℕ) (value steps kept : ℕ) : Type 0 where
@@ -35,21 +40,34 @@ pub record IsRunOfWords (words packet : List ℕ) (value steps kept : ℕ) : Typ
   pub steps_is : steps ≡ cost_of words packet
   pub kept_is : kept ≡ min value (length packet)
 
-abbrev pub IsRunAnswer : List ℕ → List ℕ → CommandResult → Type 0
-IsRunAnswer packet text (Ran value steps kept) =
-    (words : List ℕ) × IsAssembledTo text words × IsRunOfWords words packet value steps kept
-IsRunAnswer packet text _ = ⊥
+abbrev pub IsRunAnswer : List ℕ → InputFormat → List ℕ → CommandResult → Type 0
+IsRunAnswer packet format text (Ran value steps kept) =
+    (words : List ℕ) × IsProgramIn format text words × IsRunOfWords words packet value steps kept
+IsRunAnswer packet format text _ = ⊥
 
 -- ---- expressions
 
 -- the charge and the text of the program
-abbrev pub IsCompileAnswer : List ℕ → CommandResult → Type 0
-IsCompileAnswer text (Compiled charge listing) =
+abbrev pub IsAssemblyOf : List ℕ → CommandResult → Type 0
+IsAssemblyOf text (Compiled charge listing) =
     (program : ProgramValue)
     × IsProgramOfExpression text program
     × (charge ≡ program.charge)
     × (string_bytes listing ≡ printed program.words)
-IsCompileAnswer text _ = ⊥
+IsAssemblyOf text _ = ⊥
+
+-- the text of the program alone
+abbrev pub IsListingOf : OutputFormat → List ℕ → CommandResult → Type 0
+IsListingOf format text (Listed listing) =
+    (program : ProgramValue) × IsProgramOfExpression text program × (string_bytes listing ≡ listing_text format program.words)
+IsListingOf format text _ = ⊥
+
+-- the charge stands in front of assembly text only
+abbrev pub IsCompileAnswer : OutputFormat → List ℕ → CommandResult → Type 0
+IsCompileAnswer Assembly text answer = IsAssemblyOf text answer
+IsCompileAnswer Ddd text answer = IsListingOf Ddd text answer
+IsCompileAnswer Dd text answer = IsListingOf Dd text answer
+IsCompileAnswer Hex text answer = IsListingOf Hex text answer
 
 -- whether the expression is true of the packet
 abbrev pub IsJudgeAnswer : List ℕ → List ℕ → CommandResult → Type 0

@@ -1,3 +1,4 @@
+pub mod Format
 pub mod CommandResult
 pub mod FirstPath
 pub mod Input

@@ -1,9 +1,9 @@
 -- What a command makes of its arguments and its input: a result, or why there is none (docs/COMMANDS.md).
-use Rattle.std.specs.Prelude.{◌≡◌, ◌++◌, ◌⊎◌, Contains, List, Option, Some, [], codes, ℕ}
+use Rattle.std.specs.Prelude.{◌≡◌, ◌++◌, ◌⊎◌, Contains, IsSome, IsSomeAnd, List, MatchOption, Option, Some, [], codes, ℕ}
 use Rattle.std.specs.Io.KnownBytes.{Appends}
 use Rattle.clap.specs.Words.{Text}
 use Rattle.control.specs.Packet.{IsRefusalOfHex, SpellsPacket}
-use Rattle.control.specs.Reason.{IsRefusalOfAssembly, IsRefusalOfExpression, refusal_text}
+use Rattle.control.specs.Reason.{IsRefusalOfExpression, refusal_text}
 use Rattle.control.specs.Script.{AreAnswered, IsScriptText, Standing}
 use Rattle.control_line.specs.declared.reason.Reason.{Reason}
 use Rattle.control_line.specs.declared.reason.Reason.TheVariants.{BadForm}
@@ -18,7 +18,9 @@ use Rattle.text_commands.specs.declared.stop.Stop.TheVariants as stop
 use Rattle.text_commands.specs.CommandResult.{IsCheckAnswer, IsCompileAnswer, IsExplainAnswer, IsJudgeAnswer, IsRunAnswer, answer_text}
 use Rattle.command_line.specs.CommandLine.{AskToWait, MayWait, Request, check, compile, explain, faults_in, first, flood, judge, replay, request_in, run, serve, tell}
 use Rattle.command_line.specs.Ending.{AppendsBeginning, line_of}
+use Rattle.program_formats.specs.declared.fault.FormatFault.{FormatFault}
 use Rattle.refusal_text.specs.Explanation.{codes_explained}
+use Rattle.text_commands.specs.Format.{IsFormatFault, IsRefusalOfProgram, input_format_of, misformed_text, output_format_of}
 use Rattle.text_commands.specs.FirstPath.{first_text}
 use Rattle.text_commands.specs.Input.{BeginsInput, IsInput}
 
@@ -30,9 +32,13 @@ IsFirstAnswer _ = ⊥
 -- the result of a command, where its input has these bytes
 abbrev pub IsResult : Request → List ℕ → CommandResult → Type 0
 IsResult first input answer = IsFirstAnswer answer
-IsResult check input answer = IsCheckAnswer input answer
-IsResult (compile expression) input answer = IsCompileAnswer expression answer
-IsResult (run digits) input answer = (packet : List ℕ) × SpellsPacket digits packet × IsRunAnswer packet input answer
+IsResult (check name) input answer = IsSomeAnd (input_format_of name) (λ format. IsCheckAnswer format input answer)
+IsResult (compile expression name) input answer =
+    IsSomeAnd (output_format_of name) (λ format. IsCompileAnswer format expression answer)
+IsResult (run digits name) input answer =
+    (packet : List ℕ)
+    × SpellsPacket digits packet
+    × IsSomeAnd (input_format_of name) (λ format. IsRunAnswer packet format input answer)
 IsResult (judge digits expression) input answer =
     (packet : List ℕ) × SpellsPacket digits packet × IsJudgeAnswer packet expression answer
 IsResult (explain code) input answer = IsExplainAnswer code answer
@@ -45,13 +51,19 @@ IsResult (tell control timeout lines) input answer = ⊥
 abbrev pub IsRefusalOfCode : List ℕ → Reason → Type 0
 IsRefusalOfCode code reason = (reason ≡ BadForm) × (Contains codes_explained code → ⊥)
 
--- why it has none; the packet is looked at before the program or the expression
+-- a name that is no format's, or the program's text
+abbrev pub IsRefusalOfInput : List ℕ → List ℕ → Reason → Type 0
+IsRefusalOfInput name text reason =
+    MatchOption (input_format_of name) (reason ≡ BadForm) (λ format. IsRefusalOfProgram format text reason)
+
+-- why it has none; the packet is looked at first, then the name of the format, then the program or the expression
 abbrev pub IsRefusalReason : Request → List ℕ → Reason → Type 0
 IsRefusalReason first input reason = ⊥
-IsRefusalReason check input reason = IsRefusalOfAssembly input reason
-IsRefusalReason (compile expression) input reason = IsRefusalOfExpression expression reason
-IsRefusalReason (run digits) input reason =
-    IsRefusalOfHex digits reason ⊎ ((packet : List ℕ) × SpellsPacket digits packet × IsRefusalOfAssembly input reason)
+IsRefusalReason (check name) input reason = IsRefusalOfInput name input reason
+IsRefusalReason (compile expression name) input reason =
+    MatchOption (output_format_of name) (reason ≡ BadForm) (λ format. IsRefusalOfExpression expression reason)
+IsRefusalReason (run digits name) input reason =
+    IsRefusalOfHex digits reason ⊎ ((packet : List ℕ) × SpellsPacket digits packet × IsRefusalOfInput name input reason)
 IsRefusalReason (judge digits expression) input reason =
     IsRefusalOfHex digits reason ⊎ ((packet : List ℕ) × SpellsPacket digits packet × IsRefusalOfExpression expression reason)
 IsRefusalReason (explain code) input reason = IsRefusalOfCode code reason
@@ -60,11 +72,21 @@ IsRefusalReason (flood workers) input reason = ⊥
 IsRefusalReason (serve front control workers) input reason = ⊥
 IsRefusalReason (tell control timeout lines) input reason = ⊥
 
--- the input is read by `check` and `replay`, and by `run` without an expression where the packet is good
+-- or a text that is not in the format of this name
+abbrev pub IsMisformed : Request → List ℕ → FormatFault → Type 0
+IsMisformed (check name) input fault = IsSomeAnd (input_format_of name) (λ format. IsFormatFault format input fault)
+IsMisformed (run digits name) input fault =
+    (packet : List ℕ)
+    × SpellsPacket digits packet
+    × IsSomeAnd (input_format_of name) (λ format. IsFormatFault format input fault)
+IsMisformed _ input fault = ⊥
+
+-- the input is read by `replay`, by `check` where the format is known, and by `run` without an expression where the packet is
+-- good, too
 abbrev pub ReadsInput : Request → Type 0
-ReadsInput check = Unit {0}
+ReadsInput (check name) = IsSome (input_format_of name)
 ReadsInput replay = Unit {0}
-ReadsInput (run digits) = (packet : List ℕ) × SpellsPacket digits packet
+ReadsInput (run digits name) = (packet : List ℕ) × SpellsPacket digits packet × IsSome (input_format_of name)
 ReadsInput _ = ⊥
 
 -- a failure before anything is written: the input could not be read, or memory was refused
@@ -85,15 +107,24 @@ IsResultOf request known answer = (input : List ℕ) × IsInput known input × I
 abbrev pub IsRefusalOf : Request → Option (List ℕ) → Reason → Type 0
 IsRefusalOf request known reason = (input : List ℕ) × IsInput known input × IsRefusalReason request input reason
 
+abbrev pub IsMisformedBy : Request → Option (List ℕ) → FormatFault → Type 0
+IsMisformedBy request known fault = (input : List ℕ) × IsInput known input × IsMisformed request input fault
+
 abbrev pub IsStopOf : Request → Option (List ℕ) → Stop → Type 0
 IsStopOf request known (stop.Refused reason) = IsRefusalOf request known reason
+IsStopOf request known (stop.Misformed fault) = IsMisformedBy request known fault
 IsStopOf request known (stop.Failed failure) = IsFailureOf request failure
+
+-- the line of a refusal
+abbrev pub IsRefusalLine : Request → Option (List ℕ) → List ℕ → Type 0
+IsRefusalLine request known text =
+    ((reason : Reason) × IsRefusalOf request known reason × (text ≡ refusal_text reason ++ codes "\n"))
+    ⊎ ((fault : FormatFault) × IsMisformedBy request known fault × (text ≡ misformed_text fault ++ codes "\n"))
 
 -- the text that is written with a status: that of the result, or the line of the refusal
 abbrev pub IsAnswerText : Request → Option (List ℕ) → Status → List ℕ → Type 0
 IsAnswerText request known Done text = (answer : CommandResult) × IsResultOf request known answer × (text ≡ answer_text answer)
-IsAnswerText request known Refused text =
-    (reason : Reason) × IsRefusalOf request known reason × (text ≡ refusal_text reason ++ codes "\n")
+IsAnswerText request known Refused text = IsRefusalLine request known text
 IsAnswerText request known _ text = ⊥
 
 -- the command's text was written behind what stood before, and nothing else

@@ -17,6 +17,8 @@ pub enum CommandResult {
     Ran { value: u32, steps: u32, kept: usize },
     /// `compile`: the program and its charge.
     Compiled { charge: u32, listing: String },
+    /// `compile` with a format other than assembly text: the program alone.
+    Listed { listing: String },
     /// `run --expr`: whether the expression is true of the packet.
     Judged { accepts: bool },
     /// `explain`: what the code means.
@@ -34,6 +36,7 @@ impl fmt::Display for CommandResult {
                 writeln!(f, "value {value} steps {steps} kept {kept}")
             }
             CommandResult::Compiled { charge, listing } => write!(f, "charge {charge}\n{listing}"),
+            CommandResult::Listed { listing } => write!(f, "{listing}"),
             CommandResult::Judged { accepts: true } => writeln!(f, "accept"),
             CommandResult::Judged { accepts: false } => writeln!(f, "reject"),
             CommandResult::Explained { text } => writeln!(f, "{text}"),

@@ -7,23 +7,28 @@ ghost use Rattle.text_commands.specs.CommandResult.{IsCompileAnswer, IsJudgeAnsw
 ghost use Rattle.text_commands.specs.body.Stop.{IsStopBy};
 
 use crate::command_result::CommandResult;
+use crate::format::{OutputFormat, list};
 use crate::stop::Stop;
-use bpf_asm::print;
 use bpf_machine::run;
 use program_text::compiled;
 use std::alloc::Global;
 
-/// Compiles the expression, and prints the program.
-pub fn compile(alloc: Global, text: &[u8]) -> Result<CommandResult, Stop>
-    ensures answer { IfOk result (IsCompileAnswer text.now) }
+/// Compiles the expression, and prints the program in the format.
+pub fn compile(alloc: Global, format: OutputFormat, text: &[u8]) -> Result<CommandResult, Stop>
+    ensures answer { IfOk result (IsCompileAnswer format text.now) }
     ensures refused { IfErr result (IsStopBy (IsRefusalOfExpression text.now)) }
 {
     let program = compiled(alloc, text)?;
-    let listing = print(alloc, &program)?;
-    Ok(CommandResult::Compiled {
-        charge: program.charge(),
-        listing,
-    })
+    let listing = list(alloc, format, &program)?;
+    match format {
+        OutputFormat::Assembly => Ok(CommandResult::Compiled {
+            charge: program.charge(),
+            listing,
+        }),
+        OutputFormat::Ddd => Ok(CommandResult::Listed { listing }),
+        OutputFormat::Dd => Ok(CommandResult::Listed { listing }),
+        OutputFormat::Hex => Ok(CommandResult::Listed { listing }),
+    }
 }
 
 /// Tells whether the expression is true of the packet, by running its program.

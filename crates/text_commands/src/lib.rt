@@ -14,6 +14,7 @@ mod command_result;
 mod explaining;
 mod expression_commands;
 mod first_path;
+mod format;
 mod input;
 mod program_commands;
 mod queries;

@@ -1,11 +1,13 @@
 //! The commands that have one result: what they find, and what they write.
 
-ghost use Rattle.std.specs.Prelude.{◌≡◌, ◌++◌, IfErr, IfOk, OnOk, codes};
+ghost use Rattle.std.specs.Prelude.{◌≡◌, ◌++◌, IfErr, IfOk, IsSomeAnd, MatchOption, OnOk, codes};
 ghost use Rattle.std.specs.Io.KnownBytes.{Appends};
 ghost use Rattle.control.specs.Packet.{IsRefusalOfHex, SpellsPacket};
-ghost use Rattle.control.specs.Reason.{refusal_text};
-ghost use Rattle.text_commands.specs.CommandResult.{answer_text};
-ghost use Rattle.command_line.specs.CommandLine.{query_request};
+ghost use Rattle.control.specs.Reason.{IsRefusalOfExpression, refusal_text};
+ghost use Rattle.control_line.specs.declared.reason.Reason.TheVariants.{BadForm};
+ghost use Rattle.text_commands.specs.CommandResult.{IsCompileAnswer, answer_text};
+ghost use Rattle.command_line.specs.CommandLine.{check, query_request, run};
+ghost use Rattle.text_commands.specs.Format.{misformed_text, output_format_of};
 ghost use Rattle.text_commands.specs.Request.{IsResultOf, IsStopOf, MayFail, WritesAnswer, WritesBefore};
 ghost use Rattle.text_commands.specs.body.Stop.{IsStopBy};
 
@@ -13,6 +15,7 @@ use crate::command_result::CommandResult;
 use crate::explaining::explain;
 use crate::expression_commands::{compile, judge};
 use crate::first_path;
+use crate::format::{Misformed, input_format_of, output_format_of};
 use crate::input::read_whole;
 use crate::program_commands::{check, run_program};
 use crate::stop::Stop;
@@ -37,6 +40,7 @@ pub fn run_query<R: Read + Drop, W: Write>(
     match find_answer(alloc, query, input) {
         Ok(found) => write_answer(&found, out),
         Err(Stop::Refused(reason)) => write_refusal(&reason, out),
+        Err(Stop::Misformed(fault)) => write_misformed(Misformed(fault), out),
         Err(Stop::Failed(failure)) => Err(failure),
     }
 }
@@ -54,18 +58,52 @@ fn find_answer<R: Read + Drop>(
             let [at_first, at_second] = first_path::lines(alloc)?;
             Ok(CommandResult::Versions(at_first, at_second))
         }
-        Query::Check => check(alloc, &read_whole(alloc, input)?),
-        Query::Compile { expression } => compile(alloc, expression.as_bytes()),
-        Query::Run { packet } => {
-            let packet = read_packet(alloc, packet)?;
-            run_program(alloc, &packet, &read_whole(alloc, input)?)
-        }
+        Query::Check { format } => check_input(alloc, format, input),
+        Query::Compile { expression, format } => compile_to(alloc, expression, format),
+        Query::Run { packet, format } => run_input(alloc, packet, format, input),
         Query::Judge { packet, expression } => {
             let packet = read_packet(alloc, packet)?;
             judge(alloc, &packet, expression.as_bytes())
         }
         Query::Explain { code } => explain(code),
     }
+}
+
+fn check_input<R: Read + Drop>(alloc: Global, name: &str, input: R) -> Result<CommandResult, Stop>
+    ensures found { IfOk result (IsResultOf (check name.now) (R.remaining input)) }
+    ensures stopped { IfErr result (IsStopOf (check name.now) (R.remaining input)) }
+{
+    let Some(format) = input_format_of(name) else {
+        return Err(Stop::Refused(Reason::BadForm));
+    };
+    check(alloc, format, &read_whole(alloc, input)?)
+}
+
+fn compile_to(alloc: Global, expression: &str, name: &str) -> Result<CommandResult, Stop>
+    ensures found { IfOk result (λ answer. IsSomeAnd (output_format_of name.now) (λ format. IsCompileAnswer format expression.now answer)) }
+    ensures stopped { IfErr result (IsStopBy (λ reason.
+        MatchOption (output_format_of name.now) (reason ≡ BadForm) (λ format. IsRefusalOfExpression expression.now reason))) }
+{
+    let Some(format) = output_format_of(name) else {
+        return Err(Stop::Refused(Reason::BadForm));
+    };
+    compile(alloc, format, expression.as_bytes())
+}
+
+fn run_input<R: Read + Drop>(
+    alloc: Global,
+    digits: &str,
+    name: &str,
+    input: R,
+) -> Result<CommandResult, Stop>
+    ensures found { IfOk result (IsResultOf (run digits.now name.now) (R.remaining input)) }
+    ensures stopped { IfErr result (IsStopOf (run digits.now name.now) (R.remaining input)) }
+{
+    let packet = read_packet(alloc, digits)?;
+    let Some(format) = input_format_of(name) else {
+        return Err(Stop::Refused(Reason::BadForm));
+    };
+    run_program(alloc, &packet, format, &read_whole(alloc, input)?)
 }
 
 // The packet that the digits write. They are looked at before anything is read.
@@ -92,6 +130,16 @@ fn write_refusal<W: Write>(reason: &Reason, out: &mut W) -> Result<Status, Failu
     ensures written { OnOk result (Appends (W.contents out.old) (W.contents out.new) (refusal_text reason.now ++ codes "\n")) }
 {
     writeln!(out, "{reason}").map_err(|_| Failure::WriteFailed)?;
+    out.flush().map_err(|_| Failure::WriteFailed)?;
+    Ok(Status::Refused)
+}
+
+fn write_misformed<W: Write>(misformed: Misformed, out: &mut W) -> Result<Status, Failure>
+    ensures failed { IfErr result (λ failure. failure ≡ Failure.WriteFailed) }
+    ensures refused { IfOk result (λ status. status ≡ Status.Refused) }
+    ensures written { OnOk result (Appends (W.contents out.old) (W.contents out.new) (misformed_text misformed.0 ++ codes "\n")) }
+{
+    writeln!(out, "{misformed}").map_err(|_| Failure::WriteFailed)?;
     out.flush().map_err(|_| Failure::WriteFailed)?;
     Ok(Status::Refused)
 }

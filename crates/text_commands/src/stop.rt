@@ -1,12 +1,13 @@
 //! Why a command has no result: a refusal (docs/COMMANDS.md, "Refusals"), or a failure.
 
 ghost use Rattle.std.specs.Prelude.{◌≡◌};
-ghost use Rattle.text_commands.specs.body.Stop.{stop_of_text};
+ghost use Rattle.text_commands.specs.body.Stop.{stop_of_format, stop_of_text};
 ghost use Rattle.command_line.specs.declared.ending.Failure.TheVariants.{OutOfMemory};
 ghost use Rattle.text_commands.specs.declared.stop.Stop.TheVariants.{Failed};
 
 use command_line::Failure;
 use control::Reason;
+use program_formats::FormatFault;
 use program_text::TextFault;
 use std::alloc::AllocError;
 
@@ -14,6 +15,8 @@ use std::alloc::AllocError;
 #[derive(Clone, Copy, Debug, PartialEq, Eq)]
 pub enum Stop {
     Refused(Reason),
+    /// The text of a program is not in its format. It is never `OutOfMemory`.
+    Misformed(FormatFault),
     Failed(Failure),
 }
 
@@ -40,6 +43,17 @@ impl From<TextFault> for Stop {
         match Reason::of_text(fault) {
             Some(reason) => Stop::Refused(reason),
             None => Stop::Failed(Failure::OutOfMemory),
+        }
+    }
+}
+
+impl From<FormatFault> for Stop {
+    ghost from_gives = { λ fault stop. stop ≡ stop_of_format fault };
+
+    fn from(fault: FormatFault) -> Stop {
+        match fault {
+            FormatFault::OutOfMemory => Stop::Failed(Failure::OutOfMemory),
+            fault => Stop::Misformed(fault),
         }
     }
 }

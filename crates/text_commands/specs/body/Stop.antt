@@ -1,14 +1,18 @@
 -- Faults as the stops of a command (docs/COMMANDS.md, "Refusals").
-use Rattle.std.specs.Prelude.{◌≡◌, None, Option, Some}
+use Rattle.std.specs.Prelude.{◌≡◌, List, None, Option, Some, ℕ}
 use Rattle.control.specs.declared.fault.ReplayFault.{ReplayFault}
 use Rattle.control.specs.declared.fault.ReplayFault.TheVariants as replay_fault
 use Rattle.control_line.specs.declared.reason.Reason.{Reason}
 use Rattle.control.specs.Reason.{reason_of_text}
+use Rattle.program_formats.specs.declared.fault.FormatFault.{FormatFault}
+use Rattle.program_formats.specs.declared.fault.FormatFault.TheVariants as format_fault
 use Rattle.program_text.specs.declared.fault.TextFault.{TextFault}
 use Rattle.command_line.specs.declared.ending.Failure.{Failure}
 use Rattle.command_line.specs.declared.ending.Failure.TheVariants.{OutOfMemory, ReadFailed, WriteFailed}
+use Rattle.text_commands.specs.Format.{IsFormatFault, IsRefusalOfProgram}
+use Rattle.text_commands.specs.declared.format.InputFormat.{InputFormat}
 use Rattle.text_commands.specs.declared.stop.Stop.{Stop}
-use Rattle.text_commands.specs.declared.stop.Stop.TheVariants.{Failed, Refused}
+use Rattle.text_commands.specs.declared.stop.Stop.TheVariants.{Failed, Misformed, Refused}
 
 -- a fault refuses, but want of memory fails
 abbrev pub stop_for : Option Reason → Stop
@@ -18,6 +22,11 @@ stop_for (Some reason) = Refused reason
 abbrev pub stop_of_text : TextFault → Stop
 stop_of_text fault = stop_for (reason_of_text fault)
 
+abbrev pub stop_of_format : FormatFault → Stop
+stop_of_format (format_fault.Syntax line) = Misformed (format_fault.Syntax line)
+stop_of_format format_fault.Count = Misformed format_fault.Count
+stop_of_format format_fault.OutOfMemory = Failed OutOfMemory
+
 abbrev pub failure_of_replay : ReplayFault → Failure
 failure_of_replay replay_fault.ReadFailed = ReadFailed
 failure_of_replay replay_fault.WriteFailed = WriteFailed
@@ -26,4 +35,11 @@ failure_of_replay replay_fault.OutOfMemory = OutOfMemory
 -- a command stopped by a refusal of this kind, or for want of memory
 abbrev pub IsStopBy : (Reason → Type 0) → Stop → Type 0
 IsStopBy refuses (Refused reason) = refuses reason
+IsStopBy refuses (Misformed fault) = ⊥
 IsStopBy refuses (Failed failure) = failure ≡ OutOfMemory
+
+-- a command stopped by what is wrong with the text of a program, or for want of memory
+abbrev pub IsStopByProgram : InputFormat → List ℕ → Stop → Type 0
+IsStopByProgram format text (Refused reason) = IsRefusalOfProgram format text reason
+IsStopByProgram format text (Misformed fault) = IsFormatFault format text fault
+IsStopByProgram format text (Failed failure) = failure ≡ OutOfMemory

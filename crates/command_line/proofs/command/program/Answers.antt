@@ -19,8 +19,8 @@ top_of a = a.top
 
 pub returns : goal.returns
 returns c =
-    let first = c.plain_command.ensures in let check = c.plain_command-2.ensures in let compile = c.in_ok-compile_command.ensures in
-    let run = c.in_ok-run_command.ensures in let explain = c.in_ok-explain_command.ensures in let replay = c.plain_command-3.ensures in
+    let first = c.plain_command.ensures in let check = c.in_ok-check_command.ensures in let compile = c.in_ok-compile_command.ensures in
+    let run = c.in_ok-run_command.ensures in let explain = c.in_ok-explain_command.ensures in let replay = c.plain_command-2.ensures in
     let flood = c.in_ok-flood_command.ensures in let serve = c.in_ok-serve_command.ensures in let tell = c.in_ok-tell_command.ensures in
     let named : app_of c.in_ok-bin_name.field-0 ≡ new_app (codes "dswitch") = ap app_of_fields c.in_ok-bin_name.ensures.0 ∙ c.new.ensures.app in
     let told = ap app_of_fields c.after_help.ensures ∙ ap app_of_fields c.about.ensures ∙ named in

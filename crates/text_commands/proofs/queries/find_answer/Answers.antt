@@ -2,20 +2,14 @@ use Rattle.std.proofs.Common.{IfErr, IfOk, ap, subst, sym}
 use Rattle.std.proofs.lemmas.Result.{IfErr-weaker, IfOk-weaker}
 use Rattle.control.specs.Reason.{IsRefusalOfExpression}
 use Rattle.filter_compile.specs.Answer.{IsPacket}
-use Rattle.text_commands.specs.CommandResult.{IsCompileAnswer, IsJudgeAnswer}
+use Rattle.text_commands.specs.CommandResult.{IsJudgeAnswer}
 use Rattle.command_line.specs.CommandLine.{query_request}
 use Rattle.text_commands.specs.Request.{IsResultOf, IsStopOf}
 use Rattle.text_commands.specs.body.Stop.{IsStopBy}
-use Rattle.text_commands.proofs.RequestLemmas.{compile_found, compile_stops, explain_found, explain_stops, judge_found, judge_stops, judge_stops_by_hex, packet_of_spelt, result_of_first, run_stops_by_hex}
+use Rattle.text_commands.proofs.RequestLemmas.{compile_found, compile_stops, explain_found, explain_stops, judge_found, judge_stops, judge_stops_by_hex, packet_of_spelt, result_of_first}
 use Rattle.text_commands.proofs.WriteLemmas.{versions_of}
 use Rattle.text_commands.proofs.StopLemmas.{stopped_as}
 use Rattle.text_commands.proofs.queries.find_answer.Goals as goal
-
-pub returns-in_err-packet-in-Run-clause-stopped : goal.returns-in_err-packet-in-Run-clause-stopped
-returns-in_err-packet-in-Run-clause-stopped g c =
-    let known = g.R.Read.remaining c.args.input in
-    subst (λ request. IfErr c.from_residual-in_err-packet-in-Run.result (IsStopOf request known)) (sym (ap query_request c.in-Run.is))
-    (stopped_as _ _ _ c.from_residual-in_err-packet-in-Run.ensures.1 (run_stops_by_hex known _ _ c.in_err-packet-in-Run.ensures.refused))
 
 pub returns-in_err-packet-in-Judge-clause-stopped :
     goal.returns-in_err-packet-in-Judge-clause-stopped
@@ -26,7 +20,7 @@ returns-in_err-packet-in-Judge-clause-stopped g c =
 
 pub judge-requires : goal.judge-requires
 judge-requires g c =
-    subst IsPacket (sym c.deref-in-Judge.ensures.value) (packet_of_spelt _ _ c.in_ok-packet-in-Judge.ensures.spelt)
+    subst IsPacket (sym c.deref.ensures.value) (packet_of_spelt _ _ c.in_ok-packet-in-Judge.ensures.spelt)
 
 pub returns-in_ok-at_first-in-First-clause-found :
     goal.returns-in_ok-at_first-in-First-clause-found
@@ -38,26 +32,22 @@ returns-in_ok-at_first-in-First-clause-found g c =
 pub returns-in-Compile-clause-found : goal.returns-in-Compile-clause-found
 returns-in-Compile-clause-found g c =
     let known = g.R.Read.remaining c.args.input in
-    let text = c.in-Compile.expression.now in
-    let found = subst (λ read. IfOk c.compile.result (IsCompileAnswer read)) c.as_bytes.ensures.value c.compile.ensures.answer in
-    subst (λ request. IfOk c.compile.result (IsResultOf request known)) (sym (ap query_request c.in-Compile.is))
-    (IfOk-weaker c.compile.result _ _ (compile_found known text) found)
+    subst (λ request. IfOk c.compile_to.result (IsResultOf request known)) (sym (ap query_request c.in-Compile.is))
+    (IfOk-weaker c.compile_to.result _ _ (compile_found known c.in-Compile.expression.now c.in-Compile.format.now) c.compile_to.ensures.found)
 
 pub returns-in-Compile-clause-stopped : goal.returns-in-Compile-clause-stopped
 returns-in-Compile-clause-stopped g c =
     let known = g.R.Read.remaining c.args.input in
-    let text = c.in-Compile.expression.now in
-    let refused = subst (λ read. IfErr c.compile.result (IsStopBy (IsRefusalOfExpression read))) c.as_bytes.ensures.value c.compile.ensures.refused in
-    subst (λ request. IfErr c.compile.result (IsStopOf request known)) (sym (ap query_request c.in-Compile.is))
-    (IfErr-weaker c.compile.result _ _ (compile_stops known text) refused)
+    subst (λ request. IfErr c.compile_to.result (IsStopOf request known)) (sym (ap query_request c.in-Compile.is))
+    (IfErr-weaker c.compile_to.result _ _ (compile_stops known c.in-Compile.expression.now c.in-Compile.format.now) c.compile_to.ensures.stopped)
 
 pub returns-in_ok-packet-in-Judge-clause-found : goal.returns-in_ok-packet-in-Judge-clause-found
 returns-in_ok-packet-in-Judge-clause-found g c =
     let known = g.R.Read.remaining c.args.input in
     let text = c.in-Judge.expression.now in
     let packet = c.in_ok-packet-in-Judge.packet.items in
-    let of_packet = subst (λ bytes. IfOk c.judge.result (IsJudgeAnswer bytes c.as_bytes-in-Judge.result.now)) c.deref-in-Judge.ensures.value c.judge.ensures.answer in
-    let found = subst (λ read. IfOk c.judge.result (IsJudgeAnswer packet read)) c.as_bytes-in-Judge.ensures.value of_packet in
+    let of_packet = subst (λ bytes. IfOk c.judge.result (IsJudgeAnswer bytes c.as_bytes.result.now)) c.deref.ensures.value c.judge.ensures.answer in
+    let found = subst (λ read. IfOk c.judge.result (IsJudgeAnswer packet read)) c.as_bytes.ensures.value of_packet in
     subst (λ request. IfOk c.judge.result (IsResultOf request known)) (sym (ap query_request c.in-Judge.is))
     (IfOk-weaker c.judge.result _ _ (λ answer. judge_found known _ text packet answer c.in_ok-packet-in-Judge.ensures.spelt) found)
 
@@ -67,7 +57,7 @@ returns-in_ok-packet-in-Judge-clause-stopped g c =
     let known = g.R.Read.remaining c.args.input in
     let text = c.in-Judge.expression.now in
     let packet = c.in_ok-packet-in-Judge.packet.items in
-    let refused = subst (λ read. IfErr c.judge.result (IsStopBy (IsRefusalOfExpression read))) c.as_bytes-in-Judge.ensures.value c.judge.ensures.refused in
+    let refused = subst (λ read. IfErr c.judge.result (IsStopBy (IsRefusalOfExpression read))) c.as_bytes.ensures.value c.judge.ensures.refused in
     subst (λ request. IfErr c.judge.result (IsStopOf request known)) (sym (ap query_request c.in-Judge.is))
     (IfErr-weaker c.judge.result _ _ (λ stop. judge_stops known _ text packet stop c.in_ok-packet-in-Judge.ensures.spelt) refused)
 
