@@ -1,5 +1,7 @@
 //! Programs that stay in their pages from version to version: which pages versions name, and sections that read them meanwhile.
 
+ghost use Rattle.std.specs.Prelude.{◌≡◌};
+
 use super::numbered::applied;
 use bpf_insn::Words;
 use bpf_verify::Program;
@@ -132,8 +134,8 @@ fn expected(number: u64, i: u64) -> u64 {
 }
 
 // A configuration with the selector that a group has in a version.
-fn with_kind(alloc: Global, config: &Config, number: u64, group: u64) -> Result<Config, Fail> {
-    let kind = kind_of(number, group);
+fn with_kind(alloc: Global, config: &Config, number: u64, group: u32) -> Result<Config, Fail> {
+    let kind = kind_of(number, u64::from(group));
     let mut words = Vec::new(alloc);
     for place in 0..len_of(kind) {
         words.push(instruction(kind, place))?;
@@ -141,7 +143,7 @@ fn with_kind(alloc: Global, config: &Config, number: u64, group: u64) -> Result<
     let Ok(program) = Program::new(words) else {
         return Err(Fail::from("returns are a program"));
     };
-    let key = key_of((group as u32).wrapping_add(1));
+    let key = key_of(group.wrapping_add(1));
     applied(config, Command::SetSelector { key, program })
 }
 
@@ -150,7 +152,7 @@ fn first_version(alloc: Global) -> Result<Config, Fail> {
     for group in 0..3u32 {
         let key = key_of(group.wrapping_add(1));
         config = applied(&config, Command::AddGroup { key })?;
-        config = with_kind(alloc, &config, 0, u64::from(group))?;
+        config = with_kind(alloc, &config, 0, group)?;
     }
     Ok(config)
 }
@@ -172,7 +174,7 @@ fn publish_at_last(operator: &mut Operator, config: Config) -> Result<u64, Fail>
 fn bad_publications(alloc: Global, operator: &mut Operator) -> Result<u32, Fail> {
     let mut bad = 0u32;
     for number in 1..=LAST {
-        let group = 2u64.wrapping_sub(number.wrapping_add(2) % 3);
+        let group = 2u32.wrapping_sub((number.wrapping_add(2) % 3) as u32);
         let next = with_kind(alloc, operator.config(), number, group)?;
         if publish_at_last(operator, next)? != number {
             bad = bad.wrapping_add(1);
@@ -182,7 +184,10 @@ fn bad_publications(alloc: Global, operator: &mut Operator) -> Result<u32, Fail>
 }
 
 // How many words differ from those of a version.
-fn differing<W: Words>(words: &mut W, number: u64) -> usize {
+fn differing<W: Words>(words: &mut W, number: u64) -> usize
+    ensures words_kept { W.words words.new ≡ W.words words.old }
+    ensures rest_kept { W.rest words.new ≡ W.rest words.old }
+{
     let mut count = 0usize;
     for i in 0..words.count() {
         if words.word(i) != expected(number, i as u64) {
