@@ -165,8 +165,11 @@ fn help_and_version_are_results(rt: HostRuntime) -> Result<(), Fail> {
         (&["help"], "Usage: dswitch <COMMAND>\n"),
         (&["help", "first"], "Usage: dswitch first\n"),
         (&["first", "--help"], "Usage: dswitch first\n"),
-        (&["check", "--help"], "Usage: dswitch check\n"),
-        (&["compile", "--help"], "Usage: dswitch compile <EXPR>\n"),
+        (&["check", "--help"], "Usage: dswitch check [OPTIONS]\n"),
+        (
+            &["compile", "--help"],
+            "Usage: dswitch compile [OPTIONS] <EXPR>\n",
+        ),
         (
             &["help", "run"],
             "Usage: dswitch run [OPTIONS] --packet <HEX>\n",
