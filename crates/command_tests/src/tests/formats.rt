@@ -36,7 +36,7 @@ const CHECKED: [(&str, &str, u8, &str); 16] = [
 #[test]
 fn checks_by_format(rt: HostRuntime) -> Result<(), Fail> {
     for (format, text, status, line) in &CHECKED {
-        let words = ["check", "--format", format];
+        let words = ["check", "--format", *format];
         assert_told(&rt, rt.alloc(), &words, text, *status, line)?;
     }
     Ok(())
@@ -61,7 +61,7 @@ const RUN: [(&str, &str, &str, u8, &str); 6] = [
 #[test]
 fn runs_by_format(rt: HostRuntime) -> Result<(), Fail> {
     for (packet, format, text, status, line) in &RUN {
-        let words = ["run", "--packet", packet, "--format", format];
+        let words = ["run", "--packet", *packet, "--format", *format];
         assert_told(&rt, rt.alloc(), &words, text, *status, line)?;
     }
     Ok(())
@@ -100,7 +100,7 @@ const PRINTED: [(&str, &str, u8, &str); 7] = [
 #[test]
 fn compiles_to_a_format(rt: HostRuntime) -> Result<(), Fail> {
     for (format, expression, status, text) in &PRINTED {
-        let words = ["compile", expression, "--format", format];
+        let words = ["compile", *expression, "--format", *format];
         assert_told(&rt, rt.alloc(), &words, "", *status, text)?;
     }
     Ok(())
