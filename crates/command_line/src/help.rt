@@ -45,7 +45,7 @@ Reads a program from standard input, in the format NAME:
 Prints `accepted N` for a program of N instructions, with status 0. Else prints, with status 1:
   refused C1 where NAME is none of these, before anything is read
   A1 to A5, and the line counted from 1, where the text is no assembly
-  D1, and the line counted from 1, where the text is not in the other format; D2, where the count
+  K1, and the line counted from 1, where the text is not in the other format; K2, where the count
   is not the number of instructions
   V1 to V11 where its instructions are no program, and the place of the instruction at fault,
   counted from 0 (V1, V2 and V10, which speak of the whole program, have no number)

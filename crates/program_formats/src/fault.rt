@@ -8,11 +8,11 @@ use std::alloc::{AllocError, AllocFailed};
 /// Why a text is no list of words. Lines are counted from 1, empty ones included; a comma ends one as LF does.
 #[derive(Clone, Copy, Debug, PartialEq, Eq)]
 pub enum FormatFault {
-    /// D1: the first line that is not in the form of docs/MACHINE.md, "Programs as numbers".
+    /// K1: the first line that is not in the form of docs/MACHINE.md, "Programs as numbers".
     Syntax { line: usize },
-    /// D2: the count in the first line is not the number of words.
+    /// K2: the count in the first line is not the number of words.
     Count,
-    /// D3: memory for the words was refused.
+    /// K3: memory for the words was refused.
     OutOfMemory,
 }
 

@@ -1,15 +1,18 @@
 //! What the codes of the program mean: of a refusal, a failure, or an answer of the libraries (docs/COMMANDS.md, "Failures" and
 //! "Refusals").
 //!
-//! `explanation` finds the text of a code. The codes and texts stand in `table`.
+//! `explanation` finds the text of a code. The codes and texts stand in two tables, in
+//! `table_to_g` and `table_from_i`.
 #![tactic(auto)]
 
 ghost use Rattle.std.specs.Prelude.{◌≡◌, ◌↔◌, Contains, IfSome, IsSome, map, option_map};
-ghost use Rattle.refusal_text.specs.Explanation.{Explains, IsExplanation, codes_explained, explanations, explanations_from_g, explanations_to_f, text_beside};
+ghost use Rattle.refusal_text.specs.Explanation.{Explains, IsExplanation, codes_explained, explanations, explanations_from_i, explanations_to_g, text_beside};
 
-mod table;
+mod table_from_i;
+mod table_to_g;
 
-use table::{EXPLANATIONS_FROM_G, EXPLANATIONS_TO_F};
+use table_from_i::EXPLANATIONS_FROM_I;
+use table_to_g::EXPLANATIONS_TO_G;
 
 /// The explanation of a code: what it means, its usual cause and what to do, in lines of at most 80 bytes without the last line's
 /// end.
@@ -26,22 +29,22 @@ pub fn explanation(code: &str) -> Option<&'static str>
 fn text_of(code: &str) -> Option<&'static str>
     ensures { option_map (λ text. text.now) result ≡ text_beside explanations code.now }
 {
-    match text_to_f(code) {
+    match text_to_g(code) {
         Some(text) => Some(text),
-        None => text_from_g(code),
+        None => text_from_i(code),
     }
 }
 
-fn text_to_f(code: &str) -> Option<&'static str>
-    ensures { option_map (λ text. text.now) result ≡ text_beside explanations_to_f code.now }
+fn text_to_g(code: &str) -> Option<&'static str>
+    ensures { option_map (λ text. text.now) result ≡ text_beside explanations_to_g code.now }
 {
-    find_text(&EXPLANATIONS_TO_F, code)
+    find_text(&EXPLANATIONS_TO_G, code)
 }
 
-fn text_from_g(code: &str) -> Option<&'static str>
-    ensures { option_map (λ text. text.now) result ≡ text_beside explanations_from_g code.now }
+fn text_from_i(code: &str) -> Option<&'static str>
+    ensures { option_map (λ text. text.now) result ≡ text_beside explanations_from_i code.now }
 {
-    find_text(&EXPLANATIONS_FROM_G, code)
+    find_text(&EXPLANATIONS_FROM_I, code)
 }
 
 fn find_text<'a>(mut rows: &[(&str, &'a str)], code: &str) -> Option<&'a str>

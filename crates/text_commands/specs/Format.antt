@@ -68,9 +68,9 @@ IsFormatFault input.Hex text fault = IsFaultOfHex text fault
 
 -- how such a fault is told
 abbrev pub misformed_text : FormatFault → List ℕ
-misformed_text (Syntax line) = codes "refused D1 " ++ decimal line
-misformed_text Count = codes "refused D2"
-misformed_text OutOfMemory = codes "refused D3"
+misformed_text (Syntax line) = codes "refused K1 " ++ decimal line
+misformed_text Count = codes "refused K2"
+misformed_text OutOfMemory = codes "refused K3"
 
 -- the text of a program in a format
 abbrev pub listing_text : OutputFormat → List ℕ → List ℕ

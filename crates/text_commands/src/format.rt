@@ -76,9 +76,9 @@ impl fmt::Display for Misformed {
 
     fn fmt<W: fmt::Write>(&self, f: &mut fmt::Formatter<W>) -> fmt::Result {
         match self.0 {
-            FormatFault::Syntax { line } => write!(f, "refused D1 {line}"),
-            FormatFault::Count => write!(f, "refused D2"),
-            FormatFault::OutOfMemory => write!(f, "refused D3"),
+            FormatFault::Syntax { line } => write!(f, "refused K1 {line}"),
+            FormatFault::Count => write!(f, "refused K2"),
+            FormatFault::OutOfMemory => write!(f, "refused K3"),
         }
     }
 }

@@ -15,13 +15,13 @@ const CHECKED: [(&str, &str, u8, &str); 16] = [
     ("ddd", IP_LINE, 0, "accepted 5\n"),
     ("hex", "0016000000000000\n", 0, "accepted 1\n"),
     ("asm", IP_DDD, 1, "refused A1 1\n"),
-    ("ddd", "ret a", 1, "refused D1 1\n"),
-    ("ddd", "1\n22 0 0\n", 1, "refused D1 2\n"),
-    ("ddd", "2\n22 0 0 0\n", 1, "refused D2\n"),
+    ("ddd", "ret a", 1, "refused K1 1\n"),
+    ("ddd", "1\n22 0 0\n", 1, "refused K1 2\n"),
+    ("ddd", "2\n22 0 0 0\n", 1, "refused K2\n"),
     ("ddd", "0\n", 1, "refused V1\n"),
     ("ddd", "2\n255 0 0 0\n22 0 0 0\n", 1, "refused V3 0\n"),
     ("ddd", "2\n128 0 0 0\n22 0 0 1\n", 1, "refused V4 1\n"),
-    ("hex", IP_DDD, 1, "refused D1 1\n"),
+    ("hex", IP_DDD, 1, "refused K1 1\n"),
     ("hex", "", 1, "refused V1\n"),
     (
         "hex",
@@ -55,7 +55,7 @@ const RUN: [(&str, &str, &str, u8, &str); 6] = [
     ("", "hex", "0016000000000000", 0, "value 0 steps 1 kept 0\n"),
     ("0", "dd", "", 1, "refused C1\n"),
     ("00", "dd", "", 1, "refused C1\n"),
-    ("00", "hex", "16", 1, "refused D1 1\n"),
+    ("00", "hex", "16", 1, "refused K1 1\n"),
 ];
 
 #[test]

@@ -1,7 +1,7 @@
-//! The codes with their explanations: the meanings, usual mistakes and causes of docs/COMMANDS.md, and what to do. Two tables, since
-//! a check computes over the whole of one.
+//! The codes A1 to G9 with their explanations: the meanings, usual mistakes and causes of docs/COMMANDS.md, and what to do. `table_from_i`
+//! has the others: a check computes over the whole of a table.
 
-pub const EXPLANATIONS_TO_F: [(&str, &str); 22] = [
+pub const EXPLANATIONS_TO_G: [(&str, &str); 28] = [
     (
         "A1",
         "\
@@ -107,29 +107,6 @@ What to do: give one packet, from its IPv4 header to the end that this header
 tells.",
     ),
     (
-        "D1",
-        "\
-D1: A line of the program is not in the format that was named.
-Usual mistake: assembly text, or what `tcpdump -d` prints; two spaces, a
-leading zero, `0x` or a carriage return.
-What to do: correct the line that NUMBER tells, counted from 1 (a comma ends a
-line), or name another format by `--format`.",
-    ),
-    (
-        "D2",
-        "\
-D2: The program has another number of instructions than its first line says.
-Usual mistake: a line lost in copying.
-What to do: copy the whole program, or correct the count.",
-    ),
-    (
-        "D3",
-        "\
-D3: Memory for the program's words was refused.
-No command prints this code: a call of the libraries answers it. Where memory
-is refused the program says `failed E3` in its place.",
-    ),
-    (
         "E1",
         "\
 E1: The input could not be read.
@@ -186,9 +163,6 @@ F3: Memory for the expression's program was refused.
 No command prints this code: a call of the libraries answers it. Where memory
 is refused the program says `failed E3` in its place.",
     ),
-];
-
-pub const EXPLANATIONS_FROM_G: [(&str, &str); 37] = [
     (
         "G1",
         "\
@@ -253,212 +227,5 @@ Usual mistake: a rule that somebody locked on purpose; the lock ends only when
 the member leaves (`leave`, then `join`) or its group is removed.
 What to do: leave the rule as it is, or let the member `leave` and `join`
 again.",
-    ),
-    (
-        "I1",
-        "\
-I1: The word is no instruction: no instruction has its code.
-No command prints this code: a call of the libraries answers it.",
-    ),
-    (
-        "I2",
-        "\
-I2: The word is no instruction: a field that it does not use is not 0.
-No command prints this code: a call of the libraries answers it.",
-    ),
-    (
-        "J1",
-        "\
-J1: A worker's thread could not be started.
-The user's or the unit's limit of threads is reached (`ulimit -u`,
-`TasksMax=`); raise it, or take fewer `--workers`.",
-    ),
-    (
-        "J2",
-        "\
-J2: Memory for the workers' threads was refused.
-No command prints this code: a call of the libraries answers it. Where memory
-is refused the program says `failed E3` in its place.",
-    ),
-    (
-        "N1",
-        "\
-N1: A counter is full.
-No command prints this code: a call of the libraries answers it.",
-    ),
-    (
-        "O1",
-        "\
-O1: The opening configuration is too large.
-No command prints this code: a call of the libraries answers it.",
-    ),
-    (
-        "O2",
-        "\
-O2: Memory for the version table was refused.
-No command prints this code: a call of the libraries answers it. Where memory
-is refused the program says `failed E3` in its place.",
-    ),
-    (
-        "P1",
-        "\
-P1: The text is no filter expression.
-Usual mistake: a host name, a port's name or `ether`, which are left out;
-`port 53 or 54` for `port 53 or port 54`; the expression without quotes, so
-that the shell cut it.
-What to do: look at the byte that NUMBER tells, counted from 0, and give the
-expression in quotes.",
-    ),
-    (
-        "P2",
-        "\
-P2: A number in the expression is too great.
-Usual mistake: a port above 65535, a protocol above 255.
-What to do: write a number that its field can have.",
-    ),
-    (
-        "P3",
-        "\
-P3: An address in the expression is misspelt. It is not four numbers of 0 to
-255.
-Usual mistake: `10.0.0`, or a leading zero as in `10.0.0.01`.
-What to do: write four numbers from 0 to 255 with dots between, without
-leading zeros.",
-    ),
-    (
-        "P4",
-        "\
-P4: A network's prefix does not fit. Its length is above 32, or the address
-has a bit set past it.
-Usual mistake: `net 10.0.0.1/8` for `net 10.0.0.0/8`.
-What to do: clear the bits past the prefix, or write a longer prefix.",
-    ),
-    (
-        "P5",
-        "\
-P5: The expression is nested too deeply. More than 64 brackets are open, or
-the tree is deeper than 64.
-Usual mistake: a list of 65 and more parts joined by `or`; put halves in
-brackets.
-What to do: put halves of the list in brackets, so that no part lies deep.",
-    ),
-    (
-        "P6",
-        "\
-P6: Memory for the expression was refused.
-No command prints this code: a call of the libraries answers it. Where memory
-is refused the program says `failed E3` in its place.",
-    ),
-    (
-        "S1",
-        "\
-S1: A socket could not be had.
-A socket could not be bound. Another process has the port (`ss -ulpn`), the
-address is none of this machine's, both addresses are the same, the port is
-below 1024 and needs a privilege, or the process may open no more files
-(`ulimit -n`): each worker has a socket.",
-    ),
-    (
-        "S2",
-        "\
-S2: The sockets could not be waited for.
-The process may open no more files (`ulimit -n`); raise the limit and run the
-command again. A switch that told it has ended.",
-    ),
-    (
-        "V1",
-        "\
-V1: The program has no instruction.
-Usual mistake: an empty file, or labels alone.
-What to do: write an instruction; `ret #0` alone is a program.",
-    ),
-    (
-        "V2",
-        "\
-V2: The program is too long. It has more than 4096 instructions.
-Usual mistake: a generated list of tests; use ranges, or split it over
-members.
-What to do: write the program shorter, or split it.",
-    ),
-    (
-        "V3",
-        "\
-V3: An instruction has an unknown opcode.
-Usual mistake: an instruction of eBPF, or one that only the kernel has; no
-assembly text gives it, only a program in numbers, or words that are passed to
-the library.
-What to do: pass an opcode of the instruction set.",
-    ),
-    (
-        "V4",
-        "\
-V4: An instruction has a field that it does not use, and that is not 0.
-Usual mistake: as V3: words of a kernel's or another tool's making.
-What to do: set the field to 0.",
-    ),
-    (
-        "V5",
-        "\
-V5: An instruction divides by 0.
-Usual mistake: a constant that was computed wrongly.
-What to do: divide by another constant.",
-    ),
-    (
-        "V6",
-        "\
-V6: An instruction shifts by 32 or more.
-Usual mistake: a width in bits that was taken for a shift.
-What to do: shift by 0 to 31.",
-    ),
-    (
-        "V7",
-        "\
-V7: An instruction names a scratch cell that is not there. There are M[0] to
-M[15].
-Usual mistake: cells counted from 1.
-What to do: take a cell from M[0] to M[15].",
-    ),
-    (
-        "V8",
-        "\
-V8: A jump goes past the end of the program.
-Usual mistake: an offset counted from the jump itself; offsets count from the
-next instruction.
-What to do: let the jump end at an instruction of the program.",
-    ),
-    (
-        "V9",
-        "\
-V9: An absolute load is at 2^31 or above.
-Usual mistake: an offset of the kernel's ancillary data, such as -4096 written
-as 4294963200; there is none here.
-What to do: load from a place in the packet, counted from the IPv4 header's
-first byte.",
-    ),
-    (
-        "V10",
-        "\
-V10: The program does not end in a return.
-Usual mistake: `ret` forgotten at the end of the last branch.
-What to do: put `ret #0`, or another return, at the end.",
-    ),
-    (
-        "V11",
-        "\
-V11: A scratch cell is loaded that may not have been stored.
-Usual mistake: `st M[k]` in one branch only.
-What to do: store the cell on every path that comes to the load.",
-    ),
-    (
-        "X1",
-        "\
-X1: A receive failed.
-No command prints this code: a call of the libraries answers it.",
-    ),
-    (
-        "X2",
-        "\
-X2: A worker's counter is full.
-No command prints this code: a call of the libraries answers it.",
     ),
 ];
