@@ -24,7 +24,8 @@
 /* crates/measured_calls: each opens a table at a script's configuration, and then makes so many rounds. */
 uint64_t measured_section(const uint8_t *script, size_t length, uint64_t rounds);
 uint64_t measured_judge(const uint8_t *script, size_t length, const uint8_t *packet, size_t bytes, uint64_t rounds);
-uint64_t measured_line(const uint8_t *script, size_t length, const uint8_t *text, size_t bytes, uint64_t rounds);
+uint64_t measured_line(const uint8_t *script, size_t length, const uint8_t *text, size_t bytes, const uint8_t *other, size_t more,
+                       uint64_t rounds);
 uint64_t measured_change(const uint8_t *script, size_t length, uint64_t publishes, uint64_t rounds);
 
 enum { MOST = 4096, PACKET = 60, PACKETS = 256, CONTESTANTS = 4, SCRIPT = 1 << 20 };
@@ -317,6 +318,7 @@ static void texts(void) {
 struct table {
     char script[SCRIPT];
     const char *line;
+    const char *other;
     const uint8_t *packet;
     size_t bytes;
 };
@@ -354,7 +356,15 @@ static void judge_ours(const void *about, uint64_t rounds) {
 
 static void line_ours(const void *about, uint64_t rounds) {
     const struct table *t = about;
-    kept = measured_line((const uint8_t *)t->script, strlen(t->script), (const uint8_t *)t->line, strlen(t->line), rounds);
+    kept = measured_line((const uint8_t *)t->script, strlen(t->script), (const uint8_t *)t->line, strlen(t->line), (const uint8_t *)t->line,
+                         strlen(t->line), rounds);
+}
+
+/* Two lines in turn, so that each changes a program. */
+static void lines_ours(const void *about, uint64_t rounds) {
+    const struct table *t = about;
+    kept = measured_line((const uint8_t *)t->script, strlen(t->script), (const uint8_t *)t->line, strlen(t->line), (const uint8_t *)t->other,
+                         strlen(t->other), rounds);
 }
 
 static void make_ours(const void *about, uint64_t rounds) {
@@ -415,8 +425,12 @@ static void tables(void) {
     packet[18] = 63;
     groups(&t, 64, true);
     measure("judge: 64 groups with programs", judge, 2, &t);
-    struct contestant publish[] = {{"C: 8192 stores", fill_limit}, {"the next configuration", make_ours}, {"and its publication", publish_ours}, {"a control line that changes it", line_ours}};
+    struct contestant publish[] = {{"C: 8192 stores", fill_limit}, {"the next configuration", make_ours}, {"and its publication", publish_ours}, {"a control line that changes nothing", line_ours}};
     measure("publish: 64 groups with programs", publish, 4, &t);
+    t.line = "filter 10.0.31.2:53 1 asm ldb [9]; jeq #17,0,1; ret #65535; ret #0";
+    t.other = "filter 10.0.31.2:53 1 asm ldb [9]; jeq #6,0,1; ret #65535; ret #0";
+    struct contestant change[] = {{"C: 8192 stores", fill_limit}, {"a control line that changes it", lines_ours}};
+    measure("publish: one of 128 programs", change, 2, &t);
 }
 
 int main(int argc, char **argv) {

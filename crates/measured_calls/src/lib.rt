@@ -37,13 +37,19 @@ pub extern "C" fn measured_judge(alloc: Global, script: &[u8], packet: &[u8], ro
     }
 }
 
-/// Gives a line to the operator.
+/// Gives a line to the operator, and every other round another line.
 #[unsafe(no_mangle)]
-pub extern "C" fn measured_line(alloc: Global, script: &[u8], text: &[u8], rounds: u64) -> u64
+pub extern "C" fn measured_line(
+    alloc: Global,
+    script: &[u8],
+    text: &[u8],
+    other: &[u8],
+    rounds: u64,
+) -> u64
     ensures rounds { (result ≡ rounds) ⊎ (result ≡ 0) }
 {
     match opened(alloc, script) {
-        Some((mut operator, _worker)) => line_rounds(alloc, text, &mut operator, rounds),
+        Some((mut operator, _worker)) => line_rounds(alloc, text, other, &mut operator, rounds),
         None => 0,
     }
 }

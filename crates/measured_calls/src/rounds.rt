@@ -37,11 +37,18 @@ pub(crate) fn judge_rounds(worker: &mut Worker, packet: &[u8], rounds: u64) -> u
     rounds
 }
 
-pub(crate) fn line_rounds(alloc: Global, text: &[u8], operator: &mut Operator, rounds: u64) -> u64
+pub(crate) fn line_rounds(
+    alloc: Global,
+    text: &[u8],
+    other: &[u8],
+    operator: &mut Operator,
+    rounds: u64,
+) -> u64
     ensures { result ≡ rounds }
 {
-    for _ in 0..rounds {
-        let _ = line(alloc, text, operator);
+    for round in 0..rounds {
+        let given = if round % 2 == 0 { text } else { other };
+        let _ = line(alloc, given, operator);
     }
     rounds
 }
