@@ -123,7 +123,7 @@ as_fault text OutOfMemory of_lines is = tt
 
 -- ---- what `assemble` answers
 
-pub forms_refused : (text : List ℕ) (fault : AsmFault) → forms_fault 1 (lines_of text) ≡ Some fault → IsFaultOrMemory text fault
+forms_refused : (text : List ℕ) (fault : AsmFault) → forms_fault 1 (lines_of text) ≡ Some fault → IsFaultOrMemory text fault
 forms_refused text fault is =
     let found = forms_bad 1 (lines_of text) fault is in
     let first : IsFirstOutOfForm text found.m = record {
@@ -138,9 +138,13 @@ forms_refused text fault is =
     } in
     subst (IsFaultOrMemory text) (sym found.is) first
 
-module _ (text : List ℕ) (good : None ≡ forms_fault 1 (lines_of text)) where
+pub lines_refused : (text : List ℕ) (fault : AsmFault) → UnlessMemory fault (forms_fault 1 (lines_of text)) → IsFaultOrMemory text fault
+lines_refused text fault (inl memory) = subst (IsFaultOrMemory text) (sym memory) tt
+lines_refused text fault (inr is) = forms_refused text fault is
+
+module _ (text : List ℕ) (good : forms_fault 1 (lines_of text) ≡ None) where
   in_form : IsLines text (lines_read text)
-  in_form = forms_good 1 (lines_of text) (sym good)
+  in_form = forms_good 1 (lines_of text) good
 
   pub labels_refused : (fault : AsmFault) → UnlessMemory fault (doubles_fault [] 1 (lines_read text)) → IsFaultOrMemory text fault
   labels_refused fault (inl memory) = subst (IsFaultOrMemory text) (sym memory) tt

@@ -1,21 +1,29 @@
 -- Words are added line by line: what the lines that are left give is what all lines give.
-use Rattle.std.proofs.Common.{◌≡◌, ◌∙◌, ◌+◌, ◌++◌, List, None, Option, Some, [], ap, append_assoc, arith, length, map, refl, sym, ◌∷◌, ℕ}
+use Rattle.std.proofs.Common.{◌≡◌, ◌∙◌, ◌+◌, ◌++◌, ◌<◌, ◌≤◌, List, None, Option, Some, [], ap, append_assoc, arith, drop, get_or, length, map, refl, sym, ◌∷◌, ℕ}
 use Rattle.std.specs.Borrow.{Bor}
-use Rattle.std.proofs.lemmas.List.{append-nil, length_push}
+use Rattle.std.proofs.lemmas.List.{append-nil, drop_all, drop_more, length_push}
 use Rattle.bpf_insn.specs.Word.{word_of}
 use Rattle.bpf_asm.specs.declared.fault.AsmFault.{AsmFault}
-use Rattle.bpf_asm.specs.Line.{lines_of}
+use Rattle.bpf_asm.specs.declared.line.Line.{Line as LentLine}
 use Rattle.bpf_asm.specs.body.Reading.{line_at}
 use Rattle.bpf_asm.specs.Statement.{Line, Statement}
 use Rattle.bpf_asm.specs.Target.{IsCode, count_of, first_of, statement_fault, statements_of, targets_fault, with_statement}
-use Rattle.bpf_asm.specs.body.View.{AddsWord, lines_left}
+use Rattle.bpf_asm.specs.body.View.{AddsWord, line_of, lines_left}
 
 -- the lines that are left of a text
 abbrev pub lines_at : Option (Bor (List ℕ)) → List Line
 lines_at left = map line_at (lines_left left)
 
-pub lines_at-some : (text : Bor (List ℕ)) (left rest : Option (Bor (List ℕ))) (bytes : List ℕ) (line : Line) → left ≡ Some text → lines_of text.now ≡ bytes ∷ lines_left rest → line ≡ line_at bytes → lines_at left ≡ line ∷ lines_at rest
-lines_at-some text left rest bytes line is cut reads = ap lines_at is ∙ ap (map line_at) cut ∙ ap (λ first. first ∷ lines_at rest) (sym reads)
+-- a line with nothing on it
+abbrev pub blank : LentLine
+blank = record { label = None; statement = None }
+
+-- the lines from place i on: one, and those behind it, or none
+pub lines_more : (lines : List LentLine) (i : ℕ) → i < length lines → map line_of (drop i lines) ≡ line_of (get_or lines i blank) ∷ map line_of (drop (i + 1) lines)
+lines_more lines i inside = ap (map line_of) (drop_more lines i blank inside)
+
+pub lines_done : (lines : List LentLine) (i : ℕ) → length lines ≤ i → map line_of (drop i lines) ≡ []
+lines_done lines i behind = ap (map line_of) (drop_all i lines behind)
 
 -- what the lines that are left give behind these words is what all lines give
 pub record Emits (places : List ℕ → Option ℕ) (whole left : List Line) (n : ℕ) (words : List ℕ) : Type 0 where

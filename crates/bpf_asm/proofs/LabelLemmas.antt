@@ -1,5 +1,5 @@
 -- Labels are added line by line: what the lines that are left give is what all lines give.
-use Rattle.std.proofs.Common.{◌≡◌, ◌∙◌, ◌+◌, ◌||◌, Bool, IsSome, List, None, Option, Some, [], ap, cond, false, is_some, refl, sym, true, ◌∷◌, ℕ}
+use Rattle.std.proofs.Common.{◌≡◌, ◌∙◌, ◌+◌, ◌||◌, Bool, IsSome, List, None, Option, Some, [], ap, cond, false, inl, inr, is_some, refl, sym, true, ◌∷◌, ℕ}
 use Rattle.std.specs.List.{list_any}
 use Rattle.std.specs.Map.{update}
 use Rattle.std.specs.Str.{bytes_eq}
@@ -7,11 +7,12 @@ use Rattle.std.proofs.Math.Path.{fun_ext}
 use Rattle.std.proofs.lemmas.Bool.{cond-false, cond-true}
 use Rattle.std.proofs.lemmas.Cmp.{nat_list_eq_equiv}
 use Rattle.std.proofs.lemmas.Slice.Eq.{bytes_eq-Decides}
+use Rattle.bpf_asm.specs.declared.fault.AsmFault.{AsmFault}
 use Rattle.bpf_asm.specs.declared.fault.AsmFault.TheVariants.{DoubleLabel}
 use Rattle.bpf_asm.specs.Assembly.{places_of}
 use Rattle.bpf_asm.specs.Statement.{Line, Statement}
 use Rattle.bpf_asm.specs.Target.{count_of, doubles_fault, labels_from, place_in}
-use Rattle.bpf_asm.specs.body.View.{Defines}
+use Rattle.bpf_asm.specs.body.View.{Defines, IsDefinedAgain, UnlessMemory}
 
 -- the first of two places, none where there is none
 abbrev pub first_place : Option ℕ → Option ℕ → Option ℕ
@@ -77,6 +78,13 @@ module _ (places after : List ℕ → Option ℕ) (whole left : List Line) (stat
   pub tracks_more : (label : Option (List ℕ)) → Tracks places whole (record { label = label; statement = statement } ∷ left) n place → Defines places label place after → Tracks after whole left (n + 1) (place + count_of statement)
   tracks_more None tracks defines = unlabelled tracks defines
   tracks_more (Some name) tracks defines = labelled name tracks defines.0 defines.1
+
+-- a name defined again is the first such fault of all lines, unless memory was refused
+pub tracks_fault : (places : List ℕ → Option ℕ) (whole left : List Line) (statement : Option Statement) (n place : ℕ) (label : Option (List ℕ)) (fault : AsmFault) → Tracks places whole (record { label = label; statement = statement } ∷ left) n place → IsDefinedAgain places label n fault → UnlessMemory fault (doubles_fault [] 1 whole)
+tracks_fault places whole left statement n place None fault tracks again = absurd again
+tracks_fault places whole left statement n place (Some name) fault tracks (inl refused) = inl refused
+tracks_fault places whole left statement n place (Some name) fault tracks (inr (known, is)) =
+    inr (tracks_again places places whole left statement n place name tracks known ∙ ap Some (sym is))
 
 no_later : (place : Option ℕ) → first_place place None ≡ place
 no_later None = refl

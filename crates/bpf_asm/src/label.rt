@@ -1,16 +1,15 @@
 //! Labels, and the places that they stand for (docs/MACHINE.md, "Assembly text").
 
-ghost use Rattle.std.specs.Prelude.{◌≡◌, ◌≤◌, IfErr, IfOk, List, None, OnOk, Some, [], is_none, ℕ};
+ghost use Rattle.std.specs.Prelude.{◌≡◌, ◌≤◌, IfErr, IfOk, List, None, OnOk, Some, [], is_none, map, ℕ};
 ghost use Rattle.std.specs.Map.{update};
 ghost use Rattle.std.specs.Option.{option_map};
 ghost use Rattle.std.specs.Str.{bytes_eq};
 ghost use Rattle.bpf_asm.specs.Assembly.{places_of};
-ghost use Rattle.bpf_asm.specs.body.Reading.{lines_read};
 ghost use Rattle.bpf_asm.specs.Target.{count_of, doubles_fault};
 ghost use Rattle.bpf_asm.specs.body.View.{Defines, IsDefinedAgain, UnlessMemory, line_of, place_among};
 
 use crate::fault::AsmFault;
-use crate::line::{Line, first_line, line_or_empty};
+use crate::line::Line;
 use bpf_verify::OutOfMemory;
 use std::alloc::Allocator;
 use std::collections::BTreeMap;
@@ -66,28 +65,24 @@ fn count_of(line: &Line) -> usize
     }
 }
 
-/// Reads the labels of a text, or tells the first line that defines a name again. Lines in no form count as empty.
+/// Collects the labels of some lines, or tells the first line that defines a name again.
 pub(crate) fn labels_of<'a, A: Allocator + Clone>(
     alloc: A,
-    text: &'a [u8],
+    lines: &[Line<'a>],
 ) -> Result<Labels<'a, A>, AsmFault>
-    ensures places { IfOk result (λ labels. place_among labels.places ≡ places_of (lines_read text.entry.now)) }
-    ensures names_apart { OnOk result (doubles_fault [] 1 (lines_read text.entry.now) ≡ None) }
-    ensures fault { IfErr result (λ fault. UnlessMemory fault (doubles_fault [] 1 (lines_read text.entry.now))) }
+    ensures places { IfOk result (λ labels. place_among labels.places ≡ places_of (map line_of lines.entry.now)) }
+    ensures names_apart { OnOk result (doubles_fault [] 1 (map line_of lines.entry.now) ≡ None) }
+    ensures fault { IfErr result (λ fault. UnlessMemory fault (doubles_fault [] 1 (map line_of lines.entry.now))) }
 {
     let mut labels = Labels {
         places: BTreeMap::new(alloc),
     };
     let mut number = 1;
     let mut place = 0;
-    let mut left = Some(text);
-    while let Some(lines) = left {
-        let (line, rest) = first_line(lines);
-        let line = line_or_empty(line);
-        labels.define_label(line, place, number)?;
-        place += count_of(&line);
+    for line in lines {
+        labels.define_label(*line, place, number)?;
+        place += count_of(line);
         number += 1;
-        left = rest;
     }
     Ok(labels)
 }

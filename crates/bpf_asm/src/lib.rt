@@ -33,9 +33,9 @@ pub fn assemble<A: Allocator + Clone>(alloc: A, text: &[u8]) -> Result<Vec<u64, 
     ensures fault { IfErr result (IsFaultOrMemory text.now) }
     ensures refuses_no_assembly { (words : List ℕ) → Assembles text.now words → IsOk result ⊎ (result ≡ Err AsmFault.OutOfMemory) }
 {
-    line::check_forms(text)?;
-    let labels = label::labels_of(alloc.clone()?, text)?;
-    target::words_of(alloc, &labels, text)
+    let lines = line::read_lines(alloc.clone()?, text)?;
+    let labels = label::labels_of(alloc.clone()?, &lines)?;
+    target::words_of(alloc, &labels, &lines)
 }
 
 /// Law: a text has at most one list of words and at most one fault, and never both. It runs nothing.

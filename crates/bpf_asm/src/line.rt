@@ -1,15 +1,16 @@
 //! The lines of a text, and what stands on each (docs/MACHINE.md, "Assembly text").
 
-ghost use Rattle.std.specs.Prelude.{◌≡◌, ◌∷◌, ◌+◌, ◌≤◌, MatchOption, length};
+ghost use Rattle.std.specs.Prelude.{◌≡◌, ◌∷◌, ◌≤◌, IfErr, IfOk, None, OnOk, length, map};
 ghost use Rattle.std.specs.Option.{option_map};
 ghost use Rattle.bpf_asm.specs.Line.{ends_line, lines_of};
-ghost use Rattle.bpf_asm.specs.body.Reading.{forms_fault, line_at, read_line, rest_in, tokens_of};
-ghost use Rattle.bpf_asm.specs.body.View.{fault_in, left_len, line_of, lines_left, statement_of};
+ghost use Rattle.bpf_asm.specs.body.Reading.{forms_fault, lines_read, read_line, rest_in, tokens_of};
+ghost use Rattle.bpf_asm.specs.body.View.{UnlessMemory, left_len, line_of, lines_left, statement_of};
 
 use crate::fault::AsmFault;
 use crate::operand::after_mark;
 use crate::statement::{Statement, read_statement};
 use crate::token::{Token, first_token};
+use std::alloc::Allocator;
 
 #[derive(Clone, Copy)]
 pub(crate) struct Line<'a> {
@@ -72,32 +73,23 @@ pub(crate) fn read_line(line: &[u8]) -> Option<Line<'_>>
     }
 }
 
-/// Reads a line, and one in no form as an empty one.
-pub(crate) fn line_or_empty(line: &[u8]) -> Line<'_>
-    ensures { line_of result ≡ line_at line.now }
+/// Reads the lines of a text, or tells the first that is in no form.
+pub(crate) fn read_lines<A: Allocator>(alloc: A, text: &[u8]) -> Result<Vec<Line<'_>, A>, AsmFault>
+    ensures lines { IfOk result (λ lines. map line_of lines.items ≡ lines_read text.now) }
+    ensures in_form { OnOk result (forms_fault 1 (lines_of text.now) ≡ None) }
+    ensures fault { IfErr result (λ fault. UnlessMemory fault (forms_fault 1 (lines_of text.now))) }
 {
-    match read_line(line) {
-        Some(line) => line,
-        None => Line {
-            label: None,
-            statement: None,
-        },
-    }
-}
-
-/// Tests that each line of a text is in a form.
-pub(crate) fn check_forms(text: &[u8]) -> Result<(), AsmFault>
-    ensures { fault_in result ≡ forms_fault 1 (lines_of text.now) }
-{
+    let mut lines = Vec::new(alloc);
     let mut number = 1;
     let mut left = Some(text);
-    while let Some(lines) = left {
-        let (line, rest) = first_line(lines);
-        if read_line(line).is_none() {
-            return Err(AsmFault::Syntax { line: number });
+    while let Some(coming) = left {
+        let (bytes, rest) = first_line(coming);
+        match read_line(bytes) {
+            Some(line) => lines.push(line)?,
+            None => return Err(AsmFault::Syntax { line: number }),
         }
         number += 1;
         left = rest;
     }
-    Ok(())
+    Ok(lines)
 }

@@ -1,14 +1,13 @@
 //! Where each jump goes, and the words of a text whose labels are known (docs/MACHINE.md, "Assembly text").
 
-ghost use Rattle.std.specs.Prelude.{◌≡◌, ◌+◌, ◌^◌, ◌<◌, ◌≤◌, IfErr, IfOk, None, OnOk, Some, length};
+ghost use Rattle.std.specs.Prelude.{◌≡◌, ◌+◌, ◌^◌, ◌<◌, ◌≤◌, IfErr, IfOk, None, OnOk, Some, length, map};
 ghost use Rattle.std.specs.Option.{option_map};
-ghost use Rattle.bpf_asm.specs.body.Reading.{lines_read};
 ghost use Rattle.bpf_asm.specs.Target.{IsCode, IsInsnOf, IsOffset, statement_fault, statements_of, target_fault, targets_fault};
-ghost use Rattle.bpf_asm.specs.body.View.{AddsWord, UnlessMemory, distance_to, place_among, statement_of, target_of};
+ghost use Rattle.bpf_asm.specs.body.View.{AddsWord, UnlessMemory, distance_to, line_of, place_among, statement_of, target_of};
 
 use crate::fault::AsmFault;
 use crate::label::Labels;
-use crate::line::{first_line, line_or_empty};
+use crate::line::Line;
 use crate::statement::{Statement, Target};
 use bpf_insn::{Insn, Offsets};
 use std::alloc::Allocator;
@@ -106,24 +105,21 @@ fn push_word<'a, A: Allocator, B: Allocator>(
     Ok(())
 }
 
-/// Makes the words of a text, or tells the first fault of a target. Lines in no form count as empty.
+/// Makes the words of some lines, or tells the first fault of a target.
 pub(crate) fn words_of<'a, A: Allocator, B: Allocator>(
     alloc: B,
     labels: &Labels<'a, A>,
-    text: &'a [u8],
+    lines: &[Line<'a>],
 ) -> Result<Vec<u64, B>, AsmFault>
-    ensures code { IfOk result (λ words. IsCode (place_among labels.now.places) 0 (statements_of (lines_read text.entry.now)) words.items) }
-    ensures faultless { OnOk result (targets_fault (place_among labels.now.places) 0 1 (lines_read text.entry.now) ≡ None) }
-    ensures fault { IfErr result (λ fault. UnlessMemory fault (targets_fault (place_among labels.now.places) 0 1 (lines_read text.entry.now))) }
+    ensures code { IfOk result (λ words. IsCode (place_among labels.now.places) 0 (statements_of (map line_of lines.entry.now)) words.items) }
+    ensures faultless { OnOk result (targets_fault (place_among labels.now.places) 0 1 (map line_of lines.entry.now) ≡ None) }
+    ensures fault { IfErr result (λ fault. UnlessMemory fault (targets_fault (place_among labels.now.places) 0 1 (map line_of lines.entry.now))) }
 {
     let mut words = Vec::new(alloc);
     let mut number = 1;
-    let mut left = Some(text);
-    while let Some(lines) = left {
-        let (line, rest) = first_line(lines);
-        push_word(&mut words, labels, line_or_empty(line).statement, number)?;
+    for line in lines {
+        push_word(&mut words, labels, line.statement, number)?;
         number += 1;
-        left = rest;
     }
     Ok(words)
 }

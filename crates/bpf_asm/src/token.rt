@@ -25,12 +25,14 @@ enum Kind {
     Number,
 }
 
+#[inline(always)]
 fn is_gap(b: u8) -> bool
     ensures { result ≡ is_gap b }
 {
     b == b' ' || b == b'\t'
 }
 
+#[inline(always)]
 fn is_mark(b: u8) -> bool
     ensures { result ≡ is_mark b }
 {
@@ -40,12 +42,14 @@ fn is_mark(b: u8) -> bool
     )
 }
 
+#[inline(always)]
 fn begins_word(b: u8) -> bool
     ensures { result ≡ begins_word b }
 {
     b.is_ascii_alphabetic() || b == b'_'
 }
 
+#[inline(always)]
 fn is_of(kind: Kind, b: u8) -> bool
     ensures { result ≡ is_of kind b }
 {
@@ -56,6 +60,7 @@ fn is_of(kind: Kind, b: u8) -> bool
     }
 }
 
+#[inline(always)]
 fn run_len(kind: Kind, text: &[u8]) -> usize
     ensures len { result ≡ prefix_len (is_of kind) text.now }
     ensures within { result ≤ length text.now }
@@ -68,6 +73,7 @@ fn run_len(kind: Kind, text: &[u8]) -> usize
     text.len()
 }
 
+#[inline(always)]
 fn longest_run(kind: Kind, text: &[u8]) -> (&[u8], &[u8])
     ensures run { result.0.now ≡ take (prefix_len (is_of kind) text.now) text.now }
     ensures rest { result.1.now ≡ drop (prefix_len (is_of kind) text.now) text.now }

@@ -72,11 +72,6 @@ abbrev pub left_len : Option (Bor (List ℕ)) → ℕ
 left_len None = 0
 left_len (Some text) = length text.now + 1
 
--- the fault that a call answered
-abbrev pub fault_in : {A : Type 0} → Result A AsmFault → Option AsmFault
-fault_in (Ok found) = None
-fault_in (Err fault) = Some fault
-
 -- the place of a name among the labels
 abbrev pub place_among : BTreeMap (Bor (List ℕ)) ℕ → List ℕ → Option ℕ
 place_among labels name = get_by (λ key. slice_cmp nat_cmp name key.now) labels
