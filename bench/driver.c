@@ -33,9 +33,11 @@ enum { MOST = 4096, PACKET = 60, PACKETS = 256, CONTESTANTS = 4, SCRIPT = 1 << 2
 /* A call that is timed: it makes so many rounds over what `about` points to. */
 typedef void rounds_fn(const void *about, uint64_t rounds);
 
+/* `base`, where there is one, makes rounds of what is not to be in the time. */
 struct contestant {
     const char *name;
     rounds_fn *make;
+    rounds_fn *base;
 };
 
 static volatile uint64_t kept;
@@ -62,7 +64,7 @@ static bool is_chosen(const char *work) {
     return choices == 0;
 }
 
-/* Times a work: what it costs to begin, without a round, is taken off. */
+/* Times a work: what it costs to begin, without a round, is taken off, or the rounds of the base. */
 static void measure(const char *work, const struct contestant *list, int count, const void *about) {
     uint64_t rounds[CONTESTANTS];
     if (!is_chosen(work))
@@ -77,7 +79,8 @@ static void measure(const char *work, const struct contestant *list, int count, 
         for (int c = 0; c < count; c++) {
             double begin = time_of(list[c].make, about, 0);
             double whole = time_of(list[c].make, about, rounds[c]);
-            printf("%s\t%s\t%.3f\n", work, list[c].name, (whole - begin) / rounds[c]);
+            double base = list[c].base == NULL ? begin : time_of(list[c].base, about, rounds[c]);
+            printf("%s\t%s\t%.3f\n", work, list[c].name, (whole - base) / rounds[c]);
         }
     fflush(stdout);
 }
@@ -234,11 +237,11 @@ static void programs(void) {
         int count = 0;
 #ifdef HAVE_PCAP
         compare(shapes[s].name, &p);
-        run[count] = (struct contestant){"libpcap bpf_filter", run_theirs};
-        verify[count++] = (struct contestant){"libpcap bpf_validate", verify_theirs};
+        run[count] = (struct contestant){"libpcap bpf_filter", run_theirs, NULL};
+        verify[count++] = (struct contestant){"libpcap bpf_validate", verify_theirs, NULL};
 #endif
-        run[count] = (struct contestant){"dswitch_run", run_ours};
-        verify[count++] = (struct contestant){"dswitch_verify", verify_ours};
+        run[count] = (struct contestant){"dswitch_run", run_ours, NULL};
+        verify[count++] = (struct contestant){"dswitch_verify", verify_ours, NULL};
         snprintf(work, sizeof work, "run: %s", shapes[s].name);
         measure(work, run, count, &p);
         snprintf(work, sizeof work, "verify: %s", shapes[s].name);
@@ -299,10 +302,10 @@ static void texts(void) {
     int count = 0;
 #ifdef HAVE_PCAP
     dead = pcap_open_dead(DLT_RAW, 65535);
-    list[count++] = (struct contestant){"libpcap pcap_compile", compile_theirs};
-    list[count++] = (struct contestant){"libpcap pcap_compile, optimizer", optimize_theirs};
+    list[count++] = (struct contestant){"libpcap pcap_compile", compile_theirs, NULL};
+    list[count++] = (struct contestant){"libpcap pcap_compile, optimizer", optimize_theirs, NULL};
 #endif
-    list[count++] = (struct contestant){"dswitch_compile", compile_ours};
+    list[count++] = (struct contestant){"dswitch_compile", compile_ours, NULL};
     for (size_t e = 0; e < sizeof expressions / sizeof *expressions; e++)
         measure(expressions[e][0], list, count, expressions[e][1]);
 
@@ -310,7 +313,7 @@ static void texts(void) {
     for (int i = 0; i < 99; i++)
         strcat(lines, "ldb [9]\n");
     strcat(lines, "ret a\n");
-    measure("assemble: 100 instructions", (struct contestant[]){{"dswitch_assemble", assemble_ours}}, 1, lines);
+    measure("assemble: 100 instructions", (struct contestant[]){{"dswitch_assemble", assemble_ours, NULL}}, 1, lines);
 }
 
 /* The version table. */
@@ -402,34 +405,80 @@ static void groups(struct table *t, int count, bool programs) {
     }
 }
 
+/* A program over words in a slice, and as the filter of a group's member, in a section of each packet. */
+struct filter {
+    struct program program;
+    struct table with, without;
+};
+
+static void run_slice(const void *about, uint64_t rounds) {
+    const struct filter *f = about;
+    uint64_t sum = 0;
+    for (uint64_t i = 0; i < rounds; i++)
+        sum += dswitch_run(f->program.words, f->program.count, f->with.packet, f->with.bytes).value;
+    kept = sum;
+}
+
+static void judge_with(const void *about, uint64_t rounds) {
+    judge_ours(&((const struct filter *)about)->with, rounds);
+}
+
+static void judge_without(const void *about, uint64_t rounds) {
+    judge_ours(&((const struct filter *)about)->without, rounds);
+}
+
+static void filters(const uint8_t *packet) {
+    static const struct contestant list[] = {{"over a slice", run_slice, NULL}, {"in a section of its own", judge_with, judge_without}};
+    static struct filter f;
+    static char text[1 << 14];
+    for (int large = 0; large < 2; large++) {
+        f.program.count = 0;
+        if (large)
+            mixed(&f.program, 100);
+        else
+            port53(&f.program);
+        size_t bytes = dswitch_print(f.program.words, f.program.count, text, sizeof text - 1).number;
+        text[bytes] = 0;
+        for (char *end = text; (end = strchr(end, '\n')) != NULL;)
+            *end = ';';
+        groups(&f.without, 1, false);
+        groups(&f.with, 1, false);
+        sprintf(f.with.script + strlen(f.with.script), "filter 10.0.0.2:53 1 asm %s\n", text);
+        f.with.packet = f.without.packet = packet;
+        f.with.bytes = f.without.bytes = PACKET;
+        measure(large ? "section's program: 100 mixed" : "section's program: 11 instructions", list, 2, &f);
+    }
+}
+
 static void tables(void) {
     static struct table t;
     static uint8_t packet[PACKET] = {0x45, 0, 0, PACKET, 0, 0, 0, 0, 64, 17, 0, 0, 10, 0, 0, 1, 10, 0, 0, 2, 0x13, 0x88, 0, 53, 0, 40, 0, 0};
     struct contestant section[CONTESTANTS];
     int count = 0;
-    section[count++] = (struct contestant){"C: two stores, three loads", section_limit};
+    section[count++] = (struct contestant){"C: two stores, three loads", section_limit, NULL};
 #ifdef HAVE_URCU
     urcu_memb_register_thread();
-    section[count++] = (struct contestant){"liburcu, memb", section_urcu};
+    section[count++] = (struct contestant){"liburcu, memb", section_urcu, NULL};
 #endif
-    section[count++] = (struct contestant){"enter, word, leave", section_ours};
+    section[count++] = (struct contestant){"enter, word, leave", section_ours, NULL};
     t.packet = packet;
     t.bytes = sizeof packet;
     t.line = "selector 10.0.0.2:53 asm ret #0";
     measure("section", section, count, &t);
+    filters(packet);
     groups(&t, 1, false);
-    struct contestant judge[] = {{"C: two stores, three loads", section_limit}, {"enter, judge, leave", judge_ours}};
+    struct contestant judge[] = {{"C: two stores, three loads", section_limit, NULL}, {"enter, judge, leave", judge_ours, NULL}};
     measure("judge: 1 group", judge, 2, &t);
     groups(&t, 1, true);
     measure("judge: 1 group with programs", judge, 2, &t);
     packet[18] = 63;
     groups(&t, 64, true);
     measure("judge: 64 groups with programs", judge, 2, &t);
-    struct contestant publish[] = {{"C: 8192 stores", fill_limit}, {"the next configuration", make_ours}, {"and its publication", publish_ours}, {"a control line that changes nothing", line_ours}};
+    struct contestant publish[] = {{"C: 8192 stores", fill_limit, NULL}, {"the next configuration", make_ours, NULL}, {"and its publication", publish_ours, NULL}, {"a control line that changes nothing", line_ours, NULL}};
     measure("publish: 64 groups with programs", publish, 4, &t);
     t.line = "filter 10.0.31.2:53 1 asm ldb [9]; jeq #17,0,1; ret #65535; ret #0";
     t.other = "filter 10.0.31.2:53 1 asm ldb [9]; jeq #6,0,1; ret #65535; ret #0";
-    struct contestant change[] = {{"C: 8192 stores", fill_limit}, {"a control line that changes it", lines_ours}};
+    struct contestant change[] = {{"C: 8192 stores", fill_limit, NULL}, {"a control line that changes it", lines_ours, NULL}};
     measure("publish: one of 128 programs", change, 2, &t);
 }
 

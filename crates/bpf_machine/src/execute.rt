@@ -1,6 +1,6 @@
 //! What one instruction does.
 
-ghost use Rattle.std.specs.Prelude.{◌≡◌, ◌≤◌, if◌then◌else◌, length};
+ghost use Rattle.std.specs.Prelude.{◌≡◌, ◌≤◌, List, if◌then◌else◌, length, ℕ};
 ghost use Rattle.bpf_machine.specs.declared.execute.Next.TheVariants.{Skip};
 ghost use Rattle.bpf_verify.specs.body.Pass.{HasCell};
 ghost use Rattle.bpf_machine.specs.body.ArrayMachine.{a_or_end, array_effect, x_or_end};
@@ -24,16 +24,14 @@ pub enum Next {
 
 /// The registers A and X, and scratch memory: of a cell that was not stored, any number.
 #[derive(Drop)]
-pub struct Machine {
+pub struct Registers {
     pub a: u32,
     pub x: u32,
-    pub cells: [u32; CELL_COUNT],
 }
 
 #[inline(always)]
-fn load_a(machine: &mut Machine, loaded: Option<u32>) -> Next
-    ensures effect { effect_of result machine.new.a machine.new.x machine.new.cells ≡ a_or_end loaded machine.old.x machine.old.cells }
-    ensures cells { length machine.new.cells ≡ CELL_COUNT }
+fn load_a(machine: &mut Registers, loaded: Option<u32>) -> Next
+    ensures effect { (cells : List ℕ) → effect_of result machine.new.a machine.new.x cells ≡ a_or_end loaded machine.old.x cells }
 {
     match loaded {
         Some(number) => {
@@ -45,9 +43,8 @@ fn load_a(machine: &mut Machine, loaded: Option<u32>) -> Next
 }
 
 #[inline(always)]
-fn load_x(machine: &mut Machine, loaded: Option<u32>) -> Next
-    ensures effect { effect_of result machine.new.a machine.new.x machine.new.cells ≡ x_or_end loaded machine.old.a machine.old.cells }
-    ensures cells { length machine.new.cells ≡ CELL_COUNT }
+fn load_x(machine: &mut Registers, loaded: Option<u32>) -> Next
+    ensures effect { (cells : List ℕ) → effect_of result machine.new.a machine.new.x cells ≡ x_or_end loaded machine.old.a cells }
 {
     match loaded {
         Some(number) => {
@@ -70,11 +67,16 @@ fn skip(passed: bool, jt: u8, jf: u8) -> Next
 }
 
 #[inline(always)]
-pub fn execute(machine: &mut Machine, insn: Insn, packet: &[u8]) -> Next
+pub fn execute(
+    machine: &mut Registers,
+    cells: &mut [u32; CELL_COUNT],
+    insn: Insn,
+    packet: &[u8],
+) -> Next
     requires packet { length packet.now ≤ MAX_PACKET }
     requires cell { HasCell insn }
-    ensures effect { effect_of result machine.new.a machine.new.x machine.new.cells ≡ array_effect insn machine.old.a machine.old.x machine.old.cells packet.now }
-    ensures cells { length machine.new.cells ≡ CELL_COUNT }
+    ensures effect { effect_of result machine.new.a machine.new.x cells.new ≡ array_effect insn machine.old.a machine.old.x cells.old packet.now }
+    ensures cells { length cells.new ≡ CELL_COUNT }
 {
     match insn {
         Insn::LoadAbsolute(size, k) => load_a(machine, number(packet, size, k as u64)),
@@ -82,18 +84,18 @@ pub fn execute(machine: &mut Machine, insn: Insn, packet: &[u8]) -> Next
             load_a(machine, number(packet, size, machine.x as u64 + k as u64))
         }
         Insn::LoadConstant(k) => load_a(machine, Some(k)),
-        Insn::LoadCell(k) => load_a(machine, Some(machine.cells[k as usize])),
+        Insn::LoadCell(k) => load_a(machine, Some(cells[k as usize])),
         Insn::LoadLength => load_a(machine, Some(packet.len() as u32)),
         Insn::LoadXConstant(k) => load_x(machine, Some(k)),
-        Insn::LoadXCell(k) => load_x(machine, Some(machine.cells[k as usize])),
+        Insn::LoadXCell(k) => load_x(machine, Some(cells[k as usize])),
         Insn::LoadXLength => load_x(machine, Some(packet.len() as u32)),
         Insn::LoadXHeader(k) => load_x(machine, header_length(packet, k as u64)),
         Insn::Store(k) => {
-            machine.cells[k as usize] = machine.a;
+            cells[k as usize] = machine.a;
             Next::GoOn
         }
         Insn::StoreX(k) => {
-            machine.cells[k as usize] = machine.x;
+            cells[k as usize] = machine.x;
             Next::GoOn
         }
         Insn::Alu(operation, operand) => {

@@ -12,7 +12,7 @@ mod arithmetic;
 mod execute;
 mod packet;
 
-use crate::execute::{CELL_COUNT, Machine, Next, execute};
+use crate::execute::{CELL_COUNT, Next, Registers, execute};
 use bpf_insn::{Insn, Words};
 
 /// The greatest number of bytes of a packet.
@@ -84,18 +84,15 @@ pub fn run_copy<W: Words, const COPY: usize>(
 {
     // A list that can be counted is short enough for its places to be numbers of this machine.
     let _count = words.count();
-    let mut machine = Machine {
-        a: 0,
-        x: 0,
-        cells: [0; CELL_COUNT],
-    };
+    let mut machine = Registers { a: 0, x: 0 };
+    let mut cells = [0; CELL_COUNT];
     let mut pc = 0;
     // How many instructions the jumps have passed over: the others before pc were met.
     let mut passed_over = 0;
     'running: loop {
         let insn = fetch(words, from, len, pc);
         pc += 1;
-        match execute(&mut machine, insn, packet) {
+        match execute(&mut machine, &mut cells, insn, packet) {
             Next::GoOn => {}
             Next::Skip(count) => {
                 pc += count as usize;

@@ -10,7 +10,9 @@ use crate::tally::{CountFull, Counter};
 use packet_verdict::{Kind, Verdict, judge};
 use read_section::Worker;
 
-// One whole section, in which the packet is judged.
+// One whole section, in which the packet is judged. Not inlined: in a function that does no more, what the section keeps lies in
+// registers while a program runs.
+#[inline(never)]
 fn judge_in_section(worker: &mut Worker, packet: &[u8]) -> Verdict
     requires packet { length packet.now ≤ MAX_PACKET }
     ensures judged { JudgesInSection worker.old worker.new packet.now result }

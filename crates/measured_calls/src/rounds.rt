@@ -25,6 +25,8 @@ pub(crate) fn section_rounds(worker: &mut Worker, rounds: u64) -> u64
     rounds
 }
 
+// Not inlined, as what judges packets in dispatch is not.
+#[inline(never)]
 pub(crate) fn judge_rounds(worker: &mut Worker, packet: &[u8], rounds: u64) -> u64
     requires { length packet.now ≤ 65535 }
     ensures { result ≡ rounds }

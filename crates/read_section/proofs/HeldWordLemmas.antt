@@ -20,7 +20,7 @@ use Rattle.versions.proofs.ShapeLemmas.{page_below, page_words_is, pages_is, par
 use Rattle.read_section.specs.declared.found.Found.{Found}
 use Rattle.read_section.specs.Section.{held_words, version_of, words_in}
 use Rattle.read_section.specs.Worker.{WorkerValue}
-use Rattle.read_section.specs.body.Found.{HasPages, KnowsAt, KnowsIn, KnowsPart}
+use Rattle.read_section.specs.body.Found.{HasPages, Knows, KnowsAt, KnowsForm, KnowsIn, KnowsPart, form_alone}
 use Rattle.read_section.specs.body.Plays.{TellsWord}
 use Rattle.read_section.specs.body.Sought.{IsAhead}
 use Rattle.read_section.specs.body.Steps.{SeesWord}
@@ -189,3 +189,22 @@ module _ (worker : WorkerValue) (k n r : ℕ) (stage : worker.view.stage ≡ Ins
 -- what lies ahead in the part that is kept, in numbers of 64 bits
 pub ahead_there : (i at len ahead : ℕ) → i < 2 ^ 64 → ahead ≡ (i + (2 ^ 64 - at)) % 2 ^ 64 → ahead < len → at + len ≤ ROW_WORDS + PAGE_WORDS → (at ≤ i) × (ahead ≡ i - at)
 ahead_there i at len ahead fits is less most = (omega arith, omega arith)
+
+-- what is known beside the parts
+module _ (worker : WorkerValue) (row : ℕ) (found : Found) (i : ℕ) (knows : Knows worker.view row found) (held : i < length (held_words worker)) where
+  at_stage : (k : ℕ) × (n : ℕ) × (r : ℕ) × (worker.view.stage ≡ Inside k n r)
+  at_stage = held_stage worker.view.stage worker.view.seen i held
+
+  all_known : (at_stage.1 < length worker.view.seen) × KnowsAt (config_held worker at_stage.1) worker.view.pages at_stage.2 row found
+  all_known = known_there worker at_stage.0 at_stage.1 at_stage.2 at_stage.3 row found knows
+
+  -- the row
+  pub knows_row : KnowsForm worker.view row 0
+  knows_row = let known = all_known in known_again worker at_stage.0 at_stage.1 at_stage.2 at_stage.3 row (form_alone 0) (known.0, (known.1.0, (known.1.1.0, (λ none. absurd (omega arith), λ none. absurd (omega arith)))))
+
+  -- and the row's first word, where that was fetched
+  pub knows_with_form : (form : ℕ) → 0 < form → KnowsForm worker.view row form → Knows worker.view row (record { form = form; at = found.at; len = found.len; begin = found.begin; index = found.index; next = found.next })
+  knows_with_form form not_none of_form = let known = all_known in
+      let formed = known_there worker at_stage.0 at_stage.1 at_stage.2 at_stage.3 row (form_alone form) of_form in
+      known_again worker at_stage.0 at_stage.1 at_stage.2 at_stage.3 row (record { form = form; at = found.at; len = found.len; begin = found.begin; index = found.index; next = found.next })
+      (known.0, (known.1.0, (known.1.1.0, (λ _. formed.1.1.1.0 not_none, λ part. let kp = known.1.1.1.1 part in ((not_none, kp.0.1), kp.1)))))

@@ -8,6 +8,8 @@ mod SoughtLemmas
 mod RowReadLemmas
 mod AheadLemmas
 mod FrontLemmas
+mod NamedPartLemmas
+mod PartReadLemmas
 mod WorkerKept
 mod OperatorKept
 mod SeatKept

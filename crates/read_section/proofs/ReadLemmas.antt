@@ -1,5 +1,5 @@
 -- Fetches of words of the version that is held, one after another.
-use Rattle.std.proofs.Common.{◌≡◌, ℕ, suc, ◌<◌, List, [], ◌∷◌, ◌++◌, ap, append_assoc, arith, length-append, refl, slice_index_or, subst, sym, ◌∙◌}
+use Rattle.std.proofs.Common.{◌≡◌, ℕ, suc, ◌+◌, ◌<◌, List, [], ◌∷◌, ◌++◌, ap, append_assoc, arith, length-append, refl, slice_index_or, subst, sym, ◌∙◌}
 use Rattle.config_image.specs.Image.{Group}
 use Rattle.versions.specs.declared.step.Step.{Step}
 use Rattle.versions.specs.declared.step.Step.TheVariants.{Fetch}
@@ -13,7 +13,7 @@ use Rattle.versions.specs.Table.{the_shape}
 use Rattle.read_section.specs.Reads.{AreFetchesIn, Reads, TellsWordAt, with_log}
 use Rattle.read_section.specs.Section.{at_pin, before_fetch, before_fetches}
 use Rattle.read_section.specs.Worker.{WorkerValue, steps}
-use Rattle.read_section.specs.body.Sought.{Fetched}
+use Rattle.read_section.specs.body.Sought.{Fetched, IsSought, TellsName}
 use Rattle.read_section.specs.body.Steps.{SeesWord}
 
 pub none_fetched : (worker : WorkerValue) → Fetched 0 worker worker
@@ -30,6 +30,25 @@ module _ (n : ℕ) (before mid : WorkerValue) (f : Fetched n before mid) where
 
   pub held_after : (place : ℕ) → IsHeldPlace the_shape before.view place → IsHeldPlace the_shape mid.view place
   held_after place held = subst (λ (w : WorkerValue). IsHeldPlace the_shape w.view place) (sym f.only) held
+
+  -- a search may go on
+  pub sought_after : (row form i : ℕ) → IsSought before.view row form i → IsSought mid.view row form i
+  sought_after row form i s = subst (λ (w : WorkerValue). IsSought w.view row form i) (sym f.only) s
+
+  pub name_before : (index x : ℕ) → TellsName mid.view index x → TellsName before.view index x
+  name_before index x told = subst (λ (w : WorkerValue). TellsName w.view index x) f.only told
+
+  -- more fetches
+  pub fetched_both : (m : ℕ) (after : WorkerValue) → Fetched m mid after → Fetched (m + n) before after
+  fetched_both m after g = go (subst (λ (w : WorkerValue). Fetched m w after) f.only g)
+    where
+      go : Fetched m (with_log (f.fetches ++ before.view.log) before) after → Fetched (m + n) before after
+      go h = record {
+        fetches = h.fetches ++ f.fetches;
+        counted = (let a = h.counted in let b = f.counted in omega (arith, length-append h.fetches f.fetches));
+        only = h.only ∙ ap (λ l. with_log l before) (sym (append_assoc h.fetches f.fetches before.view.log));
+        each = AreFetchesIn-append before.view h.fetches f.fetches h.each f.each;
+      }
 
   module _ (after : WorkerValue) (place x : ℕ) (e : after ≡ steps (after_fetch place x) mid) (held : IsHeldPlace the_shape before.view place) where
     one_more : after ≡ with_log (entry (Fetch before.view.number place) x ∷ (f.fetches ++ before.view.log)) before

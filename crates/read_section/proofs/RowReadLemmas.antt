@@ -153,6 +153,10 @@ module _ (worker : WorkerValue) (row : ℕ) (found : Found) (i : ℕ) (knows : K
     pub first_knows : Knows worker.view row (record { form = x; at = found.at; len = found.len; begin = found.begin; index = found.index; next = found.next })
     first_knows = let t = held_stage worker.view.stage worker.view.seen i held in first_knows_at t.0 t.1 t.2 t.3 x sees
 
+    -- it is not 0
+    pub first_some : 0 < x
+    first_some = let t = held_stage worker.view.stage worker.view.seen i held in let e = x_length t.0 t.1 t.2 t.3 x sees in let l = some_length t.0 t.1 t.2 t.3 x sees in omega arith
+
     pub first_newest : (answer : ℕ) → (i ≡ 0) ⊎ (x / 2 ^ 32 ≤ i) → (k n r : ℕ) → worker.view.stage ≡ Inside k n r → TellsWordAt (slice_index_or worker.view.seen n []) r worker.view.pages i (ROWS_BEGIN + row * ROW_WORDS) x answer
     first_newest answer none k n r stage = first_tells_at k n r stage x sees answer none
 

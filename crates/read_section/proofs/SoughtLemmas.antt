@@ -142,29 +142,44 @@ module _ (worker : WorkerValue) (row form i : ℕ) (s : IsSought worker.view row
         pub again_ahead : IsAhead again i
         again_ahead = let b = behind_end in (omega arith, omega arith, omega arith)
 
-  -- what is kept of a part that was found
-  module _ (f : FoundPart) (holds : HoldsPlace (names_of config pages) (length (image config)) i f) (seen : n < length worker.view.seen) (found : Found) (found_form : found.form ≡ form) (index_is : found.index ≡ f.index)
-      (at_is : found.at ≡ start_of f.name) (end_is : found.at + found.len ≡ start_of f.next) (begin_is : found.begin ≡ POOL_BEGIN + page_of f.name * PAGE_WORDS) (next_is : found.next ≡ POOL_BEGIN + page_of f.next * PAGE_WORDS) where
-    some_form : 0 < found.form
-    some_form = let e = length_is in let to = s.5.6 in let same = found_form in omega arith
+  -- a part that was found, by its name and the name behind it
+  module _ (f : FoundPart) (holds : HoldsPlace (names_of config pages) (length (image config)) i f) where
+    pub found_in_range : f.index + 1 ≤ form % 65536
+    found_in_range = let low = part.index_below config pages s.5.2 are i f holds in let e = entries_are in omega arith
 
-    page_place : (q place : ℕ) → place ≡ POOL_BEGIN + q * PAGE_WORDS → place ≡ page_begin the_shape q
-    page_place q place e = let p = page_place_is q 0 in omega arith
+    pub end_told : (f.next / 65536 ≡ part_begin config (f.index + 1)) × (f.index + 1 < length (parts config) → f.next % 65536 ≡ slice_index pages (f.index + 1))
+    end_told = (part.found_end config pages s.5.2 are i f holds, part.found_next_page config pages s.5.2 are i f holds)
 
-    pub found_part : KnowsPart config pages found
-    found_part = (
-      (some_form, subst (λ m. m < length (parts config)) (sym index_is) (part.index_below config pages s.5.2 are i f holds)),
-      (
-        (at_is ∙ (part.found_start config pages s.5.2 are i f holds ∙ ap (part_begin config) (sym index_is)), end_is ∙ (part.found_end config pages s.5.2 are i f holds ∙ ap (λ m. part_begin config (m + 1)) (sym index_is))),
-        (
-          page_place (slice_index pages found.index) found.begin (begin_is ∙ ap (λ q. POOL_BEGIN + q * PAGE_WORDS) (part.found_page config pages s.5.2 are i f holds ∙ ap (slice_index pages) (sym index_is))),
-          λ more. page_place (slice_index pages (found.index + 1)) found.next (next_is ∙ ap (λ q. POOL_BEGIN + q * PAGE_WORDS) (part.found_next_page config pages s.5.2 are i f holds (subst (λ m. m + 1 < length (parts config)) index_is more) ∙ ap (λ m. slice_index pages (m + 1)) (sym index_is))),
-        ),
-      ),
-    )
+    module _ (behind : ℕ) (told : (behind / 65536 ≡ part_begin config (f.index + 1)) × (f.index + 1 < length (parts config) → behind % 65536 ≡ slice_index pages (f.index + 1))) where
+      pub found_between : (f.name / 65536 ≤ i) × (i < behind / 65536)
+      found_between = let from = holds.from in let to = holds.to in let e = told.0 in let g = end_told.0 in (from, omega arith)
 
-    pub found_known : KnowsIn worker.view.stage worker.view.seen worker.view.pages row found
-    found_known = known_again worker k n r stage row found (seen, ((s.5.0, s.5.1), (s.5.2, (λ _. (found_form ∙ s.5.3, s.5.4), λ _. found_part))))
+      -- what is kept of it
+      module _ (seen : n < length worker.view.seen) (found : Found) (found_form : found.form ≡ form) (index_is : found.index ≡ f.index) (at_is : found.at ≡ f.name / 65536)
+          (len_is : found.len ≡ behind / 65536 - f.name / 65536) (begin_is : found.begin ≡ POOL_BEGIN + page_of f.name * PAGE_WORDS) (next_is : found.next ≡ POOL_BEGIN + behind % 65536 * PAGE_WORDS) where
+        some_form : 0 < found.form
+        some_form = let e = length_is in let to = s.5.6 in let same = found_form in omega arith
 
-    pub found_ahead : IsAhead found i
-    found_ahead = let from = holds.from in let to = holds.to in let e = at_is in let f = end_is in (omega arith, omega arith, omega arith)
+        end_is : found.at + found.len ≡ behind / 65536
+        end_is = let a = at_is in let l = len_is in let from = found_between.0 in let to = found_between.1 in omega arith
+
+        page_place : (q place : ℕ) → place ≡ POOL_BEGIN + q * PAGE_WORDS → place ≡ page_begin the_shape q
+        page_place q place e = let p = page_place_is q 0 in omega arith
+
+        pub found_part : KnowsPart config pages found
+        found_part = (
+          (some_form, subst (λ m. m < length (parts config)) (sym index_is) (part.index_below config pages s.5.2 are i f holds)),
+          (
+            (at_is ∙ (part.found_start config pages s.5.2 are i f holds ∙ ap (part_begin config) (sym index_is)), end_is ∙ (told.0 ∙ ap (λ m. part_begin config (m + 1)) (sym index_is))),
+            (
+              page_place (slice_index pages found.index) found.begin (begin_is ∙ ap (λ q. POOL_BEGIN + q * PAGE_WORDS) (part.found_page config pages s.5.2 are i f holds ∙ ap (slice_index pages) (sym index_is))),
+              λ more. page_place (slice_index pages (found.index + 1)) found.next (next_is ∙ ap (λ q. POOL_BEGIN + q * PAGE_WORDS) (told.1 (subst (λ m. m + 1 < length (parts config)) index_is more) ∙ ap (λ m. slice_index pages (m + 1)) (sym index_is))),
+            ),
+          ),
+        )
+
+        pub found_known : KnowsIn worker.view.stage worker.view.seen worker.view.pages row found
+        found_known = known_again worker k n r stage row found (seen, ((s.5.0, s.5.1), (s.5.2, (λ _. (found_form ∙ s.5.3, s.5.4), λ _. found_part))))
+
+        pub found_ahead : IsAhead found i
+        found_ahead = let from = found_between.0 in let to = found_between.1 in let e = at_is in let l = len_is in (omega arith, omega arith, omega arith)

@@ -31,3 +31,19 @@ pub(crate) struct Kept {
     pub(crate) row: usize,
     pub(crate) found: Found,
 }
+
+// Calls give these two back in registers; a `Found` would go through memory.
+
+/// A part that a search found: the index of its name, and the name.
+#[derive(Clone, Copy, Debug)]
+pub(crate) struct NamedPart {
+    pub(crate) index: usize,
+    pub(crate) name: u64,
+}
+
+/// A word that was read, and the row's first word.
+#[derive(Clone, Copy, Debug)]
+pub(crate) struct WordAndForm {
+    pub(crate) word: u64,
+    pub(crate) form: u64,
+}

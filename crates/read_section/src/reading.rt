@@ -3,13 +3,13 @@
 ghost use Rattle.std.specs.Prelude.{◌≡◌, ◌+◌, ◌*◌, ◌/◌, ◌%◌, ◌^◌, ◌<◌, ◌≤◌, Some, length, slice_get, ℕ};
 ghost use Rattle.read_section.specs.Reads.{FewFetches, Reads};
 ghost use Rattle.read_section.specs.Section.{held_words};
-ghost use Rattle.read_section.specs.body.Found.{Knows};
+ghost use Rattle.read_section.specs.body.Found.{Knows, KnowsForm};
 ghost use Rattle.read_section.specs.body.Sought.{FetchedAtMost, FindsPart, IsAhead, IsSought, TellsName};
 
-use crate::found::Found;
+use crate::found::{Found, NamedPart, WordAndForm};
 use crate::worker::Worker;
 use config_image::{PAGE_WORDS, ROW_WORDS};
-use part_search::{FoundPart, Search};
+use part_search::Search;
 use versions::{POOL_BEGIN, ROWS_BEGIN};
 
 // The parts of a row's first word: the image's length, where the programs begin, how many parts there are.
@@ -33,7 +33,16 @@ fn entries_of(form: u64) -> usize
     (form & 0xffff) as usize
 }
 
+// The place in the image of the first word of a name's part.
+#[inline(always)]
+fn part_start(name: u64) -> usize
+    ensures { result ≡ name / 65536 }
+{
+    (name >> 16) as usize
+}
+
 // Where the page of a name begins.
+#[inline(always)]
 fn page_place(name: u64) -> usize
     ensures { result ≡ POOL_BEGIN + name % 65536 * PAGE_WORDS }
 {
@@ -41,7 +50,9 @@ fn page_place(name: u64) -> usize
 }
 
 // The part that holds word i, by a search among the names.
-fn search_part(worker: &mut Worker, row: usize, form: u64, i: usize) -> FoundPart
+#[cold]
+#[inline(never)]
+fn search_part(worker: &mut Worker, row: usize, form: u64, i: usize) -> NamedPart
     requires { IsSought worker.old.view row form i }
     ensures found { FindsPart worker.old.view i result }
     ensures few { FetchedAtMost 11 worker.old worker.new }
@@ -50,35 +61,20 @@ fn search_part(worker: &mut Worker, row: usize, form: u64, i: usize) -> FoundPar
     while let Some(index) = search.ask() {
         search.tell(worker.fetch(ROWS_BEGIN + row * ROW_WORDS + (heads_of(form) + index)));
     }
-    search.found()
-}
-
-// The same, as it is kept.
-fn find_part(worker: &mut Worker, row: usize, form: u64, i: usize) -> Found
-    requires { IsSought worker.old.view row form i }
-    ensures known { Knows worker.old.view row result }
-    ensures form { result.form ≡ form }
-    ensures there { IsAhead result i }
-    ensures few { FetchedAtMost 11 worker.old worker.new }
-{
-    let part = search_part(worker, row, form, i);
-    let at = part.start();
-    Found {
-        form,
-        at,
-        len: part.end() - at,
-        begin: page_place(part.name),
+    let part = search.found();
+    NamedPart {
         index: part.index,
-        next: page_place(part.next),
+        name: part.name,
     }
 }
 
 // The name at an index; behind the last one the place where the parts end, in the form of a name.
+#[inline(always)]
 fn name_or_end(worker: &mut Worker, row: usize, form: u64, i: usize, index: usize) -> u64
     requires sought { IsSought worker.old.view row form i }
     requires index { index ≤ form % 65536 }
     ensures told { TellsName worker.old.view index result }
-    ensures few { FetchedAtMost 11 worker.old worker.new }
+    ensures few { FetchedAtMost 1 worker.old worker.new }
 {
     if index < entries_of(form) {
         return worker.fetch(ROWS_BEGIN + row * ROW_WORDS + (heads_of(form) + index));
@@ -86,34 +82,58 @@ fn name_or_end(worker: &mut Worker, row: usize, form: u64, i: usize, index: usiz
     length_of(form) as u64 * 65536
 }
 
+// The part that holds word i, by a search, as it is kept.
+#[inline(always)]
+fn find_part(worker: &mut Worker, row: usize, form: u64, i: usize) -> Found
+    requires { IsSought worker.old.view row form i }
+    ensures known { Knows worker.old.view row result }
+    ensures form { result.form ≡ form }
+    ensures there { IsAhead result i }
+    ensures few { FetchedAtMost 12 worker.old worker.new }
+{
+    let part = search_part(worker, row, form, i);
+    let behind = name_or_end(worker, row, form, i, part.index + 1);
+    let at = part_start(part.name);
+    Found {
+        form,
+        at,
+        len: part_start(behind) - at,
+        begin: page_place(part.name),
+        index: part.index,
+        next: page_place(behind),
+    }
+}
+
 // The part behind the one that is kept, whose first word is word i.
+#[inline(always)]
 fn next_part(worker: &mut Worker, row: usize, found: Found, i: usize) -> Found
     requires known { Knows worker.old.view row found }
     requires sought { IsSought worker.old.view row found.form i }
     requires behind { (0 < found.len) × (i ≡ found.at + found.len) }
     ensures known { Knows worker.old.view row result }
     ensures there { IsAhead result i }
-    ensures few { FetchedAtMost 11 worker.old worker.new }
+    ensures few { FetchedAtMost 12 worker.old worker.new }
 {
     let index = found.index + 1;
     let behind = name_or_end(worker, row, found.form, i, index + 1);
     Found {
         form: found.form,
         at: i,
-        len: (behind >> 16) as usize - i,
+        len: part_start(behind) - i,
         begin: found.next,
         index,
         next: page_place(behind),
     }
 }
 
-// The part that holds word i, of the programs.
-fn part_with(worker: &mut Worker, row: usize, found: Found, i: usize) -> Found
+/// Finds the part that holds word `i`, of the programs.
+#[inline(always)]
+pub(crate) fn part_with(worker: &mut Worker, row: usize, found: Found, i: usize) -> Found
     requires known { Knows worker.old.view row found }
     requires sought { IsSought worker.old.view row found.form i }
     ensures known { Knows worker.old.view row result }
     ensures there { IsAhead result i }
-    ensures few { FetchedAtMost 11 worker.old worker.new }
+    ensures few { FetchedAtMost 12 worker.old worker.new }
 {
     if 0 < found.len && found.at <= i && i - found.at == found.len {
         next_part(worker, row, found, i)
@@ -122,68 +142,37 @@ fn part_with(worker: &mut Worker, row: usize, found: Found, i: usize) -> Found
     }
 }
 
-// Word i of the image, but not the first, where the row's first word is kept.
-fn read_image(worker: &mut Worker, row: usize, found: Found, i: usize) -> (u64, Found)
-    requires known { Knows worker.old.view row found }
+// Word i of the image, but not the first, where the row's first word was fetched.
+fn read_image(worker: &mut Worker, row: usize, form: u64, i: usize) -> u64
+    requires known { KnowsForm worker.old.view row form }
     requires held { i < length (held_words worker.old) }
-    requires inside { (0 < i) × (i < found.form / 2 ^ 32) }
-    ensures value { slice_get (held_words worker.old) i ≡ Some result.0 }
-    ensures few_fetches { Reads 12 i result.0 worker.old worker.new }
-    ensures known { Knows worker.old.view row result.1 }
+    requires inside { (0 < i) × (i < form / 2 ^ 32) }
+    ensures value { slice_get (held_words worker.old) i ≡ Some result }
+    ensures few_fetches { Reads 12 i result worker.old worker.new }
 {
-    if i < heads_of(found.form) {
-        return (worker.fetch(ROWS_BEGIN + row * ROW_WORDS + i), found);
+    if i < heads_of(form) {
+        return worker.fetch(ROWS_BEGIN + row * ROW_WORDS + i);
     }
-    let found = part_with(worker, row, found, i);
-    (worker.fetch(found.begin + (i - found.at)), found)
+    let part = search_part(worker, row, form, i);
+    worker.fetch(page_place(part.name) + (i - part_start(part.name)))
 }
 
-// Word i, which is not the first, where the row's first word is fetched first.
-fn read_from_form(worker: &mut Worker, row: usize, found: Found, i: usize) -> (u64, Found)
+/// Reads word `i`, which is not the first, and fetches the row's first word before it.
+#[cold]
+#[inline(never)]
+pub(crate) fn read_from_form(worker: &mut Worker, row: usize, i: usize) -> WordAndForm
     requires some { 0 < i }
-    requires known { Knows worker.old.view row found }
+    requires known { KnowsForm worker.old.view row 0 }
     requires held { i < length (held_words worker.old) }
-    ensures value { slice_get (held_words worker.old) i ≡ Some result.0 }
-    ensures few_fetches { FewFetches i result.0 worker.old worker.new }
-    ensures known { Knows worker.old.view row result.1 }
+    ensures value { slice_get (held_words worker.old) i ≡ Some result.word }
+    ensures few_fetches { FewFetches i result.word worker.old worker.new }
+    ensures form { 0 < result.form }
+    ensures known { KnowsForm worker.old.view row result.form }
 {
     let form = worker.fetch(ROWS_BEGIN + row * ROW_WORDS);
-    let Found {
-        form: _,
-        at,
-        len,
-        begin,
-        index,
-        next,
-    } = found;
-    let found = Found {
-        form,
-        at,
-        len,
-        begin,
-        index,
-        next,
-    };
     if length_of(form) <= i {
-        (0, found)
-    } else {
-        read_image(worker, row, found, i)
+        return WordAndForm { word: 0, form };
     }
-}
-
-/// Reads word `i`, which is not the first, and tells what is known of places then.
-#[inline(never)]
-pub(crate) fn read(worker: &mut Worker, row: usize, found: Found, i: usize) -> (u64, Found)
-    requires some { 0 < i }
-    requires known { Knows worker.old.view row found }
-    requires held { i < length (held_words worker.old) }
-    ensures value { slice_get (held_words worker.old) i ≡ Some result.0 }
-    ensures few_fetches { FewFetches i result.0 worker.old worker.new }
-    ensures known { Knows worker.old.view row result.1 }
-{
-    if i < length_of(found.form) {
-        read_image(worker, row, found, i)
-    } else {
-        read_from_form(worker, row, found, i)
-    }
+    let word = read_image(worker, row, form, i);
+    WordAndForm { word, form }
 }

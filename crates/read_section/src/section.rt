@@ -3,7 +3,7 @@
 ghost use Rattle.read_section.specs.body.Found.{Knows, KnowsIn-prop};
 
 use crate::found::{Found, Kept, NOTHING_FOUND};
-use crate::reading::{heads_of, length_of, read};
+use crate::reading::{heads_of, length_of, part_with, read_from_form};
 use crate::worker::Worker;
 use bpf_insn::Words;
 use config_image::ROW_WORDS;
@@ -65,9 +65,15 @@ impl Words for Section<'_> {
                 .worker
                 .fetch(ROWS_BEGIN + self.kept.row * ROW_WORDS + i);
         }
-        let (word, found) = read(self.worker, self.kept.row, self.kept.found, i);
-        self.kept.found = found;
-        word
+        if i < length_of(self.kept.found.form) {
+            self.kept.found = part_with(self.worker, self.kept.row, self.kept.found, i);
+            return self
+                .worker
+                .fetch(self.kept.found.begin + (i - self.kept.found.at));
+        }
+        let read = read_from_form(self.worker, self.kept.row, i);
+        self.kept.found.form = read.form;
+        read.word
     }
 }
 

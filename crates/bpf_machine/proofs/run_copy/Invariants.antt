@@ -8,8 +8,8 @@ abbrev pub invariant-running : goal.invariant-running
 invariant-running g l =
     (g.W.Words.words l.words ≡ g.W.Words.words l.fn.words)
     × (g.W.Words.rest l.words ≡ g.W.Words.rest l.fn.words)
-    × (length l.machine.cells ≡ CELL_COUNT)
-    × IsRunning (program_at (g.W.Words.words l.fn.words) l.from l.len) l.packet l.pc l.passed_over l.machine.a l.machine.x l.machine.cells
+    × (length l.cells ≡ CELL_COUNT)
+    × IsRunning (program_at (g.W.Words.words l.fn.words) l.from l.len) l.packet l.pc l.passed_over l.machine.a l.machine.x l.cells
 
 abbrev pub decreases-running : goal.decreases-running
 decreases-running g l = l.len - l.pc

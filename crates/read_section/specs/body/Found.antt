@@ -38,6 +38,13 @@ KnowsIn _ seen pages row found = Unit {0}
 abbrev pub Knows : WorkerView (List Group) → ℕ → Found → Type 0
 Knows view row found = KnowsIn view.stage view.seen view.pages row found
 
+-- of the same version, where no part was found, and no more is kept than the row's first word
+abbrev pub form_alone : ℕ → Found
+form_alone form = record { form = form; at = 0; len = 0; begin = 0; index = 0; next = 0 }
+
+abbrev pub KnowsForm : WorkerView (List Group) → ℕ → ℕ → Type 0
+KnowsForm view row form = Knows view row (form_alone form)
+
 equal_prop : (a b : ℕ) → IsProp (a ≡ b)
 equal_prop a b = Coded-set coded_ℕ a b
 

@@ -3,13 +3,13 @@ use Rattle.std.specs.Prelude.{◌≡◌, ◌+◌, ◌++◌, ◌/◌, ◌%◌, �
 use Rattle.config_image.specs.declared.TheConstants.{ROW_WORDS}
 use Rattle.config_image.specs.Image.{Group, image, programs_begin}
 use Rattle.config_image.specs.Pooled.{form_word, part_begin, parts, pooled_row}
-use Rattle.part_search.specs.declared.found.FoundPart.{FoundPart}
 use Rattle.part_search.specs.Names.{HoldsPlace}
 use Rattle.versions.specs.declared.layout.TheConstants.{ROWS}
 use Rattle.versions.specs.declared.step.Entry.{Entry}
 use Rattle.versions.specs.declared.view.Stage.TheVariants.{Inside}
 use Rattle.versions.specs.declared.view.WorkerView.{WorkerView}
 use Rattle.read_section.specs.declared.found.Found.{Found}
+use Rattle.read_section.specs.declared.found.NamedPart.{NamedPart}
 use Rattle.read_section.specs.Reads.{AreFetchesIn, with_log}
 use Rattle.read_section.specs.Worker.{WorkerValue}
 use Rattle.read_section.specs.body.Found.{HasPages}
@@ -28,8 +28,10 @@ IsSought view row form i = (k : ℕ) × (n : ℕ) × (r : ℕ) × (view.stage �
 abbrev pub names_of : List Group → List ℕ → List ℕ
 names_of config pages = take (length (parts config)) (drop (programs_begin config) (pooled_row config pages))
 
-abbrev pub FindsPart : WorkerView (List Group) → ℕ → FoundPart → Type 0
-FindsPart view i part = (k n r : ℕ) → view.stage ≡ Inside k n r → HoldsPlace (names_of (slice_index_or view.seen n []) view.pages) (length (image (slice_index_or view.seen n []))) i part
+-- the part's name is the last one that starts at word i or before it
+abbrev pub FindsPart : WorkerView (List Group) → ℕ → NamedPart → Type 0
+FindsPart view i part = (k n r : ℕ) → view.stage ≡ Inside k n r
+    → (next : ℕ) × HoldsPlace (names_of (slice_index_or view.seen n []) view.pages) (length (image (slice_index_or view.seen n []))) i (record { index = part.index; name = part.name; next = next })
 
 -- the number tells where the part at an index starts; behind the last one, where the parts end. Of a part it tells the page
 abbrev pub TellsName : WorkerView (List Group) → ℕ → ℕ → Type 0

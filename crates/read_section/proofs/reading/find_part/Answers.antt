@@ -1,13 +1,30 @@
 use Rattle.std.proofs.Common.{arith, refl}
-use Rattle.read_section.proofs.SoughtLemmas.{found_known}
+use Rattle.read_section.proofs.ReadLemmas.{fetched_both, name_before, sought_after}
+use Rattle.read_section.proofs.SoughtLemmas.{found_ahead, found_between, found_in_range, found_known}
 use Rattle.read_section.proofs.reading.find_part.Goals as goal
 
+pub name_or_end-behind-requires-clause-sought : goal.name_or_end-behind-requires-clause-sought
+name_or_end-behind-requires-clause-sought c = let few = c.search_part-part.ensures.few in sought_after few.0 c.args.worker.now c.search_part-part.new.worker few.2 c.args.row c.args.form c.args.i c.requires
+
+pub name_or_end-behind-requires-clause-index : goal.name_or_end-behind-requires-clause-index
+name_or_end-behind-requires-clause-index c = let s = c.requires in let holds = (c.search_part-part.ensures.found s.0 s.1 s.2 s.3).1 in found_in_range c.args.worker.now c.args.row c.args.form c.args.i s _ holds
+
 pub overflow_sub-result : goal.overflow_sub-result
-overflow_sub-result c = let s = c.requires in let holds = c.search_part-part.ensures.found s.0 s.1 s.2 s.3 in let from = holds.from in let to = holds.to in let a = c.start-at.ensures.start in let b = c.end.ensures.end in omega arith
+overflow_sub-result c = let s = c.requires in let w = c.args.worker.now in let few = c.search_part-part.ensures.few in let holds = (c.search_part-part.ensures.found s.0 s.1 s.2 s.3).1 in
+    let told = name_before few.0 w c.search_part-part.new.worker few.2 _ _ c.name_or_end-behind.ensures.told in
+    let between = found_between w c.args.row c.args.form c.args.i s _ holds _ (told s.0 s.1 s.2 s.3) in let a = between.0 in let b = between.1 in
+    let at = c.part_start-at.ensures in let end = c.part_start.ensures in omega arith
 
 pub returns-clause-known : goal.returns-clause-known
-returns-clause-known c = let s = c.requires in let holds = c.search_part-part.ensures.found s.0 s.1 s.2 s.3 in let from = holds.from in let to = holds.to in let a = c.start-at.ensures.start in let b = c.end.ensures.end in
-    found_known c.args.worker.now c.args.row c.args.form c.args.i s c.search_part-part.result holds s.4 _ refl refl a (omega arith) c.page_place.ensures c.page_place-2.ensures
+returns-clause-known c = let s = c.requires in let w = c.args.worker.now in let few = c.search_part-part.ensures.few in let holds = (c.search_part-part.ensures.found s.0 s.1 s.2 s.3).1 in
+    let told = name_before few.0 w c.search_part-part.new.worker few.2 _ _ c.name_or_end-behind.ensures.told in
+    found_known w c.args.row c.args.form c.args.i s _ holds _ (told s.0 s.1 s.2 s.3) s.4 _ refl refl c.part_start-at.ensures (let at = c.part_start-at.ensures in let end = c.part_start.ensures in omega arith) c.page_place.ensures c.page_place-2.ensures
 
 pub returns-clause-there : goal.returns-clause-there
-returns-clause-there c = let s = c.requires in let holds = c.search_part-part.ensures.found s.0 s.1 s.2 s.3 in let from = holds.from in let to = holds.to in let a = c.start-at.ensures.start in let b = c.end.ensures.end in (omega arith, omega arith, omega arith)
+returns-clause-there c = let s = c.requires in let w = c.args.worker.now in let few = c.search_part-part.ensures.few in let holds = (c.search_part-part.ensures.found s.0 s.1 s.2 s.3).1 in
+    let told = name_before few.0 w c.search_part-part.new.worker few.2 _ _ c.name_or_end-behind.ensures.told in
+    found_ahead w c.args.row c.args.form c.args.i s _ holds _ (told s.0 s.1 s.2 s.3) s.4 _ refl refl c.part_start-at.ensures (let at = c.part_start-at.ensures in let end = c.part_start.ensures in omega arith) c.page_place.ensures c.page_place-2.ensures
+
+pub returns-clause-few : goal.returns-clause-few
+returns-clause-few c = let few = c.search_part-part.ensures.few in let more = c.name_or_end-behind.ensures.few in let a = few.1 in let b = more.1 in
+    (_, omega arith, fetched_both few.0 c.args.worker.now c.search_part-part.new.worker few.2 more.0 c.name_or_end-behind.new.worker more.2)

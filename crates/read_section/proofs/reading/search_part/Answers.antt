@@ -44,10 +44,12 @@ loop-index-preserved c = let w = c.args.worker.now in let s = c.requires in let 
           (c.tell.ensures.told names (c.args.form / 2 ^ 32) c.args.i search (subst (λ (m : ℕ). slice_get names m ≡ Some c.fetch.result) c.in-Some.ensures.asked there));
     }
 
-pub found-requires-clause-begun : goal.found-requires-clause-begun
-found-requires-clause-begun c = let s = c.requires in (_, _, _, c.loop-index.invariant.is_search s.0 s.1 s.2 s.3)
+pub found-part-requires-clause-begun : goal.found-part-requires-clause-begun
+found-part-requires-clause-begun c = let s = c.requires in (_, _, _, c.loop-index.invariant.is_search s.0 s.1 s.2 s.3)
 
 pub returns-clause-found : goal.returns-clause-found
-returns-clause-found c = let w = c.args.worker.now in let s = c.requires in λ k n r e.
-    subst (λ (m : ℕ). HoldsPlace (names_of (slice_index_or w.view.seen m []) w.view.pages) (length (image (slice_index_or w.view.seen m []))) c.args.i c.found.result) (same_version w.view.stage s.0 s.1 s.2 k n r s.3 e)
-    (subst (λ (end : ℕ). HoldsPlace (names_of (config_held w s.1) w.view.pages) end c.args.i c.found.result) (length_is w c.args.row c.args.form c.args.i s) (c.found.ensures.found _ _ _ (c.loop-index.invariant.is_search s.0 s.1 s.2 s.3)))
+returns-clause-found c = let w = c.args.worker.now in let s = c.requires in λ k n r e. (
+  c.found-part.result.next,
+  subst (λ (m : ℕ). HoldsPlace (names_of (slice_index_or w.view.seen m []) w.view.pages) (length (image (slice_index_or w.view.seen m []))) c.args.i c.found-part.result) (same_version w.view.stage s.0 s.1 s.2 k n r s.3 e)
+      (subst (λ (end : ℕ). HoldsPlace (names_of (config_held w s.1) w.view.pages) end c.args.i c.found-part.result) (length_is w c.args.row c.args.form c.args.i s) (c.found-part.ensures.found _ _ _ (c.loop-index.invariant.is_search s.0 s.1 s.2 s.3))),
+)
