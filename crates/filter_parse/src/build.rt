@@ -1,6 +1,6 @@
 //! The tree of an expression in postfix order: its last part is taken first, and then the parts that this one stands over.
 
-ghost use Rattle.std.specs.Prelude.{◌≡◌, ◌<◌, OnOk, length};
+ghost use Rattle.std.specs.Prelude.{◌≡◌, ◌<◌, IfOk, OnOk, length};
 ghost use Rattle.filter_tree.specs.View.{arith_tree_of, tree_of};
 ghost use Rattle.filter_parse.specs.body.Stack.{from_top};
 ghost use Rattle.filter_parse.specs.body.Postfix.{HasArithmetic, HasTree, arith_parts, tree_parts};
@@ -23,6 +23,21 @@ fn place<A: Allocator + Clone>(alloc: &A) -> Result<Box<Expr<A>, A>, OutOfMemory
     Ok(Box::new(alloc.clone()?, Expr::Primitive(Primitive::Ip))?)
 }
 
+#[cycle(arithmetic)]
+fn operand<'a, A: Allocator + Clone>(
+    alloc: &'a A,
+    parts: &mut Stack<'a, Item, A>,
+) -> Result<Box<Arith<A>, A>, OutOfMemory>
+    requires { HasArithmetic (from_top parts.old) }
+    ensures taken { IfOk result (λ made. from_top parts.old ≡ arith_parts (arith_tree_of made.value) (from_top parts.new)) }
+    ensures fewer { OnOk result (length (from_top parts.new) < length (from_top parts.old)) }
+{
+    let mut made = arithmetic_place(alloc)?;
+    arithmetic(alloc, parts, &mut made)?;
+    Ok(made)
+}
+
+#[cycle(arithmetic)]
 fn arithmetic<'a, A: Allocator + Clone>(
     alloc: &'a A,
     parts: &mut Stack<'a, Item, A>,
@@ -42,16 +57,13 @@ fn arithmetic<'a, A: Allocator + Clone>(
             Ok(())
         }
         Some(Item::Access(protocol, size)) => {
-            let mut index = arithmetic_place(alloc)?;
-            arithmetic(alloc, parts, &mut index)?;
+            let index = operand(alloc, parts)?;
             *to = Arith::Accessor(protocol, index, size);
             Ok(())
         }
         Some(Item::Operate(operator)) => {
-            let mut right = arithmetic_place(alloc)?;
-            arithmetic(alloc, parts, &mut right)?;
-            let mut left = arithmetic_place(alloc)?;
-            arithmetic(alloc, parts, &mut left)?;
+            let right = operand(alloc, parts)?;
+            let left = operand(alloc, parts)?;
             *to = Arith::Operation(left, operator, right);
             Ok(())
         }
@@ -64,7 +76,22 @@ fn arithmetic<'a, A: Allocator + Clone>(
     }
 }
 
+#[cycle(build)]
+fn part<'a, A: Allocator + Clone>(
+    alloc: &'a A,
+    parts: &mut Stack<'a, Item, A>,
+) -> Result<Box<Expr<A>, A>, OutOfMemory>
+    requires { HasTree (from_top parts.old) }
+    ensures taken { IfOk result (λ made. from_top parts.old ≡ tree_parts (tree_of made.value) (from_top parts.new)) }
+    ensures fewer { OnOk result (length (from_top parts.new) < length (from_top parts.old)) }
+{
+    let mut made = place(alloc)?;
+    build(alloc, parts, &mut made)?;
+    Ok(made)
+}
+
 /// Takes the last tree from some parts, and puts it to its place.
+#[cycle(build)]
 pub(crate) fn build<'a, A: Allocator + Clone>(
     alloc: &'a A,
     parts: &mut Stack<'a, Item, A>,
@@ -88,25 +115,17 @@ pub(crate) fn build<'a, A: Allocator + Clone>(
             Ok(())
         }
         Some(Item::Negate) => {
-            let mut inner = place(alloc)?;
-            build(alloc, parts, &mut inner)?;
-            *to = Expr::Not(inner);
+            *to = Expr::Not(part(alloc, parts)?);
             Ok(())
         }
         Some(Item::Conjoin) => {
-            let mut right = place(alloc)?;
-            build(alloc, parts, &mut right)?;
-            let mut left = place(alloc)?;
-            build(alloc, parts, &mut left)?;
-            *to = Expr::And(left, right);
+            let right = part(alloc, parts)?;
+            *to = Expr::And(part(alloc, parts)?, right);
             Ok(())
         }
         Some(Item::Disjoin) => {
-            let mut right = place(alloc)?;
-            build(alloc, parts, &mut right)?;
-            let mut left = place(alloc)?;
-            build(alloc, parts, &mut left)?;
-            *to = Expr::Or(left, right);
+            let right = part(alloc, parts)?;
+            *to = Expr::Or(part(alloc, parts)?, right);
             Ok(())
         }
         Some(Item::Number(_)) => unreachable!(),
