@@ -23,6 +23,22 @@ fn place<A: Allocator + Clone>(alloc: &A) -> Result<Box<Expr<A>, A>, OutOfMemory
     Ok(Box::new(alloc.clone()?, Expr::Primitive(Primitive::Ip))?)
 }
 
+// These two drop what stood in the place, so the functions that call them need not.
+
+#[inline(always)]
+fn put_arithmetic<A: Allocator>(to: &mut Arith<A>, made: Arith<A>)
+    ensures { to.new ≡ made }
+{
+    *to = made;
+}
+
+#[inline(always)]
+fn put<A: Allocator>(to: &mut Expr<A>, made: Expr<A>)
+    ensures { to.new ≡ made }
+{
+    *to = made;
+}
+
 #[cycle(arithmetic)]
 fn operand<'a, A: Allocator + Clone>(
     alloc: &'a A,
@@ -49,22 +65,22 @@ fn arithmetic<'a, A: Allocator + Clone>(
 {
     match parts.pop() {
         Some(Item::Number(n)) => {
-            *to = Arith::Number(n);
+            put_arithmetic(to, Arith::Number(n));
             Ok(())
         }
         Some(Item::Length) => {
-            *to = Arith::Length;
+            put_arithmetic(to, Arith::Length);
             Ok(())
         }
         Some(Item::Access(protocol, size)) => {
             let index = operand(alloc, parts)?;
-            *to = Arith::Accessor(protocol, index, size);
+            put_arithmetic(to, Arith::Accessor(protocol, index, size));
             Ok(())
         }
         Some(Item::Operate(operator)) => {
             let right = operand(alloc, parts)?;
             let left = operand(alloc, parts)?;
-            *to = Arith::Operation(left, operator, right);
+            put_arithmetic(to, Arith::Operation(left, operator, right));
             Ok(())
         }
         Some(Item::Primitive(_)) => unreachable!(),
@@ -103,7 +119,7 @@ pub(crate) fn build<'a, A: Allocator + Clone>(
 {
     match parts.pop() {
         Some(Item::Primitive(primitive)) => {
-            *to = Expr::Primitive(primitive);
+            put(to, Expr::Primitive(primitive));
             Ok(())
         }
         Some(Item::Relate(relator)) => {
@@ -111,21 +127,21 @@ pub(crate) fn build<'a, A: Allocator + Clone>(
             arithmetic(alloc, parts, &mut right)?;
             let mut left = Arith::Length;
             arithmetic(alloc, parts, &mut left)?;
-            *to = Expr::Relation(left, relator, right);
+            put(to, Expr::Relation(left, relator, right));
             Ok(())
         }
         Some(Item::Negate) => {
-            *to = Expr::Not(part(alloc, parts)?);
+            put(to, Expr::Not(part(alloc, parts)?));
             Ok(())
         }
         Some(Item::Conjoin) => {
             let right = part(alloc, parts)?;
-            *to = Expr::And(part(alloc, parts)?, right);
+            put(to, Expr::And(part(alloc, parts)?, right));
             Ok(())
         }
         Some(Item::Disjoin) => {
             let right = part(alloc, parts)?;
-            *to = Expr::Or(part(alloc, parts)?, right);
+            put(to, Expr::Or(part(alloc, parts)?, right));
             Ok(())
         }
         Some(Item::Number(_)) => unreachable!(),
