@@ -3,9 +3,9 @@
 ghost use Rattle.std.specs.Prelude.{◌≡◌, IfOk, Some, codes, false, map, string_bytes};
 ghost use Rattle.std.specs.Option.{option_map};
 ghost use Rattle.clap.specs.Walk.{first_of};
-ghost use Rattle.clap.specs.Words.{FailsBy, app_of, found_of, new_app, rows_of, rule_of};
+ghost use Rattle.clap.specs.Words.{App, FailsBy, app_of, found_of, new_app, rows_of, rule_of, with_subcommand};
 ghost use Rattle.clap.specs.declared.builder.command.Command.TheViews.{out-Command};
-ghost use Rattle.command_line.specs.CommandLine.{any_number_of, check_line, command_line, compile_line, explain_line, faults_in, flood_line, format_in, named_argument, query_request, request_in, request_named, request_of, required_named_argument, run_line, run_or_judge, serve_line, tell_line, timeout_argument, timeout_in, value_in, values_in, workers_argument};
+ghost use Rattle.command_line.specs.CommandLine.{any_number_of, check_line, command_line, compile_line, explain_line, faults_in, flood_line, format_in, named_argument, query_request, request_in, request_named, request_of, required_named_argument, run_line, run_or_judge, serve_line, tell_line, timeout_argument, timeout_in, value_in, values_in, without_commands, workers_argument};
 
 use crate::help;
 use clap::builder::ValueParser;
@@ -250,26 +250,48 @@ fn plain_command<'a>(alloc: Global, name: &'a str, about: &'a str, more: &'a str
     Command::new(alloc, name).about(about).after_help(more)
 }
 
-// Each command is made where it is added, so that no more than one is at hand where memory is refused.
+// The program before its commands.
+fn without_commands<'a>(alloc: Global) -> Result<Command<'a>, AllocError>
+    ensures { IfOk result (λ program. app_of program ≡ without_commands) }
+{
+    Ok(
+        Command::new(alloc, "dswitch")
+            .bin_name("dswitch")?
+            .about(help::PROGRAM)
+            .after_help(help::STATUSES)
+            .version("0.2.0")
+            .no_binary_name(true)
+            .subcommand_required(true),
+    )
+}
+
+// Adds a command, where memory for both was found. `program` goes on without a test, since each `?` would have to drop what is made.
+fn with_command<'a>(
+    program: Result<Command<'a>, AllocError>,
+    command: Result<Command<'a>, AllocError>,
+) -> Result<Command<'a>, AllocError>
+    ensures { (before line : App) → IfOk program.entry (λ made. app_of made ≡ before)
+        → IfOk command.entry (λ made. (app_of made ≡ line) × ((out-Command made).has_globals ≡ false))
+        → IfOk result (λ made. app_of made ≡ with_subcommand before line.top) }
+{
+    program?.subcommand(command?)
+}
+
 fn program<'a>(alloc: Global) -> Result<Command<'a>, AllocError>
     ensures { IfOk result (λ program. app_of program ≡ command_line) }
 {
-    Command::new(alloc, "dswitch")
-        .bin_name("dswitch")?
-        .about(help::PROGRAM)
-        .after_help(help::STATUSES)
-        .version("0.2.0")
-        .no_binary_name(true)
-        .subcommand_required(true)
-        .subcommand(plain_command(alloc, "first", help::FIRST, help::FIRST_MORE))?
-        .subcommand(check_command(alloc)?)?
-        .subcommand(compile_command(alloc)?)?
-        .subcommand(run_command(alloc)?)?
-        .subcommand(explain_command(alloc)?)?
-        .subcommand(plain_command(alloc, "replay", help::REPLAY, help::REPLAY_MORE))?
-        .subcommand(flood_command(alloc)?)?
-        .subcommand(serve_command(alloc)?)?
-        .subcommand(tell_command(alloc)?)
+    let program = without_commands(alloc);
+    let first = plain_command(alloc, "first", help::FIRST, help::FIRST_MORE);
+    let program = with_command(program, Ok(first));
+    let program = with_command(program, check_command(alloc));
+    let program = with_command(program, compile_command(alloc));
+    let program = with_command(program, run_command(alloc));
+    let program = with_command(program, explain_command(alloc));
+    let replay = plain_command(alloc, "replay", help::REPLAY, help::REPLAY_MORE);
+    let program = with_command(program, Ok(replay));
+    let program = with_command(program, flood_command(alloc));
+    let program = with_command(program, serve_command(alloc));
+    with_command(program, tell_command(alloc))
 }
 
 // The value of an argument, which a required one has.
