@@ -3,7 +3,7 @@
 ghost use Rattle.std.specs.Prelude.{◌≡◌, IfOk, Some, codes, false, map, string_bytes};
 ghost use Rattle.std.specs.Option.{option_map};
 ghost use Rattle.clap.specs.Walk.{first_of};
-ghost use Rattle.clap.specs.Words.{App, FailsBy, app_of, found_of, new_app, rows_of, rule_of, with_subcommand};
+ghost use Rattle.clap.specs.Words.{App, FailsBy, Rule, app_of, found_of, new_app, rows_of, rule_of, with_rule, with_subcommand};
 ghost use Rattle.clap.specs.declared.builder.command.Command.TheViews.{out-Command};
 ghost use Rattle.command_line.specs.CommandLine.{any_number_of, check_line, command_line, compile_line, explain_line, faults_in, flood_line, format_in, named_argument, query_request, request_in, request_named, request_of, required_named_argument, run_line, run_or_judge, serve_line, tell_line, timeout_argument, timeout_in, value_in, values_in, without_commands, workers_argument};
 
@@ -66,6 +66,28 @@ pub enum Subcommand<'a> {
     },
 }
 
+// A command without arguments.
+fn plain_command<'a>(alloc: Global, name: &'a str, about: &'a str, more: &'a str) -> Command<'a>
+    ensures app { app_of result ≡ new_app name.entry.now }
+    ensures local { (out-Command result).has_globals ≡ false }
+{
+    Command::new(alloc, name).about(about).after_help(more)
+}
+
+// Adds an argument, where memory for the command was found. Commands go on without a test, since each `?` would have to drop
+// what is made.
+fn with_argument<'a>(
+    command: Result<Command<'a>, AllocError>,
+    argument: Arg<'a>,
+) -> Result<Command<'a>, AllocError>
+    ensures app { (before : App) (rule : Rule) → IfOk command.entry (λ made. app_of made ≡ before) → rule_of argument.entry ≡ rule
+        → argument.entry.global ≡ false → IfOk result (λ made. app_of made ≡ with_rule before rule) }
+    ensures local { IfOk command.entry (λ made. (out-Command made).has_globals ≡ false) → argument.entry.global ≡ false
+        → IfOk result (λ made. (out-Command made).has_globals ≡ false) }
+{
+    command?.arg(argument)
+}
+
 // `--format NAME`
 fn format_argument<'a>(alloc: Global, help: &'a str) -> Arg<'a>
     ensures rule { rule_of result ≡ named_argument (codes "format") }
@@ -95,12 +117,9 @@ fn compile_command<'a>(alloc: Global) -> Result<Command<'a>, AllocError>
     let expression = Arg::new(alloc, "EXPR")
         .required(true)
         .help(help::COMPILE_EXPRESSION);
-    let format = format_argument(alloc, help::OUTPUT_FORMAT);
-    Command::new(alloc, "compile")
-        .about(help::COMPILE)
-        .after_help(help::COMPILE_MORE)
-        .arg(expression)?
-        .arg(format)
+    let command = plain_command(alloc, "compile", help::COMPILE, help::COMPILE_MORE);
+    let command = with_argument(Ok(command), expression);
+    with_argument(command, format_argument(alloc, help::OUTPUT_FORMAT))
 }
 
 // `--packet HEX`
@@ -130,15 +149,10 @@ fn run_command<'a>(alloc: Global) -> Result<Command<'a>, AllocError>
     ensures app { IfOk result (λ command. app_of command ≡ run_line) }
     ensures local { IfOk result (λ command. (out-Command command).has_globals ≡ false) }
 {
-    let packet = packet_argument(alloc);
-    let expression = expression_argument(alloc);
-    let format = format_argument(alloc, help::INPUT_FORMAT);
-    Command::new(alloc, "run")
-        .about(help::RUN)
-        .after_help(help::RUN_MORE)
-        .arg(packet)?
-        .arg(expression)?
-        .arg(format)
+    let command = plain_command(alloc, "run", help::RUN, help::RUN_MORE);
+    let command = with_argument(Ok(command), packet_argument(alloc));
+    let command = with_argument(command, expression_argument(alloc));
+    with_argument(command, format_argument(alloc, help::INPUT_FORMAT))
 }
 
 fn explain_command<'a>(alloc: Global) -> Result<Command<'a>, AllocError>
@@ -196,13 +210,10 @@ fn serve_command<'a>(alloc: Global) -> Result<Command<'a>, AllocError>
 {
     let front = address_argument(alloc, "front", help::SERVE_FRONT);
     let control = address_argument(alloc, "control", help::SERVE_CONTROL);
-    let workers = workers_argument(alloc, help::SERVE_WORKERS);
-    Command::new(alloc, "serve")
-        .about(help::SERVE)
-        .after_help(help::SERVE_MORE)
-        .arg(front)?
-        .arg(control)?
-        .arg(workers)
+    let command = plain_command(alloc, "serve", help::SERVE, help::SERVE_MORE);
+    let command = with_argument(Ok(command), front);
+    let command = with_argument(command, control);
+    with_argument(command, workers_argument(alloc, help::SERVE_WORKERS))
 }
 
 // `--timeout SECONDS`
@@ -232,22 +243,10 @@ fn tell_command<'a>(alloc: Global) -> Result<Command<'a>, AllocError>
     ensures local { IfOk result (λ command. (out-Command command).has_globals ≡ false) }
 {
     let control = address_argument(alloc, "control", help::TELL_CONTROL);
-    let timeout = timeout_argument(alloc);
-    let lines = lines_argument(alloc);
-    Command::new(alloc, "tell")
-        .about(help::TELL)
-        .after_help(help::TELL_MORE)
-        .arg(control)?
-        .arg(timeout)?
-        .arg(lines)
-}
-
-// A command without arguments.
-fn plain_command<'a>(alloc: Global, name: &'a str, about: &'a str, more: &'a str) -> Command<'a>
-    ensures app { app_of result ≡ new_app name.entry.now }
-    ensures local { (out-Command result).has_globals ≡ false }
-{
-    Command::new(alloc, name).about(about).after_help(more)
+    let command = plain_command(alloc, "tell", help::TELL, help::TELL_MORE);
+    let command = with_argument(Ok(command), control);
+    let command = with_argument(command, timeout_argument(alloc));
+    with_argument(command, lines_argument(alloc))
 }
 
 // The program before its commands.
@@ -265,7 +264,7 @@ fn without_commands<'a>(alloc: Global) -> Result<Command<'a>, AllocError>
     )
 }
 
-// Adds a command, where memory for both was found. `program` goes on without a test, since each `?` would have to drop what is made.
+// Adds a command, where memory for both was found.
 fn with_command<'a>(
     program: Result<Command<'a>, AllocError>,
     command: Result<Command<'a>, AllocError>,
