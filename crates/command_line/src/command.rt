@@ -3,9 +3,9 @@
 ghost use Rattle.std.specs.Prelude.{◌≡◌, IfOk, Some, codes, false, map, string_bytes};
 ghost use Rattle.std.specs.Option.{option_map};
 ghost use Rattle.clap.specs.Walk.{first_of};
-ghost use Rattle.clap.specs.Words.{FailsBy, app_of, found_of, new_app, rows_of, rule_of};
+ghost use Rattle.clap.specs.Words.{App, FailsBy, Rule, app_of, found_of, new_app, rows_of, rule_of, with_rule, with_subcommand};
 ghost use Rattle.clap.specs.declared.builder.command.Command.TheViews.{out-Command};
-ghost use Rattle.command_line.specs.CommandLine.{any_number_of, check_line, command_line, compile_line, explain_line, faults_in, flood_line, format_in, named_argument, query_request, request_in, request_named, request_of, required_named_argument, run_line, run_or_judge, serve_line, tell_line, timeout_argument, timeout_in, value_in, values_in, workers_argument};
+ghost use Rattle.command_line.specs.CommandLine.{any_number_of, check_line, command_line, compile_line, explain_line, faults_in, flood_line, format_in, named_argument, query_request, request_in, request_named, request_of, required_named_argument, run_line, run_or_judge, serve_line, tell_line, timeout_argument, timeout_in, value_in, values_in, without_commands, workers_argument};
 
 use crate::help;
 use clap::builder::ValueParser;
@@ -66,6 +66,28 @@ pub enum Subcommand<'a> {
     },
 }
 
+// A command without arguments.
+fn plain_command<'a>(alloc: Global, name: &'a str, about: &'a str, more: &'a str) -> Command<'a>
+    ensures app { app_of result ≡ new_app name.entry.now }
+    ensures local { (out-Command result).has_globals ≡ false }
+{
+    Command::new(alloc, name).about(about).after_help(more)
+}
+
+// Adds an argument, where memory for the command was found. Commands go on without a test, since each `?` would have to drop
+// what is made.
+fn with_argument<'a>(
+    command: Result<Command<'a>, AllocError>,
+    argument: Arg<'a>,
+) -> Result<Command<'a>, AllocError>
+    ensures app { (before : App) (rule : Rule) → IfOk command.entry (λ made. app_of made ≡ before) → rule_of argument.entry ≡ rule
+        → argument.entry.global ≡ false → IfOk result (λ made. app_of made ≡ with_rule before rule) }
+    ensures local { IfOk command.entry (λ made. (out-Command made).has_globals ≡ false) → argument.entry.global ≡ false
+        → IfOk result (λ made. (out-Command made).has_globals ≡ false) }
+{
+    command?.arg(argument)
+}
+
 // `--format NAME`
 fn format_argument<'a>(alloc: Global, help: &'a str) -> Arg<'a>
     ensures rule { rule_of result ≡ named_argument (codes "format") }
@@ -95,12 +117,9 @@ fn compile_command<'a>(alloc: Global) -> Result<Command<'a>, AllocError>
     let expression = Arg::new(alloc, "EXPR")
         .required(true)
         .help(help::COMPILE_EXPRESSION);
-    let format = format_argument(alloc, help::OUTPUT_FORMAT);
-    Command::new(alloc, "compile")
-        .about(help::COMPILE)
-        .after_help(help::COMPILE_MORE)
-        .arg(expression)?
-        .arg(format)
+    let command = plain_command(alloc, "compile", help::COMPILE, help::COMPILE_MORE);
+    let command = with_argument(Ok(command), expression);
+    with_argument(command, format_argument(alloc, help::OUTPUT_FORMAT))
 }
 
 // `--packet HEX`
@@ -130,15 +149,10 @@ fn run_command<'a>(alloc: Global) -> Result<Command<'a>, AllocError>
     ensures app { IfOk result (λ command. app_of command ≡ run_line) }
     ensures local { IfOk result (λ command. (out-Command command).has_globals ≡ false) }
 {
-    let packet = packet_argument(alloc);
-    let expression = expression_argument(alloc);
-    let format = format_argument(alloc, help::INPUT_FORMAT);
-    Command::new(alloc, "run")
-        .about(help::RUN)
-        .after_help(help::RUN_MORE)
-        .arg(packet)?
-        .arg(expression)?
-        .arg(format)
+    let command = plain_command(alloc, "run", help::RUN, help::RUN_MORE);
+    let command = with_argument(Ok(command), packet_argument(alloc));
+    let command = with_argument(command, expression_argument(alloc));
+    with_argument(command, format_argument(alloc, help::INPUT_FORMAT))
 }
 
 fn explain_command<'a>(alloc: Global) -> Result<Command<'a>, AllocError>
@@ -196,13 +210,10 @@ fn serve_command<'a>(alloc: Global) -> Result<Command<'a>, AllocError>
 {
     let front = address_argument(alloc, "front", help::SERVE_FRONT);
     let control = address_argument(alloc, "control", help::SERVE_CONTROL);
-    let workers = workers_argument(alloc, help::SERVE_WORKERS);
-    Command::new(alloc, "serve")
-        .about(help::SERVE)
-        .after_help(help::SERVE_MORE)
-        .arg(front)?
-        .arg(control)?
-        .arg(workers)
+    let command = plain_command(alloc, "serve", help::SERVE, help::SERVE_MORE);
+    let command = with_argument(Ok(command), front);
+    let command = with_argument(command, control);
+    with_argument(command, workers_argument(alloc, help::SERVE_WORKERS))
 }
 
 // `--timeout SECONDS`
@@ -232,44 +243,54 @@ fn tell_command<'a>(alloc: Global) -> Result<Command<'a>, AllocError>
     ensures local { IfOk result (λ command. (out-Command command).has_globals ≡ false) }
 {
     let control = address_argument(alloc, "control", help::TELL_CONTROL);
-    let timeout = timeout_argument(alloc);
-    let lines = lines_argument(alloc);
-    Command::new(alloc, "tell")
-        .about(help::TELL)
-        .after_help(help::TELL_MORE)
-        .arg(control)?
-        .arg(timeout)?
-        .arg(lines)
+    let command = plain_command(alloc, "tell", help::TELL, help::TELL_MORE);
+    let command = with_argument(Ok(command), control);
+    let command = with_argument(command, timeout_argument(alloc));
+    with_argument(command, lines_argument(alloc))
 }
 
-// A command without arguments.
-fn plain_command<'a>(alloc: Global, name: &'a str, about: &'a str, more: &'a str) -> Command<'a>
-    ensures app { app_of result ≡ new_app name.entry.now }
-    ensures local { (out-Command result).has_globals ≡ false }
+// The program before its commands.
+fn without_commands<'a>(alloc: Global) -> Result<Command<'a>, AllocError>
+    ensures { IfOk result (λ program. app_of program ≡ without_commands) }
 {
-    Command::new(alloc, name).about(about).after_help(more)
+    Ok(
+        Command::new(alloc, "dswitch")
+            .bin_name("dswitch")?
+            .about(help::PROGRAM)
+            .after_help(help::STATUSES)
+            .version("0.2.0")
+            .no_binary_name(true)
+            .subcommand_required(true),
+    )
 }
 
-// Each command is made where it is added, so that no more than one is at hand where memory is refused.
+// Adds a command, where memory for both was found.
+fn with_command<'a>(
+    program: Result<Command<'a>, AllocError>,
+    command: Result<Command<'a>, AllocError>,
+) -> Result<Command<'a>, AllocError>
+    ensures { (before line : App) → IfOk program.entry (λ made. app_of made ≡ before)
+        → IfOk command.entry (λ made. (app_of made ≡ line) × ((out-Command made).has_globals ≡ false))
+        → IfOk result (λ made. app_of made ≡ with_subcommand before line.top) }
+{
+    program?.subcommand(command?)
+}
+
 fn program<'a>(alloc: Global) -> Result<Command<'a>, AllocError>
     ensures { IfOk result (λ program. app_of program ≡ command_line) }
 {
-    Command::new(alloc, "dswitch")
-        .bin_name("dswitch")?
-        .about(help::PROGRAM)
-        .after_help(help::STATUSES)
-        .version("0.2.0")
-        .no_binary_name(true)
-        .subcommand_required(true)
-        .subcommand(plain_command(alloc, "first", help::FIRST, help::FIRST_MORE))?
-        .subcommand(check_command(alloc)?)?
-        .subcommand(compile_command(alloc)?)?
-        .subcommand(run_command(alloc)?)?
-        .subcommand(explain_command(alloc)?)?
-        .subcommand(plain_command(alloc, "replay", help::REPLAY, help::REPLAY_MORE))?
-        .subcommand(flood_command(alloc)?)?
-        .subcommand(serve_command(alloc)?)?
-        .subcommand(tell_command(alloc)?)
+    let program = without_commands(alloc);
+    let first = plain_command(alloc, "first", help::FIRST, help::FIRST_MORE);
+    let program = with_command(program, Ok(first));
+    let program = with_command(program, check_command(alloc));
+    let program = with_command(program, compile_command(alloc));
+    let program = with_command(program, run_command(alloc));
+    let program = with_command(program, explain_command(alloc));
+    let replay = plain_command(alloc, "replay", help::REPLAY, help::REPLAY_MORE);
+    let program = with_command(program, Ok(replay));
+    let program = with_command(program, flood_command(alloc));
+    let program = with_command(program, serve_command(alloc));
+    with_command(program, tell_command(alloc))
 }
 
 // The value of an argument, which a required one has.

@@ -1,6 +1,6 @@
 //! The tree of an expression in postfix order: its last part is taken first, and then the parts that this one stands over.
 
-ghost use Rattle.std.specs.Prelude.{◌≡◌, ◌<◌, OnOk, length};
+ghost use Rattle.std.specs.Prelude.{◌≡◌, ◌<◌, IfOk, OnOk, length};
 ghost use Rattle.filter_tree.specs.View.{arith_tree_of, tree_of};
 ghost use Rattle.filter_parse.specs.body.Stack.{from_top};
 ghost use Rattle.filter_parse.specs.body.Postfix.{HasArithmetic, HasTree, arith_parts, tree_parts};
@@ -23,6 +23,37 @@ fn place<A: Allocator + Clone>(alloc: &A) -> Result<Box<Expr<A>, A>, OutOfMemory
     Ok(Box::new(alloc.clone()?, Expr::Primitive(Primitive::Ip))?)
 }
 
+// These two drop what stood in the place, so the functions that call them need not.
+
+#[inline(always)]
+fn put_arithmetic<A: Allocator>(to: &mut Arith<A>, made: Arith<A>)
+    ensures { to.new ≡ made }
+{
+    *to = made;
+}
+
+#[inline(always)]
+fn put<A: Allocator>(to: &mut Expr<A>, made: Expr<A>)
+    ensures { to.new ≡ made }
+{
+    *to = made;
+}
+
+#[cycle(arithmetic)]
+fn operand<'a, A: Allocator + Clone>(
+    alloc: &'a A,
+    parts: &mut Stack<'a, Item, A>,
+) -> Result<Box<Arith<A>, A>, OutOfMemory>
+    requires { HasArithmetic (from_top parts.old) }
+    ensures taken { IfOk result (λ made. from_top parts.old ≡ arith_parts (arith_tree_of made.value) (from_top parts.new)) }
+    ensures fewer { OnOk result (length (from_top parts.new) < length (from_top parts.old)) }
+{
+    let mut made = arithmetic_place(alloc)?;
+    arithmetic(alloc, parts, &mut made)?;
+    Ok(made)
+}
+
+#[cycle(arithmetic)]
 fn arithmetic<'a, A: Allocator + Clone>(
     alloc: &'a A,
     parts: &mut Stack<'a, Item, A>,
@@ -34,25 +65,22 @@ fn arithmetic<'a, A: Allocator + Clone>(
 {
     match parts.pop() {
         Some(Item::Number(n)) => {
-            *to = Arith::Number(n);
+            put_arithmetic(to, Arith::Number(n));
             Ok(())
         }
         Some(Item::Length) => {
-            *to = Arith::Length;
+            put_arithmetic(to, Arith::Length);
             Ok(())
         }
         Some(Item::Access(protocol, size)) => {
-            let mut index = arithmetic_place(alloc)?;
-            arithmetic(alloc, parts, &mut index)?;
-            *to = Arith::Accessor(protocol, index, size);
+            let index = operand(alloc, parts)?;
+            put_arithmetic(to, Arith::Accessor(protocol, index, size));
             Ok(())
         }
         Some(Item::Operate(operator)) => {
-            let mut right = arithmetic_place(alloc)?;
-            arithmetic(alloc, parts, &mut right)?;
-            let mut left = arithmetic_place(alloc)?;
-            arithmetic(alloc, parts, &mut left)?;
-            *to = Arith::Operation(left, operator, right);
+            let right = operand(alloc, parts)?;
+            let left = operand(alloc, parts)?;
+            put_arithmetic(to, Arith::Operation(left, operator, right));
             Ok(())
         }
         Some(Item::Primitive(_)) => unreachable!(),
@@ -64,7 +92,22 @@ fn arithmetic<'a, A: Allocator + Clone>(
     }
 }
 
+#[cycle(build)]
+fn part<'a, A: Allocator + Clone>(
+    alloc: &'a A,
+    parts: &mut Stack<'a, Item, A>,
+) -> Result<Box<Expr<A>, A>, OutOfMemory>
+    requires { HasTree (from_top parts.old) }
+    ensures taken { IfOk result (λ made. from_top parts.old ≡ tree_parts (tree_of made.value) (from_top parts.new)) }
+    ensures fewer { OnOk result (length (from_top parts.new) < length (from_top parts.old)) }
+{
+    let mut made = place(alloc)?;
+    build(alloc, parts, &mut made)?;
+    Ok(made)
+}
+
 /// Takes the last tree from some parts, and puts it to its place.
+#[cycle(build)]
 pub(crate) fn build<'a, A: Allocator + Clone>(
     alloc: &'a A,
     parts: &mut Stack<'a, Item, A>,
@@ -76,7 +119,7 @@ pub(crate) fn build<'a, A: Allocator + Clone>(
 {
     match parts.pop() {
         Some(Item::Primitive(primitive)) => {
-            *to = Expr::Primitive(primitive);
+            put(to, Expr::Primitive(primitive));
             Ok(())
         }
         Some(Item::Relate(relator)) => {
@@ -84,29 +127,21 @@ pub(crate) fn build<'a, A: Allocator + Clone>(
             arithmetic(alloc, parts, &mut right)?;
             let mut left = Arith::Length;
             arithmetic(alloc, parts, &mut left)?;
-            *to = Expr::Relation(left, relator, right);
+            put(to, Expr::Relation(left, relator, right));
             Ok(())
         }
         Some(Item::Negate) => {
-            let mut inner = place(alloc)?;
-            build(alloc, parts, &mut inner)?;
-            *to = Expr::Not(inner);
+            put(to, Expr::Not(part(alloc, parts)?));
             Ok(())
         }
         Some(Item::Conjoin) => {
-            let mut right = place(alloc)?;
-            build(alloc, parts, &mut right)?;
-            let mut left = place(alloc)?;
-            build(alloc, parts, &mut left)?;
-            *to = Expr::And(left, right);
+            let right = part(alloc, parts)?;
+            put(to, Expr::And(part(alloc, parts)?, right));
             Ok(())
         }
         Some(Item::Disjoin) => {
-            let mut right = place(alloc)?;
-            build(alloc, parts, &mut right)?;
-            let mut left = place(alloc)?;
-            build(alloc, parts, &mut left)?;
-            *to = Expr::Or(left, right);
+            let right = part(alloc, parts)?;
+            put(to, Expr::Or(part(alloc, parts)?, right));
             Ok(())
         }
         Some(Item::Number(_)) => unreachable!(),

@@ -3,7 +3,7 @@
 use filter_tree::{Operator, Primitive, Protocol, Relation, Size};
 
 /// A part of an expression, which takes the parts that it stands over from those before it.
-#[derive(Clone, Copy, Debug, Default, PartialEq, Eq)]
+#[derive(Clone, Copy, Default)]
 pub(crate) enum Item {
     #[default]
     Length,

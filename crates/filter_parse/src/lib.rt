@@ -4,11 +4,13 @@
 //! order. Only a whole expression whose depth is within the limit becomes a tree.
 #![tactic(auto)]
 
-ghost use Rattle.std.specs.Prelude.{◌≡◌, ◌⊎◌, IfErr, IfOk};
+ghost use Rattle.std.specs.Prelude.{◌≡◌, ◌⊎◌, IfErr, IfOk, []};
 ghost use Rattle.filter_tree.specs.Tree.{Tree};
 ghost use Rattle.filter_tree.specs.View.{tree_of};
+ghost use Rattle.filter_parse.specs.declared.state.State.TheVariants.{Expects};
 ghost use Rattle.filter_parse.specs.Fault.{HasFault, HasTree};
 ghost use Rattle.filter_parse.specs.Laws.{ExcludesFaults, HasOneFault, IsUnambiguous, ReadsBack};
+ghost use Rattle.filter_parse.specs.body.Parser.{parsing, parsing_of};
 
 mod arithmetic;
 mod build;
@@ -58,12 +60,27 @@ pub fn parse<A: Allocator + Clone>(alloc: A, text: &[u8]) -> Result<Expr<A>, Par
     ensures every_tree { (tree : Tree) → HasTree text.now tree → IfErr result (λ fault. fault ≡ ParseFault.OutOfMemory) }
 {
     let mut parser = Parser::new(&alloc);
+    read_tree(&alloc, &mut parser, text)
+}
+
+// The same by a parser before the text, which `parse` drops at one place, and not where each test fails.
+fn read_tree<'a, A: Allocator + Clone>(
+    alloc: &'a A,
+    parser: &mut Parser<'a, A>,
+    text: &[u8],
+) -> Result<Expr<A>, ParseFault>
+    requires start { parsing_of parser.old ≡ parsing Expects [] [] }
+    requires brackets { parser.old.brackets ≡ 0 }
+    ensures parses { IfOk result (λ e. HasTree text.now (tree_of e)) }
+    ensures fault { IfErr result (λ fault. (fault ≡ ParseFault.OutOfMemory) ⊎ HasFault text.now fault) }
+    ensures every_tree { (tree : Tree) → HasTree text.now tree → IfErr result (λ fault. fault ≡ ParseFault.OutOfMemory) }
+{
     parser.read(text)?;
-    if is_too_deep(&alloc, parser.output.entries())? {
+    if is_too_deep(alloc, parser.output.entries())? {
         return Err(ParseFault::TooDeep { at: text.len() });
     }
     let mut tree = Expr::Primitive(Primitive::Ip);
-    build(&alloc, &mut parser.output, &mut tree)?;
+    build(alloc, &mut parser.output, &mut tree)?;
     Ok(tree)
 }
 

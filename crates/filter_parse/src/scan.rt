@@ -10,7 +10,7 @@ use crate::sign::{pair_sign, sign, word_token};
 use crate::token::{Lexeme, Token};
 
 /// A token, the place of its first byte, and the place behind its last.
-#[derive(Clone, Copy, Debug, PartialEq, Eq)]
+#[derive(Clone, Copy)]
 pub(crate) struct Found {
     pub(crate) token: Token,
     pub(crate) place: usize,

@@ -11,7 +11,7 @@ use crate::token::Connective;
 use filter_tree::{Direction, Operator, Protocol, Relation, Size, Transport};
 
 /// What has been shifted last.
-#[derive(Clone, Copy, Debug, PartialEq, Eq)]
+#[derive(Clone, Copy)]
 pub(crate) enum State {
     /// Nothing, or what an operand or an expression is to follow.
     Expects,
@@ -54,7 +54,7 @@ pub(crate) enum State {
 }
 
 /// What is pending on the stack, until its right side is whole.
-#[derive(Clone, Copy, Debug, Default, PartialEq, Eq)]
+#[derive(Clone, Copy, Default)]
 pub(crate) enum Pending {
     /// An expression and `and` or `or`.
     Joined(Connective),

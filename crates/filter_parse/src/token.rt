@@ -6,7 +6,7 @@ use filter_tree::{Operator, Protocol, Relation};
 pub(crate) const TOO_BIG: u64 = 1 << 32;
 
 /// `and` or `or`, as it is spelt.
-#[derive(Clone, Copy, Debug, PartialEq, Eq)]
+#[derive(Clone, Copy)]
 pub(crate) enum Connective {
     /// `and`.
     And,
@@ -19,7 +19,7 @@ pub(crate) enum Connective {
 }
 
 /// A token of a filter expression.
-#[derive(Clone, Copy, Debug, PartialEq, Eq)]
+#[derive(Clone, Copy)]
 pub(crate) enum Token {
     /// `ip`, `tcp`, `udp`, `icmp`.
     Named(Protocol),
@@ -71,7 +71,7 @@ pub(crate) enum Token {
 }
 
 /// A token and its number of bytes.
-#[derive(Clone, Copy, Debug, PartialEq, Eq)]
+#[derive(Clone, Copy)]
 pub(crate) struct Lexeme {
     pub(crate) token: Token,
     pub(crate) len: usize,

@@ -1,38 +1,39 @@
-use Rattle.std.proofs.Common.{◌≡◌, ◌∙◌, ap, ap₂, codes, true}
-use Rattle.std.proofs.lemmas.Result.{IfOk-weaker}
-use Rattle.clap.specs.Simple.{app_of_fields}
-use Rattle.clap.specs.Words.{App, Shape, app_of, new_app, with_subcommand}
-use Rattle.command_line.specs.CommandLine.{without_commands}
+use Rattle.std.proofs.Common.{◌≡◌, false, Err, Ok, Result}
+use Rattle.std.specs.Prelude.{IfOk}
+use Rattle.clap.specs.declared.builder.command.Command.{Command}
+use Rattle.clap.specs.declared.builder.command.Command.TheViews.{out-Command}
+use Rattle.clap.specs.Words.{App, app_of, with_subcommand}
+use Rattle.command_line.specs.CommandLine.{check_line, compile_line, explain_line, first_line, flood_line, replay_line, run_line, serve_line, tell_line, without_commands}
 use Rattle.command_line.proofs.command.program.Goals as goal
 
-abbrev versioned : App → App
-versioned a = record a { top = record a.top { has_version = true } }
+-- a command of a line, where it was made
+both : {E : Type 0} (made : Result Command E) (line : App) → IfOk made (λ one. app_of one ≡ line) → IfOk made (λ one. (out-Command one).has_globals ≡ false) →
+    IfOk made (λ one. (app_of one ≡ line) × ((out-Command one).has_globals ≡ false))
+both (Ok one) line app local = (app, local)
+both (Err e) line app local = tt
 
-abbrev unnamed : App → App
-unnamed a = record a { top = record a.top { no_binary_name = true } }
-
-abbrev required : App → App
-required a = record a { top = record a.top { subcommand_required = true } }
-
-abbrev top_of : App → Shape
-top_of a = a.top
+abbrev and : App → App → App
+and line app = with_subcommand app line.top
 
 pub returns : goal.returns
 returns c =
-    let first = c.plain_command.ensures in let check = c.in_ok-check_command.ensures in let compile = c.in_ok-compile_command.ensures in
-    let run = c.in_ok-run_command.ensures in let explain = c.in_ok-explain_command.ensures in let replay = c.plain_command-2.ensures in
-    let flood = c.in_ok-flood_command.ensures in let serve = c.in_ok-serve_command.ensures in let tell = c.in_ok-tell_command.ensures in
-    let named : app_of c.in_ok-bin_name.field-0 ≡ new_app (codes "dswitch") = ap app_of_fields c.in_ok-bin_name.ensures.0 ∙ c.new.ensures.app in
-    let told = ap app_of_fields c.after_help.ensures ∙ ap app_of_fields c.about.ensures ∙ named in
-    let version_is : app_of c.version.result ≡ versioned (new_app (codes "dswitch")) = ap app_of_fields c.version.ensures ∙ ap versioned told in
-    let unnamed_is = ap app_of_fields c.no_binary_name.ensures ∙ ap unnamed version_is in
-    let required_is : app_of c.subcommand_required.result ≡ without_commands = ap app_of_fields c.subcommand_required.ensures ∙ ap required unnamed_is in
-    let with_first = c.in_ok-subcommand.ensures.shape first.local ∙ ap₂ with_subcommand required_is (ap top_of first.app) in
-    let with_check = c.in_ok-subcommand-2.ensures.shape check.local ∙ ap₂ with_subcommand with_first (ap top_of check.app) in
-    let with_compile = c.in_ok-subcommand-3.ensures.shape compile.local ∙ ap₂ with_subcommand with_check (ap top_of compile.app) in
-    let with_run = c.in_ok-subcommand-4.ensures.shape run.local ∙ ap₂ with_subcommand with_compile (ap top_of run.app) in
-    let with_explain = c.in_ok-subcommand-5.ensures.shape explain.local ∙ ap₂ with_subcommand with_run (ap top_of explain.app) in
-    let with_replay = c.in_ok-subcommand-6.ensures.shape replay.local ∙ ap₂ with_subcommand with_explain (ap top_of replay.app) in
-    let with_flood = c.in_ok-subcommand-7.ensures.shape flood.local ∙ ap₂ with_subcommand with_replay (ap top_of flood.app) in
-    let with_serve = c.in_ok-subcommand-8.ensures.shape serve.local ∙ ap₂ with_subcommand with_flood (ap top_of serve.app) in
-    IfOk-weaker c.subcommand-9.result _ _ (λ r adds. adds.shape tell.local ∙ ap₂ with_subcommand with_serve (ap top_of tell.app)) c.subcommand-9.ensures
+    let first = c.plain_command-first.ensures in let check = c.check_command.ensures in let compile = c.compile_command.ensures in
+    let run = c.run_command.ensures in let explain = c.explain_command.ensures in let replay = c.plain_command-replay.ensures in
+    let flood = c.flood_command.ensures in let serve = c.serve_command.ensures in let tell = c.tell_command.ensures in
+    let to_first : App = and first_line without_commands in
+    let to_check : App = and check_line to_first in
+    let to_compile : App = and compile_line to_check in
+    let to_run : App = and run_line to_compile in
+    let to_explain : App = and explain_line to_run in
+    let to_replay : App = and replay_line to_explain in
+    let to_flood : App = and flood_line to_replay in
+    let to_serve : App = and serve_line to_flood in
+    let with_first = c.with_command-program.ensures without_commands first_line c.without_commands-program.ensures (first.app, first.local) in
+    let with_check = c.with_command-program-2.ensures to_first check_line with_first (both c.check_command.result check_line check.app check.local) in
+    let with_compile = c.with_command-program-3.ensures to_check compile_line with_check (both c.compile_command.result compile_line compile.app compile.local) in
+    let with_run = c.with_command-program-4.ensures to_compile run_line with_compile (both c.run_command.result run_line run.app run.local) in
+    let with_explain = c.with_command-program-5.ensures to_run explain_line with_run (both c.explain_command.result explain_line explain.app explain.local) in
+    let with_replay = c.with_command-program-6.ensures to_explain replay_line with_explain (replay.app, replay.local) in
+    let with_flood = c.with_command-program-7.ensures to_replay flood_line with_replay (both c.flood_command.result flood_line flood.app flood.local) in
+    let with_serve = c.with_command-program-8.ensures to_flood serve_line with_flood (both c.serve_command.result serve_line serve.app serve.local) in
+    c.with_command.ensures to_serve tell_line with_serve (both c.tell_command.result tell_line tell.app tell.local)

@@ -1,0 +1,37 @@
+use Rattle.std.proofs.Common.{arith, inl, inr, length}
+use Rattle.std.proofs.lemmas.Result.{err_from_is_err_and}
+use Rattle.filter_tree.specs.View.{tree_of}
+use Rattle.filter_parse.specs.declared.fault.ParseFault.TheVariants.{TooDeep}
+use Rattle.filter_parse.specs.body.Stack.{from_top}
+use Rattle.filter_parse.proofs.ParseLemmas.{deep-says, fault-says, parts-tree, tree-or-fault, tree-says}
+use Rattle.filter_parse.proofs.read_tree.Goals as goal
+
+pub returns-in_err-read-clause-fault : goal.returns-in_err-read-clause-fault
+returns-in_err-read-clause-fault g c =
+    let p = err_from_is_err_and c.from_residual.result c.from_residual.ensures.1 in
+    rw (p.1, p.2) elim c.in_err-read.ensures [ inl e ↦ inl e | inr e ↦ inr (fault-says c.args.text.now c.in_err-read.field-0.0 e) ]
+
+pub returns-in_err-read-clause-every_tree : goal.returns-in_err-read-clause-every_tree
+returns-in_err-read-clause-every_tree g c = λ tree t.
+    let p = err_from_is_err_and c.from_residual.result c.from_residual.ensures.1 in
+    rw (p.1, p.2) elim c.in_err-read.ensures [
+      | inl e ↦ e
+      | inr e ↦ absurd (tree-or-fault c.args.text.now tree c.in_err-read.field-0.0 t (fault-says c.args.text.now c.in_err-read.field-0.0 e))
+    ]
+
+pub returns-then-branch-clause-fault : goal.returns-then-branch-clause-fault
+returns-then-branch-clause-fault g c =
+    inr (deep-says c.args.text.now c.read.new.self.output.entries.items c.entries.result.now c.in_ok-read.ensures c.entries.ensures (c.in_ok-is_too_deep.ensures.deep c.if-branch.true))
+
+pub returns-then-branch-clause-every_tree : goal.returns-then-branch-clause-every_tree
+returns-then-branch-clause-every_tree g c = λ tree t.
+    absurd (tree-or-fault c.args.text.now tree (TooDeep (length c.args.text.now)) t
+    (deep-says c.args.text.now c.read.new.self.output.entries.items c.entries.result.now c.in_ok-read.ensures c.entries.ensures (c.in_ok-is_too_deep.ensures.deep c.if-branch.true)))
+
+pub build-requires : goal.build-requires
+build-requires g c = (omega arith, parts-tree c.args.text.now c.read.new.self.output.entries.items c.in_ok-read.ensures)
+
+pub returns-clause-parses : goal.returns-clause-parses
+returns-clause-parses g c =
+    tree-says c.args.text.now c.read.new.self.output.entries.items c.entries.result.now (tree_of c.build.new.to) (from_top c.build.new.parts)
+    c.in_ok-read.ensures c.entries.ensures (c.in_ok-is_too_deep.ensures.shallow c.if-branch.false) c.in_ok-build.ensures.taken
