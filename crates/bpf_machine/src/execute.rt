@@ -22,7 +22,7 @@ pub enum Next {
     End(u32),
 }
 
-/// The registers A and X, and scratch memory: of a cell that was not stored, any number.
+/// The registers A and X.
 #[derive(Drop)]
 pub struct Registers {
     pub a: u32,
