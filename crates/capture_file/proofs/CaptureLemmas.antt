@@ -23,7 +23,7 @@ AreRecords-more header bytes rest captured behind [] content are is_record is_co
 AreRecords-more header bytes rest captured behind (first ∷ contents) content (c, b, r, k, are) is_record is_content =
     (c, b, r, k, AreRecords-more header b rest captured behind contents content are is_record is_content)
 
-packets_of-append : (a b : List Content) → packets_of (a ++ b) ≡ packets_of a ++ packets_of b
+pub packets_of-append : (a b : List Content) → packets_of (a ++ b) ≡ packets_of a ++ packets_of b
 packets_of-append [] b = refl
 packets_of-append (Packet packet ∷ a) b = ap (λ (rest : List (List ℕ)). packet.now ∷ rest) (packets_of-append a b)
 packets_of-append (Cut ∷ a) b = packets_of-append a b
@@ -86,14 +86,16 @@ pub place_of-some : (file rest : List ℕ) → 0 < length rest → place_of file
 place_of-some file [] more = absurd (omega arith)
 place_of-some file (byte ∷ rest) more = refl
 
--- what is read is all that stands behind the file header
+-- a slice from a place on has all that stands behind it
+pub take-behind : (place : ℕ) (file : List ℕ) → take (length file - place) (drop place file) ≡ drop place file
+take-behind place file = ap (λ (n : ℕ). take n (drop place file)) (sym (length-drop place file)) ∙ take-length (drop place file)
+
 pub IsCounted-behind :
     (file rest : List ℕ) (header : FileHeader) (counts : Summary)
     → IsCounted header (take (length file - 24) (drop 24 file)) counts rest
     → IsCounted header (drop 24 file) counts rest
 IsCounted-behind file rest header counts counted =
-    let all : take (length file - 24) (drop 24 file) ≡ drop 24 file = ap (λ (n : ℕ). take n (drop 24 file)) (sym (length-drop 24 file)) ∙ take-length (drop 24 file) in
-    subst (λ (bytes : List ℕ). IsCounted header bytes counts rest) all counted
+    subst (λ (bytes : List ℕ). IsCounted header bytes counts rest) (take-behind 24 file) counted
 
 pub summary_of :
     (file rest : List ℕ) (header : FileHeader) (counts : Summary) (cut_at : Option ℕ)
