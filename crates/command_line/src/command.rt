@@ -47,6 +47,7 @@ pub enum Query<'a> {
 pub enum Subcommand<'a> {
     Query(Query<'a>),
     Replay,
+    Packets,
     /// `workers` is their number as it is written.
     Flood {
         workers: &'a str,
@@ -267,6 +268,7 @@ fn program<'a>(alloc: Global) -> Result<Command<'a>, AllocError>
         .subcommand(run_command(alloc)?)?
         .subcommand(explain_command(alloc)?)?
         .subcommand(plain_command(alloc, "replay", help::REPLAY, help::REPLAY_MORE))?
+        .subcommand(plain_command(alloc, "packets", help::PACKETS, help::PACKETS_MORE))?
         .subcommand(flood_command(alloc)?)?
         .subcommand(serve_command(alloc)?)?
         .subcommand(tell_command(alloc)?)
@@ -340,6 +342,7 @@ fn subcommand_of<'a>(
             code: value_of(found, "CODE"),
         })),
         "replay" => Some(Subcommand::Replay),
+        "packets" => Some(Subcommand::Packets),
         "flood" => Some(Subcommand::Flood {
             workers: value_of(found, "workers"),
         }),

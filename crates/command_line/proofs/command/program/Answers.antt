@@ -21,6 +21,7 @@ pub returns : goal.returns
 returns c =
     let first = c.plain_command.ensures in let check = c.in_ok-check_command.ensures in let compile = c.in_ok-compile_command.ensures in
     let run = c.in_ok-run_command.ensures in let explain = c.in_ok-explain_command.ensures in let replay = c.plain_command-2.ensures in
+    let packets = c.plain_command-3.ensures in
     let flood = c.in_ok-flood_command.ensures in let serve = c.in_ok-serve_command.ensures in let tell = c.in_ok-tell_command.ensures in
     let named : app_of c.in_ok-bin_name.field-0 ≡ new_app (codes "dswitch") = ap app_of_fields c.in_ok-bin_name.ensures.0 ∙ c.new.ensures.app in
     let told = ap app_of_fields c.after_help.ensures ∙ ap app_of_fields c.about.ensures ∙ named in
@@ -33,6 +34,7 @@ returns c =
     let with_run = c.in_ok-subcommand-4.ensures.shape run.local ∙ ap₂ with_subcommand with_compile (ap top_of run.app) in
     let with_explain = c.in_ok-subcommand-5.ensures.shape explain.local ∙ ap₂ with_subcommand with_run (ap top_of explain.app) in
     let with_replay = c.in_ok-subcommand-6.ensures.shape replay.local ∙ ap₂ with_subcommand with_explain (ap top_of replay.app) in
-    let with_flood = c.in_ok-subcommand-7.ensures.shape flood.local ∙ ap₂ with_subcommand with_replay (ap top_of flood.app) in
-    let with_serve = c.in_ok-subcommand-8.ensures.shape serve.local ∙ ap₂ with_subcommand with_flood (ap top_of serve.app) in
-    IfOk-weaker c.subcommand-9.result _ _ (λ r adds. adds.shape tell.local ∙ ap₂ with_subcommand with_serve (ap top_of tell.app)) c.subcommand-9.ensures
+    let with_packets = c.in_ok-subcommand-7.ensures.shape packets.local ∙ ap₂ with_subcommand with_replay (ap top_of packets.app) in
+    let with_flood = c.in_ok-subcommand-8.ensures.shape flood.local ∙ ap₂ with_subcommand with_packets (ap top_of flood.app) in
+    let with_serve = c.in_ok-subcommand-9.ensures.shape serve.local ∙ ap₂ with_subcommand with_flood (ap top_of serve.app) in
+    IfOk-weaker c.subcommand-10.result _ _ (λ r adds. adds.shape tell.local ∙ ap₂ with_subcommand with_serve (ap top_of tell.app)) c.subcommand-10.ensures
