@@ -115,10 +115,10 @@ top = (built command_line).top
 
 -- the commands, and behind them `clap`'s own, `help`
 abbrev commands : List Shape
-commands = take 9 (built command_line).subs
+commands = take 10 (built command_line).subs
 
 abbrev help_command : Shape
-help_command = slice_index_or (built command_line).subs 9 top
+help_command = slice_index_or (built command_line).subs 10 top
 
 has_met : (rows : List Row) (has : Bool) → check_fault top rows has ≡ [] → has ≡ true
 has_met rows true none = refl
@@ -174,7 +174,7 @@ not_named word name differs = go (bytes_eq word name) refl
         sym (ap (λ x. x && true) back) ∙ differs
 
 are_requests : AreRequests commands
-are_requests = ((λ rows. refl), ((λ rows. refl), ((λ rows. refl), ((λ rows. refl), ((λ rows. refl), ((λ rows. refl), ((λ rows. refl), ((λ rows. refl), ((λ rows. refl), tt)))))))))
+are_requests = ((λ rows. refl), ((λ rows. refl), ((λ rows. refl), ((λ rows. refl), ((λ rows. refl), ((λ rows. refl), ((λ rows. refl), ((λ rows. refl), ((λ rows. refl), ((λ rows. refl), tt))))))))))
 
 entered_request : (stop : Stop) → IsNoHelp top stop → is_some (entered (built command_line) stop) ≡ true
     → is_some (request_met (entered (built command_line) stop)) ≡ true

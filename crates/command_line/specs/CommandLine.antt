@@ -56,6 +56,9 @@ explain_line = with_rule (new_app (codes "explain")) (required_argument (codes "
 abbrev pub replay_line : App
 replay_line = new_app (codes "replay")
 
+abbrev pub packets_line : App
+packets_line = new_app (codes "packets")
+
 -- `--workers N`, N from 1 on
 abbrev pub workers_argument : Rule
 workers_argument = record (required_named_argument (codes "workers")) { parser = Some (Unsigned 1 WORKERS) }
@@ -98,10 +101,12 @@ command_line =
     (with_subcommand
     (with_subcommand
     (with_subcommand
+    (with_subcommand
     (with_subcommand (with_subcommand (with_subcommand (with_subcommand without_commands first_line.top) check_line.top) compile_line.top)
     run_line.top)
     explain_line.top)
     replay_line.top)
+    packets_line.top)
     flood_line.top)
     serve_line.top)
     tell_line.top
@@ -129,6 +134,7 @@ pub data Request : Type 0 where
   judge : (packet expression : Text) → Request
   explain : (code : Text) → Request
   replay : Request
+  packets : Request
   flood : (workers : Text) → Request
   serve : (front control workers : Text) → Request
   tell : (control timeout : Text) (lines : List Text) → Request
@@ -144,6 +150,7 @@ query_request (query.Explain code) = explain code.now
 abbrev pub request_of : Subcommand → Request
 request_of (subcommand.Query asked) = query_request asked
 request_of subcommand.Replay = replay
+request_of subcommand.Packets = packets
 request_of (subcommand.Flood workers) = flood workers.now
 request_of (subcommand.Serve front control workers) = serve front.now control.now workers.now
 request_of (subcommand.Tell control timeout lines) = tell control.now timeout.now (map (λ line. line.now) lines.items)
@@ -183,6 +190,8 @@ request_named name rows =
     then Some (explain (value_in rows (codes "CODE")))
     else if bytes_eq name (codes "replay")
     then Some replay
+    else if bytes_eq name (codes "packets")
+    then Some packets
     else if bytes_eq name (codes "flood")
     then Some (flood (value_in rows (codes "workers")))
     else if bytes_eq name (codes "serve")

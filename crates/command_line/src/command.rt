@@ -47,6 +47,7 @@ pub enum Query<'a> {
 pub enum Subcommand<'a> {
     Query(Query<'a>),
     Replay,
+    Packets,
     /// `workers` is their number as it is written.
     Flood {
         workers: &'a str,
@@ -288,6 +289,8 @@ fn program<'a>(alloc: Global) -> Result<Command<'a>, AllocError>
     let program = with_command(program, explain_command(alloc));
     let replay = plain_command(alloc, "replay", help::REPLAY, help::REPLAY_MORE);
     let program = with_command(program, Ok(replay));
+    let packets = plain_command(alloc, "packets", help::PACKETS, help::PACKETS_MORE);
+    let program = with_command(program, Ok(packets));
     let program = with_command(program, flood_command(alloc));
     let program = with_command(program, serve_command(alloc));
     with_command(program, tell_command(alloc))
@@ -361,6 +364,7 @@ fn subcommand_of<'a>(
             code: value_of(found, "CODE"),
         })),
         "replay" => Some(Subcommand::Replay),
+        "packets" => Some(Subcommand::Packets),
         "flood" => Some(Subcommand::Flood {
             workers: value_of(found, "workers"),
         }),

@@ -63,8 +63,8 @@ impl Failure {
     }
 }
 
-// `write_all`, of which it is known how much was written where the writer fails.
-fn write_what_fits<W: Write>(bytes: &[u8], out: &mut W)
+/// Writes a text as far as the writer takes it. An error of the writer changes nothing.
+pub fn write_what_fits<W: Write>(bytes: &[u8], out: &mut W)
     ensures { AppendsBeginning (W.contents out.old) (W.contents out.new) bytes.now }
 {
     let mut rest = bytes;

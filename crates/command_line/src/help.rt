@@ -142,6 +142,24 @@ Example:
   ok version 2
   version 2 groups 1 members 1 charge 10";
 
+pub const PACKETS: &str = "Print the packets of a capture as lines for `replay`";
+
+pub const PACKETS_MORE: &str = "\
+Reads a capture file of libpcap (pcap) from standard input: of link type raw IP, Ethernet with at
+most two VLAN tags, Linux cooked v1 and v2, or loopback. Prints `packet HEX` for each IPv4 packet
+in it, as far as its total length tells. At the end the counts come to standard error:
+  packets P cut C other O
+of the packets that were printed, those that the capture cut, and the records that hold no IPv4.
+Prints, with status 1:
+  refused L1 where it is no capture file, refused L2 where it is a pcapng file
+  refused L3 where its version is not 2.4
+  refused L4 NUMBER, the link type, where that is not read
+  refused L5 PLACE, the byte counted from 0 where a record begins that the end of the file cuts;
+  the packets before it are printed
+
+Example:
+  $ cat rules.txt <(dswitch packets <trace.pcap) | dswitch replay";
+
 pub const FLOOD: &str = "Judge 4096 datagrams in worker threads while versions are replaced";
 
 pub const FLOOD_WORKERS: &str = "How many worker threads, from 1 to 64";

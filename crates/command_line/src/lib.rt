@@ -10,7 +10,7 @@ mod ending;
 mod help;
 
 pub use command::{MAX_TIMEOUT, Query, Subcommand, read_words};
-pub use ending::{Failure, Status, refuse_arguments};
+pub use ending::{Failure, Status, refuse_arguments, write_what_fits};
 
 /// Law: the limit, as a number. It runs nothing.
 pub fn limits_as_numbers()

@@ -1,7 +1,7 @@
 //! The codes from I1 on with their explanations: the meanings, usual mistakes and causes of docs/COMMANDS.md, and what to do. `table_to_g`
 //! has those before.
 
-pub const EXPLANATIONS_FROM_I: [(&str, &str); 31] = [
+pub const EXPLANATIONS_FROM_I: [(&str, &str); 36] = [
     (
         "I1",
         "\
@@ -50,6 +50,50 @@ What to do: copy the whole program, or correct the count.",
 K3: Memory for the program's words was refused.
 No command prints this code: a call of the libraries answers it. Where memory
 is refused the program says `failed E3` in its place.",
+    ),
+    (
+        "L1",
+        "\
+L1: The input is no capture file. It does not begin with the magic number of
+one.
+Usual mistake: a text, or a compressed capture.
+What to do: give a file that `tcpdump -w` wrote; decompress it first
+(`gunzip`).",
+    ),
+    (
+        "L2",
+        "\
+L2: The capture is a pcapng file.
+Usual mistake: a file of Wireshark or dumpcap, which write pcapng unless they
+are told otherwise.
+What to do: make a pcap file of it, as by `tcpdump -r FILE -w -`, or by
+`editcap -F pcap`.",
+    ),
+    (
+        "L3",
+        "\
+L3: The capture file has another version than 2.4.
+Usual mistake: a file of a very old program, or one that was damaged.
+What to do: write it anew by `tcpdump -r FILE -w -`.",
+    ),
+    (
+        "L4",
+        "\
+L4: The link type of the capture is not read.
+Usual mistake: a capture of Wi-Fi with radio headers (127), of USB, or of
+Bluetooth.
+What to do: capture by `tcpdump -y` with a link type that is read. NUMBER is
+that of the capture.",
+    ),
+    (
+        "L5",
+        "\
+L5: The capture file is cut. It ends in its header or in a record.
+Usual mistake: a file that is still being written, a disk that was full, or a
+copy that broke off.
+What to do: take the packets that were printed; NUMBER is the place of the
+record, or of the header, that is cut, counted from 0, and the bytes before it
+are whole.",
     ),
     (
         "N1",

@@ -1,0 +1,3 @@
+pub mod StandardFacts
+pub mod CaptureLemmas
+pub mod ContentLemmas

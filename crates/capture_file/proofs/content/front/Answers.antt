@@ -1,0 +1,10 @@
+use Rattle.std.proofs.Common.{◌≤◌, arith, length, rules}
+use Rattle.capture_file.specs.Packet.{IsIpv4SoFar}
+use Rattle.capture_file.proofs.ContentLemmas.{BeginsWithPacket-take}
+use Rattle.capture_file.proofs.content.front.Goals as goal
+
+pub returns-in-Some : goal.returns-in-Some
+returns-in-Some c =
+    let is_ipv4 : IsIpv4SoFar c.args.bytes.now = search rules in
+    let inside : c.in-Some.total ≤ length c.args.bytes.now = omega arith in
+    BeginsWithPacket-take c.args.bytes.now c.in-Some.total is_ipv4 (search rules) inside

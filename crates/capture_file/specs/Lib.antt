@@ -1,0 +1,9 @@
+pub mod Number
+pub mod Header
+pub mod Record
+pub mod LinkLayer
+pub mod Packet
+pub mod Content
+pub mod Capture
+pub mod Fault
+pub mod body

@@ -1,0 +1,28 @@
+use Rattle.std.proofs.Common.{Ok, Result, ap, sym}
+use Rattle.command_line.specs.declared.ending.Failure.{Failure}
+use Rattle.command_line.specs.declared.ending.Failure.TheVariants.{OutOfMemory}
+use Rattle.command_line.specs.declared.ending.Status.{Status}
+use Rattle.packet_lines.proofs.PacketLemmas.{WritesRecords-behind, WritesRecords-shorter, error_is, text_written}
+use Rattle.packet_lines.proofs.write_capture.Goals as goal
+
+pub returns-in_err-rest-clause-no_memory : goal.returns-in_err-rest-clause-no_memory
+returns-in_err-rest-clause-no_memory g c = λ is.
+    let first = c.in_err-rest.ensures.no_memory (error_is c.from_residual.result c.in_err-rest.field-0.0 OutOfMemory c.from_residual.ensures.1 is) in
+    (first.0, WritesRecords-behind c.args.file.now first.0 c.args.header (g.W.Write.contents c.args.out.now) (g.W.Write.contents c.write_packets.new.out) first.1)
+
+pub overflow_sub-file : goal.overflow_sub-file
+overflow_sub-file g c =
+    WritesRecords-shorter c.args.file.now c.in_ok-rest.rest.now c.args.header (g.W.Write.contents c.args.out.now) (g.W.Write.contents c.write_packets.new.out)
+    (WritesRecords-behind c.args.file.now c.in_ok-rest.rest.now c.args.header (g.W.Write.contents c.args.out.now) (g.W.Write.contents c.write_packets.new.out) c.in_ok-rest.ensures.written)
+
+pub returns-clause-written : goal.returns-clause-written
+returns-clause-written g c =
+    let told = c.in_ok-status.ensures in
+    let ok : Status → Result Status Failure = λ (s : Status). Ok s in
+    text_written c.args.file.now c.args.header c.requires (g.W.Write.contents c.args.out.now) (g.W.Write.contents c.write_packets.new.out) (g.W.Write.contents c.write_cut.new.out) (g.W.Write.contents c.flush.new.self) c.flush.ensures.bytes
+    c.in_ok-rest.rest.now c.in_ok-status.status
+    (WritesRecords-behind c.args.file.now c.in_ok-rest.rest.now c.args.header (g.W.Write.contents c.args.out.now) (g.W.Write.contents c.write_packets.new.out) c.in_ok-rest.ensures.written)
+    c.in_ok-rest.ensures.no_more
+    told.status
+    (λ is. let whole = told.whole (ap ok is) in (whole.0, ap g.W.Write.contents (sym whole.1)))
+    (λ is. told.cut (ap ok is))

@@ -1,0 +1,8 @@
+use Rattle.packet_lines.proofs.PacketLemmas.{WritesRecords-more}
+use Rattle.packet_lines.proofs.write_packets.Goals as goal
+
+pub loop-captured-preserved : goal.loop-captured-preserved
+loop-captured-preserved g c =
+    WritesRecords-more c.args.header c.args.records.now c.loop-captured.rest.now c.in-Some.captured.now c.in-Some.behind.now c.content_of.result
+    (g.W.Write.contents c.args.out.now) (g.W.Write.contents c.loop-captured.out) (g.W.Write.contents c.write_content.new.out)
+    c.loop-captured.invariant c.in-Some.ensures c.content_of.ensures c.in_ok-write_content.ensures.written
