@@ -81,7 +81,8 @@ pub(crate) fn labels_of<'a, A: Allocator + Clone>(
     let mut place = 0;
     for line in lines {
         labels.define_label(*line, place, number)?;
-        place += count_of(line);
+        let count = count_of(line);
+        place += count;
         number += 1;
     }
     Ok(labels)

@@ -20,9 +20,9 @@ loop-line-preserved g c =
     let i = c.loop-line.line-index in
     let line = line_of (get_or lines i blank) in
     let tracks = rw (lines_more lines i (omega arith)) at c.loop-line.invariant.0 in (
-      rw c.count_of-place.ensures.count (tracks_more (place_among c.loop-line.labels.places) (place_among c.define_label.new.self.places) (map line_of lines) (map line_of (drop (i + 1) lines)) line.statement c.loop-line.number c.loop-line.place line.label tracks c.in_ok-define_label.ensures.defined),
+      rw c.count_of-count.ensures.count (tracks_more (place_among c.loop-line.labels.places) (place_among c.define_label.new.self.places) (map line_of lines) (map line_of (drop (i + 1) lines)) line.statement c.loop-line.number c.loop-line.place line.label tracks c.in_ok-define_label.ensures.defined),
       omega (arith, c.loop-line.invariant.1),
-      omega (arith, c.loop-line.invariant.2, c.count_of-place.ensures.one),
+      omega (arith, c.loop-line.invariant.2, c.count_of-count.ensures.one),
     )
 
 pub returns-clause-places : goal.returns-clause-places
