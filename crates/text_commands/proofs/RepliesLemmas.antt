@@ -13,7 +13,7 @@ use Rattle.control.specs.Script.{at_start, no_line}
 use Rattle.control.specs.Streams.{InputValue, OutputValue}
 use Rattle.command_line.specs.declared.ending.Failure.{Failure}
 use Rattle.command_line.specs.declared.ending.Failure.TheVariants.{OutOfMemory, WriteFailed}
-use Rattle.command_line.specs.CommandLine.{Request, check, compile, explain, faults_in, first, flood, judge, replay, run, serve, tell}
+use Rattle.command_line.specs.CommandLine.{Request, check, compile, explain, faults_in, first, flood, judge, packets, replay, run, serve, tell}
 use Rattle.text_commands.specs.body.Stop.{failure_of_replay}
 use Rattle.text_commands.specs.Input.{BeginsInput, IsInput}
 use Rattle.text_commands.specs.Request.{IsTextOfInput, WritesBefore, WritesBeforeBy}
@@ -143,6 +143,7 @@ before_anything (flood workers) known before = refl
 before_anything (serve front control workers) known before = refl
 before_anything (explain code) known before = refl
 before_anything (tell control timeout lines) known before = refl
+before_anything packets known before = inl refl
 before_anything replay known before = record {
   lines = [];
   text = [];

@@ -16,13 +16,14 @@ use Rattle.command_line.specs.declared.ending.Status.TheVariants.{Done, Refused}
 use Rattle.text_commands.specs.declared.stop.Stop.{Stop}
 use Rattle.text_commands.specs.declared.stop.Stop.TheVariants as stop
 use Rattle.text_commands.specs.CommandResult.{IsCheckAnswer, IsCompileAnswer, IsExplainAnswer, IsJudgeAnswer, IsRunAnswer, answer_text}
-use Rattle.command_line.specs.CommandLine.{AskToWait, MayWait, Request, check, compile, explain, faults_in, first, flood, judge, replay, request_in, run, serve, tell}
+use Rattle.command_line.specs.CommandLine.{AskToWait, MayWait, Request, check, compile, explain, faults_in, first, flood, judge, packets, replay, request_in, run, serve, tell}
 use Rattle.command_line.specs.Ending.{AppendsBeginning, line_of}
 use Rattle.program_formats.specs.declared.fault.FormatFault.{FormatFault}
 use Rattle.refusal_text.specs.Explanation.{codes_explained}
 use Rattle.text_commands.specs.Format.{IsFormatFault, IsRefusalOfProgram, input_format_of, misformed_text, output_format_of}
 use Rattle.text_commands.specs.FirstPath.{first_text}
 use Rattle.text_commands.specs.Input.{BeginsInput, IsInput}
+use Rattle.packet_lines.specs.Packets.{TellsCounts, WritesFirst, WritesText}
 
 -- the two lines of the first path
 abbrev pub IsFirstAnswer : CommandResult → Type 0
@@ -43,6 +44,7 @@ IsResult (judge digits expression) input answer =
     (packet : List ℕ) × SpellsPacket digits packet × IsJudgeAnswer packet expression answer
 IsResult (explain code) input answer = IsExplainAnswer code answer
 IsResult replay input answer = ⊥
+IsResult packets input answer = ⊥
 IsResult (flood workers) input answer = ⊥
 IsResult (serve front control workers) input answer = ⊥
 IsResult (tell control timeout lines) input answer = ⊥
@@ -68,6 +70,7 @@ IsRefusalReason (judge digits expression) input reason =
     IsRefusalOfHex digits reason ⊎ ((packet : List ℕ) × SpellsPacket digits packet × IsRefusalOfExpression expression reason)
 IsRefusalReason (explain code) input reason = IsRefusalOfCode code reason
 IsRefusalReason replay input reason = ⊥
+IsRefusalReason packets input reason = ⊥
 IsRefusalReason (flood workers) input reason = ⊥
 IsRefusalReason (serve front control workers) input reason = ⊥
 IsRefusalReason (tell control timeout lines) input reason = ⊥
@@ -81,11 +84,12 @@ IsMisformed (run digits name) input fault =
     × IsSomeAnd (input_format_of name) (λ format. IsFormatFault format input fault)
 IsMisformed _ input fault = ⊥
 
--- the input is read by `replay`, by `check` where the format is known, and by `run` without an expression where the packet is
--- good, too
+-- the input is read by `replay` and `packets`, by `check` where the format is known, and by `run` without an expression where the
+-- packet is good, too
 abbrev pub ReadsInput : Request → Type 0
 ReadsInput (check name) = IsSome (input_format_of name)
 ReadsInput replay = Unit {0}
+ReadsInput packets = Unit {0}
 ReadsInput (run digits name) = (packet : List ℕ) × SpellsPacket digits packet × IsSome (input_format_of name)
 ReadsInput _ = ⊥
 
@@ -137,9 +141,18 @@ WritesReplies known Done before after =
     (script text : List ℕ) × IsInput known script × IsScriptText script text × Appends before after text
 WritesReplies known _ before after = ⊥
 
+-- the input was read to its end, and the text of that file was written, and nothing else
+abbrev pub WritesPackets : Option (List ℕ) → Status → Option (List ℕ) → Option (List ℕ) → Type 0
+WritesPackets known status before after = (file : List ℕ) × IsInput known file × WritesText file status before after
+
+-- so were the counts of that file
+abbrev pub TellsCountsOf : Option (List ℕ) → Option (List ℕ) → Option (List ℕ) → Type 0
+TellsCountsOf known before after = (file : List ℕ) × IsInput known file × TellsCounts file before after
+
 -- what a command writes that ends with a status
 abbrev pub Writes : Request → Option (List ℕ) → Status → Option (List ℕ) → Option (List ℕ) → Type 0
 Writes replay known status before after = WritesReplies known status before after
+Writes packets known status before after = WritesPackets known status before after
 Writes request known status before after = WritesAnswer request known status before after
 
 -- the same of the command that the words name
@@ -188,6 +201,10 @@ IsTextOfInput known text =
 abbrev pub WritesBeginningOfReplies : Option (List ℕ) → Option (List ℕ) → Option (List ℕ) → Type 0
 WritesBeginningOfReplies known before after = (text : List ℕ) × IsTextOfInput known text × AppendsBeginning before after text
 
+-- of the packets of the input, those of some first records were written, and nothing else
+abbrev pub WritesFirstPackets : Option (List ℕ) → Option (List ℕ) → Option (List ℕ) → Type 0
+WritesFirstPackets known before after = (file : List ℕ) × IsInput known file × WritesFirst file before after
+
 -- what was written before each failure: what is promised of a failed write is promised of `replay` alone
 abbrev pub WritesBefore : Request → Failure → Option (List ℕ) → Option (List ℕ) → Option (List ℕ) → Type 0
 WritesBefore replay ReadFailed known before after = RepliesToFirstLines known before after
@@ -197,6 +214,7 @@ WritesBefore replay SpawnFailed known before after = ⊥
 WritesBefore replay BindFailed known before after = ⊥
 WritesBefore replay PollFailed known before after = ⊥
 WritesBefore replay NoAnswer known before after = ⊥
+WritesBefore packets OutOfMemory known before after = (after ≡ before) ⊎ WritesFirstPackets known before after
 WritesBefore request WriteFailed known before after = Unit {0}
 WritesBefore request _ known before after = after ≡ before
 

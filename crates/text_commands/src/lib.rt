@@ -1,15 +1,16 @@
 //! The commands of words and texts, from the words to the output and the exit status (docs/COMMANDS.md).
 //!
-//! `tool` reads the words, runs `first`, `check`, `compile`, `run`, `explain` or `replay` over any input and outputs, and leaves a
+//! `tool` reads the words, runs `first`, `check`, `compile`, `run`, `explain`, `replay` or `packets` over any input and outputs, and leaves a
 //! command that may wait to its caller.
 #![tactic(auto)]
 
-ghost use Rattle.std.specs.Prelude.{◌≡◌, ◌≢◌, ◌⊎◌, [], IfErr, IfOk, IfSome, None, OnErr, Ok, Err, Some, map, string_bytes};
+ghost use Rattle.std.specs.Prelude.{◌≡◌, ◌≢◌, ◌⊎◌, [], IfErr, IfOk, IfSome, None, OnErr, OnSome, Ok, Err, Some, map, string_bytes};
 ghost use Rattle.clap.specs.Words.{kind_of};
-ghost use Rattle.command_line.specs.CommandLine.{AskToWait, AsksForText, HasMisuse, MayWait, faults_in, request_of};
+ghost use Rattle.command_line.specs.CommandLine.{AskToWait, AsksForText, HasMisuse, MayWait, faults_in, packets, request_in, request_of};
 ghost use Rattle.command_line.specs.Ending.{IsStatus, code_of};
-ghost use Rattle.text_commands.specs.Request.{EndsInFailure, MayFail, MayFailBy, Writes, WritesAnswerTo, WritesBefore, WritesBeforeBy};
+ghost use Rattle.text_commands.specs.Request.{EndsInFailure, MayFail, MayFailBy, TellsCountsOf, Writes, WritesAnswerTo, WritesBefore, WritesBeforeBy};
 
+mod capturing;
 mod command_result;
 mod explaining;
 mod expression_commands;
@@ -21,6 +22,7 @@ mod queries;
 mod replaying;
 mod stop;
 
+use capturing::run_packets;
 use clap::error::ErrorKind;
 use command_line::{Failure, Status, Subcommand, read_words};
 use queries::run_query;
@@ -60,7 +62,10 @@ pub fn tool<R: Read + Drop, W: Write, E: Write>(
         → EndsInFailure (map string_bytes words.now) (R.remaining input)
         (W.contents out.old) (W.contents out.new) (E.contents errs.old) (E.contents errs.new) }
     ensures no_errors { (result ≡ None) ⊎ (result ≡ Some (code_of Status.Done)) ⊎ (result ≡ Some (code_of Status.Refused))
-        → errs.new ≡ errs.old }
+        → (request_in (map string_bytes words.now) ≢ Some packets) → errs.new ≡ errs.old }
+    ensures counted { (result ≡ Some (code_of Status.Done)) ⊎ (result ≡ Some (code_of Status.Refused))
+        → faults_in (map string_bytes words.now) ≡ [] → request_in (map string_bytes words.now) ≡ Some packets
+        → TellsCountsOf (R.remaining input) (E.contents errs.old) (E.contents errs.new) }
 {
     match run_words(alloc, words, input, out, errs) {
         Ok(Some(status)) => Some(status as u8),
@@ -98,22 +103,30 @@ fn run_words<R: Read + Drop, W: Write, E: Write>(
     ensures failed_written { IfErr result (λ failure.
         WritesBeforeBy (map string_bytes words.now) failure (R.remaining input) (W.contents out.old) (W.contents out.new)) }
     ensures no_errors { (result ≡ Ok None) ⊎ (result ≡ Ok (Some Status.Done)) ⊎ (result ≡ Ok (Some Status.Refused))
-        → errs.new ≡ errs.old }
+        → (request_in (map string_bytes words.now) ≢ Some packets) → errs.new ≡ errs.old }
+    ensures counted { (result ≡ Ok (Some Status.Done)) ⊎ (result ≡ Ok (Some Status.Refused))
+        → faults_in (map string_bytes words.now) ≡ [] → request_in (map string_bytes words.now) ≡ Some packets
+        → TellsCountsOf (R.remaining input) (E.contents errs.old) (E.contents errs.new) }
 {
     match read_words(alloc, words) {
-        Ok(command) => run_subcommand(alloc, command, input, out),
+        Ok(command) => run_subcommand(alloc, command, input, out, errs),
         Err(fault) => Ok(Some(answer(&fault, out, errs)?)),
     }
 }
 
-fn run_subcommand<R: Read + Drop, W: Write>(
+fn run_subcommand<R: Read + Drop, W: Write, E: Write>(
     alloc: Global,
     command: Subcommand<'_>,
     input: R,
     out: &mut W,
+    errs: &mut E,
 ) -> Result<Option<Status>, Failure>
     ensures waits { result ≡ Ok None → MayWait (request_of command.entry) }
     ensures nothing_written { result ≡ Ok None → out.new ≡ out.old }
+    ensures counted { IfOk result (λ ended. OnSome ended (request_of command.entry ≡ packets
+        → TellsCountsOf (R.remaining input) (E.contents errs.old) (E.contents errs.new))) }
+    ensures no_errors { IfOk result (λ ended. (request_of command.entry ≢ packets) → errs.new ≡ errs.old) }
+    ensures untold { OnErr result (errs.new ≡ errs.old) }
     ensures failed { IfErr result (MayFail (request_of command.entry)) }
     ensures failed_written { IfErr result (λ failure.
         WritesBefore (request_of command.entry) failure (R.remaining input) (W.contents out.old) (W.contents out.new)) }
@@ -123,6 +136,7 @@ fn run_subcommand<R: Read + Drop, W: Write>(
     match command {
         Subcommand::Query(query) => Ok(Some(run_query(alloc, query, input, out)?)),
         Subcommand::Replay => Ok(Some(run_replay(alloc, input, out)?)),
+        Subcommand::Packets => Ok(Some(run_packets(alloc, input, out, errs)?)),
         Subcommand::Flood { .. } => Ok(None),
         Subcommand::Serve { .. } => Ok(None),
         Subcommand::Tell { .. } => Ok(None),

@@ -130,7 +130,7 @@ pub fn run_waiting<R: Threads + Wait + Net + Clock + Sync, I: Read + Drop, W: Wr
             out,
             errs,
         ),
-        Ok(Subcommand::Query(_) | Subcommand::Replay) => unreachable!(),
+        Ok(Subcommand::Query(_) | Subcommand::Replay | Subcommand::Packets) => unreachable!(),
         Err(_) => Failure::OutOfMemory.report(errs),
     }
 }
