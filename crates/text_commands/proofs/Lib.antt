@@ -1,3 +1,4 @@
+mod PacketsLemmas
 mod RequestLemmas
 mod RepliesLemmas
 mod StopLemmas

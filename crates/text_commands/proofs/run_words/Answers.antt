@@ -6,6 +6,8 @@ use Rattle.command_line.specs.declared.ending.Status.{Status}
 use Rattle.command_line.specs.declared.ending.Status.TheVariants.{Misused}
 use Rattle.clap.specs.declared.error.kind.ErrorKind.TheVariants as kind
 use Rattle.text_commands.specs.Request.{MayFailBy, WritesBeforeBy}
+use Rattle.command_line.specs.CommandLine.{packets, request_of}
+use Rattle.text_commands.proofs.PacketsLemmas.{once_ended, same_request}
 use Rattle.text_commands.proofs.RepliesLemmas.{before_text}
 use Rattle.text_commands.proofs.RequestLemmas.{text_may_fail}
 use Rattle.text_commands.proofs.StopLemmas.{stopped_as}
@@ -36,3 +38,8 @@ returns-in_err-answer-in-Err-clause-failed_written g c =
     let memory : kind_of c.in-Err.fault ≡ kind.OutOfMemory → failure ≡ OutOfMemory = λ e. let same : ◌≡◌ {A = Result Status Failure} (Err failure) (Err OutOfMemory) = (told.no_memory e).0 in cc in
     stopped_as c.from_residual.result (λ (f : Failure). WritesBeforeBy words f (g.R.Read.remaining c.args.input) (g.W.Write.contents c.args.out.now) (g.W.Write.contents c.answer.new.out)) failure c.from_residual.ensures.1
     (before_text words c.in-Err.fault failure (g.R.Read.remaining c.args.input) (g.W.Write.contents c.args.out.now) (g.W.Write.contents c.answer.new.out) c.in-Err.ensures.faults memory (λ e. ap (λ out. g.W.Write.contents out) (told.no_memory e).1))
+
+pub returns-in-Ok-clause-counted : goal.returns-in-Ok-clause-counted
+returns-in-Ok-clause-counted g c = λ ended none named.
+    once_ended _ c.run_subcommand.result (request_of c.in-Ok.command) c.run_subcommand.ensures.counted ended
+    (same_request (request_of c.in-Ok.command) packets (sym c.in-Ok.ensures.named ∙ named))

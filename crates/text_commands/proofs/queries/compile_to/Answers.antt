@@ -1,4 +1,4 @@
-use Rattle.std.proofs.Common.{◌≡◌, IfErr, IfOk, IsSomeAnd, MatchOption, None, Option, Some, refl, subst, sym}
+use Rattle.std.proofs.Common.{◌≡◌, IfErr, IfOk, IsSomeAnd, MatchOption, refl, subst}
 use Rattle.control.specs.Reason.{IsRefusalOfExpression}
 use Rattle.control_line.specs.declared.reason.Reason.{Reason}
 use Rattle.control_line.specs.declared.reason.Reason.TheVariants.{BadForm}
