@@ -62,7 +62,8 @@ const FAULTS: [(&[u8], AsmFault); 3] = [
 
 #[test]
 fn faults_without_memory(rt: HostRuntime) -> Result<(), Fail> {
-    let heap = LocalHeap::new(rt.alloc(), 64)?;
+    // Room for the lines of these texts, and not for a label.
+    let heap = LocalHeap::new(rt.alloc(), 512)?;
     for (text, fault) in &FAULTS {
         assert!(rt; assemble(&heap, text).err() == Some(*fault));
     }
