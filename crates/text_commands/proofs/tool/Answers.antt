@@ -21,13 +21,13 @@ returns-in-Ok-Some-clause-refused_written g c = λ one.
 pub returns-in-Ok-Some-clause-counted : goal.returns-in-Ok-Some-clause-counted
 returns-in-Ok-Some-clause-counted g c = λ either none named. elim either [
   | inl zero ↦
-    let is_done : c.in-Ok-Some.status ≡ Done = search rules in
-    let ended : ◌≡◌ {A = Result (Option Status) Failure} (Ok c.in-Ok-Some.field-0) (Ok (Some Done)) =
-    ap (λ (o : Option Status). Ok o) (c.in-Ok-Some.field-0-is ∙ ap (λ (s : Status). Some s) is_done) in
-    c.in-Ok-Some.ensures.counted (inl ended) none named
+      let is_done : c.in-Ok-Some.status ≡ Done = search rules in
+      let ended : ◌≡◌ {A = Result (Option Status) Failure} (Ok c.in-Ok-Some.field-0) (Ok (Some Done)) =
+      ap (λ (o : Option Status). Ok o) (c.in-Ok-Some.field-0-is ∙ ap (λ (s : Status). Some s) is_done) in
+      c.in-Ok-Some.ensures.counted (inl ended) none named
   | inr one ↦
-    let is_refused : c.in-Ok-Some.status ≡ Refused = search rules in
-    let ended : ◌≡◌ {A = Result (Option Status) Failure} (Ok c.in-Ok-Some.field-0) (Ok (Some Refused)) =
-    ap (λ (o : Option Status). Ok o) (c.in-Ok-Some.field-0-is ∙ ap (λ (s : Status). Some s) is_refused) in
-    c.in-Ok-Some.ensures.counted (inr ended) none named
+      let is_refused : c.in-Ok-Some.status ≡ Refused = search rules in
+      let ended : ◌≡◌ {A = Result (Option Status) Failure} (Ok c.in-Ok-Some.field-0) (Ok (Some Refused)) =
+      ap (λ (o : Option Status). Ok o) (c.in-Ok-Some.field-0-is ∙ ap (λ (s : Status). Some s) is_refused) in
+      c.in-Ok-Some.ensures.counted (inr ended) none named
 ]
