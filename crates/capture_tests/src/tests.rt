@@ -57,7 +57,7 @@ fn push_record(
     push_word(file, order, 1_700_000_000)?;
     push_word(file, order, 999_999)?;
     let captured = first.len().saturating_add(second.len());
-    push_word(file, order, captured as u32 & 0xffff)?;
+    push_word(file, order, captured.min(65_535) as u32)?;
     push_word(file, order, 100)?;
     file.extend_from_slice(first)?;
     file.extend_from_slice(second)
