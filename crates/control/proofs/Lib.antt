@@ -3,7 +3,8 @@ mod MeetLemmas
 mod JudgeLemmas
 mod ReadyLemmas
 mod SwitchLemmas
-pub mod WritingLemmas
+pub mod WaitingLemmas
+mod WritingLemmas
 pub mod HeldLemmas
 pub mod ScriptLemmas
 pub mod TakeLemmas

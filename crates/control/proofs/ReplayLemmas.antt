@@ -11,6 +11,7 @@ use Rattle.control.specs.Replay.{AnsweredAllLines, AnsweredFirstLines, FailedBy,
 use Rattle.control.specs.Script.{at_start, no_line}
 use Rattle.control.specs.body.ScriptSoFar.{Advances, Ends, IsAt, OutputFailedBy}
 use Rattle.control.specs.Streams.{InputValue, KeepsOrForgets, OutputValue}
+use Rattle.control.proofs.WaitingLemmas.{told_all}
 use Rattle.control.proofs.WritingLemmas.{appends_nothing}
 
 pub consumes_nothing : (known : Option (List ℕ)) → Consumes known known []
@@ -33,13 +34,13 @@ read_before_failure failures (Some a) (Some b) (Some c) read one kept = one ∙ 
 pub record IsReplaying (input input' : InputValue) (output output' : OutputValue) (script : Script) : Type 0 where
   pub read : List ℕ
   pub was_read : Consumes input.coming input'.coming read
-  pub so_far : IsAt read output.taken script output'.taken
+  pub so_far : IsAt read output.taken script output'.taken []
   pub outside : AreOutside script.switch.operator.table script.switch.workers.items
   pub within : length script.held.items ≤ suc LINE_LIMIT
   pub input_healthy : input'.failures ≡ input.failures
   pub output_healthy : output'.failures ≡ output.failures
 
-pub replaying_begins : (input : InputValue) (output : OutputValue) (script : Script) → IsAt [] output.taken script output.taken
+pub replaying_begins : (input : InputValue) (output : OutputValue) (script : Script) → IsAt [] output.taken script output.taken []
     → AreOutside script.switch.operator.table script.switch.workers.items → length script.held.items ≤ suc LINE_LIMIT → IsReplaying input input output output script
 replaying_begins input output script at outside within = record {
   read = [];
@@ -74,12 +75,12 @@ module _ (input mid : InputValue) (output now : OutputValue) (script : Script) (
     read = read_before_failure after.failures input.coming mid.coming after.coming (at.lines ++ at.part) (subst (Consumes input.coming mid.coming) at.read_is before.was_read) kept;
     no_line = at.no_line;
     answered = at.answered;
-    written = at.written;
+    written = told_all output.taken now.taken at.text at.written;
   }
 
   -- bytes came, and were taken
   module _ (after : InputValue) (bytes : List ℕ) (gave : Consumes mid.coming after.coming bytes) (healthy : after.failures ≡ mid.failures) where
-    pub replaying_on : (script' : Script) (later : OutputValue) → Advances later.failures bytes script script' now.taken later.taken (Ok tt)
+    pub replaying_on : (script' : Script) (later : OutputValue) → Advances later.failures bytes script script' now.taken [] later.taken [] (Ok tt)
         → AreOutside script'.switch.operator.table script'.switch.workers.items → length script'.held.items ≤ suc LINE_LIMIT → later.failures ≡ now.failures
         → IsReplaying input after output later script'
     replaying_on script' later advances outside within same = record {
@@ -92,7 +93,7 @@ module _ (input mid : InputValue) (output now : OutputValue) (script : Script) (
       output_healthy = same ∙ before.output_healthy;
     }
 
-    pub cut_in_take : (script' : Script) (later : OutputValue) → Advances later.failures bytes script script' now.taken later.taken (Err WriteFailed) → WroteBeginning input after output later
+    pub cut_in_take : (script' : Script) (later : OutputValue) → Advances later.failures bytes script script' now.taken [] later.taken [] (Err WriteFailed) → WroteBeginning input after output later
     cut_in_take script' later advances = let cut = advances before.read output.taken before.so_far in record {
       lines = cut.lines;
       rest = cut.rest;
@@ -105,7 +106,7 @@ module _ (input mid : InputValue) (output now : OutputValue) (script : Script) (
       written = cut.written;
     }
 
-    pub stopped_in_take : (script' : Script) (later : OutputValue) → Advances later.failures bytes script script' now.taken later.taken (Err OutOfMemory) → AnsweredFirstLines input after output later
+    pub stopped_in_take : (script' : Script) (later : OutputValue) → Advances later.failures bytes script script' now.taken [] later.taken [] (Err OutOfMemory) → AnsweredFirstLines input after output later
     stopped_in_take script' later advances = let stop = advances before.read output.taken before.so_far in record {
       lines = stop.lines;
       rest = stop.rest;
@@ -113,7 +114,7 @@ module _ (input mid : InputValue) (output now : OutputValue) (script : Script) (
       last = stop.last;
       read = subst (Consumes input.coming after.coming) stop.read_is (consumes_more input.coming mid.coming after.coming before.read bytes before.was_read gave);
       answered = stop.answered;
-      written = stop.written;
+      written = told_all output.taken later.taken stop.text stop.written;
     }
 
   -- the input came to its end
@@ -152,7 +153,7 @@ module _ (input mid : InputValue) (output now : OutputValue) (script : Script) (
       last = stop.last;
       read = subst (Consumes input.coming after.coming) stop.read_is all_read;
       answered = stop.answered;
-      written = stop.written;
+      written = told_all output.taken later.taken stop.text stop.written;
     }
 
 -- which device failed, by the fault of the output's part

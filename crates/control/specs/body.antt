@@ -2,3 +2,4 @@ pub mod Ready
 pub mod Switch
 pub mod ScriptSoFar
 pub mod Writing
+pub mod Waiting

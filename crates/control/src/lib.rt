@@ -10,6 +10,7 @@ mod fault;
 mod judged;
 mod packet_line;
 mod replaying;
+mod replies;
 mod script;
 mod std_streams;
 mod streams;

@@ -1,14 +1,15 @@
 //! A script that is read in pieces: the switch that has answered its lines, and the line that is not ended yet.
 
-ghost use Rattle.std.specs.Prelude.{◌≡◌, ◌≤◌, ◌++◌, IfOk, List, OnOk, Option, [], length, suc, take, ℕ};
+ghost use Rattle.std.specs.Prelude.{◌≡◌, ◌≤◌, ◌++◌, IfOk, List, Ok, OnOk, Option, [], length, suc, take, ℕ};
 ghost use Rattle.control_line.specs.declared.TheConstants.{LINE_LIMIT};
 ghost use Rattle.control.specs.body.Ready.{AreOutside};
 ghost use Rattle.control.specs.body.ScriptSoFar.{Advances, AnswersHeld, Ends, IsAt, OutputFailedBy};
+ghost use Rattle.control.specs.body.Waiting.{WritesWaiting};
 
 use crate::fault::ReplayFault;
+use crate::replies::Replies;
 use crate::streams::Output;
 use crate::switch::Switch;
-use crate::writing::write_line;
 use control_line::LINE_LIMIT;
 use ipv4_fields::split_at;
 use std::alloc::{AllocError, Global};
@@ -23,7 +24,7 @@ pub(crate) struct Script {
 
 impl Script {
     pub(crate) fn open(alloc: Global) -> Result<Script, AllocError>
-        ensures at_start { IfOk result (λ script. (start : Option (List ℕ)) → IsAt [] start script start) }
+        ensures at_start { IfOk result (λ script. (start : Option (List ℕ)) → IsAt [] start script start []) }
         ensures outside { IfOk result (λ script. AreOutside script.switch.operator.table script.switch.workers.items) }
         ensures within { IfOk result (λ script. length script.held.items ≤ suc LINE_LIMIT) }
     {
@@ -44,32 +45,38 @@ impl Script {
         Ok(self.held.extend_from_slice(bytes)?)
     }
 
-    // Answers the line that is held, which ends here.
-    fn answer_held<W: Output>(&mut self, alloc: Global, writer: &mut W) -> Result<(), ReplayFault>
+    // Answers the line that is held, which ends here. The reply waits.
+    fn answer_held<W: Output>(
+        &mut self,
+        alloc: Global,
+        replies: &mut Replies,
+        writer: &mut W,
+    ) -> Result<(), ReplayFault>
         requires outside { AreOutside self.old.switch.operator.table self.old.switch.workers.items }
-        ensures answers { AnswersHeld (W.state writer.new).failures self.old self.new (W.state writer.old).taken (W.state writer.new).taken result }
+        ensures answers { AnswersHeld (W.state writer.new).failures self.old self.new (W.state writer.old).taken replies.old (W.state writer.new).taken replies.new result }
         ensures outside { OnOk result (AreOutside self.new.switch.operator.table self.new.switch.workers.items) }
         ensures device_failed { OutputFailedBy result (W.state writer.old).failures (W.state writer.new).failures }
         ensures rest_kept { W.rest writer.new ≡ W.rest writer.old }
     {
         let reply = self.switch.answer(alloc, &self.held)?;
         self.held.clear();
-        let Ok(()) = write_line(writer, &reply) else {
+        let Ok(()) = replies.add(&reply, writer) else {
             return Err(ReplayFault::WriteFailed);
         };
         Ok(())
     }
 
-    /// Takes the next bytes, and answers each line that they end. Each reply is written before the next line is answered.
-    pub(crate) fn take<W: Output>(
+    // Takes the next bytes, and answers each line that they end. The last replies wait.
+    fn answer_lines<W: Output>(
         &mut self,
         alloc: Global,
         bytes: &[u8],
+        replies: &mut Replies,
         writer: &mut W,
     ) -> Result<(), ReplayFault>
         requires outside { AreOutside self.old.switch.operator.table self.old.switch.workers.items }
         requires within { length self.old.held.items ≤ suc LINE_LIMIT }
-        ensures advances { Advances (W.state writer.new).failures bytes.now self.old self.new (W.state writer.old).taken (W.state writer.new).taken result }
+        ensures advances { Advances (W.state writer.new).failures bytes.now self.old self.new (W.state writer.old).taken replies.old (W.state writer.new).taken replies.new result }
         ensures outside { OnOk result (AreOutside self.new.switch.operator.table self.new.switch.workers.items) }
         ensures within { OnOk result (length self.new.held.items ≤ suc LINE_LIMIT) }
         ensures device_failed { OutputFailedBy result (W.state writer.old).failures (W.state writer.new).failures }
@@ -78,10 +85,30 @@ impl Script {
         let mut left = bytes;
         while let Some((front, behind)) = split_at(b'\n', left) {
             self.hold(front)?;
-            self.answer_held(alloc, writer)?;
+            self.answer_held(alloc, replies, writer)?;
             left = behind;
         }
         Ok(self.hold(left)?)
+    }
+
+    /// Takes the next bytes, and answers each line that they end. All replies are written then.
+    pub(crate) fn take<W: Output>(
+        &mut self,
+        alloc: Global,
+        bytes: &[u8],
+        writer: &mut W,
+    ) -> Result<(), ReplayFault>
+        requires outside { AreOutside self.old.switch.operator.table self.old.switch.workers.items }
+        requires within { length self.old.held.items ≤ suc LINE_LIMIT }
+        ensures advances { Advances (W.state writer.new).failures bytes.now self.old self.new (W.state writer.old).taken [] (W.state writer.new).taken [] result }
+        ensures outside { OnOk result (AreOutside self.new.switch.operator.table self.new.switch.workers.items) }
+        ensures within { OnOk result (length self.new.held.items ≤ suc LINE_LIMIT) }
+        ensures device_failed { OutputFailedBy result (W.state writer.old).failures (W.state writer.new).failures }
+        ensures rest_kept { W.rest writer.new ≡ W.rest writer.old }
+    {
+        let mut replies = Replies::new();
+        let answered = self.answer_lines(alloc, bytes, &mut replies, writer);
+        write_waiting(answered, &replies, writer)
     }
 
     /// Answers the last line, where it has no LF.
@@ -98,6 +125,31 @@ impl Script {
         if self.held.is_empty() {
             return Ok(());
         }
-        self.answer_held(alloc, writer)
+        let mut replies = Replies::new();
+        self.answer_held(alloc, &mut replies, writer)?;
+        let Ok(()) = replies.write(writer) else {
+            return Err(ReplayFault::WriteFailed);
+        };
+        Ok(())
     }
+}
+
+// Writes the replies that wait, also where memory was refused behind them. Where a write failed nothing more is written.
+fn write_waiting<W: Output>(
+    answered: Result<(), ReplayFault>,
+    replies: &Replies,
+    writer: &mut W,
+) -> Result<(), ReplayFault>
+    ensures written { WritesWaiting answered replies.now (W.state writer.old) (W.state writer.new) result }
+    ensures device_failed { (before : ℕ) → OutputFailedBy answered before (W.state writer.old).failures → OutputFailedBy result before (W.state writer.new).failures }
+    ensures done { OnOk result (answered ≡ Ok tt) }
+    ensures rest_kept { W.rest writer.new ≡ W.rest writer.old }
+{
+    if let Err(ReplayFault::WriteFailed) = answered {
+        return answered;
+    }
+    let Ok(()) = replies.write(writer) else {
+        return Err(ReplayFault::WriteFailed);
+    };
+    answered
 }

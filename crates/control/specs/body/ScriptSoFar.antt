@@ -7,6 +7,7 @@ use Rattle.control.specs.declared.fault.ReplayFault.TheVariants.{OutOfMemory, Re
 use Rattle.control.specs.declared.script.Script.{Script}
 use Rattle.ipv4_fields.specs.Cut.{Lacks}
 use Rattle.control.specs.body.Ready.{IsReady}
+use Rattle.control.specs.body.Waiting.{WritesAllBut}
 use Rattle.control.specs.Replay.{WasWritten}
 use Rattle.control.specs.Script.{AreAnswered, IsScriptText, RepliesTo, Standing}
 
@@ -14,8 +15,8 @@ abbrev pub IsReadyAt : Script → Standing → Type 0
 IsReadyAt script now = IsReady script.switch.operator script.switch.workers.items now
 
 -- the lines that were read are answered, and of what stands behind them no more is held than tells whether it is too long; the
--- output took their replies since it had what `start` tells
-pub record IsAt (read : List ℕ) (start : Option (List ℕ)) (script : Script) (taken : Option (List ℕ)) : Type 0 where
+-- output took their replies since it had what `start` tells, but for those that wait
+pub record IsAt (read : List ℕ) (start : Option (List ℕ)) (script : Script) (taken : Option (List ℕ)) (waiting : List ℕ) : Type 0 where
   pub lines : List ℕ
   pub part : List ℕ
   pub text : List ℕ
@@ -25,7 +26,7 @@ pub record IsAt (read : List ℕ) (start : Option (List ℕ)) (script : Script) 
   pub no_line : Lacks 10 part
   pub held : script.held.items ≡ take (suc LINE_LIMIT) part
   pub ready : IsReadyAt script now
-  pub written : Appends start taken text
+  pub written : WritesAllBut waiting start taken text
 
 -- of the replies to lines that were read a beginning was written; the failures of the output are so many then
 pub record IsCutShort (failures : ℕ) (read : List ℕ) (start taken : Option (List ℕ)) : Type 0 where
@@ -40,25 +41,25 @@ pub record IsCutShort (failures : ℕ) (read : List ℕ) (start taken : Option (
   pub beginning : text ≡ told ++ untold
   pub written : WasWritten failures start taken told
 
--- the replies to some first lines that were read were written
-pub record IsStopped (read : List ℕ) (start taken : Option (List ℕ)) : Type 0 where
+-- the replies to some first lines that were read were written, or wait
+pub record IsStopped (read : List ℕ) (start taken : Option (List ℕ)) (waiting : List ℕ) : Type 0 where
   pub lines : List ℕ
   pub rest : List ℕ
   pub text : List ℕ
   pub last : Standing
   pub read_is : read ≡ lines ++ rest
   pub answered : AreAnswered lines text last
-  pub written : Appends start taken text
+  pub written : WritesAllBut waiting start taken text
 
 -- what a piece of a script adds
-abbrev pub Advances : ℕ → List ℕ → Script → Script → Option (List ℕ) → Option (List ℕ) → Result (Unit {0}) ReplayFault → Type 0
-Advances failures bytes script script' taken taken' (Ok done) =
-    (read : List ℕ) (start : Option (List ℕ)) → IsAt read start script taken → IsAt (read ++ bytes) start script' taken'
-Advances failures bytes script script' taken taken' (Err WriteFailed) =
-    (read : List ℕ) (start : Option (List ℕ)) → IsAt read start script taken → IsCutShort failures (read ++ bytes) start taken'
-Advances failures bytes script script' taken taken' (Err OutOfMemory) =
-    (read : List ℕ) (start : Option (List ℕ)) → IsAt read start script taken → IsStopped (read ++ bytes) start taken'
-Advances failures bytes script script' taken taken' (Err ReadFailed) = ⊥
+abbrev pub Advances : ℕ → List ℕ → Script → Script → Option (List ℕ) → List ℕ → Option (List ℕ) → List ℕ → Result (Unit {0}) ReplayFault → Type 0
+Advances failures bytes script script' taken waiting taken' waiting' (Ok done) =
+    (read : List ℕ) (start : Option (List ℕ)) → IsAt read start script taken waiting → IsAt (read ++ bytes) start script' taken' waiting'
+Advances failures bytes script script' taken waiting taken' waiting' (Err WriteFailed) =
+    (read : List ℕ) (start : Option (List ℕ)) → IsAt read start script taken waiting → IsCutShort failures (read ++ bytes) start taken'
+Advances failures bytes script script' taken waiting taken' waiting' (Err OutOfMemory) =
+    (read : List ℕ) (start : Option (List ℕ)) → IsAt read start script taken waiting → IsStopped (read ++ bytes) start taken' waiting'
+Advances failures bytes script script' taken waiting taken' waiting' (Err ReadFailed) = ⊥
 
 -- the text of a whole script was written
 pub record IsWritten (read : List ℕ) (start taken : Option (List ℕ)) : Type 0 where
@@ -78,39 +79,39 @@ pub record IsCutAtEnd (failures : ℕ) (read : List ℕ) (start taken : Option (
 -- what the end of a script adds
 abbrev pub Ends : ℕ → Script → Option (List ℕ) → Option (List ℕ) → Result (Unit {0}) ReplayFault → Type 0
 Ends failures script taken taken' (Ok done) =
-    (read : List ℕ) (start : Option (List ℕ)) → IsAt read start script taken → IsWritten read start taken'
+    (read : List ℕ) (start : Option (List ℕ)) → IsAt read start script taken [] → IsWritten read start taken'
 Ends failures script taken taken' (Err WriteFailed) =
-    (read : List ℕ) (start : Option (List ℕ)) → IsAt read start script taken → IsCutAtEnd failures read start taken'
+    (read : List ℕ) (start : Option (List ℕ)) → IsAt read start script taken [] → IsCutAtEnd failures read start taken'
 Ends failures script taken taken' (Err OutOfMemory) =
-    (read : List ℕ) (start : Option (List ℕ)) → IsAt read start script taken → IsStopped read start taken'
+    (read : List ℕ) (start : Option (List ℕ)) → IsAt read start script taken [] → IsStopped read start taken' []
 Ends failures script taken taken' (Err ReadFailed) = ⊥
 
--- the line was replied to, and the reply was written as one line
-pub record IsReplied (now : Standing) (line : List ℕ) (script' : Script) (taken taken' : Option (List ℕ)) : Type 0 where
+-- the line was replied to, and the reply waits as one line behind what waited before, of which a beginning may have been written
+pub record IsReplied (now : Standing) (line : List ℕ) (script' : Script) (taken : Option (List ℕ)) (waiting : List ℕ) (taken' : Option (List ℕ)) (waiting' : List ℕ) : Type 0 where
   pub reply : List ℕ
   pub next : Standing
   pub replies : RepliesTo now line reply next
   pub ready : IsReadyAt script' next
-  pub written : Appends taken taken' (reply ++ 10 ∷ [])
+  pub written : WritesAllBut waiting' taken taken' (waiting ++ (reply ++ 10 ∷ []))
 
--- of its reply a beginning was written
-pub record IsReplyCut (failures : ℕ) (now : Standing) (line : List ℕ) (taken taken' : Option (List ℕ)) : Type 0 where
+-- of what waits and its reply a beginning was written
+pub record IsReplyCut (failures : ℕ) (now : Standing) (line : List ℕ) (taken : Option (List ℕ)) (waiting : List ℕ) (taken' : Option (List ℕ)) : Type 0 where
   pub reply : List ℕ
   pub next : Standing
   pub told : List ℕ
   pub untold : List ℕ
   pub replies : RepliesTo now line reply next
-  pub beginning : reply ++ 10 ∷ [] ≡ told ++ untold
+  pub beginning : waiting ++ (reply ++ 10 ∷ []) ≡ told ++ untold
   pub written : WasWritten failures taken taken' told
 
 -- what answering the line that is held does
-abbrev pub AnswersHeld : ℕ → Script → Script → Option (List ℕ) → Option (List ℕ) → Result (Unit {0}) ReplayFault → Type 0
-AnswersHeld failures script script' taken taken' (Ok done) =
-    (script'.held.items ≡ []) × ((now : Standing) → IsReadyAt script now → IsReplied now script.held.items script' taken taken')
-AnswersHeld failures script script' taken taken' (Err WriteFailed) =
-    (now : Standing) → IsReadyAt script now → IsReplyCut failures now script.held.items taken taken'
-AnswersHeld failures script script' taken taken' (Err OutOfMemory) = taken' ≡ taken
-AnswersHeld failures script script' taken taken' (Err ReadFailed) = ⊥
+abbrev pub AnswersHeld : ℕ → Script → Script → Option (List ℕ) → List ℕ → Option (List ℕ) → List ℕ → Result (Unit {0}) ReplayFault → Type 0
+AnswersHeld failures script script' taken waiting taken' waiting' (Ok done) =
+    (script'.held.items ≡ []) × ((now : Standing) → IsReadyAt script now → IsReplied now script.held.items script' taken waiting taken' waiting')
+AnswersHeld failures script script' taken waiting taken' waiting' (Err WriteFailed) =
+    (now : Standing) → IsReadyAt script now → IsReplyCut failures now script.held.items taken waiting taken'
+AnswersHeld failures script script' taken waiting taken' waiting' (Err OutOfMemory) = (taken' ≡ taken) × (waiting' ≡ waiting)
+AnswersHeld failures script script' taken waiting taken' waiting' (Err ReadFailed) = ⊥
 
 -- the output failed once where the fault is its own, and else not
 abbrev pub OutputFailedBy : Result (Unit {0}) ReplayFault → ℕ → ℕ → Type 0

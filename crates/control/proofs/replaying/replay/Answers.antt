@@ -1,4 +1,4 @@
-use Rattle.std.proofs.Common.{◌∙◌, Result, refl, rules, subst, sym, take}
+use Rattle.std.proofs.Common.{◌∙◌, Result, [], refl, rules, subst, sym, take}
 use Rattle.control.specs.declared.fault.ReplayFault.{ReplayFault}
 use Rattle.control.specs.body.ScriptSoFar.{Advances, Ends}
 use Rattle.control.proofs.ReplayLemmas.{all_lines_answered, cut_in_end, cut_in_take, gave_nothing, nothing_answered, replayed_if, replaying_begins, replaying_on, stopped_in_end, stopped_in_take}
@@ -51,7 +51,7 @@ returns-in_err-take-clause-text_before_failed_write g c = λ is.
     let gave = c.in-Ok.ensures in let fault = c.in_err-take.field-0.0 in
     cut_in_take (g.R.Input.state c.args.reader.now) (g.R.Input.state c.loop-size.reader) (g.W.Output.state c.args.writer.now) (g.W.Output.state c.loop-size.writer) c.loop-size.script c.loop-size.invariant.0
     (g.R.Input.state c.read.new.self) (take c.in-Ok.size c.read.new.buf) gave.gives_next.0 gave.device_failed c.take.new.self (g.W.Output.state c.take.new.writer)
-    (subst (λ (r : Result (Unit {0}) ReplayFault). Advances (g.W.Output.state c.take.new.writer).failures (take c.in-Ok.size c.read.new.buf) c.loop-size.script c.take.new.self (g.W.Output.state c.loop-size.writer).taken (g.W.Output.state c.take.new.writer).taken r)
+    (subst (λ (r : Result (Unit {0}) ReplayFault). Advances (g.W.Output.state c.take.new.writer).failures (take c.in-Ok.size c.read.new.buf) c.loop-size.script c.take.new.self (g.W.Output.state c.loop-size.writer).taken [] (g.W.Output.state c.take.new.writer).taken [] r)
     (sym (err_is c.from_residual-in_err-take.result fault c.from_residual-in_err-take.ensures.1) ∙ is) c.in_err-take.ensures.advances)
 
 pub returns-in_err-take-clause-text_before_no_memory : goal.returns-in_err-take-clause-text_before_no_memory
@@ -59,5 +59,5 @@ returns-in_err-take-clause-text_before_no_memory g c = λ is.
     let gave = c.in-Ok.ensures in let fault = c.in_err-take.field-0.0 in
     stopped_in_take (g.R.Input.state c.args.reader.now) (g.R.Input.state c.loop-size.reader) (g.W.Output.state c.args.writer.now) (g.W.Output.state c.loop-size.writer) c.loop-size.script c.loop-size.invariant.0
     (g.R.Input.state c.read.new.self) (take c.in-Ok.size c.read.new.buf) gave.gives_next.0 gave.device_failed c.take.new.self (g.W.Output.state c.take.new.writer)
-    (subst (λ (r : Result (Unit {0}) ReplayFault). Advances (g.W.Output.state c.take.new.writer).failures (take c.in-Ok.size c.read.new.buf) c.loop-size.script c.take.new.self (g.W.Output.state c.loop-size.writer).taken (g.W.Output.state c.take.new.writer).taken r)
+    (subst (λ (r : Result (Unit {0}) ReplayFault). Advances (g.W.Output.state c.take.new.writer).failures (take c.in-Ok.size c.read.new.buf) c.loop-size.script c.take.new.self (g.W.Output.state c.loop-size.writer).taken [] (g.W.Output.state c.take.new.writer).taken [] r)
     (sym (err_is c.from_residual-in_err-take.result fault c.from_residual-in_err-take.ensures.1) ∙ is) c.in_err-take.ensures.advances)

@@ -1,4 +1,4 @@
-use Rattle.std.proofs.Common.{List, subst, ℕ}
+use Rattle.std.proofs.Common.{◌∙◌, ◌++◌, ◌∷◌, List, [], ap, append_assoc, subst, ℕ}
 use Rattle.control.specs.Script.{RepliesTo}
 use Rattle.control.proofs.script.Script.answer_held.Goals as goal
 
@@ -10,9 +10,9 @@ returns-in_default-clause-answers g c = λ now ready.
       reply = c.in_ok-reply.reply;
       next = said.0;
       told = cut.told;
-      untold = cut.untold;
+      untold = cut.untold ++ (c.in_ok-reply.reply ++ 10 ∷ []);
       replies = subst (λ (line : List ℕ). RepliesTo now line c.in_ok-reply.reply said.0) c.deref.ensures.value said.1;
-      beginning = cut.beginning;
+      beginning = ap (λ front. front ++ (c.in_ok-reply.reply ++ 10 ∷ [])) cut.beginning ∙ append_assoc cut.told cut.untold (c.in_ok-reply.reply ++ 10 ∷ []);
       written = cut.written;
     }
 
@@ -24,6 +24,6 @@ returns-clause-answers g c = (
     next = said.0;
     replies = subst (λ (line : List ℕ). RepliesTo now line c.in_ok-reply.reply said.0) c.deref.ensures.value said.1;
     ready = said.2;
-    written = c.in-Ok.ensures.written;
+    written = c.in-Ok.ensures.added;
   },
 )
