@@ -1,8 +1,8 @@
 -- What `clap` finds in words that are written out.
-use Rattle.std.proofs.Common.{◌≡◌, ◌∷◌, [], Some, codes, refl}
+use Rattle.std.proofs.Common.{◌≡◌, ◌∷◌, [], Some, codes, false, refl, true}
 use Rattle.clap.proofs.OnLiterals.{clap_on_literals}
-use Rattle.clap.specs.declared.error.kind.ErrorKind.TheVariants.{DisplayHelp, DisplayVersion, InvalidSubcommand, MissingRequiredArgument, MissingSubcommand, UnknownArgument, ValueValidation}
-use Rattle.command_line.specs.CommandLine.{check, compile, explain, faults_in, flood, judge, request_in, run, serve, tell}
+use Rattle.clap.specs.declared.error.kind.ErrorKind.TheVariants.{ArgumentConflict, DisplayHelp, DisplayVersion, InvalidSubcommand, MissingRequiredArgument, MissingSubcommand, TooManyValues, UnknownArgument, ValueValidation}
+use Rattle.command_line.specs.CommandLine.{check, compile, explain, faults_in, flood, judge, replay, request_in, run, serve, tell}
 
 in_first : faults_in (codes "first" ∷ []) ≡ []
 unfolding clap_on_literals
@@ -36,7 +36,7 @@ in_flood : faults_in (codes "flood" ∷ codes "--workers" ∷ codes "64" ∷ [])
 unfolding clap_on_literals
 in_flood = refl
 
-in_flood_request : request_in (codes "flood" ∷ codes "--workers" ∷ codes "64" ∷ []) ≡ Some (flood (codes "64"))
+in_flood_request : request_in (codes "flood" ∷ codes "--workers" ∷ codes "64" ∷ []) ≡ Some (flood (codes "64") (codes "4096"))
 unfolding clap_on_literals
 in_flood_request = refl
 
@@ -55,6 +55,51 @@ in_flood_of_a_letter = refl
 in_flood_alone : faults_in (codes "flood" ∷ []) ≡ MissingRequiredArgument ∷ []
 unfolding clap_on_literals
 in_flood_alone = refl
+
+in_flood_of_the_most : request_in (codes "flood" ∷ codes "--workers" ∷ codes "4" ∷ codes "--datagrams" ∷ codes "16777216" ∷ [])
+    ≡ Some (flood (codes "4") (codes "16777216"))
+unfolding clap_on_literals
+in_flood_of_the_most = refl
+
+in_flood_of_the_most_has_no_fault : faults_in (codes "flood" ∷ codes "--workers" ∷ codes "4" ∷ codes "--datagrams" ∷ codes "16777216" ∷ []) ≡ []
+unfolding clap_on_literals
+in_flood_of_the_most_has_no_fault = refl
+
+in_flood_of_one_more : faults_in (codes "flood" ∷ codes "--workers" ∷ codes "4" ∷ codes "--datagrams" ∷ codes "16777217" ∷ []) ≡ ValueValidation ∷ []
+unfolding clap_on_literals
+in_flood_of_one_more = refl
+
+in_flood_of_no_datagrams : faults_in (codes "flood" ∷ codes "--workers" ∷ codes "4" ∷ codes "--datagrams" ∷ codes "0" ∷ []) ≡ ValueValidation ∷ []
+unfolding clap_on_literals
+in_flood_of_no_datagrams = refl
+
+in_replay : request_in (codes "replay" ∷ []) ≡ Some (replay false false)
+unfolding clap_on_literals
+in_replay = refl
+
+in_replay_with_a_summary : request_in (codes "replay" ∷ codes "--summary" ∷ []) ≡ Some (replay true false)
+unfolding clap_on_literals
+in_replay_with_a_summary = refl
+
+in_quiet_replay : request_in (codes "replay" ∷ codes "--quiet" ∷ []) ≡ Some (replay false true)
+unfolding clap_on_literals
+in_quiet_replay = refl
+
+in_replay_with_both : request_in (codes "replay" ∷ codes "--quiet" ∷ codes "--summary" ∷ []) ≡ Some (replay true true)
+unfolding clap_on_literals
+in_replay_with_both = refl
+
+in_replay_with_both_has_no_fault : faults_in (codes "replay" ∷ codes "--quiet" ∷ codes "--summary" ∷ []) ≡ []
+unfolding clap_on_literals
+in_replay_with_both_has_no_fault = refl
+
+in_replay_with_a_flag_twice : faults_in (codes "replay" ∷ codes "--quiet" ∷ codes "--quiet" ∷ []) ≡ ArgumentConflict ∷ []
+unfolding clap_on_literals
+in_replay_with_a_flag_twice = refl
+
+in_replay_with_a_value : faults_in (codes "replay" ∷ codes "--quiet=true" ∷ []) ≡ TooManyValues ∷ []
+unfolding clap_on_literals
+in_replay_with_a_value = refl
 
 in_serve : faults_in (codes "serve" ∷ codes "--front" ∷ codes "0.0.0.0:1" ∷ codes "--control" ∷ codes "0.0.0.0:2" ∷ codes "--workers" ∷ codes "64" ∷ []) ≡ []
 unfolding clap_on_literals

@@ -1,9 +1,9 @@
 -- The program's command line, as the contracts of `clap` see it.
-use Rattle.std.specs.Prelude.{◌≡◌, ◌≢◌, ◌⊎◌, [], List, None, Option, Some, codes, if◌then◌else◌, map, option_and_then, true, unwrap_or}
+use Rattle.std.specs.Prelude.{◌≡◌, ◌≢◌, ◌⊎◌, [], Bool, List, None, Option, Some, codes, if◌then◌else◌, map, option_and_then, true, unwrap_or}
 use Rattle.std.specs.Str.{bytes_eq}
 use Rattle.clap.specs.Walk.{all_of, first_of}
 use Rattle.clap.specs.Words.{App, IsAmong, Kinds, Row, Rule, Shape, Text, fault_of, new_app, new_rule, subcommand_of, with_rule, with_subcommand}
-use Rattle.clap.specs.declared.builder.action.ArgAction.TheVariants.{Append}
+use Rattle.clap.specs.declared.builder.action.ArgAction.TheVariants.{Append, SetTrue}
 use Rattle.clap.specs.declared.builder.value_parser.ValueParser.TheVariants.{Unsigned}
 use Rattle.clap.specs.declared.error.kind.ErrorKind.{ErrorKind}
 use Rattle.clap.specs.declared.error.kind.ErrorKind.TheVariants.{DisplayHelp, DisplayVersion}
@@ -11,7 +11,7 @@ use Rattle.command_line.specs.declared.command.Query.{Query}
 use Rattle.command_line.specs.declared.command.Query.TheVariants as query
 use Rattle.command_line.specs.declared.command.Subcommand.{Subcommand}
 use Rattle.command_line.specs.declared.command.Subcommand.TheVariants as subcommand
-use Rattle.command_line.specs.declared.command.TheConstants.{MAX_TIMEOUT}
+use Rattle.command_line.specs.declared.command.TheConstants.{MAX_DATAGRAMS, MAX_TIMEOUT}
 use Rattle.versions.specs.declared.layout.TheConstants.{WORKERS}
 
 -- a required argument by place, one by name, and a required one by name
@@ -23,6 +23,10 @@ named_argument id = record (new_rule id) { long = Some id; value_names = 1 }
 
 abbrev pub required_named_argument : Text → Rule
 required_named_argument id = record (named_argument id) { required = true }
+
+-- a flag
+abbrev pub flag : Text → Rule
+flag id = record (new_rule id) { long = Some id; action = Some SetTrue }
 
 -- any number of arguments by place
 abbrev pub any_number_of : Text → Rule
@@ -53,8 +57,9 @@ run_line =
 abbrev pub explain_line : App
 explain_line = with_rule (new_app (codes "explain")) (required_argument (codes "CODE"))
 
+-- `replay`, with each of its flags or without
 abbrev pub replay_line : App
-replay_line = new_app (codes "replay")
+replay_line = with_rule (with_rule (new_app (codes "replay")) (flag (codes "summary"))) (flag (codes "quiet"))
 
 abbrev pub packets_line : App
 packets_line = new_app (codes "packets")
@@ -63,9 +68,13 @@ packets_line = new_app (codes "packets")
 abbrev pub workers_argument : Rule
 workers_argument = record (required_named_argument (codes "workers")) { parser = Some (Unsigned 1 WORKERS) }
 
--- `flood --workers N`
+-- `--datagrams N`, from 1 on
+abbrev pub datagrams_argument : Rule
+datagrams_argument = record (named_argument (codes "datagrams")) { parser = Some (Unsigned 1 MAX_DATAGRAMS) }
+
+-- `flood --workers N`, with a number of datagrams or none
 abbrev pub flood_line : App
-flood_line = with_rule (new_app (codes "flood")) workers_argument
+flood_line = with_rule (with_rule (new_app (codes "flood")) workers_argument) datagrams_argument
 
 -- `serve --front A --control A --workers N`
 abbrev pub serve_line : App
@@ -133,9 +142,9 @@ pub data Request : Type 0 where
   run : (packet format : Text) → Request
   judge : (packet expression : Text) → Request
   explain : (code : Text) → Request
-  replay : Request
+  replay : (summary quiet : Bool) → Request
   packets : Request
-  flood : (workers : Text) → Request
+  flood : (workers datagrams : Text) → Request
   serve : (front control workers : Text) → Request
   tell : (control timeout : Text) (lines : List Text) → Request
 
@@ -149,9 +158,9 @@ query_request (query.Explain code) = explain code.now
 
 abbrev pub request_of : Subcommand → Request
 request_of (subcommand.Query asked) = query_request asked
-request_of subcommand.Replay = replay
+request_of (subcommand.Replay summary quiet) = replay summary quiet
 request_of subcommand.Packets = packets
-request_of (subcommand.Flood workers) = flood workers.now
+request_of (subcommand.Flood workers datagrams) = flood workers.now datagrams.now
 request_of (subcommand.Serve front control workers) = serve front.now control.now workers.now
 request_of (subcommand.Tell control timeout lines) = tell control.now timeout.now (map (λ line. line.now) lines.items)
 
@@ -172,6 +181,14 @@ values_in rows id = unwrap_or (all_of id rows) []
 abbrev pub timeout_in : List Row → Text
 timeout_in rows = unwrap_or (first_of (codes "timeout") rows) (codes "1")
 
+-- 4096 datagrams, where no other number is given
+abbrev pub datagrams_in : List Row → Text
+datagrams_in rows = unwrap_or (first_of (codes "datagrams") rows) (codes "4096")
+
+-- a flag is given
+abbrev pub is_set : List Row → Text → Bool
+is_set rows id = bytes_eq (value_in rows id) (codes "true")
+
 -- assembly text, where no other format is given
 abbrev pub format_in : List Row → Text
 format_in rows = unwrap_or (first_of (codes "format") rows) (codes "asm")
@@ -189,11 +206,11 @@ request_named name rows =
     else if bytes_eq name (codes "explain")
     then Some (explain (value_in rows (codes "CODE")))
     else if bytes_eq name (codes "replay")
-    then Some replay
+    then Some (replay (is_set rows (codes "summary")) (is_set rows (codes "quiet")))
     else if bytes_eq name (codes "packets")
     then Some packets
     else if bytes_eq name (codes "flood")
-    then Some (flood (value_in rows (codes "workers")))
+    then Some (flood (value_in rows (codes "workers")) (datagrams_in rows))
     else if bytes_eq name (codes "serve")
     then Some (serve (value_in rows (codes "front")) (value_in rows (codes "control")) (value_in rows (codes "workers")))
     else if bytes_eq name (codes "tell")
@@ -208,7 +225,7 @@ request_in words = option_and_then (λ named. request_named named.0 named.1) (su
 
 -- a command that may wait: it runs worker threads, or awaits replies
 abbrev pub MayWait : Request → Type 0
-MayWait (flood workers) = Unit {0}
+MayWait (flood workers datagrams) = Unit {0}
 MayWait (serve front control workers) = Unit {0}
 MayWait (tell control timeout lines) = Unit {0}
 MayWait _ = ⊥

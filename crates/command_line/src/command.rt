@@ -5,7 +5,7 @@ ghost use Rattle.std.specs.Option.{option_map};
 ghost use Rattle.clap.specs.Walk.{first_of};
 ghost use Rattle.clap.specs.Words.{App, FailsBy, Rule, app_of, found_of, new_app, rows_of, rule_of, with_rule, with_subcommand};
 ghost use Rattle.clap.specs.declared.builder.command.Command.TheViews.{out-Command};
-ghost use Rattle.command_line.specs.CommandLine.{any_number_of, check_line, command_line, compile_line, explain_line, faults_in, flood_line, format_in, named_argument, query_request, request_in, request_named, request_of, required_named_argument, run_line, run_or_judge, serve_line, tell_line, timeout_argument, timeout_in, value_in, values_in, without_commands, workers_argument};
+ghost use Rattle.command_line.specs.CommandLine.{any_number_of, check_line, command_line, compile_line, datagrams_argument, datagrams_in, explain_line, faults_in, flag, flood_line, format_in, is_set, named_argument, query_request, replay_line, request_in, request_named, request_of, required_named_argument, run_line, run_or_judge, serve_line, tell_line, timeout_argument, timeout_in, value_in, values_in, without_commands, workers_argument};
 
 use crate::help;
 use clap::builder::ValueParser;
@@ -15,6 +15,9 @@ use versions::WORKERS;
 
 /// The longest wait for a reply, in seconds.
 pub const MAX_TIMEOUT: u64 = 3600;
+
+/// The most datagrams of `flood`.
+pub const MAX_DATAGRAMS: u64 = 1 << 24;
 
 /// A command that has one result.
 #[derive(Clone, Copy, Debug, PartialEq, Eq)]
@@ -46,13 +49,19 @@ pub enum Query<'a> {
 #[derive(Debug, Drop)]
 pub enum Subcommand<'a> {
     Query(Query<'a>),
-    Replay,
+    /// `summary` and `quiet` say which of the two flags are given.
+    Replay {
+        summary: bool,
+        quiet: bool,
+    },
     Packets,
-    /// `workers` is their number as it is written.
+    /// `workers` is their number as it is written. So is `datagrams`, a number from 1 to `MAX_DATAGRAMS`, and `"4096"` where none
+    /// is.
     Flood {
         workers: &'a str,
+        datagrams: &'a str,
     },
-    /// So are the addresses `front` and `control`.
+    /// `workers` and the addresses `front` and `control` are as they are written.
     Serve {
         front: &'a str,
         control: &'a str,
@@ -169,6 +178,28 @@ fn explain_command<'a>(alloc: Global) -> Result<Command<'a>, AllocError>
         .arg(code)
 }
 
+// `--NAME`
+fn flag_argument<'a>(alloc: Global, name: &'a str, help: &'a str) -> Arg<'a>
+    ensures rule { rule_of result ≡ flag name.entry.now }
+    ensures local { result.global ≡ false }
+{
+    Arg::new(alloc, name)
+        .long(name)
+        .action(ArgAction::SetTrue)
+        .help(help)
+}
+
+fn replay_command<'a>(alloc: Global) -> Result<Command<'a>, AllocError>
+    ensures app { IfOk result (λ command. app_of command ≡ replay_line) }
+    ensures local { IfOk result (λ command. (out-Command command).has_globals ≡ false) }
+{
+    let summary = flag_argument(alloc, "summary", help::REPLAY_SUMMARY);
+    let quiet = flag_argument(alloc, "quiet", help::REPLAY_QUIET);
+    let command = plain_command(alloc, "replay", help::REPLAY, help::REPLAY_MORE);
+    let command = with_argument(Ok(command), summary);
+    with_argument(command, quiet)
+}
+
 // `--workers N`
 fn workers_argument<'a>(alloc: Global, help: &'a str) -> Arg<'a>
     ensures rule { rule_of result ≡ workers_argument }
@@ -194,15 +225,26 @@ fn address_argument<'a>(alloc: Global, name: &'a str, help: &'a str) -> Arg<'a>
         .help(help)
 }
 
+// `--datagrams N`
+fn datagrams_argument<'a>(alloc: Global) -> Arg<'a>
+    ensures rule { rule_of result ≡ datagrams_argument }
+    ensures local { result.global ≡ false }
+{
+    Arg::new(alloc, "datagrams")
+        .long("datagrams")
+        .value_name("N")
+        .value_parser(ValueParser::unsigned(1, MAX_DATAGRAMS))
+        .help(help::FLOOD_DATAGRAMS)
+}
+
 fn flood_command<'a>(alloc: Global) -> Result<Command<'a>, AllocError>
     ensures app { IfOk result (λ command. app_of command ≡ flood_line) }
     ensures local { IfOk result (λ command. (out-Command command).has_globals ≡ false) }
 {
     let workers = workers_argument(alloc, help::FLOOD_WORKERS);
-    Command::new(alloc, "flood")
-        .about(help::FLOOD)
-        .after_help(help::FLOOD_MORE)
-        .arg(workers)
+    let command = plain_command(alloc, "flood", help::FLOOD, help::FLOOD_MORE);
+    let command = with_argument(Ok(command), workers);
+    with_argument(command, datagrams_argument(alloc))
 }
 
 fn serve_command<'a>(alloc: Global) -> Result<Command<'a>, AllocError>
@@ -287,8 +329,7 @@ fn program<'a>(alloc: Global) -> Result<Command<'a>, AllocError>
     let program = with_command(program, compile_command(alloc));
     let program = with_command(program, run_command(alloc));
     let program = with_command(program, explain_command(alloc));
-    let replay = plain_command(alloc, "replay", help::REPLAY, help::REPLAY_MORE);
-    let program = with_command(program, Ok(replay));
+    let program = with_command(program, replay_command(alloc));
     let packets = plain_command(alloc, "packets", help::PACKETS, help::PACKETS_MORE);
     let program = with_command(program, Ok(packets));
     let program = with_command(program, flood_command(alloc));
@@ -321,6 +362,19 @@ fn timeout_of<'a>(found: &ArgMatches<'a>) -> &'a str
     ensures { result.now ≡ timeout_in (rows_of (found_of found.now)) }
 {
     found.get_str("timeout").unwrap_or("1")
+}
+
+fn datagrams_of<'a>(found: &ArgMatches<'a>) -> &'a str
+    ensures { result.now ≡ datagrams_in (rows_of (found_of found.now)) }
+{
+    found.get_str("datagrams").unwrap_or("4096")
+}
+
+// Whether a flag is given.
+fn is_set(found: &ArgMatches, id: &str) -> bool
+    ensures { result ≡ is_set (rows_of (found_of found.now)) id.now }
+{
+    value_of(found, id) == "true"
 }
 
 fn format_of<'a>(found: &ArgMatches<'a>) -> &'a str
@@ -363,10 +417,14 @@ fn subcommand_of<'a>(
         "explain" => Some(Subcommand::Query(Query::Explain {
             code: value_of(found, "CODE"),
         })),
-        "replay" => Some(Subcommand::Replay),
+        "replay" => Some(Subcommand::Replay {
+            summary: is_set(found, "summary"),
+            quiet: is_set(found, "quiet"),
+        }),
         "packets" => Some(Subcommand::Packets),
         "flood" => Some(Subcommand::Flood {
             workers: value_of(found, "workers"),
+            datagrams: datagrams_of(found),
         }),
         "serve" => Some(Subcommand::Serve {
             front: value_of(found, "front"),

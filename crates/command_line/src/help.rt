@@ -122,6 +122,10 @@ Example:
 
 pub const REPLAY: &str = "Answer a script of control lines and packets";
 
+pub const REPLAY_SUMMARY: &str = "Tells at the end how many packets had which verdict";
+
+pub const REPLAY_QUIET: &str = "Writes no replies";
+
 pub const REPLAY_MORE: &str = "\
 Reads lines from standard input, and prints one line for each before it reads on. A new switch has
 no groups, and is version 0. KEY and TO are ADDRESS:PORT, ID is a number, HEX an IPv4 packet.
@@ -160,12 +164,14 @@ Prints, with status 1:
 Example:
   $ cat rules.txt <(dswitch packets <trace.pcap) | dswitch replay";
 
-pub const FLOOD: &str = "Judge 4096 datagrams in worker threads while versions are replaced";
+pub const FLOOD: &str = "Judge datagrams in worker threads while versions are replaced";
 
 pub const FLOOD_WORKERS: &str = "How many worker threads, from 1 to 64";
 
+pub const FLOOD_DATAGRAMS: &str = "How many datagrams, from 1 to 16777216; without it 4096";
+
 pub const FLOOD_MORE: &str = "\
-Reads nothing. Each worker judges its share of 4096 datagrams, and what is to be delivered goes to
+Reads nothing. Each worker judges its share of the datagrams, and what is to be delivered goes to
 an outbox in memory; meanwhile 64 new versions are tried. Prints how often each came, as one line:
   malformed A nogroup B nomembers C dropped D delivered E sendfailed F receivefailed G
 

@@ -9,10 +9,11 @@ mod command;
 mod ending;
 mod help;
 
-pub use command::{MAX_TIMEOUT, Query, Subcommand, read_words};
+pub use command::{MAX_DATAGRAMS, MAX_TIMEOUT, Query, Subcommand, read_words};
 pub use ending::{Failure, Status, refuse_arguments, write_what_fits};
 
-/// Law: the limit, as a number. It runs nothing.
+/// Law: the limits, as numbers. It runs nothing.
 pub fn limits_as_numbers()
     ensures timeout { MAX_TIMEOUT ≡ 3600 }
+    ensures datagrams { MAX_DATAGRAMS ≡ 16777216 }
 {}

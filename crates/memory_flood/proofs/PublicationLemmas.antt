@@ -1,5 +1,5 @@
 -- What `publish` says is that the configuration was tried.
-use Rattle.std.proofs.Common.{◌≡◌, ◌≢◌, ◌<◌, ◌≤◌, ◌∷◌, ◌++◌, ◌⊎◌, ◌↔◌, Err, IfErr, List, Ok, OnOk, Result, [], inl, inr, refl, subst, sym, ℕ}
+use Rattle.std.proofs.Common.{◌≡◌, ◌<◌, ◌≤◌, ◌∷◌, ◌++◌, ◌↔◌, Err, IfErr, List, Ok, OnOk, Result, [], inl, inr, refl, subst, ℕ}
 use Rattle.config_image.specs.Image.{Group}
 use Rattle.member_group.specs.Charge.{charge_of}
 use Rattle.read_section.specs.Operator.{OperatorValue}

@@ -1,3 +1,4 @@
+pub mod Datagrams
 pub mod Failing
 pub mod Flood
 pub mod FloodVersions

@@ -39,11 +39,10 @@ pub fn share(
 {
     let mut share = Datagrams::new(alloc);
     let mut count = 0;
-    for i in 0..datagrams {
-        if i % workers == worker {
-            share.push(datagram(alloc, i)?)?;
-            count += 1;
-        }
+    let first = if worker < workers { worker } else { datagrams };
+    for i in (first..datagrams).step_by(workers) {
+        share.push(datagram(alloc, i)?)?;
+        count += 1;
     }
     Ok((share, count))
 }

@@ -1,17 +1,16 @@
-use Rattle.std.proofs.Common.{rules, Bool, ◌≡◌, ◌∙◌, ◌||◌, ap, ap₂, codes, false}
-use Rattle.std.proofs.lemmas.Result.{IfOk-weaker}
-use Rattle.clap.specs.Simple.{app_of_fields}
-use Rattle.clap.specs.declared.builder.command.Command.TheViews.{out-Command}
-use Rattle.clap.specs.Words.{app_of, new_app, with_rule}
+use Rattle.std.proofs.Common.{codes}
+use Rattle.clap.specs.Words.{App, new_app, with_rule}
+use Rattle.command_line.specs.CommandLine.{datagrams_argument, workers_argument}
 use Rattle.command_line.proofs.command.flood_command.Goals as goal
 
 pub returns-clause-app : goal.returns-clause-app
 returns-clause-app c =
-    let workers = c.workers_argument-workers.ensures in
-    let flood_is : app_of c.after_help.result ≡ new_app (codes "flood") = ap app_of_fields c.after_help.ensures ∙ ap app_of_fields c.about.ensures ∙ c.new.ensures.app in
-    IfOk-weaker c.arg.result _ _ (λ r adds. adds.shape workers.local ∙ ap₂ with_rule flood_is workers.rule) c.arg.ensures
+    let start : App = new_app (codes "flood") in
+    let made1 = c.with_argument-command.ensures.app start workers_argument c.plain_command-command.ensures.app c.workers_argument-workers.ensures.rule c.workers_argument-workers.ensures.local in
+    let to1 : App = with_rule start workers_argument in
+    c.with_argument.ensures.app to1 datagrams_argument made1 c.datagrams_argument.ensures.rule c.datagrams_argument.ensures.local
 
 pub returns-clause-local : goal.returns-clause-local
 returns-clause-local c =
-    let start : (out-Command c.after_help.result).has_globals ≡ false = search rules in
-    IfOk-weaker c.arg.result _ _ (λ r adds. adds.globals ∙ ap₂ (λ (a b : Bool). a || b) start c.workers_argument-workers.ensures.local) c.arg.ensures
+    let made1 = c.with_argument-command.ensures.local c.plain_command-command.ensures.local c.workers_argument-workers.ensures.local in
+    c.with_argument.ensures.local made1 c.datagrams_argument.ensures.local

@@ -18,7 +18,7 @@ and line app = with_subcommand app line.top
 pub returns : goal.returns
 returns c =
     let first = c.plain_command-first.ensures in let check = c.check_command.ensures in let compile = c.compile_command.ensures in
-    let run = c.run_command.ensures in let explain = c.explain_command.ensures in let replay = c.plain_command-replay.ensures in
+    let run = c.run_command.ensures in let explain = c.explain_command.ensures in let replay = c.replay_command.ensures in
     let packets = c.plain_command-packets.ensures in
     let flood = c.flood_command.ensures in let serve = c.serve_command.ensures in let tell = c.tell_command.ensures in
     let to_first : App = and first_line without_commands in
@@ -35,7 +35,7 @@ returns c =
     let with_compile = c.with_command-program-3.ensures to_check compile_line with_check (both c.compile_command.result compile_line compile.app compile.local) in
     let with_run = c.with_command-program-4.ensures to_compile run_line with_compile (both c.run_command.result run_line run.app run.local) in
     let with_explain = c.with_command-program-5.ensures to_run explain_line with_run (both c.explain_command.result explain_line explain.app explain.local) in
-    let with_replay = c.with_command-program-6.ensures to_explain replay_line with_explain (replay.app, replay.local) in
+    let with_replay = c.with_command-program-6.ensures to_explain replay_line with_explain (both c.replay_command.result replay_line replay.app replay.local) in
     let with_packets = c.with_command-program-7.ensures to_replay packets_line with_replay (packets.app, packets.local) in
     let with_flood = c.with_command-program-8.ensures to_packets flood_line with_packets (both c.flood_command.result flood_line flood.app flood.local) in
     let with_serve = c.with_command-program-9.ensures to_flood serve_line with_flood (both c.serve_command.result serve_line serve.app serve.local) in
