@@ -4,6 +4,7 @@ pub use Rattle.control_client.specs.Exchange
 pub use Rattle.control_client.specs.Lines
 pub use Rattle.control_client.specs.Tell
 pub use Rattle.control_client.specs.Wire
+pub use Rattle.memory_flood.specs.Datagrams
 pub use Rattle.memory_flood.specs.Failing
 pub use Rattle.memory_flood.specs.Flood
 pub use Rattle.memory_flood.specs.FloodVersions

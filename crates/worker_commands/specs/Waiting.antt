@@ -4,12 +4,12 @@ use Rattle.std.specs.Io.KnownBytes.{Appends}
 use Rattle.clap.specs.Words.{Text}
 use Rattle.command_line.specs.declared.ending.Failure.{Failure}
 use Rattle.command_line.specs.declared.ending.Failure.TheVariants.{BindFailed, NoAnswer, OutOfMemory, ReadFailed, WriteFailed}
-use Rattle.memory_flood.specs.declared.TheConstants.{DATAGRAMS}
 use Rattle.command_line.specs.CommandLine.{Request, flood, request_in, serve, tell}
 use Rattle.command_line.specs.Ending.{AppendsBeginning, line_of}
 use Rattle.ipv4_fields.specs.Endpoint.{IsEndpoint, endpoint_text}
 use Rattle.ipv4_fields.specs.declared.endpoint.Endpoint.{Endpoint}
 use Rattle.udp_service.specs.Service.{WritesReadyOrNothing, WritesServed}
+use Rattle.memory_flood.specs.Datagrams.{IsDatagrams}
 use Rattle.memory_flood.specs.Failing.{EndsInFloodFailure}
 use Rattle.memory_flood.specs.Flood.{WritesFlood}
 use Rattle.worker_threads.specs.Workers.{IsWorkers}
@@ -24,14 +24,14 @@ IsNoAddress text = (endpoint : Endpoint) → IsEndpoint endpoint → text ≢ en
 
 -- the number of workers that a request gives, as it is written
 abbrev pub workers_of : Request → Option Text
-workers_of (flood workers) = Some workers
+workers_of (flood workers datagrams) = Some workers
 workers_of (serve front control workers) = Some workers
 workers_of _ = None
 
 -- the words ask for a command that may wait, and what it writes for what they give it was written
 pub data WritesFor (words : List Text) (input before after : Option (List ℕ)) : Type 0 where
-  flooded : (workers : Text) (count : ℕ) → request_in words ≡ Some (flood workers) → IsWorkers workers count →
-      WritesFlood count DATAGRAMS before after → WritesFor words input before after
+  flooded : (workers datagrams : Text) (count number : ℕ) → request_in words ≡ Some (flood workers datagrams) → IsWorkers workers count →
+      IsDatagrams datagrams number → WritesFlood count number before after → WritesFor words input before after
   served : (front control workers : Text) (count : ℕ) → request_in words ≡ Some (serve front control workers) → IsWorkers workers count →
       IsAddress front → IsAddress control → WritesServed count before after → WritesFor words input before after
   told : (control timeout : Text) (lines : List Text) → request_in words ≡ Some (tell control timeout lines) →
@@ -69,6 +69,13 @@ LackWorkers words =
     × (workers_of request ≡ Some workers)
     × ((count : ℕ) → IsWorkers workers count → ⊥)
 
+-- or one that is no number of datagrams
+abbrev pub LackDatagrams : List Text → Type 0
+LackDatagrams words =
+    (workers datagrams : Text)
+    × (request_in words ≡ Some (flood workers datagrams))
+    × ((number : ℕ) → IsDatagrams datagrams number → ⊥)
+
 -- or one that is no number of seconds
 abbrev pub LackTimeout : List Text → Type 0
 LackTimeout words =
@@ -92,7 +99,7 @@ pub record EndsInServeFailure (front control : Text) (before after told_before t
 pub data EndsInWaitingFailure (words : List Text) (input before after told_before told_after : Option (List ℕ)) : Type 0 where
   unread : after ≡ before → AppendsBeginning told_before told_after (line_of OutOfMemory) →
       EndsInWaitingFailure words input before after told_before told_after
-  flood_failed : (workers : Text) → request_in words ≡ Some (flood workers) → EndsInFloodFailure before after told_before told_after →
+  flood_failed : (workers datagrams : Text) → request_in words ≡ Some (flood workers datagrams) → EndsInFloodFailure before after told_before told_after →
       EndsInWaitingFailure words input before after told_before told_after
   serve_failed : (front control workers : Text) → request_in words ≡ Some (serve front control workers) →
       EndsInServeFailure front control before after told_before told_after → EndsInWaitingFailure words input before after told_before told_after

@@ -9,7 +9,7 @@ ghost use Rattle.command_line.specs.CommandLine.{AskToWait};
 ghost use Rattle.command_line.specs.Ending.{AppendsBeginning, line_of};
 ghost use Rattle.command_line.specs.declared.ending.Failure.TheVariants as failure;
 ghost use Rattle.udp_service.specs.Service.{WritesServed};
-ghost use Rattle.worker_commands.specs.Waiting.{EndsInServeFailure, EndsInWaitingFailure, IsAddress, IsNoAddress, LackTimeout, LackWorkers, WritesFor, WritesRefusal};
+ghost use Rattle.worker_commands.specs.Waiting.{EndsInServeFailure, EndsInWaitingFailure, IsAddress, IsNoAddress, LackDatagrams, LackTimeout, LackWorkers, WritesFor, WritesRefusal};
 ghost use Rattle.worker_threads.specs.Workers.{IsWorkers};
 
 mod telling;
@@ -100,14 +100,18 @@ pub fn run_waiting<R: Threads + Wait + Net + Clock + Sync, I: Read + Drop, W: Wr
     ensures done { result ≡ Status.Done → WritesFor (map string_bytes words.now) (I.remaining input) (W.contents out.old) (W.contents out.new) }
     ensures refused { result ≡ Status.Refused → WritesRefusal (map string_bytes words.now) (I.remaining input) (W.contents out.old) (W.contents out.new) }
     ensures no_errors { (result ≡ Status.Done) ⊎ (result ≡ Status.Refused) → errs.new ≡ errs.old }
-    ensures misused { result ≡ Status.Misused → LackWorkers (map string_bytes words.now) ⊎ LackTimeout (map string_bytes words.now) }
+    ensures misused { result ≡ Status.Misused
+        → LackWorkers (map string_bytes words.now)
+        ⊎ (LackDatagrams (map string_bytes words.now) ⊎ LackTimeout (map string_bytes words.now)) }
     ensures nothing_written { result ≡ Status.Misused → out.new ≡ out.old }
     ensures failed { result ≡ Status.Failed
         → EndsInWaitingFailure (map string_bytes words.now) (I.remaining input) (W.contents out.old) (W.contents out.new)
         (E.contents errs.old) (E.contents errs.new) }
 {
     match read_words(alloc, words) {
-        Ok(Subcommand::Flood { workers }) => run_flood(rt, alloc, workers, out, errs),
+        Ok(Subcommand::Flood { workers, datagrams }) => {
+            run_flood(rt, alloc, workers, datagrams, out, errs)
+        }
         Ok(
             Subcommand::Serve {
                 front,
@@ -130,7 +134,8 @@ pub fn run_waiting<R: Threads + Wait + Net + Clock + Sync, I: Read + Drop, W: Wr
             out,
             errs,
         ),
-        Ok(Subcommand::Query(_) | Subcommand::Replay | Subcommand::Packets) => unreachable!(),
+        Ok(Subcommand::Query(_) | Subcommand::Replay { .. } | Subcommand::Packets) =>
+            unreachable!(),
         Err(_) => Failure::OutOfMemory.report(errs),
     }
 }

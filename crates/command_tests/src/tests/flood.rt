@@ -4,6 +4,8 @@ use super::streams::Sink;
 use super::{owned, told};
 use command_line::Status;
 use dispatch::Gate;
+use std::alloc::Global;
+use std::process::Abort;
 use std::sync::atomic::{AtomicU64, Ordering};
 use std::test::Fail;
 use std::thread;
@@ -15,6 +17,9 @@ const TOTALS: &str =
 
 const FIVE: &str =
     "malformed 1 nogroup 1 nomembers 0 dropped 0 delivered 3 sendfailed 0 receivefailed 0\n";
+
+const EIGHT: &str =
+    "malformed 2 nogroup 2 nomembers 0 dropped 0 delivered 4 sendfailed 0 receivefailed 0\n";
 
 const NONE: &str =
     "malformed 0 nogroup 0 nomembers 0 dropped 0 delivered 0 sendfailed 0 receivefailed 0\n";
@@ -41,7 +46,12 @@ fn flood_totals_for_any_worker_count(rt: HostRuntime) -> Result<(), Fail> {
 // Most of these workers have no datagram.
 #[test]
 fn flood_of_few_datagrams(rt: HostRuntime) -> Result<(), Fail> {
-    for (workers, datagrams, text) in [(64usize, 5, FIVE), (3, 0, NONE), (1, 5, FIVE)] {
+    for (workers, datagrams, text) in [
+        (64usize, 5, FIVE),
+        (3, 0, NONE),
+        (1, 5, FIVE),
+        (3, 8, EIGHT),
+    ] {
         let mut out = Sink::open(rt.alloc());
         let result = flood(&rt, rt.alloc(), workers, datagrams, &Open, &mut out);
         assert_eq!(rt; result, Ok(()), "{workers} workers");
@@ -126,14 +136,19 @@ fn flood_that_is_not_written_is_e2(rt: HostRuntime) -> Result<(), Fail> {
 // As `main` runs it.
 #[test]
 fn flood_is_left_to_main(rt: HostRuntime) -> Result<(), Fail> {
-    let cases: [&[&str]; 5] = [
-        &["flood", "--workers", "1"],
-        &["flood", "--workers", "64"],
-        &["flood", "--workers=4"],
-        &["flood", "--workers", "+4"],
-        &["flood", "--workers", "004"],
+    let cases: [(&[&str], &str); 10] = [
+        (&["flood", "--workers", "1"], TOTALS),
+        (&["flood", "--workers", "64"], TOTALS),
+        (&["flood", "--workers=4"], TOTALS),
+        (&["flood", "--workers", "+4"], TOTALS),
+        (&["flood", "--workers", "004"], TOTALS),
+        (&["flood", "--workers", "4", "--datagrams", "4096"], TOTALS),
+        (&["flood", "--workers", "2", "--datagrams", "8"], EIGHT),
+        (&["flood", "--datagrams=+8", "--workers=1"], EIGHT),
+        (&["flood", "--datagrams", "0005", "--workers", "4"], FIVE),
+        (&["flood", "--workers", "64", "--datagrams", "5"], FIVE),
     ];
-    for words in cases {
+    for (words, text) in cases {
         let words = owned(rt.alloc(), words)?;
         let mut out = Sink::open(rt.alloc());
         let mut errs = Sink::open(rt.alloc());
@@ -157,10 +172,24 @@ fn flood_is_left_to_main(rt: HostRuntime) -> Result<(), Fail> {
                     &mut errs,
                 );
                 assert_eq!(rt; ended, Status::Done, "{words:?}");
-                assert_eq!(rt; out.text(), Some(TOTALS), "{words:?}");
+                assert_eq!(rt; out.text(), Some(text), "{words:?}");
                 assert_eq!(rt; errs.text(), Some(""), "{words:?}");
             }
         }
+    }
+    Ok(())
+}
+
+// The words have a fault, of which standard error tells, and nothing is written.
+fn assert_usage_faults(rt: &impl Abort, alloc: Global, cases: &[&[&str]]) -> Result<(), Fail> {
+    for words in cases {
+        let (status, out, errs) = told(alloc, words, b"")?;
+        assert_eq!(rt; status, Some(2), "{words:?}");
+        assert_eq!(rt; out.writes, 0, "{words:?}");
+        assert!(rt;
+            errs.text().unwrap_or("").starts_with("error: "),
+            "{words:?}"
+        );
     }
     Ok(())
 }
@@ -178,14 +207,29 @@ fn sixty_five_workers_is_a_usage_fault(rt: HostRuntime) -> Result<(), Fail> {
         &["flood", "4"],
         &["flood", "--workers", "4", "--workers", "4"],
     ];
-    for words in cases {
-        let (status, out, errs) = told(rt.alloc(), words, b"")?;
-        assert_eq!(rt; status, Some(2), "{words:?}");
-        assert_eq!(rt; out.writes, 0, "{words:?}");
-        assert!(rt;
-            errs.text().unwrap_or("").starts_with("error: "),
-            "{words:?}"
-        );
-    }
-    Ok(())
+    assert_usage_faults(&rt, rt.alloc(), &cases)
+}
+
+#[test]
+fn a_number_of_datagrams_out_of_range_is_a_usage_fault(rt: HostRuntime) -> Result<(), Fail> {
+    let cases: [&[&str]; 9] = [
+        &["flood", "--datagrams", "8"],
+        &["flood", "--workers", "4", "--datagrams"],
+        &["flood", "--workers", "4", "--datagrams", "0"],
+        &["flood", "--workers", "4", "--datagrams", "16777217"],
+        &["flood", "--workers", "4", "--datagrams", "-1"],
+        &["flood", "--workers", "4", "--datagrams", "x"],
+        &["flood", "--workers", "4", "--datagrams", "1.5"],
+        &["flood", "--workers", "4", "--datagrams", ""],
+        &[
+            "flood",
+            "--workers",
+            "4",
+            "--datagrams",
+            "8",
+            "--datagrams",
+            "8",
+        ],
+    ];
+    assert_usage_faults(&rt, rt.alloc(), &cases)
 }

@@ -6,20 +6,20 @@ use Rattle.worker_commands.proofs.run_waiting.Goals as goal
 
 pub returns-in-Ok-Flood-clause-done : goal.returns-in-Ok-Flood-clause-done
 returns-in-Ok-Flood-clause-done g c = λ ended.
-    let made = c.run_flood.ensures.done ended in
-    flooded c.in-Ok-Flood.workers.now made.0 (c.in-Ok-Flood.ensures.named ∙ ap (λ (s : Subcommand). Some (request_of s)) c.in-Ok-Flood.field-0-is) made.1 made.2
+    let made = c.run_flood.ensures.done ended in let words = c.in-Ok-Flood in
+    flooded words.workers.now words.datagrams.now made.0 made.1 (c.in-Ok-Flood.ensures.named ∙ ap (λ (s : Subcommand). Some (request_of s)) c.in-Ok-Flood.field-0-is) made.2 made.3 made.4
 
 pub returns-in-Ok-Flood-clause-misused : goal.returns-in-Ok-Flood-clause-misused
-returns-in-Ok-Flood-clause-misused g c = λ ended. inl (
-  flood c.in-Ok-Flood.workers.now,
-  c.in-Ok-Flood.workers.now,
-  (c.in-Ok-Flood.ensures.named ∙ ap (λ (s : Subcommand). Some (request_of s)) c.in-Ok-Flood.field-0-is),
-  refl,
-  c.run_flood.ensures.misused ended,
-)
+returns-in-Ok-Flood-clause-misused g c = λ ended.
+    let words = c.in-Ok-Flood in let named = c.in-Ok-Flood.ensures.named ∙ ap (λ (s : Subcommand). Some (request_of s)) c.in-Ok-Flood.field-0-is in
+    elim (c.run_flood.ensures.misused ended) [
+      | inl workers ↦ inl (flood words.workers.now words.datagrams.now, words.workers.now, named, refl, workers)
+      | inr datagrams ↦ inr (inl (words.workers.now, words.datagrams.now, named, datagrams))
+    ]
 
 pub returns-in-Ok-Flood-clause-failed : goal.returns-in-Ok-Flood-clause-failed
-returns-in-Ok-Flood-clause-failed g c = λ ended. flood_failed c.in-Ok-Flood.workers.now (c.in-Ok-Flood.ensures.named ∙ ap (λ (s : Subcommand). Some (request_of s)) c.in-Ok-Flood.field-0-is) (c.run_flood.ensures.failed ended)
+returns-in-Ok-Flood-clause-failed g c = λ ended.
+    flood_failed c.in-Ok-Flood.workers.now c.in-Ok-Flood.datagrams.now (c.in-Ok-Flood.ensures.named ∙ ap (λ (s : Subcommand). Some (request_of s)) c.in-Ok-Flood.field-0-is) (c.run_flood.ensures.failed ended)
 
 pub returns-in-Ok-Serve-clause-done : goal.returns-in-Ok-Serve-clause-done
 returns-in-Ok-Serve-clause-done g c = λ ended.
@@ -51,13 +51,13 @@ returns-in-Ok-Tell-clause-refused g c = λ ended.
     (rw c.as_slice.ensures.value at (c.run_tell.ensures.refused ended))
 
 pub returns-in-Ok-Tell-clause-misused : goal.returns-in-Ok-Tell-clause-misused
-returns-in-Ok-Tell-clause-misused g c = λ ended. inr (
+returns-in-Ok-Tell-clause-misused g c = λ ended. inr (inr (
   c.in-Ok-Tell.control.now,
   c.in-Ok-Tell.timeout.now,
   (map (λ (line : Bor (List ℕ)). line.now) c.in-Ok-Tell.lines.items),
   (c.in-Ok-Tell.ensures.named ∙ ap (λ (s : Subcommand). Some (request_of s)) c.in-Ok-Tell.field-0-is),
   c.run_tell.ensures.misused ended,
-)
+))
 
 pub returns-in-Ok-Tell-clause-failed : goal.returns-in-Ok-Tell-clause-failed
 returns-in-Ok-Tell-clause-failed g c = λ ended.
