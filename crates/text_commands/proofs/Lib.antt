@@ -1,6 +1,7 @@
 mod PacketsLemmas
 mod RequestLemmas
 mod RepliesLemmas
+mod SummaryLemmas
 mod StopLemmas
 mod WriteLemmas
 pub mod FirstLemmas

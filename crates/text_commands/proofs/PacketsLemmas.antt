@@ -1,5 +1,5 @@
 -- Which commands are `packets`, and what is told where one is not.
-use Rattle.std.proofs.Common.{◌≡◌, ◌⊎◌, Err, List, None, Ok, Option, Result, Some, inl, inr, ℕ}
+use Rattle.std.proofs.Common.{◌≡◌, ◌⊎◌, Bool, Err, List, None, Ok, Option, Result, Some, inl, inr, ℕ}
 use Rattle.std.specs.Prelude.{IfOk, OnSome}
 use Rattle.command_line.specs.CommandLine.{Request, flood, packets, query_request, replay, serve, tell}
 use Rattle.command_line.specs.declared.command.Query.{Query}
@@ -16,11 +16,11 @@ query_differs (query.Run packet format) is = cc
 query_differs (query.Judge packet expression) is = cc
 query_differs (query.Explain code) is = cc
 
-pub replay_differs : replay ≡ packets → ⊥
-replay_differs is = cc
+pub replay_differs : (summary quiet : Bool) → replay summary quiet ≡ packets → ⊥
+replay_differs summary quiet is = cc
 
-pub flood_differs : (workers : List ℕ) → flood workers ≡ packets → ⊥
-flood_differs workers is = cc
+pub flood_differs : (workers datagrams : List ℕ) → flood workers datagrams ≡ packets → ⊥
+flood_differs workers datagrams is = cc
 
 pub serve_differs : (front control workers : List ℕ) → serve front control workers ≡ packets → ⊥
 serve_differs front control workers is = cc

@@ -1,5 +1,5 @@
 -- What a replay that failed has written, told of the input and the output that it was given.
-use Rattle.std.proofs.Common.{◌≡◌, ◌∙◌, ◌<◌, ◌++◌, Err, List, None, Ok, Option, Result, Some, [], ap, append_assoc, arith, inl, inr, refl, subst, suc, sym, ℕ}
+use Rattle.std.proofs.Common.{◌≡◌, ◌∙◌, ◌<◌, ◌++◌, Err, List, None, Ok, Option, Result, Some, [], ap, append_assoc, arith, false, inl, inr, refl, subst, suc, sym, true, ℕ}
 use Rattle.std.proofs.lemmas.List.{append-nil}
 use Rattle.std.specs.Io.KnownBytes.{Appends, Consumes, IsAtEnd, Keeps}
 use Rattle.clap.specs.Words.{HasKind, IsAmong, Text, kind_of}
@@ -16,7 +16,7 @@ use Rattle.command_line.specs.declared.ending.Failure.TheVariants.{OutOfMemory, 
 use Rattle.command_line.specs.CommandLine.{Request, check, compile, explain, faults_in, first, flood, judge, packets, replay, run, serve, tell}
 use Rattle.text_commands.specs.body.Stop.{failure_of_replay}
 use Rattle.text_commands.specs.Input.{BeginsInput, IsInput}
-use Rattle.text_commands.specs.Request.{IsTextOfInput, WritesBefore, WritesBeforeBy}
+use Rattle.text_commands.specs.Request.{IsTextOfInput, RepliesToFirstLines, WritesBefore, WritesBeforeBy}
 use Rattle.command_line.proofs.EndingLemmas.{appends_kept, appends_nothing}
 
 -- ---- what was read
@@ -60,7 +60,7 @@ module _ (input input' : InputValue) (output output' : OutputValue) (now after :
       → (result ≡ Err fault.WriteFailed → WroteBeginning input input' output output')
       → (result ≡ Err fault.OutOfMemory → AnsweredFirstLines input input' output output')
       → FailedBy result input input' output output'
-      → WritesBefore replay (failure_of_replay why) input.coming output.taken after
+      → WritesBefore (replay false false) (failure_of_replay why) input.coming output.taken after
   before_fault (Ok done) why is at_read at_write at_memory failed = absurd (cc is)
   before_fault (Err fault.ReadFailed) fault.ReadFailed is at_read at_write at_memory failed =
       let all = at_read refl in
@@ -95,7 +95,7 @@ module _ (input input' : InputValue) (output output' : OutputValue) (now after :
   before_fault (Err _) _ is at_read at_write at_memory failed = absurd (cc is)
 
   -- all was written, but the output failed behind it
-  pub before_failed_flush : output'.failures ≡ output.failures → IsReplayed input input' output output' → WritesBefore replay WriteFailed input.coming output.taken after
+  pub before_failed_flush : output'.failures ≡ output.failures → IsReplayed input input' output output' → WritesBefore (replay false false) WriteFailed input.coming output.taken after
   before_failed_flush same all =
       let none : output'.failures ≡ 0 = same ∙ new_output in (
         all.text,
@@ -107,10 +107,10 @@ module _ (input input' : InputValue) (output output' : OutputValue) (now after :
 module _ (input input' : InputValue) (output output' : OutputValue) (known before now after : Option (List ℕ)) (left : ℕ)
     (opened : input ≡ record { failures = 0; coming = known; left = left }) (opened' : output ≡ record { failures = 0; taken = before })
     (told : output'.failures < MOST_FAILURES → now ≡ output'.taken) (kept : Keeps now after) where
-  of_both : (failure : Failure) → WritesBefore replay failure input.coming output.taken after → WritesBefore replay failure known before after
+  of_both : (failure : Failure) → WritesBefore (replay false false) failure input.coming output.taken after → WritesBefore (replay false false) failure known before after
   of_both failure written =
-      subst (λ taken. WritesBefore replay failure known taken after) (ap (λ (o : OutputValue). o.taken) opened')
-      (subst (λ coming. WritesBefore replay failure coming output.taken after) (ap (λ (i : InputValue). i.coming) opened) written)
+      subst (λ taken. WritesBefore (replay false false) failure known taken after) (ap (λ (o : OutputValue). o.taken) opened')
+      (subst (λ coming. WritesBefore (replay false false) failure coming output.taken after) (ap (λ (i : InputValue). i.coming) opened) written)
 
   no_input_failure : input.failures ≡ 0
   no_input_failure = ap (λ (i : InputValue). i.failures) opened
@@ -123,28 +123,18 @@ module _ (input input' : InputValue) (output output' : OutputValue) (known befor
       → (result ≡ Err fault.WriteFailed → WroteBeginning input input' output output')
       → (result ≡ Err fault.OutOfMemory → AnsweredFirstLines input input' output output')
       → FailedBy result input input' output output'
-      → WritesBefore replay (failure_of_replay why) known before after
+      → WritesBefore (replay false false) (failure_of_replay why) known before after
   fault_told result why is at_read at_write at_memory failed =
       of_both (failure_of_replay why) (before_fault input input' output output' now after no_input_failure no_output_failure told kept result why is at_read at_write at_memory failed)
 
-  pub failed_flush_told : output'.failures ≡ output.failures → IsReplayed input input' output output' → WritesBefore replay WriteFailed known before after
+  pub failed_flush_told : output'.failures ≡ output.failures → IsReplayed input input' output output' → WritesBefore (replay false false) WriteFailed known before after
   failed_flush_told same all =
       of_both WriteFailed (before_failed_flush input input' output output' now after no_input_failure no_output_failure told kept same all)
 
 -- ---- nothing was written
 
-pub before_anything : (request : Request) (known before : Option (List ℕ)) → WritesBefore request OutOfMemory known before before
-before_anything first known before = refl
-before_anything (check name) known before = refl
-before_anything (compile expression name) known before = refl
-before_anything (run digits name) known before = refl
-before_anything (judge digits expression) known before = refl
-before_anything (flood workers) known before = refl
-before_anything (serve front control workers) known before = refl
-before_anything (explain code) known before = refl
-before_anything (tell control timeout lines) known before = refl
-before_anything packets known before = inl refl
-before_anything replay known before = record {
+begins_with_none : (known before : Option (List ℕ)) → RepliesToFirstLines known before before
+begins_with_none known before = record {
   lines = [];
   text = [];
   last = at_start;
@@ -156,6 +146,22 @@ before_anything replay known before = record {
     begins_nothing : (known : Option (List ℕ)) → BeginsInput known []
     begins_nothing None = tt
     begins_nothing (Some bytes) = (bytes, refl)
+
+pub before_anything : (request : Request) (known before : Option (List ℕ)) → WritesBefore request OutOfMemory known before before
+before_anything first known before = refl
+before_anything (check name) known before = refl
+before_anything (compile expression name) known before = refl
+before_anything (run digits name) known before = refl
+before_anything (judge digits expression) known before = refl
+before_anything (flood workers datagrams) known before = refl
+before_anything (serve front control workers) known before = refl
+before_anything (explain code) known before = refl
+before_anything (tell control timeout lines) known before = refl
+before_anything packets known before = inl refl
+before_anything (replay false false) known before = begins_with_none known before
+before_anything (replay true false) known before = inl (begins_with_none known before)
+before_anything (replay false true) known before = refl
+before_anything (replay true true) known before = refl
 
 -- words with a fault fail before any command
 pub before_text : (words : List Text) (why : Error) (failure : Failure) (known before after : Option (List ℕ)) → HasKind (faults_in words) why

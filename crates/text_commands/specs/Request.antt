@@ -1,5 +1,5 @@
 -- What a command makes of its arguments and its input: a result, or why there is none (docs/COMMANDS.md).
-use Rattle.std.specs.Prelude.{◌≡◌, ◌++◌, ◌⊎◌, Contains, IsSome, IsSomeAnd, List, MatchOption, Option, Some, [], codes, ℕ}
+use Rattle.std.specs.Prelude.{◌≡◌, ◌++◌, ◌⊎◌, Bool, Contains, IsSome, IsSomeAnd, List, MatchOption, Option, Some, [], codes, false, true, ℕ}
 use Rattle.std.specs.Io.KnownBytes.{Appends}
 use Rattle.clap.specs.Words.{Text}
 use Rattle.control.specs.Packet.{IsRefusalOfHex, SpellsPacket}
@@ -23,6 +23,7 @@ use Rattle.refusal_text.specs.Explanation.{codes_explained}
 use Rattle.text_commands.specs.Format.{IsFormatFault, IsRefusalOfProgram, input_format_of, misformed_text, output_format_of}
 use Rattle.text_commands.specs.FirstPath.{first_text}
 use Rattle.text_commands.specs.Input.{BeginsInput, IsInput}
+use Rattle.reply_counts.specs.Summary.{IsSummaryOf}
 use Rattle.packet_lines.specs.Packets.{TellsCounts, WritesFirst, WritesText}
 
 -- the two lines of the first path
@@ -43,9 +44,9 @@ IsResult (run digits name) input answer =
 IsResult (judge digits expression) input answer =
     (packet : List ℕ) × SpellsPacket digits packet × IsJudgeAnswer packet expression answer
 IsResult (explain code) input answer = IsExplainAnswer code answer
-IsResult replay input answer = ⊥
+IsResult (replay summary quiet) input answer = ⊥
 IsResult packets input answer = ⊥
-IsResult (flood workers) input answer = ⊥
+IsResult (flood workers datagrams) input answer = ⊥
 IsResult (serve front control workers) input answer = ⊥
 IsResult (tell control timeout lines) input answer = ⊥
 
@@ -69,9 +70,9 @@ IsRefusalReason (run digits name) input reason =
 IsRefusalReason (judge digits expression) input reason =
     IsRefusalOfHex digits reason ⊎ ((packet : List ℕ) × SpellsPacket digits packet × IsRefusalOfExpression expression reason)
 IsRefusalReason (explain code) input reason = IsRefusalOfCode code reason
-IsRefusalReason replay input reason = ⊥
+IsRefusalReason (replay summary quiet) input reason = ⊥
 IsRefusalReason packets input reason = ⊥
-IsRefusalReason (flood workers) input reason = ⊥
+IsRefusalReason (flood workers datagrams) input reason = ⊥
 IsRefusalReason (serve front control workers) input reason = ⊥
 IsRefusalReason (tell control timeout lines) input reason = ⊥
 
@@ -88,7 +89,7 @@ IsMisformed _ input fault = ⊥
 -- packet is good, too
 abbrev pub ReadsInput : Request → Type 0
 ReadsInput (check name) = IsSome (input_format_of name)
-ReadsInput replay = Unit {0}
+ReadsInput (replay summary quiet) = Unit {0}
 ReadsInput packets = Unit {0}
 ReadsInput (run digits name) = (packet : List ℕ) × SpellsPacket digits packet × IsSome (input_format_of name)
 ReadsInput _ = ⊥
@@ -141,6 +142,28 @@ WritesReplies known Done before after =
     (script text : List ℕ) × IsInput known script × IsScriptText script text × Appends before after text
 WritesReplies known _ before after = ⊥
 
+-- what is written for all the replies to a script, where a summary is asked for, or the replies are not
+abbrev pub IsTextFor : Bool → Bool → List ℕ → List ℕ → Type 0
+IsTextFor false false replies text = text ≡ replies
+IsTextFor false true replies text = text ≡ []
+IsTextFor true false replies text = (summary : List ℕ) × IsSummaryOf replies summary × (text ≡ replies ++ summary)
+IsTextFor true true replies text = IsSummaryOf replies text
+
+-- the input was read to its end, and this was written, and nothing else
+abbrev pub WritesFor : Bool → Bool → Option (List ℕ) → Status → Option (List ℕ) → Option (List ℕ) → Type 0
+WritesFor summary quiet known Done before after =
+    (script replies text : List ℕ)
+    × IsInput known script
+    × IsScriptText script replies
+    × IsTextFor summary quiet replies text
+    × Appends before after text
+WritesFor summary quiet known _ before after = ⊥
+
+-- what `replay` writes, with its options or without
+abbrev pub WritesReplay : Bool → Bool → Option (List ℕ) → Status → Option (List ℕ) → Option (List ℕ) → Type 0
+WritesReplay false false known status before after = WritesReplies known status before after
+WritesReplay summary quiet known status before after = WritesFor summary quiet known status before after
+
 -- the input was read to its end, and the text of that file was written, and nothing else
 abbrev pub WritesPackets : Option (List ℕ) → Status → Option (List ℕ) → Option (List ℕ) → Type 0
 WritesPackets known status before after = (file : List ℕ) × IsInput known file × WritesText file status before after
@@ -151,7 +174,7 @@ TellsCountsOf known before after = (file : List ℕ) × IsInput known file × Te
 
 -- what a command writes that ends with a status
 abbrev pub Writes : Request → Option (List ℕ) → Status → Option (List ℕ) → Option (List ℕ) → Type 0
-Writes replay known status before after = WritesReplies known status before after
+Writes (replay summary quiet) known status before after = WritesReplay summary quiet known status before after
 Writes packets known status before after = WritesPackets known status before after
 Writes request known status before after = WritesAnswer request known status before after
 
@@ -205,15 +228,39 @@ WritesBeginningOfReplies known before after = (text : List ℕ) × IsTextOfInput
 abbrev pub WritesFirstPackets : Option (List ℕ) → Option (List ℕ) → Option (List ℕ) → Type 0
 WritesFirstPackets known before after = (file : List ℕ) × IsInput known file × WritesFirst file before after
 
+-- all the replies were written, and nothing else
+abbrev pub WritesAllReplies : Option (List ℕ) → Option (List ℕ) → Option (List ℕ) → Type 0
+WritesAllReplies known before after =
+    (script replies : List ℕ) × IsInput known script × IsScriptText script replies × Appends before after replies
+
+-- of the text for all the replies a beginning was written, and nothing else
+abbrev pub WritesBeginningFor : Bool → Bool → Option (List ℕ) → Option (List ℕ) → Option (List ℕ) → Type 0
+WritesBeginningFor summary quiet known before after =
+    (script replies text : List ℕ)
+    × IsInput known script
+    × IsScriptText script replies
+    × IsTextFor summary quiet replies text
+    × AppendsBeginning before after text
+
+-- what `replay` has written before each failure. A summary is written only behind the replies to the whole input; the memory for it
+-- may be refused behind these
+abbrev pub ReplayWritesBefore : Bool → Bool → Failure → Option (List ℕ) → Option (List ℕ) → Option (List ℕ) → Type 0
+ReplayWritesBefore false false ReadFailed known before after = RepliesToFirstLines known before after
+ReplayWritesBefore false false WriteFailed known before after = WritesBeginningOfReplies known before after
+ReplayWritesBefore false false OutOfMemory known before after = RepliesToFirstLines known before after
+ReplayWritesBefore true false ReadFailed known before after = RepliesToFirstLines known before after
+ReplayWritesBefore true false WriteFailed known before after =
+    WritesBeginningOfReplies known before after ⊎ WritesBeginningFor true false known before after
+ReplayWritesBefore true false OutOfMemory known before after = RepliesToFirstLines known before after ⊎ WritesAllReplies known before after
+ReplayWritesBefore true true WriteFailed known before after = WritesBeginningFor true true known before after
+ReplayWritesBefore summary true ReadFailed known before after = after ≡ before
+ReplayWritesBefore false true WriteFailed known before after = ⊥
+ReplayWritesBefore summary true OutOfMemory known before after = after ≡ before
+ReplayWritesBefore summary quiet failure known before after = ⊥
+
 -- what was written before each failure: what is promised of a failed write is promised of `replay` alone
 abbrev pub WritesBefore : Request → Failure → Option (List ℕ) → Option (List ℕ) → Option (List ℕ) → Type 0
-WritesBefore replay ReadFailed known before after = RepliesToFirstLines known before after
-WritesBefore replay WriteFailed known before after = WritesBeginningOfReplies known before after
-WritesBefore replay OutOfMemory known before after = RepliesToFirstLines known before after
-WritesBefore replay SpawnFailed known before after = ⊥
-WritesBefore replay BindFailed known before after = ⊥
-WritesBefore replay PollFailed known before after = ⊥
-WritesBefore replay NoAnswer known before after = ⊥
+WritesBefore (replay summary quiet) failure known before after = ReplayWritesBefore summary quiet failure known before after
 WritesBefore packets OutOfMemory known before after = (after ≡ before) ⊎ WritesFirstPackets known before after
 WritesBefore request WriteFailed known before after = Unit {0}
 WritesBefore request _ known before after = after ≡ before

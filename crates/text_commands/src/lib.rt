@@ -12,6 +12,7 @@ ghost use Rattle.text_commands.specs.Request.{EndsInFailure, MayFail, MayFailBy,
 
 mod capturing;
 mod command_result;
+mod counted_output;
 mod explaining;
 mod expression_commands;
 mod first_path;
@@ -21,6 +22,8 @@ mod program_commands;
 mod queries;
 mod replaying;
 mod stop;
+mod summarizing;
+mod unwritten;
 
 use capturing::run_packets;
 use clap::error::ErrorKind;
@@ -135,7 +138,9 @@ fn run_subcommand<R: Read + Drop, W: Write, E: Write>(
 {
     match command {
         Subcommand::Query(query) => Ok(Some(run_query(alloc, query, input, out)?)),
-        Subcommand::Replay => Ok(Some(run_replay(alloc, input, out)?)),
+        Subcommand::Replay { summary, quiet } => {
+            Ok(Some(run_replay(alloc, summary, quiet, input, out)?))
+        }
         Subcommand::Packets => Ok(Some(run_packets(alloc, input, out, errs)?)),
         Subcommand::Flood { .. } => Ok(None),
         Subcommand::Serve { .. } => Ok(None),

@@ -1,24 +1,49 @@
 //! The command `replay`: a script on standard input, its replies on standard output (docs/COMMANDS.md, "replay").
 
-ghost use Rattle.std.specs.Prelude.{◌≡◌, IfErr, IfOk};
+ghost use Rattle.std.specs.Prelude.{◌≡◌, IfErr, IfOk, false};
 ghost use Rattle.command_line.specs.CommandLine.{replay};
-ghost use Rattle.text_commands.specs.Request.{MayFail, WritesBefore, WritesReplies};
+ghost use Rattle.text_commands.specs.Request.{MayFail, WritesBefore, WritesReplay, WritesReplies};
 ghost use Rattle.text_commands.specs.body.Stop.{failure_of_replay};
 
+use crate::summarizing::{summarize_alone, summarize_replies};
+use crate::unwritten::replay_unwritten;
 use command_line::{Failure, Status};
 use control::{FromRead, ReplayFault, ToWrite, replay};
 use std::alloc::Global;
 use std::io::{Read, Write};
 
-/// Answers each line of the input by one line.
+/// Answers each line of the input by one line. Where a summary is asked for it is written behind the replies; and where these are
+/// not, in their place.
 pub fn run_replay<R: Read + Drop, W: Write>(
+    alloc: Global,
+    summary: bool,
+    quiet: bool,
+    input: R,
+    out: &mut W,
+) -> Result<Status, Failure>
+    ensures failed { IfErr result (MayFail (replay summary quiet)) }
+    ensures failed_written { IfErr result (λ failure.
+        WritesBefore (replay summary quiet) failure (R.remaining input) (W.contents out.old) (W.contents out.new)) }
+    ensures written { IfOk result (λ status.
+        WritesReplay summary quiet (R.remaining input) status (W.contents out.old) (W.contents out.new)) }
+{
+    match (summary, quiet) {
+        (false, false) => replay_written(alloc, input, out),
+        (false, true) => replay_unwritten(alloc, input),
+        (true, false) => summarize_replies(alloc, input, out),
+        (true, true) => summarize_alone(alloc, input, out),
+    }
+}
+
+// Without options.
+fn replay_written<R: Read + Drop, W: Write>(
     alloc: Global,
     input: R,
     out: &mut W,
 ) -> Result<Status, Failure>
-    ensures failed { IfErr result (MayFail replay) }
+    ensures failed { IfErr result (MayFail (replay false false)) }
     ensures failed_written { IfErr result (λ failure.
-        WritesBefore replay failure (R.remaining input) (W.contents out.old) (W.contents out.new)) }
+        WritesBefore (replay false false) failure (R.remaining input) (W.contents out.old) (W.contents out.new)) }
     ensures replied { IfOk result (λ status. WritesReplies (R.remaining input) status (W.contents out.old) (W.contents out.new)) }
 {
     let mut output = ToWrite::new(out);
@@ -33,7 +58,7 @@ pub fn run_replay<R: Read + Drop, W: Write>(
     }
 }
 
-fn failure_of(fault: ReplayFault) -> Failure
+pub(crate) fn failure_of(fault: ReplayFault) -> Failure
     ensures { result ≡ failure_of_replay fault }
 {
     match fault {

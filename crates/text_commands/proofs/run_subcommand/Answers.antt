@@ -7,9 +7,9 @@ use Rattle.text_commands.proofs.run_subcommand.Goals.{in-Query+in_ok-run_query-i
 pub returns-clause-counted : goal.returns-clause-counted
 returns-clause-counted g c = elim c.match-command.branch [
   | in-Query+in_ok-run_query-in-Query w ↦ of_another _ c.match-command.result (request_of c.args.command) (λ is. query_differs _ (sym (ap request_of w.in-Query.is) ∙ is))
-  | in-Replay+in_ok-run_replay-in-Replay w ↦ of_another _ c.match-command.result (request_of c.args.command) (λ is. replay_differs (sym (ap request_of w.in-Replay.is) ∙ is))
+  | in-Replay+in_ok-run_replay-in-Replay w ↦ of_another _ c.match-command.result (request_of c.args.command) (λ is. replay_differs _ _ (sym (ap request_of w.in-Replay.is) ∙ is))
   | in-Packets+in_ok-run_packets-in-Packets w ↦ of_packets _ c.match-command.result (request_of c.args.command) (rw w.errs-is w.in_ok-run_packets-in-Packets.ensures.counted)
-  | in-Flood w ↦ of_another _ c.match-command.result (request_of c.args.command) (λ is. flood_differs _ (sym (ap request_of w.in-Flood.is) ∙ is))
+  | in-Flood w ↦ of_another _ c.match-command.result (request_of c.args.command) (λ is. flood_differs _ _ (sym (ap request_of w.in-Flood.is) ∙ is))
   | in-Serve w ↦ of_another _ c.match-command.result (request_of c.args.command) (λ is. serve_differs _ _ _ (sym (ap request_of w.in-Serve.is) ∙ is))
   | in-Tell w ↦ of_another _ c.match-command.result (request_of c.args.command) (λ is. tell_differs _ _ _ (sym (ap request_of w.in-Tell.is) ∙ is))
 ]

@@ -1,0 +1,33 @@
+use Rattle.std.proofs.Common.{◌+◌, ◌-◌, ◌/◌, arith, sym}
+use Rattle.reply_counts.proofs.CountLemmas.{above_more, below_more, is_place}
+use Rattle.reply_counts.proofs.counted.place_of.Goals as goal
+
+pub loop-low-preserved-in-Less : goal.loop-low-preserved-in-Less
+loop-low-preserved-in-Less c =
+    let before = c.loop-low.invariant in
+    let test = c.loop-low-test.true in record {
+      ordered = omega arith;
+      within = before.within;
+      below = λ rising.
+          below_more c.args.rows.now rising (c.loop-low.low + (c.loop-low.high - c.loop-low.low) / 2) c.index-rows-middle.result (omega arith) c.index-rows-middle.is c.args.verdict.now
+          (sym c.in-Less.ensures);
+      above = before.above;
+    }
+
+pub loop-low-preserved : goal.loop-low-preserved
+loop-low-preserved c =
+    let before = c.loop-low.invariant in
+    let test = c.loop-low-test.true in record {
+      ordered = omega arith;
+      within = omega arith;
+      below = before.below;
+      above = λ rising.
+          above_more c.args.rows.now rising (c.loop-low.low + (c.loop-low.high - c.loop-low.low) / 2) c.index-rows-middle.result (omega arith) c.index-rows-middle.is c.args.verdict.now
+          (sym c.in-Greater.ensures);
+    }
+
+pub returns-in-Equal-clause-found : goal.returns-in-Equal-clause-found
+returns-in-Equal-clause-found c =
+    let before = c.loop-low.invariant in
+    let test = c.loop-low-test.true in
+    is_place c.args.rows.now (c.loop-low.low + (c.loop-low.high - c.loop-low.low) / 2) c.index-rows-middle.result (omega arith) c.index-rows-middle.is c.args.verdict.now (sym c.in-Equal.ensures)

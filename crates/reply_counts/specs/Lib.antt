@@ -1,0 +1,3 @@
+pub mod Verdict
+pub mod Summary
+pub mod body

@@ -1,0 +1,105 @@
+//! Counting the verdicts of replies that come in pieces.
+
+ghost use Rattle.std.specs.Prelude.{◌≡◌, ◌≤◌, ◌++◌, ◌∷◌, AllPairs, IfErr, IfOk, List, OnOk, [], length, ℕ};
+ghost use Rattle.std.specs.List.{flat_map};
+ghost use Rattle.reply_counts.specs.Summary.{AreRows, IsBefore, row_text};
+ghost use Rattle.reply_counts.specs.body.Counted.{AreAbove, AreBelow, IsAt, IsPlaceOf};
+
+use crate::row::Row;
+use crate::verdict::verdict_of;
+use ipv4_fields::split_at;
+use std::alloc::{AllocError, Global};
+use std::cmp::Ordering;
+
+// The place of the verdict's row, or where it belongs.
+fn place_of(rows: &[Row], verdict: &[u8]) -> Result<usize, usize>
+    ensures found { IfOk result (λ place. IsPlaceOf rows.now verdict.now place) }
+    ensures within { IfErr result (λ place. place ≤ length rows.now) }
+    ensures below { IfErr result (λ place. AllPairs IsBefore rows.now → AreBelow rows.now place verdict.now) }
+    ensures above { IfErr result (λ place. AllPairs IsBefore rows.now → AreAbove rows.now place verdict.now) }
+{
+    let mut low = 0;
+    let mut high = rows.len();
+    while low < high {
+        let middle = low + (high - low) / 2;
+        let row = &rows[middle];
+        match row.compare(verdict) {
+            Ordering::Less => low = middle + 1,
+            Ordering::Greater => high = middle,
+            Ordering::Equal => return Ok(middle),
+        }
+    }
+    Err(low)
+}
+
+// One reply more told the verdict.
+fn add_verdict(alloc: Global, rows: &mut Vec<Row>, verdict: &[u8]) -> Result<(), AllocError>
+    ensures { OnOk result ((verdicts : List (List ℕ)) → AreRows verdicts rows.old.items → AreRows (verdicts ++ verdict.now ∷ []) rows.new.items) }
+{
+    match place_of(rows, verdict) {
+        Ok(place) => {
+            let row = &mut rows[place];
+            row.add_one();
+        }
+        Err(place) => {
+            let row = Row::new(alloc, verdict)?;
+            rows.insert(place, row)?;
+        }
+    }
+    Ok(())
+}
+
+/// The counts of the lines that were ended, and what was put behind these.
+#[derive(Drop)]
+pub(crate) struct Counted {
+    alloc: Global,
+    held: Vec<u8>,
+    rows: Vec<Row>,
+}
+
+impl Counted {
+    pub(crate) fn new(alloc: Global) -> Counted
+        ensures { IsAt [] result.held.items result.rows.items }
+    {
+        Counted {
+            alloc,
+            held: Vec::new(alloc),
+            rows: Vec::new(alloc),
+        }
+    }
+
+    // The line that is held ends here.
+    fn count_held(&mut self) -> Result<(), AllocError>
+        ensures { OnOk result ((text : List ℕ) → IsAt text self.old.held.items self.old.rows.items → IsAt (text ++ 10 ∷ []) self.new.held.items self.new.rows.items) }
+    {
+        if let Some(verdict) = verdict_of(&self.held) {
+            add_verdict(self.alloc, &mut self.rows, verdict)?;
+        }
+        self.held.clear();
+        Ok(())
+    }
+
+    /// Counts the lines that the bytes end.
+    pub(crate) fn take(&mut self, bytes: &[u8]) -> Result<(), AllocError>
+        ensures { OnOk result ((text : List ℕ) → IsAt text self.old.held.items self.old.rows.items → IsAt (text ++ bytes.now) self.new.held.items self.new.rows.items) }
+    {
+        let mut left = bytes;
+        while let Some((front, behind)) = split_at(b'\n', left) {
+            self.held.extend_from_slice(front)?;
+            self.count_held()?;
+            left = behind;
+        }
+        Ok(self.held.extend_from_slice(left)?)
+    }
+
+    /// The rows as lines.
+    pub(crate) fn text(&self) -> Result<Vec<u8>, AllocError>
+        ensures { IfOk result (λ text. text.items ≡ flat_map row_text self.now.rows.items) }
+    {
+        let mut text = Vec::new(self.alloc);
+        for row in &self.rows {
+            row.append_to(self.alloc, &mut text)?;
+        }
+        Ok(text)
+    }
+}

@@ -1,0 +1,15 @@
+//! How many replies of a text tell which verdict (docs/COMMANDS.md, "replay").
+//!
+//! A `ReplyCounts` takes the text in pieces, and makes its summary: a line for each verdict, with its count.
+#![tactic(auto)]
+
+mod counted;
+mod counts;
+mod put_text;
+mod row;
+#[cfg(test)]
+mod tests;
+mod verdict;
+
+pub use counts::ReplyCounts;
+pub use verdict::verdict_of;

@@ -1,0 +1,62 @@
+//! A row of the counts: a verdict, and how many replies told it.
+
+ghost use Rattle.std.specs.Prelude.{◌≡◌, ◌+◌, ◌-◌, ◌^◌, ◌++◌, IfOk, OnOk, min};
+ghost use Rattle.std.specs.Cmp.Lexicographic.{slice_cmp};
+ghost use Rattle.std.specs.Ordering.{nat_cmp};
+ghost use Rattle.reply_counts.specs.Summary.{row_text};
+
+use std::alloc::{AllocError, Global};
+use std::cmp::Ordering;
+use std::marker::Model;
+
+/// A verdict, and how many replies told it, up to the greatest number of 64 bits.
+#[derive(Drop)]
+pub(crate) struct Row {
+    verdict: Vec<u8>,
+    count: u64,
+}
+
+impl Model for Row {
+    ghost use Rattle.reply_counts.specs.Summary.{RowValue};
+
+    ghost Value = { RowValue };
+
+    ghost view = { λ row. record { verdict = row.verdict.items; count = row.count } };
+}
+
+impl Row {
+    /// One reply told the verdict.
+    pub(crate) fn new(alloc: Global, verdict: &[u8]) -> Result<Row, AllocError>
+        ensures { IfOk result (λ row. row ≡ record { verdict = verdict.now; count = 1 }) }
+    {
+        Ok(Row {
+            verdict: verdict.to_vec(alloc)?,
+            count: 1,
+        })
+    }
+
+    /// Compares the row's verdict with another.
+    pub(crate) fn compare(&self, verdict: &[u8]) -> Ordering
+        ensures { result ≡ slice_cmp nat_cmp self.now.verdict verdict.now }
+    {
+        self.verdict.as_slice().cmp(verdict)
+    }
+
+    /// One reply more told it.
+    pub(crate) fn add_one(&mut self)
+        ensures { self.new ≡ record self.old { count = min (self.old.count + 1) (2 ^ 64 - 1) } }
+    {
+        self.count = self.count.saturating_add(1);
+    }
+
+    /// Writes the row as a line.
+    pub(crate) fn append_to(&self, alloc: Global, text: &mut Vec<u8>) -> Result<(), AllocError>
+        ensures { OnOk result (text.new.items ≡ text.old.items ++ row_text self.now) }
+    {
+        let count = self.count;
+        let count = format!(in alloc; " {count}\n")?;
+        text.extend_from_slice(&self.verdict)?;
+        text.extend_from_slice(count.as_bytes())?;
+        Ok(())
+    }
+}

@@ -1,0 +1,27 @@
+use Rattle.std.proofs.Common.{Err, ap, false, refl, rules, sym}
+use Rattle.command_line.specs.declared.ending.Failure.TheVariants.{WriteFailed}
+use Rattle.command_line.specs.CommandLine.{replay}
+use Rattle.text_commands.specs.Request.{WritesBefore}
+use Rattle.text_commands.proofs.SummaryLemmas.{counted_fault_told, counted_flush_told}
+use Rattle.text_commands.proofs.StopLemmas.{stopped_as}
+use Rattle.text_commands.proofs.summarizing.count_written.Goals as goal
+
+pub returns-in-Err-clause-failed_written : goal.returns-in-Err-clause-failed_written
+returns-in-Err-clause-failed_written g c =
+    let told = c.in-Err.ensures in
+    let parts = c.into_parts-written.ensures in
+    let why = c.in-Err.fault in
+    rw (c.failure_of.ensures)
+    (counted_fault_told _ _ _ _ _ (g.W.Write.contents c.args.out.now) (g.W.Write.contents c.into_parts-written.result.0.now) _ _ c.into_parts-written.result.1
+    c.new.ensures.opened (ap (λ v. v.output) c.new-output.ensures.opened) parts.counts (rw (sym c.requires) parts.contents) (search rules)
+    (Err why) why refl told.text_before_failed_read told.text_before_failed_write told.text_before_no_memory told.device_failed)
+
+pub returns-in_err-map_err-in-Ok-clause-failed_written :
+    goal.returns-in_err-map_err-in-Ok-clause-failed_written
+returns-in_err-map_err-in-Ok-clause-failed_written g c =
+    let told = c.in-Ok.ensures in
+    let parts = c.into_parts-written.ensures in
+    stopped_as c.from_residual.result (λ failure. WritesBefore (replay false false) failure (g.R.Read.remaining c.args.input) (g.W.Write.contents c.args.out.now) _) WriteFailed (search rules)
+    (counted_flush_told _ _ _ _ _ (g.W.Write.contents c.args.out.now) (g.W.Write.contents c.into_parts-written.result.0.now) _ _ c.into_parts-written.result.1
+    c.new.ensures.opened (ap (λ v. v.output) c.new-output.ensures.opened) parts.counts (rw (sym c.requires) parts.contents) (search rules)
+    told.device_failed.0 told.device_failed.1 told.script_text)

@@ -1,0 +1,23 @@
+-- Replies that were counted, and their summary as it is written.
+use Rattle.std.specs.Prelude.{List, Option, ℕ}
+use Rattle.std.specs.Io.KnownBytes.{Appends}
+use Rattle.command_line.specs.Ending.{AppendsBeginning}
+use Rattle.control.specs.Script.{IsScriptText}
+use Rattle.reply_counts.specs.Summary.{IsSummaryOf}
+use Rattle.text_commands.specs.Input.{IsInput}
+
+-- these are all the replies to the input
+abbrev pub AreRepliesTo : Option (List ℕ) → List ℕ → Type 0
+AreRepliesTo known replies = (script : List ℕ) × IsInput known script × IsScriptText script replies
+
+-- the input has replies
+abbrev pub WasReplayed : Option (List ℕ) → Type 0
+WasReplayed known = (replies : List ℕ) × AreRepliesTo known replies
+
+-- their summary was written, and nothing else
+abbrev pub WritesSummary : List ℕ → Option (List ℕ) → Option (List ℕ) → Type 0
+WritesSummary replies before after = (summary : List ℕ) × IsSummaryOf replies summary × Appends before after summary
+
+-- a beginning of it was
+abbrev pub BeginsSummary : List ℕ → Option (List ℕ) → Option (List ℕ) → Type 0
+BeginsSummary replies before after = (summary : List ℕ) × IsSummaryOf replies summary × AppendsBeginning before after summary
