@@ -121,6 +121,11 @@ running_first program packet numbers accepted =
       same = ap (λ (n : ℕ). (run.0, n)) (sym (add-zero run.1));
     }
 
+-- at the place where the program begins
+pub running_begin : (program packet numbers : List ℕ) (from : ℕ) → IsAccepted program → IsRunning program packet (from - from) 0 0 0 numbers
+running_begin program packet numbers from accepted =
+    subst (λ (n : ℕ). IsRunning program packet n 0 0 0 numbers) (let g : 0 ≡ from - from = omega arith in g) (running_first program packet numbers accepted)
+
 module _ (program packet : List ℕ) (accepted : IsAccepted program) (pc passed_over a x : ℕ) (numbers : List ℕ) (running : IsRunning program packet pc passed_over a x numbers) (size : length numbers ≡ CELL_COUNT) (insn : Insn) (at : IsAt program pc insn) (cell : HasCell insn) where
   next_of : (does : Effect) → effect insn a x running.cells packet ≡ does → (dropped a' x' : ℕ) (numbers' : List ℕ) → Agrees does (array.goes_on dropped a' x' numbers') → IsRunning program packet (pc + 1 + dropped) (passed_over + dropped) a' x' numbers'
   next_of does e dropped a' x' numbers' (both_go_on {cells = cells'} hold) =

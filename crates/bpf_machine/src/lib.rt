@@ -2,7 +2,7 @@
 //! docs/MACHINE.md, "The machine"). No call takes memory.
 #![tactic(auto)]
 
-ghost use Rattle.std.specs.Prelude.{◌≡◌, ◌+◌, ◌<◌, ◌≤◌, ◌^◌, List, length, ℕ};
+ghost use Rattle.std.specs.Prelude.{◌≡◌, ◌+◌, ◌-◌, ◌<◌, ◌≤◌, ◌^◌, List, length, ℕ};
 ghost use Rattle.bpf_verify.specs.Path.{IsAt, program_at};
 ghost use Rattle.bpf_verify.specs.Accepted.{IsAccepted};
 ghost use Rattle.bpf_machine.specs.Meaning.{IsSound, MeansByFirstWord, Ret, cost_of, ending_of};
@@ -33,17 +33,17 @@ pub struct Outcome {
 }
 
 #[inline(always)]
-fn fetch<W: Words>(words: &mut W, from: usize, len: usize, pc: usize) -> Insn
+fn fetch<W: Words>(words: &mut W, from: usize, len: usize, place: usize) -> Insn
     requires within { from + len ≤ length (W.words words.old) }
     requires fits { from + len < 2 ^ 64 }
     requires accepted { IsAccepted (program_at (W.words words.old) from len) }
-    requires inside { pc < len }
-    ensures instruction { IsAt (program_at (W.words words.old) from len) pc result }
+    requires inside { (from ≤ place) × (place - from < len) }
+    ensures instruction { IsAt (program_at (W.words words.old) from len) (place - from) result }
     ensures cell { HasCell result }
     ensures words_kept { W.words words.new ≡ W.words words.old }
     ensures rest_kept { W.rest words.new ≡ W.rest words.old }
 {
-    Insn::from_instruction_word(words.word(from + pc))
+    Insn::from_instruction_word(words.word(place))
 }
 
 /// Runs the program of the `len` words from place `from` on, on a packet.
@@ -86,20 +86,20 @@ pub fn run_copy<W: Words, const COPY: usize>(
     let _count = words.count();
     let mut machine = Registers { a: 0, x: 0 };
     let mut cells = [0; CELL_COUNT];
-    let mut pc = 0;
-    // How many instructions the jumps have passed over: the others before pc were met.
+    // The place of the next instruction, and how many the jumps have passed over: the others before it were met.
+    let mut place = from;
     let mut passed_over = 0;
     'running: loop {
-        let insn = fetch(words, from, len, pc);
-        pc += 1;
+        let insn = fetch(words, from, len, place);
+        place += 1;
         match execute(&mut machine, &mut cells, insn, packet) {
             Next::GoOn => {}
             Next::Skip(count) => {
-                pc += count as usize;
+                place += count as usize;
                 passed_over += count as usize;
             }
             Next::End(value) => {
-                let steps = (pc - passed_over) as u32;
+                let steps = (place - from - passed_over) as u32;
                 return Outcome { value, steps };
             }
         }

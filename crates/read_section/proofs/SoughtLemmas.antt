@@ -1,7 +1,7 @@
 -- The search for the part of a word that is sought: its fetches, and what they tell.
-use Rattle.std.proofs.Common.{◌≡◌, ℕ, ◌*◌, ◌+◌, ◌-◌, ◌/◌, ◌%◌, ◌^◌, ◌<◌, ◌≤◌, List, [], Some, ap, arith, get_or, inl, inr, length, slice_get, slice_index, subst, sym, ◌∙◌}
+use Rattle.std.proofs.Common.{◌≡◌, ℕ, ◌*◌, ◌+◌, ◌-◌, ◌/◌, ◌%◌, ◌^◌, ◌<◌, ◌≤◌, List, [], Some, ap, arith, get_or, inl, inr, length, refl, slice_get, slice_index, subst, sym, ◌∙◌}
 use Rattle.std.proofs.lemmas.Bool.{cases_lt}
-use Rattle.std.proofs.lemmas.Option.{get_or_from_slice_get, slice_get-get_or}
+use Rattle.std.proofs.lemmas.Option.{get_or_from_slice_get, slice_get-get_or, slice_get_within}
 use Rattle.config_image.specs.declared.TheConstants.{PAGE_LIMIT, PAGE_WORDS, ROW_WORDS}
 use Rattle.config_image.specs.Image.{Group, image, programs_begin}
 use Rattle.config_image.specs.Pooled.{ArePages, PooledRowTells, part_begin, parts, pooled_row}
@@ -183,3 +183,42 @@ module _ (worker : WorkerValue) (row form i : ℕ) (s : IsSought worker.view row
 
         pub found_ahead : IsAhead found i
         found_ahead = let from = found_between.0 in let to = found_between.1 in let e = at_is in let l = len_is in (omega arith, omega arith, omega arith)
+
+  -- a part whose name, and the name behind it, tell that it has word i
+  module _ (index name behind : ℕ) (low : index < form % 65536) (named : (name / 65536 ≡ part_begin config index) × (index < length (parts config) → name % 65536 ≡ slice_index pages index))
+      (told : (behind / 65536 ≡ part_begin config (index + 1)) × (index + 1 < length (parts config) → behind % 65536 ≡ slice_index pages (index + 1))) (from : name / 65536 ≤ i) (to : i < behind / 65536) where
+    in_parts : index < length (parts config)
+    in_parts = subst (λ m. index < m) entries_are low
+
+    name_is : name ≡ part_begin config index * 65536 + slice_index pages index
+    name_is = let start = named.0 in let page = named.1 in_parts in omega arith
+
+    behind_is : index + 1 < length (parts config) → behind ≡ part_begin config (index + 1) * 65536 + slice_index pages (index + 1)
+    behind_is more = let start = told.0 in let page = told.1 more in omega arith
+
+    there : slice_get (names_of config pages) index ≡ Some name
+    there = part.name_there config pages s.5.2 are index in_parts ∙ ap Some (sym name_is)
+
+    pub likely_holds : (next : ℕ) × HoldsPlace (names_of config pages) (length (image config)) i (record { index = index; name = name; next = next })
+    likely_holds = elim (cases_lt (index + 1) (length (parts config))) [
+      | inl more ↦ (
+        behind,
+        record {
+          named = there;
+          from = from;
+          to = to;
+          next = λ x e. behind_is more ∙ (sym (part.name_at config pages s.5.2 are (index + 1) more) ∙ get_or_from_slice_get (names_of config pages) (index + 1) x 0 e);
+          last = λ e. let counted = names_counted in let all = entries_are in absurd (omega arith);
+        },
+      )
+      | inr last ↦ let counted = names_counted in let all = entries_are in let few = in_parts in let same : index + 1 ≡ length (parts config) = omega arith in (
+        length (image config) * 65536,
+        record {
+          named = there;
+          from = from;
+          to = (let end = ap (part_begin config) same ∙ tells.parts_stand.last in let start = told.0 in omega arith);
+          next = λ x e. let within = slice_get_within (names_of config pages) (index + 1) x e in absurd (omega arith);
+          last = λ e. refl;
+        },
+      )
+    ]

@@ -29,6 +29,8 @@ pub(crate) const NOTHING_FOUND: Found = Found {
 #[derive(Clone, Copy, Debug)]
 pub(crate) struct Kept {
     pub(crate) row: usize,
+    // Whether the row's first word was fetched. Once the compiler knows that it was, it knows that the word stays.
+    pub(crate) is_formed: bool,
     pub(crate) found: Found,
 }
 

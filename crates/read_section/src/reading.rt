@@ -1,6 +1,9 @@
 //! How a word is read whose place its section does not know: by a few fetches that find it.
 
-ghost use Rattle.std.specs.Prelude.{◌≡◌, ◌+◌, ◌*◌, ◌/◌, ◌%◌, ◌^◌, ◌<◌, ◌≤◌, Some, length, slice_get, ℕ};
+ghost use Rattle.std.specs.Prelude.{◌≡◌, ◌+◌, ◌-◌, ◌*◌, ◌/◌, ◌%◌, ◌^◌, ◌<◌, ◌≤◌, Some, length, slice_get, ℕ};
+ghost use Rattle.config_image.specs.declared.TheConstants.{PAGE_WORDS};
+ghost use Rattle.versions.specs.declared.layout.TheConstants.{POOL_BEGIN};
+ghost use Rattle.read_section.specs.declared.reading.TheConstants.{FEW_PARTS};
 ghost use Rattle.read_section.specs.Reads.{FewFetches, Reads};
 ghost use Rattle.read_section.specs.Section.{held_words};
 ghost use Rattle.read_section.specs.body.Found.{Knows, KnowsForm};
@@ -11,6 +14,9 @@ use crate::worker::Worker;
 use config_image::{PAGE_WORDS, ROW_WORDS};
 use part_search::Search;
 use versions::{POOL_BEGIN, ROWS_BEGIN};
+
+// Among fewer parts than these a search makes so few fetches that one part may be looked at before it.
+const FEW_PARTS: usize = 512;
 
 // The parts of a row's first word: the image's length, where the programs begin, how many parts there are.
 #[inline(always)]
@@ -50,12 +56,11 @@ fn page_place(name: u64) -> usize
 }
 
 // The part that holds word i, by a search among the names.
-#[cold]
-#[inline(never)]
 fn search_part(worker: &mut Worker, row: usize, form: u64, i: usize) -> NamedPart
     requires { IsSought worker.old.view row form i }
     ensures found { FindsPart worker.old.view i result }
     ensures few { FetchedAtMost 11 worker.old worker.new }
+    ensures few_of_few { form % 65536 < FEW_PARTS → FetchedAtMost 9 worker.old worker.new }
 {
     let mut search = Search::new(entries_of(form), length_of(form), i);
     while let Some(index) = search.ask() {
@@ -82,64 +87,90 @@ fn name_or_end(worker: &mut Worker, row: usize, form: u64, i: usize, index: usiz
     length_of(form) as u64 * 65536
 }
 
-// The part that holds word i, by a search, as it is kept.
+// The index of the part that holds word i, if all parts are equally long.
 #[inline(always)]
-fn find_part(worker: &mut Worker, row: usize, form: u64, i: usize) -> Found
-    requires { IsSought worker.old.view row form i }
-    ensures known { Knows worker.old.view row result }
-    ensures form { result.form ≡ form }
-    ensures there { IsAhead result i }
-    ensures few { FetchedAtMost 12 worker.old worker.new }
+fn likely_index(form: u64, i: usize) -> usize
+    requires { (form / 65536 % 65536 ≤ i) × (i < form / 2 ^ 32) }
 {
-    let part = search_part(worker, row, form, i);
-    let behind = name_or_end(worker, row, form, i, part.index + 1);
-    let at = part_start(part.name);
+    let entries = entries_of(form);
+    if entries < 2 {
+        return 0;
+    }
+    let heads = heads_of(form);
+    (i - heads) * entries / (length_of(form) - heads)
+}
+
+// What is kept of a part, by its index, its name and the name behind it.
+#[inline(always)]
+fn part_between(form: u64, index: usize, name: u64, behind: u64) -> Found
+    requires { name / 65536 ≤ behind / 65536 }
+    ensures { result ≡ record { form = form; at = name / 65536; len = behind / 65536 - name / 65536; begin = POOL_BEGIN + name % 65536 * PAGE_WORDS; index = index; next = POOL_BEGIN + behind % 65536 * PAGE_WORDS } }
+{
+    let at = part_start(name);
     Found {
         form,
         at,
         len: part_start(behind) - at,
-        begin: page_place(part.name),
-        index: part.index,
-        next: page_place(behind),
-    }
-}
-
-// The part behind the one that is kept, whose first word is word i.
-#[inline(always)]
-fn next_part(worker: &mut Worker, row: usize, found: Found, i: usize) -> Found
-    requires known { Knows worker.old.view row found }
-    requires sought { IsSought worker.old.view row found.form i }
-    requires behind { (0 < found.len) × (i ≡ found.at + found.len) }
-    ensures known { Knows worker.old.view row result }
-    ensures there { IsAhead result i }
-    ensures few { FetchedAtMost 12 worker.old worker.new }
-{
-    let index = found.index + 1;
-    let behind = name_or_end(worker, row, found.form, i, index + 1);
-    Found {
-        form: found.form,
-        at: i,
-        len: part_start(behind) - i,
-        begin: found.next,
+        begin: page_place(name),
         index,
         next: page_place(behind),
     }
 }
 
+// The part that holds word i: the likely one, if it is that, and else by a search. Of the part that was found before, `end` is the
+// place behind it, and `index` its index: where that ends, the next one is likely.
+//
+// Cold, so that the compiler takes what it answers as rare, and keeps the registers for what is read in the part that is kept.
+#[cold]
+#[inline(never)]
+fn named_part(
+    worker: &mut Worker,
+    row: usize,
+    form: u64,
+    i: usize,
+    end: usize,
+    index: usize,
+) -> NamedPart
+    requires { IsSought worker.old.view row form i }
+    ensures found { FindsPart worker.old.view i result }
+    ensures few { FetchedAtMost 11 worker.old worker.new }
+{
+    let likely = if i == end {
+        index.wrapping_add(1)
+    } else {
+        likely_index(form, i)
+    };
+    if likely < entries_of(form) && entries_of(form) < FEW_PARTS {
+        let name = name_or_end(worker, row, form, i, likely);
+        let behind = name_or_end(worker, row, form, i, likely + 1);
+        if part_start(name) <= i && i < part_start(behind) {
+            return NamedPart {
+                index: likely,
+                name,
+            };
+        }
+    }
+    search_part(worker, row, form, i)
+}
+
 /// Finds the part that holds word `i`, of the programs.
 #[inline(always)]
 pub(crate) fn part_with(worker: &mut Worker, row: usize, found: Found, i: usize) -> Found
-    requires known { Knows worker.old.view row found }
-    requires sought { IsSought worker.old.view row found.form i }
+    requires { IsSought worker.old.view row found.form i }
     ensures known { Knows worker.old.view row result }
     ensures there { IsAhead result i }
     ensures few { FetchedAtMost 12 worker.old worker.new }
 {
-    if 0 < found.len && found.at <= i && i - found.at == found.len {
-        next_part(worker, row, found, i)
-    } else {
-        find_part(worker, row, found.form, i)
-    }
+    let Found {
+        form,
+        at,
+        len,
+        index,
+        ..
+    } = found;
+    let part = named_part(worker, row, form, i, at.wrapping_add(len), index);
+    let behind = name_or_end(worker, row, form, i, part.index + 1);
+    part_between(form, part.index, part.name, behind)
 }
 
 // Word i of the image, but not the first, where the row's first word was fetched.

@@ -55,9 +55,7 @@ impl Words for Section<'_> {
             return self.worker.fetch(self.kept.found.begin + ahead);
         }
         if i == 0 {
-            let first = ROWS_BEGIN + self.kept.row * ROW_WORDS;
-            let form = self.worker.fetch(first);
-            self.kept.found.form = form;
+            let form = self.worker.fetch(ROWS_BEGIN + self.kept.row * ROW_WORDS);
             return length_of(form) as u64;
         }
         if i < heads_of(self.kept.found.form) {
@@ -72,7 +70,10 @@ impl Words for Section<'_> {
                 .fetch(self.kept.found.begin + (i - self.kept.found.at));
         }
         let read = read_from_form(self.worker, self.kept.row, i);
-        self.kept.found.form = read.form;
+        if !self.kept.is_formed {
+            self.kept.is_formed = true;
+            self.kept.found.form = read.form;
+        }
         read.word
     }
 }
@@ -93,6 +94,7 @@ impl<'a> Section<'a> {
             worker,
             kept: Kept {
                 row,
+                is_formed: false,
                 found: NOTHING_FOUND,
             },
         }

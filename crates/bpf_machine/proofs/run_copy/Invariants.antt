@@ -1,4 +1,4 @@
-use Rattle.std.proofs.Common.{◌≡◌, ◌-◌, length}
+use Rattle.std.proofs.Common.{◌≡◌, ◌+◌, ◌-◌, ◌≤◌, length}
 use Rattle.bpf_machine.specs.declared.execute.TheConstants.{CELL_COUNT}
 use Rattle.bpf_verify.specs.Path.{program_at}
 use Rattle.bpf_machine.proofs.ArrayLemmas.{IsRunning}
@@ -9,7 +9,8 @@ invariant-running g l =
     (g.W.Words.words l.words ≡ g.W.Words.words l.fn.words)
     × (g.W.Words.rest l.words ≡ g.W.Words.rest l.fn.words)
     × (length l.cells ≡ CELL_COUNT)
-    × IsRunning (program_at (g.W.Words.words l.fn.words) l.from l.len) l.packet l.pc l.passed_over l.machine.a l.machine.x l.cells
+    × (l.from ≤ l.place)
+    × IsRunning (program_at (g.W.Words.words l.fn.words) l.from l.len) l.packet (l.place - l.from) l.passed_over l.machine.a l.machine.x l.cells
 
 abbrev pub decreases-running : goal.decreases-running
-decreases-running g l = l.len - l.pc
+decreases-running g l = l.from + l.len - l.place

@@ -20,6 +20,7 @@ pub loop-index-init : goal.loop-index-init
 loop-index-init c = let w = c.args.worker.now in let s = c.requires in let names = names_of (config_held w s.1) w.view.pages in record {
   reads = 0;
   few = (let most = c.new-search.ensures.at_most in omega arith);
+  few_of_few = λ low. let e = c.entries_of.ensures in let most = c.new-search.ensures.few_reads 9 (omega arith) in omega arith;
   fetched = none_fetched w;
   is_search = λ k n r e. subst (λ (m : ℕ). IsSearchOf (names_of (slice_index_or w.view.seen m []) w.view.pages) (c.args.form / 2 ^ 32) c.args.i c.new-search.result) (same_version w.view.stage s.0 s.1 s.2 k n r s.3 e)
       (subst (λ (end : ℕ). IsSearchOf names end c.args.i c.new-search.result) c.length_of.ensures
@@ -39,6 +40,7 @@ loop-index-preserved c = let w = c.args.worker.now in let s = c.requires in let 
     let there = name_there w c.args.row c.args.form c.args.i s c.in-Some.index (omega arith) c.fetch.result sees in record {
       reads = suc inv.reads;
       few = (let few = inv.few in let fewer = c.tell.ensures.fewer in omega arith);
+      few_of_few = λ low. let few = inv.few_of_few low in let fewer = c.tell.ensures.fewer in omega arith;
       fetched = fetched_more inv.reads w c.loop-index.worker inv.fetched c.fetch.new.self _ c.fetch.result c.fetch.ensures.one_fetch held;
       is_search = λ k n r e. subst (λ (m : ℕ). IsSearchOf (names_of (slice_index_or w.view.seen m []) w.view.pages) (c.args.form / 2 ^ 32) c.args.i c.tell.new.self) (same_version w.view.stage s.0 s.1 s.2 k n r s.3 e)
           (c.tell.ensures.told names (c.args.form / 2 ^ 32) c.args.i search (subst (λ (m : ℕ). slice_get names m ≡ Some c.fetch.result) c.in-Some.ensures.asked there));
@@ -53,3 +55,6 @@ returns-clause-found c = let w = c.args.worker.now in let s = c.requires in λ k
   subst (λ (m : ℕ). HoldsPlace (names_of (slice_index_or w.view.seen m []) w.view.pages) (length (image (slice_index_or w.view.seen m []))) c.args.i c.found-part.result) (same_version w.view.stage s.0 s.1 s.2 k n r s.3 e)
       (subst (λ (end : ℕ). HoldsPlace (names_of (config_held w s.1) w.view.pages) end c.args.i c.found-part.result) (length_is w c.args.row c.args.form c.args.i s) (c.found-part.ensures.found _ _ _ (c.loop-index.invariant.is_search s.0 s.1 s.2 s.3))),
 )
+
+pub returns-clause-few_of_few : goal.returns-clause-few_of_few
+returns-clause-few_of_few c = λ low. let inv = c.loop-index.invariant in let few = inv.few_of_few low in (inv.reads, omega arith, inv.fetched)
