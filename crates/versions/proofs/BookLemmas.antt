@@ -200,12 +200,18 @@ first_last n r some_row = (
   λ ne. get_or-set_other {A = ℕ} (replicate n 0) 0 r 1 0 ne ∙ zeros_at n r,
 )
 
+-- where one of the numbers grows none is below what was the least
+pub grown_not_below : (numbers : List ℕ) (w below least : ℕ) → w < length numbers → slice_index numbers w < below → IsLeast numbers least
+    → (v : ℕ) → v < length (set numbers w below) → least ≤ slice_index (set numbers w below) v
+grown_not_below numbers w below least low more h v inside = let same_length = length-set numbers w below in
+    dite (ℕ_discrete v w)
+    (λ e. let here = ap (λ (k : ℕ). get_or (set numbers w below) k 0) e ∙ get_or-set_same numbers w below 0 low in let was = h.0 w low in omega arith)
+    (λ ne. let there = get_or-set_other numbers w v below 0 ne in let was = h.0 v (omega arith) in omega arith)
+
 -- one of the numbers grows that is not the least
 pub least_kept : (numbers : List ℕ) (w below least : ℕ) → w < length numbers → slice_index numbers w < below → slice_index numbers w ≢ least → IsLeast numbers least → IsLeast (set numbers w below) least
 least_kept numbers w below least low more other h = let at = h.1 in let same_length = length-set numbers w below in (
-  λ v inside. dite (ℕ_discrete v w)
-      (λ e. let here = ap (λ (k : ℕ). get_or (set numbers w below) k 0) e ∙ get_or-set_same numbers w below 0 low in let was = h.0 w low in omega arith)
-      (λ ne. let there = get_or-set_other numbers w v below 0 ne in let was = h.0 v (omega arith) in omega arith),
+  grown_not_below numbers w below least low more h,
   (
     at.0,
     omega arith,

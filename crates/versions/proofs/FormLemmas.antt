@@ -1,5 +1,5 @@
 -- A row and pages that hold a configuration, in numbers: what the row's names tell, and which places are words of the version.
-use Rattle.std.proofs.Common.{All, ◌≡◌, ◌∙◌, ◌↔◌, ◌⊎◌, ℕ, ◌+◌, ◌-◌, ◌*◌, ◌/◌, ◌%◌, ◌<◌, ◌≤◌, List, None, Some, [], ap, arith, drop, get_or, inl, inr, length, length-drop, map, mul-le-mul_right, refl, slice_get, slice_index, subst, suc, suc-mul, sym, take, ⊎_elim}
+use Rattle.std.proofs.Common.{◌≡◌, ◌∙◌, ◌⊎◌, ℕ, ◌+◌, ◌-◌, ◌*◌, ◌/◌, ◌%◌, ◌<◌, ◌≤◌, List, Some, [], ap, arith, drop, get_or, inl, inr, length, length-drop, map, mul-le-mul_right, refl, slice_get, subst, suc, suc-mul, sym, take}
 use Rattle.std.proofs.Math.Seq.{drop-drop}
 use Rattle.std.proofs.lemmas.Bool.{cases_lt}
 use Rattle.std.proofs.lemmas.List.{ext_get_or, get_or-drop, get_or-map, get_or-take, length-map, length-take, length-take-le}
@@ -11,12 +11,12 @@ use Rattle.config_image.specs.Image.{Group, image, programs_begin}
 use Rattle.config_image.specs.Pooled.{ArePages, PooledRowTells, form_word, page_of, pages_of, part_begin, parts, pooled_row}
 use Rattle.config_image.proofs.PooledLemmas.{parts_stand, row_tells_with_room}
 use Rattle.versions.specs.declared.layout.TheConstants.{PAGES, POOL_BEGIN, ROWS, ROWS_BEGIN, TABLE_WORDS}
-use Rattle.versions.specs.Layout.{HoldsForm, IsInRow, IsPartPlace, all_rows, page_begin, pages_named, rows_begin}
+use Rattle.versions.specs.Layout.{HoldsForm, IsInRow, IsPartPlace, rows_begin}
 use Rattle.versions.specs.Pooled.{HasRoom, names_in, pages_in}
 use Rattle.versions.specs.Table.{the_shape}
 use Rattle.versions.specs.body.Names.{ArePartNames, IsPartIn, PartsStandIn, begin_in, begin_or, row_in}
 use Rattle.versions.proofs.ListLemmas.{some_number}
-use Rattle.versions.proofs.ShapeLemmas.{pages_is, row_below_pool, rows_is}
+use Rattle.versions.proofs.ShapeLemmas.{row_below_pool, rows_is}
 
 -- ---- what the form says of the words of the table
 

@@ -1,5 +1,5 @@
 -- The version that a worker holds: it is not free, so its row and its pages hold it, and the worker knows which they are.
-use Rattle.std.proofs.Common.{◌≡◌, ◌⊎◌, ℕ, ◌+◌, ◌<◌, ◌≤◌, List, [], ◌∷◌, ap, arith, inl, inr, length, subst, sym, ◌∙◌, ⊎_elim}
+use Rattle.std.proofs.Common.{◌≡◌, ◌⊎◌, ℕ, List, [], ◌∷◌, ap, arith, inl, inr, length, subst, sym, ◌∙◌, ⊎_elim}
 use mathlib.Core.Option.{some}
 use lib.ListN.{get_elem?}
 use Rattle.versions.specs.declared.step.Step.{Step}
@@ -10,7 +10,7 @@ use Rattle.versions.specs.declared.view.Stage.TheVariants.{Announced, Inside, Ou
 use Rattle.versions.specs.declared.view.WorkerView.{WorkerView}
 use Rattle.versions.specs.Layout.{HoldsForm, IsInRow, IsPartPlace, Shape, pages_named, rows_begin}
 use Rattle.versions.specs.View.{OfFetches, OfFetchesBy, stage_after_peek}
-use Rattle.versions.specs.Free.{IsFree, IsScannedClear, number_after}
+use Rattle.versions.specs.Free.{IsFree}
 use Rattle.versions.specs.State.{HoldsVersion, IsWordOf, State}
 use Rattle.versions.specs.Legal.{IsInPool, MayFetch, MayPeek}
 use Rattle.versions.specs.Safety.{IsHeldPlace, IsHeldPlaceAt, IsSeenPlace}

@@ -1,11 +1,10 @@
 -- The words of a table that opens with a configuration: its row, and its programs in the first pages.
-use Rattle.std.proofs.Common.{All, ◌≡◌, ◌∙◌, ◌⊎◌, ◌∷◌, ◌+◌, ◌++◌, ◌-◌, ◌*◌, ◌/◌, ◌<◌, ◌≤◌, List, Some, [], ap, append_assoc, arith, drop, get_or, inl, inr, length, length-append, length-drop, refl, replicate, slice_get, suc, sym, take, zero, ℕ, ⊎_elim}
-use Rattle.std.specs.List.{flat_map, range_with_len}
-use Rattle.std.proofs.lemmas.Bool.{cases_lt}
+use Rattle.std.proofs.Common.{◌≡◌, ◌∙◌, ◌⊎◌, ◌∷◌, ◌+◌, ◌++◌, ◌-◌, ◌*◌, ◌<◌, ◌≤◌, List, Some, [], ap, append_assoc, arith, drop, get_or, inl, inr, length, length-append, length-drop, refl, replicate, slice_get, suc, sym, take, zero, ℕ, ⊎_elim}
+use Rattle.std.specs.List.{flat_map}
 use Rattle.std.proofs.lemmas.List.{ext_get_or, get_or-append-add, get_or-append_right, get_or-drop, get_or-replicate, get_or-take, get_or_append_left, length-replicate, length-take, length-take-le, take_all, take_more}
 use Rattle.std.proofs.lemmas.List.Concat.{flat_map-cons}
 use Rattle.std.proofs.lemmas.List.FromFn.{get_or-range_with_len, length-range_with_len}
-use Rattle.std.proofs.lemmas.Option.{get_or_from_slice_get, slice_get-get_or, slice_get_within}
+use Rattle.std.proofs.lemmas.Option.{get_or_from_slice_get, slice_get_within}
 use Rattle.config_image.specs.declared.TheConstants.{PAGE_LIMIT, PAGE_WORDS, ROW_WORDS}
 use Rattle.config_image.specs.Image.{Group}
 use Rattle.config_image.specs.Pooled.{ArePages, pages_for, parts, parts_from, parts_of, pooled_row}
@@ -14,7 +13,7 @@ use Rattle.config_image.proofs.NameLemmas.{length-parts_of_all}
 use Rattle.config_image.proofs.PartsLemmas.{length-parts_of}
 use Rattle.config_image.proofs.PooledLemmas.{few_in_row, row_tells_with_room}
 use Rattle.config_image.proofs.ProgramLemmas.{parts-by_words}
-use Rattle.versions.specs.declared.layout.TheConstants.{PAGES, POOL_BEGIN, ROWS, ROWS_BEGIN, TABLE_WORDS}
+use Rattle.versions.specs.declared.layout.TheConstants.{POOL_BEGIN, ROWS, ROWS_BEGIN, TABLE_WORDS}
 use Rattle.versions.specs.Layout.{HoldsForm, all_rows, pages_named, stored_words}
 use Rattle.versions.specs.Pooled.{HasRoom}
 use Rattle.versions.specs.Table.{the_shape}

@@ -1,5 +1,5 @@
 -- A row and pages that hold a configuration in the pooled form.
-use Rattle.std.proofs.Common.{◌≡◌, ℕ, suc, ◌+◌, ◌-◌, ◌*◌, ◌<◌, ◌≤◌, All, List, Some, ap, arith, drop, get_or, length, length-drop, refl, slice_get, slice_index, subst, suc-mul, mul-le-mul_right, sym, take, ◌∙◌}
+use Rattle.std.proofs.Common.{◌≡◌, ℕ, suc, ◌+◌, ◌-◌, ◌*◌, ◌<◌, ◌≤◌, All, List, ap, arith, drop, get_or, length, length-drop, slice_get, suc-mul, mul-le-mul_right, sym, ◌∙◌}
 use Rattle.std.proofs.lemmas.Option.{slice_get-get_or}
 use Rattle.std.proofs.lemmas.List.{ext_get_or, get_or-drop, get_or-take, length-take-le}
 use Rattle.config_image.specs.Image.{Group}
@@ -9,8 +9,7 @@ use Rattle.config_image.proofs.PooledLemmas.{row_tells_with_room}
 use Rattle.versions.specs.Layout.{HoldsForm, pages_named, row_at, stored_words}
 use Rattle.versions.specs.Pooled.{HasRoom, PooledFormStands, page_word}
 use Rattle.versions.specs.Table.{the_shape}
-use Rattle.versions.proofs.ListLemmas.{row_inside}
-use Rattle.versions.proofs.ShapeLemmas.{named_is, pages_is, parts_is, row_is, row_words_is, rows_is, stored_is}
+use Rattle.versions.proofs.ShapeLemmas.{named_is, pages_is, parts_is, row_is, row_words_is}
 
 module _ (words : List ℕ) (r : ℕ) (config : List Group) (pages : List ℕ) (whole : length words ≡ stored_words the_shape) (low : r < the_shape.rows) (fits : HasRoom config)
     (h : HoldsForm the_shape 0 words r config pages) where

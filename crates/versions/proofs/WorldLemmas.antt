@@ -1,5 +1,5 @@
 -- A world at its opening, and after one event more.
-use Rattle.std.proofs.Common.{◌≡◌, ℕ, zero, suc, ◌+◌, ◌-◌, ◌*◌, ◌<◌, ◌≤◌, List, None, Option, Some, [], ◌∷◌, ◌++◌, ap, arith, length, length-append, refl, replicate, reverse, slice_get, subst, sym, ◌∙◌, ⊎_elim}
+use Rattle.std.proofs.Common.{◌≡◌, ℕ, zero, suc, ◌<◌, ◌≤◌, List, None, Option, Some, [], ◌∷◌, ◌++◌, ap, arith, length, length-append, refl, replicate, reverse, slice_get, subst, sym, ◌∙◌, ⊎_elim}
 use Rattle.std.proofs.lemmas.List.{append-nil, get_or-replicate, length-replicate, reverse-append}
 use Rattle.std.proofs.lemmas.Option.{slice_get-get_or}
 use mathlib.Core.Option.{some}
@@ -9,7 +9,7 @@ use Rattle.config_image.specs.Pooled.{parts}
 use Rattle.config_image.proofs.LengthLemmas.{within_charge}
 use Rattle.member_group.specs.Group.{IsConfig}
 use Rattle.member_group.specs.Charge.{charge_of}
-use Rattle.versions.specs.declared.layout.TheConstants.{CHARGE_LIMIT, TABLE_WORDS}
+use Rattle.versions.specs.declared.layout.TheConstants.{CHARGE_LIMIT}
 use Rattle.versions.specs.declared.progress.Progress.{Progress}
 use Rattle.versions.specs.declared.step.Step.{Step}
 use Rattle.versions.specs.declared.step.Step.TheVariants.{Announce, Fetch, Fill, Leave, Peek, Pin, Publish, Scan}

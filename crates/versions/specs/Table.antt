@@ -1,5 +1,5 @@
 -- The shape of the switch's table (docs/TABLE.md, "The words").
-use Rattle.std.specs.Prelude.{List, ℕ}
+use Rattle.std.specs.Prelude.{List}
 use Rattle.config_image.specs.declared.TheConstants.{PAGE_WORDS, ROW_WORDS}
 use Rattle.config_image.specs.Image.{Group}
 use Rattle.config_image.specs.Pooled.{pages_of, parts, pooled_row}

@@ -1,5 +1,5 @@
 -- A world: the table after the events that were made in it.
-use Rattle.std.specs.Prelude.{◌≡◌, ◌*◌, ◌++◌, ◌-◌, IsErrAnd, List, Result, [], flat_map, length, replicate, reverse, ℕ}
+use Rattle.std.specs.Prelude.{◌≡◌, ◌*◌, ◌++◌, ◌-◌, IsErrAnd, List, Result, flat_map, length, replicate, reverse, ℕ}
 use Rattle.std.specs.List.{range_with_len}
 use Rattle.config_image.specs.declared.TheConstants.{PAGE_WORDS}
 use Rattle.config_image.specs.Image.{Group}

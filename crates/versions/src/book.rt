@@ -1,11 +1,11 @@
 //! The operator's book of its own steps: how far versions are, what each row held last, which version named each page last, and
 //! what scans showed clear.
 
-ghost use Rattle.std.specs.Prelude.{◌≡◌, ◌<◌, ◌≤◌, ◌↔◌, IfOk, IsTrue, List, length, map, slice_get, Some, ℕ};
+ghost use Rattle.std.specs.Prelude.{◌≡◌, ◌<◌, ◌≤◌, ◌↔◌, IfOk, IsTrue, List, length, map, slice_get, slice_index, Some, ℕ};
 ghost use Rattle.config_image.specs.Image.{Group};
 ghost use Rattle.config_image.specs.Pooled.{page_of};
 ghost use Rattle.versions.specs.declared.view.OperatorView.{OperatorView};
-ghost use Rattle.versions.specs.Book.{IsBook, IsBookAtStart, IsCleared, with_version_in};
+ghost use Rattle.versions.specs.Book.{IsBook, IsBookAtStart, IsCleared, IsLeast, with_version_in};
 ghost use Rattle.versions.specs.Free.{IsFree, IsFreePage, IsFreeRow};
 ghost use Rattle.versions.specs.Legal.{MayFill};
 ghost use Rattle.versions.specs.Table.{the_shape};
@@ -105,6 +105,17 @@ impl<A: Allocator> Book<A> {
         }
     }
 
+    // The least of what was cleared, of which none is below `free`. Who scans all workers begins with the first one, so what the last
+    // one shows is the least until that one is scanned, and all are looked at once.
+    fn least_from(&self, free: u64) -> u64
+        ensures { ((w : ℕ) → w < length self.now.cleared → free ≤ slice_index self.now.cleared w) → IsLeast self.now.cleared result }
+    {
+        if self.cleared[WORKERS - 1] == free {
+            return free;
+        }
+        least(&self.cleared)
+    }
+
     /// Counts a scan of a worker's read word, which gave `word`.
     pub fn take_scan(&mut self, worker: usize, word: u64)
         requires worker { worker < WORKERS }
@@ -117,7 +128,7 @@ impl<A: Allocator> Book<A> {
         }
         self.cleared[worker] = below;
         if before == self.free {
-            self.free = least(&self.cleared);
+            self.free = self.least_from(self.free);
         }
     }
 }

@@ -1,5 +1,4 @@
-use Rattle.std.proofs.Common.{◌≡◌, ◌∙◌, ◌-◌, ◌/◌, ◌%◌, ◌≤◌, ap, arith, get_or, inl, length, ℕ}
-use Rattle.config_image.specs.declared.TheConstants.{PAGE_WORDS, ROW_WORDS}
+use Rattle.std.proofs.Common.{◌∙◌, ◌/◌, ap, arith, get_or, inl, length}
 use Rattle.versions.specs.Pooled.{names_in}
 use Rattle.versions.proofs.FormLemmas.{length-names_in, length-row_in, part_of_word, word_of_part, word_of_row}
 use Rattle.versions.proofs.form.is_version_word.Goals as goal

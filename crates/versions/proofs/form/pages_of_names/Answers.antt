@@ -1,4 +1,4 @@
-use Rattle.std.proofs.Common.{◌≡◌, ◌∙◌, ◌%◌, ◌<◌, ap, arith, get_or, get_or-set_other, get_or-set_same, length-set, set, ℕ}
+use Rattle.std.proofs.Common.{◌≡◌, ◌∙◌, ◌%◌, ap, arith, get_or, get_or-set_other, get_or-set_same, length-set, set, ℕ}
 use mathlib.Core.Logic.{dite}
 use native.Mathlib.Decide.{ℕ_discrete}
 use Rattle.versions.proofs.FormLemmas.{page_at, pages_read}

@@ -1,4 +1,4 @@
-use Rattle.std.proofs.Common.{◌≡◌, ◌∙◌, ◌+◌, ◌*◌, arith, ap, length}
+use Rattle.std.proofs.Common.{◌∙◌, ◌+◌, ◌*◌, ap, length}
 use Rattle.config_image.specs.declared.TheConstants.{PAGE_WORDS}
 use Rattle.config_image.specs.Pooled.{pages_for}
 use Rattle.versions.proofs.OpenedLemmas.{one_program_more}

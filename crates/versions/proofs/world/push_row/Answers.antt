@@ -2,7 +2,6 @@ use Rattle.std.proofs.Common.{◌≡◌, ◌∙◌, ◌++◌, ap, arith, get_or,
 use Rattle.std.proofs.lemmas.List.{length-take-le, take_all}
 use mathlib.Core.Logic.{dite}
 use native.Mathlib.Decide.{ℕ_discrete}
-use Rattle.config_image.specs.declared.TheConstants.{ROW_WORDS}
 use Rattle.config_image.specs.Pooled.{ArePages, parts, pooled_row}
 use Rattle.versions.specs.World.{first_pages}
 use Rattle.versions.proofs.OpenedLemmas.{are_first_pages, few, first_pages_read, length-own_row, one_row_word_more}

@@ -1,4 +1,4 @@
-use Rattle.std.proofs.Common.{◌≡◌, ◌∙◌, ◌+◌, ◌-◌, ap, arith, refl, suc, zero, ℕ}
+use Rattle.std.proofs.Common.{◌≡◌, ◌∙◌, ◌+◌, ◌-◌, ap, arith, refl, ℕ}
 use Rattle.std.specs.List.{range_with_len}
 use Rattle.versions.specs.Book.{used_by}
 use Rattle.versions.specs.Table.{the_shape}

@@ -1,4 +1,4 @@
-use Rattle.std.proofs.Common.{◌<◌, ◌≤◌, arith, slice_index}
+use Rattle.std.proofs.Common.{◌<◌, arith}
 use Rattle.std.proofs.lemmas.Bool.{le-leb, leb-true}
 use Rattle.versions.specs.Table.{the_shape}
 use Rattle.versions.proofs.BookLemmas.{free_page_is, page_is_free}

@@ -1,5 +1,5 @@
 use Rattle.std.proofs.Common.{arith, inr, refl, ⊎_elim}
-use Rattle.versions.proofs.BookLemmas.{IsCleared-grown, least_kept}
+use Rattle.versions.proofs.BookLemmas.{IsCleared-grown, grown_not_below, least_kept}
 use Rattle.versions.proofs.book.Book.take_scan.Goals as goal
 
 pub returns-then-below-before : goal.returns-then-below-before
@@ -17,8 +17,8 @@ returns-then-below-before g c = record {
 
 pub returns-then-before-self : goal.returns-then-before-self
 returns-then-before-self g c = record {
-  cleared = λ long. IsCleared-grown c.args.worker c.args.word c.clear_below-below.result c.least-self.result c.args.self.now (let low = c.requires.worker in omega arith) c.if-below-before.false
-      c.clear_below-below.ensures (λ least. (c.least-self.ensures.below, c.least-self.ensures.there));
+  cleared = λ long. IsCleared-grown c.args.worker c.args.word c.clear_below-below.result c.least_from-self.result c.args.self.now (let low = c.requires.worker in omega arith) c.if-below-before.false
+      c.clear_below-below.ensures (λ least. c.least_from-self.ensures (grown_not_below c.args.self.now.cleared c.args.worker c.clear_below-below.result c.args.self.now.free (omega arith) c.if-below-before.false least));
 }
 
 pub returns-else-before-self : goal.returns-else-before-self

@@ -1,4 +1,4 @@
-use Rattle.std.proofs.Common.{false, refl, sym, true, ◌≡◌, ◌∙◌}
+use Rattle.std.proofs.Common.{false, sym, true, ◌≡◌, ◌∙◌}
 use Rattle.versions.proofs.progress.Progress.fill_word.Goals as goal
 
 true_false : true ≡ false → ⊥
