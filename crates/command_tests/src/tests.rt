@@ -1,5 +1,6 @@
 //! The program's commands over streams in memory.
 
+mod captures;
 mod example_files;
 mod example_scripts;
 mod examples;
