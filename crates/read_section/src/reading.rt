@@ -117,60 +117,89 @@ fn part_between(form: u64, index: usize, name: u64, behind: u64) -> Found
     }
 }
 
-// The part that holds word i: the likely one, if it is that, and else by a search. Of the part that was found before, `end` is the
-// place behind it, and `index` its index: where that ends, the next one is likely.
+// The part that holds word i: the likely one, if it is that, and else by a search.
 //
-// Cold, so that the compiler takes what it answers as rare, and keeps the registers for what is read in the part that is kept.
+// Cold, as the next function is, so that the compiler takes what it answers as rare, and keeps the registers for what is read in
+// the part that is kept.
 #[cold]
 #[inline(never)]
-fn named_part(
-    worker: &mut Worker,
-    row: usize,
-    form: u64,
-    i: usize,
-    end: usize,
-    index: usize,
-) -> NamedPart
+fn named_part(worker: &mut Worker, row: usize, form: u64, i: usize) -> NamedPart
     requires { IsSought worker.old.view row form i }
     ensures found { FindsPart worker.old.view i result }
     ensures few { FetchedAtMost 11 worker.old worker.new }
 {
-    let likely = if i == end {
-        index.wrapping_add(1)
-    } else {
-        likely_index(form, i)
-    };
-    if likely < entries_of(form) && entries_of(form) < FEW_PARTS {
-        let name = name_or_end(worker, row, form, i, likely);
-        let behind = name_or_end(worker, row, form, i, likely + 1);
+    let index = likely_index(form, i);
+    if index < entries_of(form) && entries_of(form) < FEW_PARTS {
+        let name = name_or_end(worker, row, form, i, index);
+        let behind = name_or_end(worker, row, form, i, index + 1);
         if part_start(name) <= i && i < part_start(behind) {
-            return NamedPart {
-                index: likely,
-                name,
-            };
+            return NamedPart { index, name };
         }
     }
     search_part(worker, row, form, i)
 }
 
-/// Finds the part that holds word `i`, of the programs.
+// The name at an index, or where the parts end, for the part in front of it.
+#[cold]
+#[inline(never)]
+fn name_behind(worker: &mut Worker, row: usize, form: u64, i: usize, index: usize) -> u64
+    requires sought { IsSought worker.old.view row form i }
+    requires index { index ≤ form % 65536 }
+    ensures told { TellsName worker.old.view index result }
+    ensures few { FetchedAtMost 1 worker.old worker.new }
+{
+    name_or_end(worker, row, form, i, index)
+}
+
+// The part that holds word i, as it is kept.
 #[inline(always)]
-pub(crate) fn part_with(worker: &mut Worker, row: usize, found: Found, i: usize) -> Found
-    requires { IsSought worker.old.view row found.form i }
+fn find_part(worker: &mut Worker, row: usize, form: u64, i: usize) -> Found
+    requires { IsSought worker.old.view row form i }
     ensures known { Knows worker.old.view row result }
     ensures there { IsAhead result i }
     ensures few { FetchedAtMost 12 worker.old worker.new }
 {
-    let Found {
-        form,
-        at,
-        len,
-        index,
-        ..
-    } = found;
-    let part = named_part(worker, row, form, i, at.wrapping_add(len), index);
+    let part = named_part(worker, row, form, i);
     let behind = name_or_end(worker, row, form, i, part.index + 1);
     part_between(form, part.index, part.name, behind)
+}
+
+// The part behind the one that is kept, whose first word is word i.
+#[inline(always)]
+fn next_part(worker: &mut Worker, row: usize, found: Found, i: usize) -> Found
+    requires known { Knows worker.old.view row found }
+    requires sought { IsSought worker.old.view row found.form i }
+    requires behind { (0 < found.len) × (i ≡ found.at + found.len) }
+    ensures known { Knows worker.old.view row result }
+    ensures there { IsAhead result i }
+    ensures few { FetchedAtMost 12 worker.old worker.new }
+{
+    let index = found.index + 1;
+    let behind = name_behind(worker, row, found.form, i, index + 1);
+    Found {
+        form: found.form,
+        at: i,
+        len: part_start(behind) - i,
+        begin: found.next,
+        index,
+        next: page_place(behind),
+    }
+}
+
+/// Finds the part that holds word `i`, of the programs.
+#[inline(always)]
+pub(crate) fn part_with(worker: &mut Worker, row: usize, found: Found, i: usize) -> Found
+    requires known { Knows worker.old.view row found }
+    requires sought { IsSought worker.old.view row found.form i }
+    ensures known { Knows worker.old.view row result }
+    ensures there { IsAhead result i }
+    ensures few { FetchedAtMost 12 worker.old worker.new }
+{
+    if 0 < found.len && found.at <= i && i - found.at == found.len {
+        next_part(worker, row, found, i)
+    } else {
+        find_part(worker, row, found.form, i)
+    }
 }
 
 // Word i of the image, but not the first, where the row's first word was fetched.

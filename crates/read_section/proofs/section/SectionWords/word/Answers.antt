@@ -52,8 +52,8 @@ returns-then-i-eq0-clause-few_fetches c = let s = c.args.self.now in let w = wor
     read_last 0 w w (none_fetched w) c.fetch-form.new.self _ c.fetch-form.result c.fetch-form.ensures.one_fetch (first_held w s.kept.row s.kept.found c.args.i s.known c.requires) 13 c.args.i _ (omega arith)
     (first_newest w s.kept.row s.kept.found c.args.i s.known c.requires c.fetch-form.result c.fetch-form.ensures.word _ (inl c.if-i-eq0.true))
 
-pub part_with-self-requires : goal.part_with-self-requires
-part_with-self-requires c = let s = c.args.self.now in let e = c.length_of-2.ensures in let h = c.heads_of.ensures in let zero = c.if-i-eq0.false in let low = c.if-i-heads_of.false in let high = c.if-i-length_of.true in
+pub part_with-self-requires-clause-sought : goal.part_with-self-requires-clause-sought
+part_with-self-requires-clause-sought c = let s = c.args.self.now in let e = c.length_of-2.ensures in let h = c.heads_of.ensures in let zero = c.if-i-eq0.false in let low = c.if-i-heads_of.false in let high = c.if-i-length_of.true in
     sought_there (worker_of s) s.kept.row s.kept.found c.args.i s.known c.requires (omega arith, omega arith) (omega arith)
 
 pub fetch-requires-then-i-length_of-clause-held : goal.fetch-requires-then-i-length_of-clause-held
