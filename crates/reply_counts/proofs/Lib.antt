@@ -1,3 +1,4 @@
 pub mod WordLemmas
 pub mod LineLemmas
 pub mod CountLemmas
+pub mod SameLemmas

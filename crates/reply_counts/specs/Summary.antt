@@ -54,3 +54,7 @@ pub record IsSummaryOf (replies summary : List ℕ) : Type 0 where
   pub rows : List RowValue
   pub are_rows : AreRows (verdicts_in replies) rows
   pub is : summary ≡ flat_map row_text rows
+
+-- a text of replies has one summary
+abbrev pub HasOneSummary : Type 0
+HasOneSummary = (replies one other : List ℕ) → IsSummaryOf replies one → IsSummaryOf replies other → one ≡ other

@@ -3,6 +3,8 @@
 //! A `ReplyCounts` takes the text in pieces, and makes its summary: a line for each verdict, with its count.
 #![tactic(auto)]
 
+ghost use Rattle.reply_counts.specs.Summary.{HasOneSummary};
+
 mod counted;
 mod counts;
 mod put_text;
@@ -13,3 +15,8 @@ mod verdict;
 
 pub use counts::ReplyCounts;
 pub use verdict::verdict_of;
+
+/// Law: a text of replies has one summary. It runs nothing.
+pub fn one_summary()
+    ensures { HasOneSummary }
+{}

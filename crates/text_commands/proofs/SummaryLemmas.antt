@@ -1,5 +1,5 @@
 -- Replies that were counted as they were written, and their summary.
-use Rattle.std.proofs.Common.{◌≡◌, ◌∙◌, ◌<◌, ◌++◌, ◌⊎◌, Bool, Err, List, None, Ok, Option, Result, Some, [], ap, append_assoc, arith, false, inl, inr, refl, subst, suc, sym, true, ℕ}
+use Rattle.std.proofs.Common.{◌≡◌, ◌∙◌, ◌<◌, ◌++◌, ◌⊎◌, Err, List, None, Ok, Option, Result, Some, [], ap, append_assoc, arith, false, inl, inr, refl, subst, sym, true, ℕ}
 use Rattle.std.specs.Prelude.{IfErr, IfOk, OnOk}
 use Rattle.std.specs.Io.KnownBytes.{Appends, Keeps}
 use Rattle.dispatch.specs.Memory.{MOST_FAILURES}
@@ -8,7 +8,7 @@ use Rattle.control.specs.declared.fault.ReplayFault.TheVariants as fault
 use Rattle.control.specs.Replay.{AnsweredAllLines, AnsweredFirstLines, FailedBy, IsReplayed, WasWritten, WroteBeginning}
 use Rattle.control.specs.Streams.{InputValue, OutputValue}
 use Rattle.command_line.specs.declared.ending.Failure.{Failure}
-use Rattle.command_line.specs.declared.ending.Failure.TheVariants.{BindFailed, NoAnswer, OutOfMemory, PollFailed, ReadFailed, SpawnFailed, WriteFailed}
+use Rattle.command_line.specs.declared.ending.Failure.TheVariants.{OutOfMemory, WriteFailed}
 use Rattle.command_line.specs.declared.ending.Status.{Status}
 use Rattle.command_line.specs.declared.ending.Status.TheVariants.{Done}
 use Rattle.command_line.proofs.EndingLemmas.{appends_more}

@@ -3,6 +3,7 @@
 use super::example_scripts::SCRIPTS;
 use super::streams::{Sink, Source};
 use super::{assert_told, run_on, told};
+use std::alloc::{AllocError, Global};
 use std::io::ErrorKind;
 use std::test::Fail;
 
@@ -83,6 +84,98 @@ fn script_that_cannot_be_read_on(rt: HostRuntime) -> Result<(), Fail> {
         assert_eq!(rt; status, Some(3), "after {reads} reads");
         assert_eq!(rt; out.text(), Some(replies), "after {reads} reads");
         assert_eq!(rt; errs.text(), Some("failed E1\n"), "after {reads} reads");
+    }
+    Ok(())
+}
+
+const SUMMARY: &str = "deliver 10.0.0.2:53 3 1\n\
+    dropped 10.0.0.2:53 3 1\n";
+
+fn both(alloc: Global) -> Result<String, AllocError> {
+    let mut text = String::from_str(alloc, REPLIES)?;
+    text.push_str(SUMMARY)?;
+    Ok(text)
+}
+
+#[test]
+fn summary_is_asked_for(rt: HostRuntime) -> Result<(), Fail> {
+    let alloc = rt.alloc();
+    let all = both(alloc)?;
+    assert_told(&rt, alloc, &["replay", "--summary"], SCRIPT, 0, &all)?;
+    let words = ["replay", "--summary", "--quiet"];
+    assert_told(&rt, alloc, &words, SCRIPT, 0, SUMMARY)?;
+    assert_told(&rt, alloc, &words, "show\nsweep", 0, "")?;
+    assert_told(&rt, alloc, &["replay", "--quiet"], SCRIPT, 0, "")
+}
+
+// Verdicts without a member, of which the last reply has no LF in the script.
+#[test]
+fn summary_has_each_verdict(rt: HostRuntime) -> Result<(), Fail> {
+    let script = "packet 45\n\
+        packet 4500001d00000000401100000a0000010a000002138800350009000061\n\
+        packet\n\
+        packet 4\n\
+        packet \n\
+        add 10.0.0.2:53\n\
+        packet 4500001d00000000401100000a0000010a000002138800350009000061";
+    assert_told(
+        &rt,
+        rt.alloc(),
+        &["replay", "--quiet", "--summary"],
+        script,
+        0,
+        "malformed 2\nnogroup 1\nnomembers 1\n",
+    )
+}
+
+// Of the replies and the summary what was taken before the write that fails stands there. The summary is one write.
+#[test]
+fn summary_that_cannot_be_written(rt: HostRuntime) -> Result<(), Fail> {
+    let alloc = rt.alloc();
+    let all = both(alloc)?;
+    for limit in 0..16usize {
+        let (status, out, errs) = run_on(
+            alloc,
+            &["replay", "--summary"],
+            SCRIPT.as_bytes(),
+            Sink::new(alloc, limit, true),
+            Sink::open(alloc),
+        )?;
+        let written = out.text().unwrap_or("no text");
+        assert!(rt; all.starts_with(written), "{limit}");
+        let is_whole = limit == 15;
+        assert_eq!(rt; written.len() == all.len(), is_whole, "{limit}");
+        assert_eq!(rt; status, Some(if is_whole { 0 } else { 3 }), "{limit}");
+        assert_eq!(rt;
+            errs.text(),
+            Some(if is_whole { "" } else { "failed E2\n" }),
+            "{limit}"
+        );
+    }
+    Ok(())
+}
+
+// Behind a failed read there is no summary, and with `--quiet` nothing.
+#[test]
+fn failed_read_has_no_summary(rt: HostRuntime) -> Result<(), Fail> {
+    let alloc = rt.alloc();
+    let script = b"packet 45\nshow\n";
+    for (words, replies) in [
+        (["replay", "--summary"].as_slice(), "version 0 malformed\n"),
+        (["replay", "--summary", "--quiet"].as_slice(), ""),
+        (["replay", "--quiet"].as_slice(), ""),
+    ] {
+        let input = Source::new(script, 10, 1, ErrorKind::BrokenPipe);
+        let (status, out, errs) = run_on(
+            alloc,
+            words,
+            input,
+            Sink::open(alloc),
+            Sink::open(alloc),
+        )?;
+        assert_eq!(rt; out.text(), Some(replies), "{words:?}");
+        assert_eq!(rt; errs.text(), Some("failed E1\n"), "{words:?}");
+        assert_eq!(rt; status, Some(3), "{words:?}");
     }
     Ok(())
 }
