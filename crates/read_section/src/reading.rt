@@ -56,6 +56,8 @@ fn page_place(name: u64) -> usize
 }
 
 // The part that holds word i, by a search among the names.
+#[cold]
+#[inline(never)]
 fn search_part(worker: &mut Worker, row: usize, form: u64, i: usize) -> NamedPart
     requires { IsSought worker.old.view row form i }
     ensures found { FindsPart worker.old.view i result }
