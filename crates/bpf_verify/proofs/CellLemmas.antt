@@ -1,10 +1,10 @@
 -- Scratch cells of an instruction, and sets of cells as the bits of a number.
-use Rattle.std.proofs.Common.{◌≡◌, ◌∙◌, ◌<◌, ◌^◌, ◌∷◌, ◌⊎◌, List, None, [], arith, get_or, get_or-set_other, get_or-set_same, inl, inr, length, length-set, refl, suc, sym, ℕ}
+use Rattle.std.proofs.Common.{◌≡◌, ◌+◌, ◌∙◌, ◌<◌, ◌≤◌, ◌^◌, ◌∷◌, ◌⊎◌, List, None, [], ap, arith, get_or, get_or-set_other, get_or-set_same, inl, inr, length, length-set, refl, suc, sym, ℕ}
 use Rattle.std.specs.Prelude.{Contains, bit_and, bit_or}
 use Rattle.std.specs.Int.{bit_at}
 use Rattle.std.specs.List.{AllByRecursion}
 use Rattle.std.proofs.lemmas.Bool.{cases_eq, ltb-true}
-use Rattle.std.proofs.lemmas.Nat.Bits.{bit_at-lt, bit_at-pow_other, bit_at-pow_same, bit_at_and, bit_at_or}
+use Rattle.std.proofs.lemmas.Nat.Bits.{bit_at-lt, bit_at-pow_other, bit_at-pow_same, bit_at_and, bit_at_ones, bit_at_or}
 use Rattle.bpf_insn.specs.declared.instruction.Insn.{Insn}
 use Rattle.bpf_insn.specs.declared.instruction.Insn.TheVariants.{LoadCell, LoadXCell, Store, StoreX}
 use Rattle.bpf_verify.specs.declared.TheConstants.{CELLS}
@@ -79,14 +79,20 @@ pub record IsJoined (new old after : ℕ) (Comes : Type 0) : Type 0 where
   pub set : new ≡ 1 → (old ≡ 1) × (Comes → after ≡ 1)
   pub unset : new ≡ 0 → (old ≡ 0) ⊎ (Comes × (after ≡ 0))
 
-module _ (after cell : ℕ) where
-  length-joined : (stored : List ℕ) (at : ℕ) → length (joined after stored at) ≡ length stored
-  length-joined stored at = length-set stored at _
+pub length-joined : (after : ℕ) (stored : List ℕ) (at : ℕ) → length (joined after stored at) ≡ length stored
+length-joined after stored at = length-set stored at _
 
+pub joined-here : (after : ℕ) (stored : List ℕ) (at : ℕ) → at < length stored → get_or (joined after stored at) at 0 ≡ bit_and (get_or stored at 0) after
+joined-here after stored at inside = get_or-set_same stored at (bit_and (get_or stored at 0) after) 0 inside
+
+pub joined-other : (after : ℕ) (stored : List ℕ) (at to : ℕ) → (to ≡ at → ⊥) → get_or (joined after stored at) to 0 ≡ get_or stored to 0
+joined-other after stored at to other = get_or-set_other stored at to (bit_and (get_or stored at 0) after) 0 other
+
+module _ (after cell : ℕ) where
   joined-bit : (stored : List ℕ) (at to : ℕ) → at < length stored → IsJoined (bit_at (get_or (joined after stored at) to 0) cell) (bit_at (get_or stored to 0) cell) (bit_at after cell) (to ≡ at)
   joined-bit stored at to inside = elim (cases_eq to at) [
     | inl same ↦
-        let both : get_or (joined after stored at) at 0 ≡ bit_and (get_or stored at 0) after = get_or-set_same stored at (bit_and (get_or stored at 0) after) 0 inside in
+        let both : get_or (joined after stored at) at 0 ≡ bit_and (get_or stored at 0) after = joined-here after stored at inside in
         let least = bit_at_and (get_or stored at 0) after cell in
         let old = bit_at-lt (get_or stored at 0) cell in
         let new = bit_at-lt after cell in
@@ -95,7 +101,7 @@ module _ (after cell : ℕ) where
           unset = λ e. elim (cases_eq (bit_at after cell) 0) [ inl none ↦ inr (refl, none) | inr some ↦ inl (omega arith) ];
         })
     | inr other ↦
-        let kept : get_or (joined after stored at) to 0 ≡ get_or stored to 0 = get_or-set_other stored at to (bit_and (get_or stored at 0) after) 0 other in
+        let kept : get_or (joined after stored at) to 0 ≡ get_or stored to 0 = joined-other after stored at to other in
         rw kept (record { set = λ e. (e, λ comes. absurd (other comes)); unset = λ e. inl e })
   ]
 
@@ -103,7 +109,7 @@ module _ (after cell : ℕ) where
   joined_at-bit stored [] to inside = record { set = λ e. (e, λ comes. let none = comes.1 in absurd (omega arith)); unset = λ e. inl e }
   joined_at-bit stored (at ∷ places) to inside =
       let first = joined-bit stored at to inside.0 in
-      let rest = joined_at-bit (joined after stored at) places to (rw (length-joined stored at) inside.1) in
+      let rest = joined_at-bit (joined after stored at) places to (rw (length-joined after stored at) inside.1) in
       record {
         set = λ e.
             let mid = rest.set e in
@@ -118,3 +124,46 @@ module _ (after cell : ℕ) where
 pub length-joined_at : (after : ℕ) (stored places : List ℕ) → length (joined_at after stored places) ≡ length stored
 length-joined_at after stored [] = refl
 length-joined_at after stored (at ∷ places) = length-joined_at after (joined after stored at) places ∙ length-set stored at _
+
+-- ---- the same sets from a place on
+
+pub record IsSameFrom (n : ℕ) (stored others : List ℕ) : Type 0 where
+  pub lengths : length stored ≡ length others
+  pub values : (to : ℕ) → n ≤ to → get_or stored to 0 ≡ get_or others to 0
+
+module _ (after n : ℕ) where
+  pub same-joined : (stored others : List ℕ) (at : ℕ) → at < length stored → IsSameFrom n stored others → IsSameFrom n (joined after stored at) (joined after others at)
+  same-joined stored others at inside same =
+      record {
+        lengths = length-joined after stored at ∙ same.lengths ∙ sym (length-joined after others at);
+        values = λ to later. elim (cases_eq to at) [
+          | inl here ↦
+              let values = same.values at (rw here at later) in
+              rw (here, joined-here after stored at inside, joined-here after others at (rw same.lengths at inside), values) refl
+          | inr other ↦ joined-other after stored at to other ∙ same.values to later ∙ sym (joined-other after others at to other)
+        ];
+      }
+
+  pub same-joined_at : (stored others places : List ℕ) → AllByRecursion (λ to. to < length stored) places → IsSameFrom n stored others → IsSameFrom n (joined_at after stored places) (joined_at after others places)
+  same-joined_at stored others [] inside same = same
+  same-joined_at stored others (at ∷ places) inside same =
+      same-joined_at (joined after stored at) (joined after others at) places
+      (rw (length-joined after stored at) inside.1)
+      (same-joined stored others at inside.0 same)
+
+-- behind the place at which a set is joined nothing changes
+pub same_behind : (after : ℕ) (stored : List ℕ) (at : ℕ) → IsSameFrom (at + 1) (joined after stored at) stored
+same_behind after stored at =
+    record { lengths = length-joined after stored at; values = λ to later. joined-other after stored at to (λ here. omega arith) }
+
+-- a set joined with all cells has the cells that it had
+pub with_all : (stored : List ℕ) (at to cell : ℕ) → cell < CELLS → to < length stored → bit_at (get_or (joined 65535 stored at) to 0) cell ≡ bit_at (get_or stored to 0) cell
+with_all stored at to cell small inside = elim (cases_eq to at) [
+  | inl here ↦
+      let both = joined-here 65535 stored to inside in
+      let least = bit_at_and (get_or stored to 0) 65535 cell in
+      let some : bit_at 65535 cell ≡ 1 = bit_at_ones 16 cell small in
+      let old = bit_at-lt (get_or stored to 0) cell in
+      rw (← here, both) (omega arith)
+  | inr other ↦ ap (λ set. bit_at set cell) (joined-other 65535 stored at to other)
+]

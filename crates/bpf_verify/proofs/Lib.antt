@@ -3,5 +3,8 @@ pub mod PathLemmas
 pub mod CellLemmas
 pub mod StoredLemmas
 pub mod PassLemmas
+pub mod PlainLemmas
+pub mod PlainTableLemmas
+pub mod JumpLemmas
 pub mod FaultLemmas
 pub mod StandardFacts

@@ -1,5 +1,5 @@
 -- The sets of cells along the pass: a bit is 0 exactly where some path comes to the place without a store of the cell.
-use Rattle.std.proofs.Common.{◌≡◌, ◌+◌, ◌<◌, ◌⊎◌, List, None, Option, Some, arith, below_more, get_or, inl, inr, length, subst, ℕ}
+use Rattle.std.proofs.Common.{◌≡◌, ◌+◌, ◌<◌, ◌≤◌, ◌⊎◌, List, None, Option, Some, arith, below_more, get_or, inl, inr, length, subst, ℕ}
 use Rattle.std.specs.Prelude.{Contains}
 use Rattle.std.specs.Int.{bit_at}
 use Rattle.std.specs.List.{AllByRecursion}
@@ -8,8 +8,8 @@ use Rattle.std.proofs.lemmas.Nat.Bits.{bit_at-zero, bit_at_ones}
 use Rattle.bpf_insn.specs.declared.instruction.Insn.{Insn}
 use Rattle.bpf_verify.specs.declared.TheConstants.{CELLS}
 use Rattle.bpf_verify.specs.Path.{IsAt, IsStoredBefore, IsUnstored, Loads, StepsTo, Stores, StoresAt, successors}
-use Rattle.bpf_verify.specs.body.Pass.{FindsCell, HasCell, NotesLoad, cells_after, joined_at}
-use Rattle.bpf_verify.proofs.CellLemmas.{IsAfter, IsJoined, cells_after-bit, finds_loaded_cell, joined_at-bit, length-joined_at, loaded_cell_below, missed_cell}
+use Rattle.bpf_verify.specs.body.Pass.{FindsCell, HasCell, NotesLoad, cells_after, joined, joined_at}
+use Rattle.bpf_verify.proofs.CellLemmas.{IsAfter, IsJoined, IsSameFrom, cells_after-bit, finds_loaded_cell, joined_at-bit, length-joined, length-joined_at, loaded_cell_below, missed_cell, with_all}
 use Rattle.bpf_verify.proofs.PathLemmas.{Reaches, ReachesBelow, below_reaches, nothing_arrives, path_of, path_stores_or_reaches, reaches_below}
 use Rattle.bpf_verify.proofs.PlaceLemmas.{IsAt-unique}
 
@@ -69,29 +69,29 @@ module _ (program : List ℕ) (cell n : ℕ) (insn : Insn) (at : IsAt program n 
         ];
       }
 
--- ---- the sets of all places
+-- ---- the sets of the places from n on
 
 abbrev pub TellsPaths : List ℕ → ℕ → List ℕ → Type 0
 TellsPaths program n stored =
-    (cell to : ℕ) → cell < CELLS → to < length stored → Tells (bit_at (get_or stored to 0) cell) (ReachesBelow program cell n to)
+    (cell to : ℕ) → cell < CELLS → n ≤ to → to < length stored → Tells (bit_at (get_or stored to 0) cell) (ReachesBelow program cell n to)
 
 pub tells_none : (program stored : List ℕ) → get_or stored 0 0 ≡ 0 → ((to : ℕ) → 0 < to → to < length stored → get_or stored to 0 ≡ 65535) → TellsPaths program 0 stored
-tells_none program stored first others cell to small inside = elim (cases_eq to 0) [
+tells_none program stored first others cell to small later inside = elim (cases_eq to 0) [
   | inl start ↦
       let none : bit_at (get_or stored to 0) cell ≡ 0 = rw (start, first) (bit_at-zero cell) in
       record { set = λ e. absurd (omega arith); unset = λ e. inl start }
-  | inr later ↦
+  | inr further ↦
       let some : bit_at (get_or stored to 0) cell ≡ 1 = rw (others to (omega arith) inside) (bit_at_ones 16 cell small) in
-      record { set = λ e. nothing_arrives program cell to later; unset = λ e. absurd (omega arith) }
+      record { set = λ e. nothing_arrives program cell to further; unset = λ e. absurd (omega arith) }
 ]
 
 module _ (program : List ℕ) (n : ℕ) (stored : List ℕ) (insn : Insn) (at : IsAt program n insn) (inside : n < length stored) (tells : TellsPaths program n stored) where
   pub tells_next : AllByRecursion (λ to. to < length stored) (successors insn n) → TellsPaths program (n + 1) (joined_at (cells_after insn (get_or stored n 0)) stored (successors insn n))
-  tells_next within cell to small to_inside =
+  tells_next within cell to small later to_inside =
       let to_before : to < length stored = rw length-joined_at at to_inside in
       tells_more program cell n insn at to _ _ _ _
-      (tells cell to small to_before)
-      (tells cell n small inside)
+      (tells cell to small (omega arith) to_before)
+      (tells cell n small (omega arith) inside)
       (cells_after-bit insn (get_or stored n 0) cell)
       (joined_at-bit (cells_after insn (get_or stored n 0)) cell stored (successors insn n) to within)
 
@@ -102,15 +102,26 @@ module _ (program : List ℕ) (n : ℕ) (stored : List ℕ) (insn : Insn) (at : 
       let small = loaded_cell_below insn cell has here in
       elim (path_stores_or_reaches program cell earlier n path) [
         | inl stores ↦ stores
-        | inr reached ↦ absurd ((tells cell n small inside).set set (reaches_below program cell n reached))
+        | inr reached ↦ absurd ((tells cell n small (omega arith) inside).set set (reaches_below program cell n reached))
       ]
 
   missed_is_unstored : HasCell insn → (¬ FindsCell insn (get_or stored n 0)) → IsUnstored program n
   missed_is_unstored has misses =
       let missed = missed_cell insn (get_or stored n 0) misses in
       let small = loaded_cell_below insn missed.0 has missed.1.loads in
-      let reached = below_reaches program missed.0 n n ((tells missed.0 n small inside).unset missed.1.unset) in
+      let reached = below_reaches program missed.0 n n ((tells missed.0 n small (omega arith) inside).unset missed.1.unset) in
       (missed.0, (insn, at, missed.1.loads), path_of program missed.0 n reached)
+
+-- the same sets from n on tell the same
+pub tells_same : (program : List ℕ) (n : ℕ) (stored others : List ℕ) → IsSameFrom n stored others → TellsPaths program n stored → TellsPaths program n others
+tells_same program n stored others same tells cell to small later inside =
+    rw (← same.values to later) (tells cell to small later (rw (same.lengths) inside))
+
+-- a set joined with all cells stays as it is
+pub tells_with_all : (program : List ℕ) (n : ℕ) (stored : List ℕ) → TellsPaths program n stored → TellsPaths program n (joined 65535 stored n)
+tells_with_all program n stored tells cell to small later inside =
+    let to_inside : to < length stored = rw (← length-joined 65535 stored n) inside in
+    rw (with_all stored n to cell small to_inside) (tells cell to small later to_inside)
 
 -- ---- the first load of a cell that is not stored before
 

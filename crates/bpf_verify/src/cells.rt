@@ -1,13 +1,13 @@
 //! Which scratch cells are stored on every path. A set of cells has bit `k` for cell `k`.
 
-ghost use Rattle.std.specs.Prelude.{◌≡◌, ◌+◌, ◌-◌, ◌^◌, ◌<◌, ◌↔◌, ℕ, IsTrue, bit_or, length, slice_index};
+ghost use Rattle.std.specs.Prelude.{◌≡◌, ◌∷◌, ◌+◌, ◌^◌, ◌<◌, ◌↔◌, [], IsTrue, bit_or, length};
 ghost use Rattle.std.specs.Int.{bit_at};
 ghost use Rattle.std.specs.List.{AllByRecursion};
 ghost use Rattle.bpf_verify.specs.Path.{successors};
 ghost use Rattle.bpf_verify.specs.body.Pass.{FindsCell, HasCell, NotesLoad, cells_after, joined, joined_at};
 
 use crate::CELLS;
-use bpf_insn::Insn;
+use bpf_insn::{Insn, Offsets};
 
 #[inline(always)]
 fn contains(cells: u16, k: u32) -> bool
@@ -63,6 +63,15 @@ fn join(stored: &mut [u16], to: usize, after: u16)
 }
 
 #[inline(always)]
+pub fn join_targets(stored: &mut [u16], offsets: Offsets, after: u16, pc: usize)
+    requires { (pc + 1 + offsets.jt < length stored.old) × (pc + 1 + offsets.jf < length stored.old) }
+    ensures { stored.new ≡ joined_at after stored.old ((pc + 1 + offsets.jt) ∷ (pc + 1 + offsets.jf) ∷ []) }
+{
+    join(stored, pc + 1 + offsets.jt as usize, after);
+    join(stored, pc + 1 + offsets.jf as usize, after);
+}
+
+#[inline(always)]
 pub fn join_successors(stored: &mut [u16], insn: Insn, before: u16, pc: usize)
     requires cell { HasCell insn }
     requires inside { AllByRecursion (λ to. to < length stored.old) (successors insn pc) }
@@ -72,25 +81,9 @@ pub fn join_successors(stored: &mut [u16], insn: Insn, before: u16, pc: usize)
         Insn::ReturnConstant(_) => {}
         Insn::ReturnA => {}
         Insn::Jump(k) => join(stored, pc + 1 + k as usize, before),
-        Insn::JumpIf(_, _, offsets) => {
-            join(stored, pc + 1 + offsets.jt as usize, before);
-            join(stored, pc + 1 + offsets.jf as usize, before);
-        }
+        Insn::JumpIf(_, _, offsets) => join_targets(stored, offsets, before, pc),
         Insn::Store(k) => join(stored, pc + 1, with(before, k)),
         Insn::StoreX(k) => join(stored, pc + 1, with(before, k)),
         _ => join(stored, pc + 1, before),
     }
-}
-
-/// The sets before the pass: no cell is stored at the first place, and no path comes to another.
-#[inline(always)]
-pub fn before_the_pass<const N: usize>() -> [u16; N]
-    requires { 0 < N }
-    ensures size { length result ≡ N }
-    ensures first { slice_index result 0 ≡ 0 }
-    ensures others { (to : ℕ) → 0 < to → to < N → slice_index result to ≡ 2 ^ 16 - 1 }
-{
-    let mut stored = [u16::MAX; N];
-    stored[0] = 0;
-    stored
 }

@@ -4,19 +4,22 @@
 //! `verify` tests words where they stand; a `Program` keeps words that passed. Only a `Program` holds memory, and only its `clone_in` takes any.
 #![tactic(auto)]
 
-ghost use Rattle.std.specs.Prelude.{◌≡◌, ◌+◌, ◌<◌, ◌≤◌, ◌^◌, ◌↔◌, IfErr, IfOk, IsOk, OnOk, Some, length, slice_get};
+ghost use Rattle.std.specs.Prelude.{◌≡◌, ◌+◌, ◌<◌, ◌≤◌, ◌^◌, ◌↔◌, IfErr, IfOk, IsOk, None, OnOk, Some, length, slice_get};
+ghost use Rattle.bpf_insn.specs.Word.{instruction_of};
 ghost use Rattle.bpf_verify.specs.Path.{program_at};
-ghost use Rattle.bpf_verify.specs.Accepted.{HasFault, IsAccepted};
+ghost use Rattle.bpf_verify.specs.Accepted.{IsAccepted, targets_fault, word_fault};
 ghost use Rattle.bpf_verify.specs.Fault.{IsFirstFault};
-ghost use Rattle.bpf_verify.specs.body.Pass.{IsFaultAt, IsFaultlessInstruction};
+ghost use Rattle.bpf_verify.specs.body.Pass.{IsChecked, IsFaultAt, joined_at};
+ghost use Rattle.bpf_verify.specs.body.Plain.{targets};
 
 mod cells;
 mod fault;
 mod jumps;
 mod operands;
+mod plain;
 mod program;
 
-use bpf_insn::{Insn, Words};
+use bpf_insn::{Offsets, Words};
 pub use fault::Fault;
 pub use program::{OutOfMemory, Program};
 
@@ -37,12 +40,19 @@ pub fn limits_as_numbers()
     ensures ancillary { ANCILLARY_FROM ≡ 2147483648 }
 {}
 
-// Sets of cells for a long program take longer to make than a short program takes to check.
+// Sets of cells for a long program take longer to make than a short program takes to check, so there are three sizes.
 const SHORT: usize = 64;
 
 const SHORT_SETS: usize = SHORT + 1;
 
+const MIDDLE: usize = 512;
+
+const MIDDLE_SETS: usize = MIDDLE + 1;
+
 const MAX_SETS: usize = MAX_INSTRUCTIONS + 1;
+
+// The set of a place that no path has come to yet.
+const ALL_CELLS: u16 = u16::MAX;
 
 #[inline(always)]
 fn word_at<W: Words>(words: &mut W, from: usize, len: usize, pc: usize) -> u64
@@ -56,19 +66,52 @@ fn word_at<W: Words>(words: &mut W, from: usize, len: usize, pc: usize) -> u64
     words.word(from + pc)
 }
 
-#[inline(always)]
-fn check_place<W: Words>(words: &mut W, from: usize, len: usize, pc: usize) -> Result<Insn, Fault>
-    requires within { from + len ≤ length (W.words words.old) }
-    requires fits { from + len < 2 ^ 64 }
+// Checks any word, joins the set after it at its successors, and answers the first load of a cell that is not stored, and whether
+// the word is a return. Few words come here, so no loop has a copy of this code.
+#[inline(never)]
+fn check_any(
+    stored: &mut [u16],
+    word: u64,
+    before: u16,
+    pc: usize,
+    len: usize,
+    unstored: Option<usize>,
+) -> Result<(Option<usize>, bool), Fault>
     requires not_too_long { len ≤ MAX_INSTRUCTIONS }
     requires inside { pc < len }
-    ensures faultless { IfOk result (IsFaultlessInstruction (program_at (W.words words.old) from len) pc) }
-    ensures fault { IfErr result (HasFault (program_at (W.words words.old) from len) pc) }
+    requires a_set_more { len < length stored.old }
+    ensures checked { IfOk result (λ next. IsChecked len pc word before unstored stored.old stored.new next.0 next.1) }
+    ensures fault { IfErr result (λ fault. word_fault len pc (instruction_of word) ≡ Some fault) }
     ensures fault_place { IfErr result (IsFaultAt pc) }
-    ensures words_kept { W.words words.new ≡ W.words words.old }
-    ensures rest_kept { W.rest words.new ≡ W.rest words.old }
 {
-    operands::check_word(word_at(words, from, len, pc), pc, len)
+    let insn = operands::check_word(word, pc, len)?;
+    let noted = cells::first_unstored(unstored, insn, before, pc);
+    cells::join_successors(stored, insn, before, pc);
+    Ok((noted, operands::is_return(insn)))
+}
+
+// Checks the targets of a conditional jump, and joins the set before it there.
+#[inline(always)]
+fn check_branch(
+    stored: &mut [u16],
+    offsets: Offsets,
+    before: u16,
+    pc: usize,
+    len: usize,
+) -> Result<(), Fault>
+    requires not_too_long { len ≤ MAX_INSTRUCTIONS }
+    requires inside { pc < len }
+    requires a_set_more { len < length stored.old }
+    ensures faultless { IsOk result → (targets_fault len pc (targets pc offsets) ≡ None) }
+    ensures fault { IfErr result (λ fault. targets_fault len pc (targets pc offsets) ≡ Some fault) }
+    ensures fault_place { IfErr result (IsFaultAt pc) }
+    ensures joins { IsOk result → (stored.new ≡ joined_at before stored.old (targets pc offsets)) }
+{
+    if let Some(fault) = jumps::check_targets(pc, offsets, len) {
+        return Err(fault);
+    }
+    cells::join_targets(stored, offsets, before, pc);
+    Ok(())
 }
 
 // `N` is greater than the length: a set more, for the place after the last one.
@@ -88,15 +131,30 @@ fn check_places<W: Words, const N: usize>(
     ensures words_kept { W.words words.new ≡ W.words words.old }
     ensures rest_kept { W.rest words.new ≡ W.rest words.old }
 {
-    let mut stored = cells::before_the_pass::<N>();
+    let mut stored = [ALL_CELLS; N];
+    // The set that goes on from the place before: no cell to the first place, and all cells where none goes on.
+    let mut carried = 0;
     let mut unstored = None;
     let mut returns = false;
     for pc in 0..len {
-        let insn = check_place(words, from, len, pc)?;
-        let before = stored[pc];
-        unstored = cells::first_unstored(unstored, insn, before, pc);
-        cells::join_successors(&mut stored, insn, before, pc);
-        returns = operands::is_return(insn);
+        let word = word_at(words, from, len, pc);
+        let before = stored[pc] & carried;
+        if let Some(after) = plain::after_plain(word, before) {
+            carried = after;
+            returns = false;
+        } else {
+            carried = ALL_CELLS;
+            if let Some(offsets) = jumps::branch_of(word) {
+                check_branch(&mut stored, offsets, before, pc, len)?;
+                returns = false;
+            } else if operands::returns_constant(word) {
+                returns = true;
+            } else {
+                let checked = check_any(&mut stored, word, before, pc, len, unstored)?;
+                unstored = checked.0;
+                returns = checked.1;
+            }
+        }
     }
     if !returns {
         return Err(Fault::NoReturn);
@@ -123,6 +181,8 @@ fn check_program<W: Words>(words: &mut W, from: usize, len: usize) -> Result<(),
     }
     if len <= SHORT {
         check_places::<W, SHORT_SETS>(words, from, len)
+    } else if len <= MIDDLE {
+        check_places::<W, MIDDLE_SETS>(words, from, len)
     } else {
         check_places::<W, MAX_SETS>(words, from, len)
     }

@@ -1,7 +1,8 @@
 //! The checks of one instruction by itself.
 
 ghost use Rattle.std.specs.Prelude.{◌≡◌, ◌<◌, ◌↔◌, IfErr, IfOk, IfSome, IsTrue, None, Ok, Some};
-ghost use Rattle.bpf_insn.specs.Word.{instruction_of};
+ghost use Rattle.bpf_insn.specs.declared.instruction.Insn.TheVariants.{ReturnConstant};
+ghost use Rattle.bpf_insn.specs.Word.{constant_of, instruction_of};
 ghost use Rattle.bpf_verify.specs.Path.{IsReturn};
 ghost use Rattle.bpf_verify.specs.Accepted.{absolute_fault, cell_fault, divisor_fault, instruction_fault, operand_fault, shift_fault, word_fault};
 ghost use Rattle.bpf_verify.specs.body.Pass.{IsFaultAt};
@@ -122,4 +123,12 @@ pub fn is_return(insn: Insn) -> bool
         Insn::ReturnA => true,
         _ => false,
     }
+}
+
+// Whether a word is a return of a constant whose fields are right. `false` says nothing.
+#[inline(always)]
+pub fn returns_constant(word: u64) -> bool
+    ensures { IsTrue result → (instruction_of word ≡ Ok (ReturnConstant (constant_of word))) }
+{
+    word >> 32 == 0x0006_0000
 }

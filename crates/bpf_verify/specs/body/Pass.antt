@@ -1,13 +1,14 @@
 -- What the pass over the places knows of the place that it is at, and how it keeps sets of scratch cells: as numbers, of
 -- which bit k tells of cell k.
-use Rattle.std.specs.Prelude.{◌≡◌, ◌∷◌, ◌<◌, ◌^◌, List, None, Option, Some, [], bit_and, bit_or, length, slice_index, slice_set, ℕ}
+use Rattle.std.specs.Prelude.{◌≡◌, ◌∷◌, ◌<◌, ◌^◌, ◌↔◌, Bool, IsTrue, List, None, Ok, Option, Some, [], bit_and, bit_or, length, slice_index, slice_set, ℕ}
 use Rattle.std.specs.Int.{bit_at}
 use Rattle.bpf_insn.specs.declared.instruction.Insn.{Insn}
 use Rattle.bpf_insn.specs.declared.instruction.Insn.TheVariants.{LoadCell, LoadXCell, Store, StoreX}
+use Rattle.bpf_insn.specs.Word.{instruction_of}
 use Rattle.bpf_verify.specs.declared.TheConstants.{CELLS}
 use Rattle.bpf_verify.specs.declared.fault.Fault.{Fault}
 use Rattle.bpf_verify.specs.declared.fault.Fault.TheVariants.{Ancillary, BadCell, BadOpcode, BadShift, Empty, JumpOutside, NoReturn, StrayField, TooLong, UnstoredCell, ZeroDivisor}
-use Rattle.bpf_verify.specs.Path.{IsAt}
+use Rattle.bpf_verify.specs.Path.{IsAt, IsReturn, successors}
 use Rattle.bpf_verify.specs.Accepted.{instruction_fault}
 
 -- the program has this instruction at pc, and it has no fault
@@ -61,3 +62,12 @@ joined after stored to = slice_set stored to (bit_and (slice_index stored to) af
 abbrev pub joined_at : ℕ → List ℕ → List ℕ → List ℕ
 joined_at after stored [] = stored
 joined_at after stored (to ∷ places) = joined_at after (joined after stored to) places
+
+-- the word is an instruction's without a fault: what the pass makes of it, with the set before it
+pub record IsChecked (len pc word before : ℕ) (unstored : Option ℕ) (old new : List ℕ) (noted : Option ℕ) (returns : Bool) : Type 0 where
+  pub insn : Insn
+  pub read : instruction_of word ≡ Ok insn
+  pub faultless : instruction_fault len pc insn ≡ None
+  pub notes : NotesLoad unstored insn before pc noted
+  pub joins : new ≡ joined_at (cells_after insn before) old (successors insn pc)
+  pub tells : IsTrue returns ↔ IsReturn insn
