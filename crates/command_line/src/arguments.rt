@@ -81,14 +81,14 @@ pub(crate) fn address_argument<'a>(alloc: Global, name: &'a str, help: &'a str) 
         .help(help)
 }
 
-// `--datagrams N`
+// `--datagrams D`
 pub(crate) fn datagrams_argument<'a>(alloc: Global) -> Arg<'a>
     ensures rule { rule_of result ≡ datagrams_argument }
     ensures local { result.global ≡ false }
 {
     Arg::new(alloc, "datagrams")
         .long("datagrams")
-        .value_name("N")
+        .value_name("D")
         .value_parser(ValueParser::unsigned(1, MAX_DATAGRAMS))
         .help(help::FLOOD_DATAGRAMS)
 }
