@@ -15,7 +15,7 @@ unfolding words_of
 in_word byte rest apart = cond-false (byte == 32) ([] ∷ words_of rest) (grow_first byte (words_of rest)) (false_from_ne_true (byte == 32) (λ is. apart (eqb-true byte 32 is)))
 
 -- where there is no space there is one word
-one_word : (text : List ℕ) → Lacks 32 text → words_of text ≡ text ∷ []
+pub one_word : (text : List ℕ) → Lacks 32 text → words_of text ≡ text ∷ []
 unfolding words_of
 one_word [] lacks = refl
 one_word (byte ∷ rest) lacks =
