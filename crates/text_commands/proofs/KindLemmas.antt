@@ -1,9 +1,9 @@
 -- The kinds of the replies of a script.
-use Rattle.std.proofs.Common.{◌≡◌, ◌≢◌, ◌∙◌, ◌==◌, ◌/◌, ◌%◌, ◌^◌, ◌<◌, ◌∷◌, ◌++◌, List, None, Option, Some, [], ap, append-nil, append_assoc, arith, codes, decimal, false, inl, not, refl, sym, true, ℕ}
+use Rattle.std.proofs.Common.{◌≡◌, ◌∙◌, ◌==◌, ◌/◌, ◌%◌, ◌^◌, ◌<◌, ◌∷◌, ◌++◌, List, None, Option, Some, [], ap, append-nil, append_assoc, arith, codes, decimal, inl, not, refl, true, ℕ}
 use Rattle.std.proofs.lemmas.Bool.{and_parts, eq-eqb, false≢true}
 use Rattle.std.specs.List.{list_all}
 use Rattle.std.specs.Option.{option_or}
-use Rattle.ipv4_fields.specs.Cut.{IsSplitAt, Lacks}
+use Rattle.ipv4_fields.specs.Cut.{Lacks}
 use Rattle.ipv4_fields.proofs.TextLemmas.{lacks-append, lacks-cons, lacks-decimal}
 use Rattle.ipv4_fields.specs.declared.endpoint.Endpoint.{Endpoint}
 use Rattle.bpf_asm.specs.declared.fault.AsmFault.{AsmFault}
@@ -19,11 +19,11 @@ use Rattle.member_group.specs.declared.refusal.Refusal.TheVariants as refusal
 use Rattle.retire.specs.declared.fault.PublishFault.{PublishFault}
 use Rattle.retire.specs.declared.fault.PublishFault.TheVariants as publish
 use Rattle.control.specs.Endpoint.{IsEndpoint, endpoint_text}
-use Rattle.control.specs.Reason.{asm_code, command_code, compile_code, number_text, parse_code, publish_code, reason_code, refusal_text, verify_code}
+use Rattle.control.specs.Reason.{asm_code, command_code, compile_code, number_text, parse_code, publish_code, reason_code, verify_code}
 use Rattle.control.specs.Reply.{reply_text}
 use Rattle.control_line.specs.declared.reason.Reason.{Reason}
 use Rattle.control_line.specs.declared.reason.Reason.TheVariants.{Assembly, BadForm, Command, Compiling, Expression, LineTooLong, PacketTooLong, Publishing, Words}
-use Rattle.control_line.specs.declared.reply.LineAnswer.TheVariants.{Published, Shown, Swept}
+use Rattle.control_line.specs.declared.reply.LineAnswer.TheVariants.{Shown, Swept}
 use Rattle.packet_verdict.specs.declared.verdict.Verdict.TheVariants.{Deliver, Dropped, Malformed, NoGroup, NoMembers}
 use Rattle.reply_counts.specs.Kind.{refusal_in, reply_kind}
 use Rattle.reply_counts.specs.Verdict.{verdict_at, verdict_in, words_of}

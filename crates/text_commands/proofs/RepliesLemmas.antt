@@ -16,7 +16,7 @@ use Rattle.command_line.specs.declared.ending.Failure.TheVariants.{OutOfMemory, 
 use Rattle.command_line.specs.CommandLine.{Request, check, compile, explain, faults_in, first, flood, judge, packets, replay, run, serve, tell}
 use Rattle.text_commands.specs.body.Stop.{failure_of_replay}
 use Rattle.text_commands.specs.Input.{BeginsInput, IsInput}
-use Rattle.text_commands.specs.Replaying.{AreRepliesTo, IsTextOfInput, RepliesToFirstLines}
+use Rattle.text_commands.specs.Replaying.{IsTextOfInput, RepliesToFirstLines}
 use Rattle.text_commands.specs.Request.{WritesBefore, WritesBeforeBy}
 use Rattle.command_line.proofs.EndingLemmas.{appends_kept, appends_nothing}
 

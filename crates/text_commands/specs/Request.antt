@@ -1,7 +1,7 @@
 -- What a command makes of its arguments and its input: a result, or why there is none (docs/COMMANDS.md). `known` are the bytes of the
 -- input, where they are known. `before` and `after` are what the output held before the command and holds after it, where that is
 -- known; `told_before` and `told_after` are the same of standard error.
-use Rattle.std.specs.Prelude.{◌≡◌, ◌++◌, ◌⊎◌, Bool, Contains, IsSome, IsSomeAnd, List, MatchOption, Option, Some, [], codes, false, true, ℕ}
+use Rattle.std.specs.Prelude.{◌≡◌, ◌++◌, ◌⊎◌, Contains, IsSome, IsSomeAnd, List, MatchOption, Option, Some, [], codes, ℕ}
 use Rattle.std.specs.Io.KnownBytes.{Appends}
 use Rattle.clap.specs.Words.{Text}
 use Rattle.control.specs.Packet.{IsRefusalOfHex, SpellsPacket}
