@@ -68,7 +68,7 @@ packets_line = new_app (codes "packets")
 abbrev pub workers_argument : Rule
 workers_argument = record (required_named_argument (codes "workers")) { parser = Some (Unsigned 1 WORKERS) }
 
--- `--datagrams N`, from 1 on
+-- `--datagrams D`, from 1 on
 abbrev pub datagrams_argument : Rule
 datagrams_argument = record (named_argument (codes "datagrams")) { parser = Some (Unsigned 1 MAX_DATAGRAMS) }
 

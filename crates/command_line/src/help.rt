@@ -122,9 +122,10 @@ Example:
 
 pub const REPLAY: &str = "Answer a script of control lines and packets";
 
-pub const REPLAY_SUMMARY: &str = "Tells at the end how many packets had which verdict";
+pub const REPLAY_SUMMARY: &str =
+    "Tells at the end how many packets had which verdict, and lines which refusal";
 
-pub const REPLAY_QUIET: &str = "Writes no replies";
+pub const REPLAY_QUIET: &str = "Writes no replies; with --summary the summary alone";
 
 pub const REPLAY_MORE: &str = "\
 Reads lines from standard input, and prints one line for each before it reads on. A new switch has
@@ -139,6 +140,12 @@ no groups, and is version 0. KEY and TO are ADDRESS:PORT, ID is a number, HEX an
   show                                             version N groups G members M charge C
   sweep                                            reclaimed FIRST COUNT
 A line that is refused prints `refused CODE` or `refused CODE NUMBER` and changes nothing.
+With --summary these lines come after the replies, those whose COUNT is not 0, in rising order of
+their bytes:
+  deliver KEY ID COUNT, dropped KEY ID COUNT       packets of this member
+  malformed COUNT, nogroup COUNT, nomembers COUNT  packets of no member
+  refused CODE COUNT                               lines that were refused
+With --quiet no replies are written: with both the summary alone, with --quiet alone nothing.
 
 Example:
   $ printf 'add 10.0.0.2:53\\njoin 10.0.0.2:53 1 127.0.0.1:9001\\nshow\\n' | dswitch replay

@@ -5,12 +5,16 @@
 
 ghost use Rattle.std.specs.Prelude.{◌≡◌};
 
+mod arguments;
+mod builders;
 mod command;
 mod ending;
+mod found;
 mod help;
 
-pub use command::{MAX_DATAGRAMS, MAX_TIMEOUT, Query, Subcommand, read_words};
+pub use command::{MAX_DATAGRAMS, MAX_TIMEOUT, Query, Subcommand};
 pub use ending::{Failure, Status, refuse_arguments, write_what_fits};
+pub use found::read_words;
 
 /// Law: the limits, as numbers. It runs nothing.
 pub fn limits_as_numbers()

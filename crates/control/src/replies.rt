@@ -12,8 +12,8 @@ use control_line::Reply;
 use dispatch::Failed;
 use std::marker::Model;
 
-/// How many bytes wait at most. Each reply has room in it.
-pub(crate) const ROOM: usize = 8192;
+/// How many bytes wait at most: what one write to a pipe keeps together (PIPE_BUF of Linux). Each reply has room in it, with its LF.
+pub(crate) const ROOM: usize = 4096;
 
 /// Replies, each with its LF, that are not written yet.
 #[derive(Drop)]

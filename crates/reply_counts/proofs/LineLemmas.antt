@@ -6,8 +6,8 @@ use Rattle.std.specs.List.{filter_map, flat_map}
 use Rattle.std.specs.Prelude.{Err, IfOk, Ok, Result, Vec}
 use Rattle.ipv4_fields.specs.Cut.{IsSplitAt, Lacks}
 use Rattle.ipv4_fields.proofs.TextLemmas.{lacks-append}
-use Rattle.reply_counts.specs.Verdict.{verdict_of}
-use Rattle.reply_counts.specs.Summary.{AreRows, IsSummaryOf, RowValue, grow_line, lines_of, row_text, verdicts_in}
+use Rattle.reply_counts.specs.Kind.{reply_kind}
+use Rattle.reply_counts.specs.Summary.{AreRows, IsSummaryOf, RowValue, grow_line, lines_of, row_text, kinds_in}
 use Rattle.reply_counts.specs.body.Counted.{EndsLines, IsAt}
 
 -- ---- lines
@@ -40,7 +40,7 @@ at_start = record {
   is = refl;
   ends = λ rest. ap (λ (lines : List (List ℕ)). lines ++ lines_of rest) (sym no_lines);
   lacks = λ k inside. absurd (omega arith);
-  counted = subst (λ (lines : List (List ℕ)). AreRows (filter_map verdict_of lines) []) (sym no_lines) (record {
+  counted = subst (λ (lines : List (List ℕ)). AreRows (filter_map reply_kind lines) []) (sym no_lines) (record {
     rising = λ j k none before within. absurd (omega arith);
     each = λ k none within. absurd (omega arith);
     complete = λ k none within. absurd (omega arith);
@@ -57,11 +57,11 @@ held_more text held bytes rows at lacks = record {
 }
 
 -- the summary is that of the whole text
-pub all_counted : (text held : List ℕ) (rows : List RowValue) → IsAt text held rows → AreRows (verdicts_in text) rows
+pub all_counted : (text held : List ℕ) (rows : List RowValue) → IsAt text held rows → AreRows (kinds_in text) rows
 all_counted text held rows at =
     let same : lines_of text ≡ lines_of at.done =
     ap lines_of at.is ∙ (at.ends held ∙ (ap (λ (lines : List (List ℕ)). lines_of at.done ++ lines) (no_line held at.lacks) ∙ append-nil (lines_of at.done))) in
-    subst (λ (lines : List (List ℕ)). AreRows (filter_map verdict_of lines) rows) (sym same) at.counted
+    subst (λ (lines : List (List ℕ)). AreRows (filter_map reply_kind lines) rows) (sym same) at.counted
 
 -- ---- a line ends
 
@@ -85,22 +85,22 @@ module _ (text held : List ℕ) (rows : List RowValue) (at : IsAt text held rows
   unfolding now
   now_is = ap (λ (t : List ℕ). t ++ 10 ∷ []) at.is ∙ (append_assoc at.done held (10 ∷ []) ∙ sym (append-nil (at.done ++ (held ++ 10 ∷ []))))
 
-  now_verdicts : verdicts_in now ≡ verdicts_in at.done ++ filter_map verdict_of (held ∷ [])
-  now_verdicts = ap (filter_map verdict_of) now_lines ∙ filter_map-append verdict_of (lines_of at.done) (held ∷ [])
+  now_kinds : kinds_in now ≡ kinds_in at.done ++ filter_map reply_kind (held ∷ [])
+  now_kinds = ap (filter_map reply_kind) now_lines ∙ filter_map-append reply_kind (lines_of at.done) (held ∷ [])
 
-  ended : (rows' : List RowValue) → AreRows (verdicts_in now) rows' → IsAt (text ++ 10 ∷ []) [] rows'
+  ended : (rows' : List RowValue) → AreRows (kinds_in now) rows' → IsAt (text ++ 10 ∷ []) [] rows'
   ended rows' counted = record { done = now; is = now_is; ends = now_ends; lacks = λ k inside. absurd (omega arith); counted = counted }
 
-  pub told_line : (verdict : List ℕ) (rows' : List RowValue) → ◌≡◌ {A = Option (List ℕ)} (Some verdict) (verdict_of held)
-      → ((verdicts : List (List ℕ)) → AreRows verdicts rows → AreRows (verdicts ++ verdict ∷ []) rows') → IsAt (text ++ 10 ∷ []) [] rows'
-  told_line verdict rows' tells more =
-      let one : filter_map verdict_of (held ∷ []) ≡ verdict ∷ [] = simp (sym tells) refl in
-      ended rows' (subst (λ (verdicts : List (List ℕ)). AreRows verdicts rows') (sym (now_verdicts ∙ ap (λ (v : List (List ℕ)). verdicts_in at.done ++ v) one)) (more (verdicts_in at.done) at.counted))
+  pub told_line : (kind : List ℕ) (rows' : List RowValue) → ◌≡◌ {A = Option (List ℕ)} (Some kind) (reply_kind held)
+      → ((kinds : List (List ℕ)) → AreRows kinds rows → AreRows (kinds ++ kind ∷ []) rows') → IsAt (text ++ 10 ∷ []) [] rows'
+  told_line kind rows' tells more =
+      let one : filter_map reply_kind (held ∷ []) ≡ kind ∷ [] = simp (sym tells) refl in
+      ended rows' (subst (λ (kinds : List (List ℕ)). AreRows kinds rows') (sym (now_kinds ∙ ap (λ (v : List (List ℕ)). kinds_in at.done ++ v) one)) (more (kinds_in at.done) at.counted))
 
-  pub untold_line : ◌≡◌ {A = Option (List ℕ)} None (verdict_of held) → IsAt (text ++ 10 ∷ []) [] rows
+  pub untold_line : ◌≡◌ {A = Option (List ℕ)} None (reply_kind held) → IsAt (text ++ 10 ∷ []) [] rows
   untold_line tells =
-      let none : filter_map verdict_of (held ∷ []) ≡ [] = simp (sym tells) refl in
-      ended rows (subst (λ (verdicts : List (List ℕ)). AreRows verdicts rows) (sym (now_verdicts ∙ (ap (λ (v : List (List ℕ)). verdicts_in at.done ++ v) none ∙ append-nil (verdicts_in at.done)))) at.counted)
+      let none : filter_map reply_kind (held ∷ []) ≡ [] = simp (sym tells) refl in
+      ended rows (subst (λ (kinds : List (List ℕ)). AreRows kinds rows) (sym (now_kinds ∙ (ap (λ (v : List (List ℕ)). kinds_in at.done ++ v) none ∙ append-nil (kinds_in at.done)))) at.counted)
 
 -- ---- bytes that are taken line by line
 

@@ -3,7 +3,7 @@ use Rattle.std.proofs.Common.{◌≡◌, ◌∙◌, ◌∷◌, ◌<◌, ◌⊎�
 use Rattle.std.proofs.lemmas.Cmp.{nat_list_cmp_total}
 use Rattle.std.proofs.lemmas.List.{get_or_default}
 use Rattle.std.specs.List.{AllPairs, flat_map}
-use Rattle.reply_counts.specs.Summary.{AreRows, HasOneSummary, IsBefore, IsRow, RowValue, row_text, times_among, verdicts_in}
+use Rattle.reply_counts.specs.Summary.{AreRows, HasOneSummary, IsBefore, IsRow, RowValue, row_text, times_among, kinds_in}
 use Rattle.reply_counts.proofs.CountLemmas.{apart}
 
 -- the row is in the list
@@ -13,7 +13,7 @@ record IsIn (rows : List RowValue) (row : RowValue) : Type 0 where
   is : (none : RowValue) → get_or rows place none ≡ row
 
 not_before_itself : (row : RowValue) → IsBefore row row → ⊥
-not_before_itself row less = apart row.verdict row.verdict less refl
+not_before_itself row less = apart row.kind row.kind less refl
 
 -- the first row of one list is that of the other, or comes behind it
 first_or_behind : (first row : RowValue) (rows : List RowValue) → AllPairs IsBefore (first ∷ rows) → IsIn (first ∷ rows) row → (first ≡ row) ⊎ IsBefore first row
@@ -28,7 +28,7 @@ same_first one other ones others rising rising' there here = elim (first_or_behi
   | inl same ↦ same
   | inr less ↦ elim (first_or_behind other one others rising' there) [
     | inl same ↦ sym same
-    | inr less' ↦ absurd (not_before_itself one (nat_list_cmp_total.trans one.verdict other.verdict one.verdict less less'))
+    | inr less' ↦ absurd (not_before_itself one (nat_list_cmp_total.trans one.kind other.kind one.kind less less'))
   ]
 ]
 
@@ -60,30 +60,30 @@ same_rows (one ∷ ones) (other ∷ others) rising rising' here there =
     let rest = same_rows ones others (rest_rises one ones rising) (rest_rises other others rising') (rest_in one other ones others same rising here) (rest_in other one others ones (sym same) rising' there) in
     ap (λ (r : RowValue). r ∷ ones) same ∙ ap (λ (rs : List RowValue). other ∷ rs) rest
 
--- rows of the same verdicts
-module _ (verdicts : List (List ℕ)) (ones others : List RowValue) (are : AreRows verdicts ones) (are' : AreRows verdicts others) where
-  one_row : (row row' : RowValue) → IsRow verdicts row → IsRow verdicts row' → row'.verdict ≡ row.verdict → row' ≡ row
+-- rows of the same kinds
+module _ (kinds : List (List ℕ)) (ones others : List RowValue) (are : AreRows kinds ones) (are' : AreRows kinds others) where
+  one_row : (row row' : RowValue) → IsRow kinds row → IsRow kinds row' → row'.kind ≡ row.kind → row' ≡ row
   one_row row row' is is' same =
-      let count : row'.count ≡ row.count = is'.counted ∙ (ap (times_among verdicts) same ∙ sym is.counted) in
-      let P : List ℕ → RowValue = λ (v : List ℕ). record { verdict = v; count = row'.count } in
-      let Q : ℕ → RowValue = λ (n : ℕ). record { verdict = row.verdict; count = n } in
+      let count : row'.count ≡ row.count = is'.counted ∙ (ap (times_among kinds) same ∙ sym is.counted) in
+      let P : List ℕ → RowValue = λ (v : List ℕ). record { kind = v; count = row'.count } in
+      let Q : ℕ → RowValue = λ (n : ℕ). record { kind = row.kind; count = n } in
       ap P same ∙ ap Q count
 
   are_in : AreIn ones others
   are_in k none inside =
       let row = are.each k none inside in
       let place = row.told.0 in
-      let there = are'.complete place (get_or ones k none).verdict row.told.1 in
+      let there = are'.complete place (get_or ones k none).kind row.told.1 in
       record {
         place = there.0;
         inside = there.2;
         is = λ some.
             let at : get_or others there.0 some ≡ there.1 = get_or_default others there.0 some there.1 there.2 ∙ there.3 in
-            at ∙ one_row (get_or ones k none) there.1 row (subst (IsRow verdicts) at (are'.each there.0 some there.2)) (there.4 ∙ row.told.2);
+            at ∙ one_row (get_or ones k none) there.1 row (subst (IsRow kinds) at (are'.each there.0 some there.2)) (there.4 ∙ row.told.2);
       }
 
 pub one_summary : HasOneSummary
 one_summary replies one other is is' =
-    let rows = same_rows is.rows is'.rows is.are_rows.rising is'.are_rows.rising (are_in (verdicts_in replies) is.rows is'.rows is.are_rows is'.are_rows)
-    (are_in (verdicts_in replies) is'.rows is.rows is'.are_rows is.are_rows) in
+    let rows = same_rows is.rows is'.rows is.are_rows.rising is'.are_rows.rising (are_in (kinds_in replies) is.rows is'.rows is.are_rows is'.are_rows)
+    (are_in (kinds_in replies) is'.rows is.rows is'.are_rows is.are_rows) in
     is.is ∙ (ap (flat_map row_text) rows ∙ sym is'.is)

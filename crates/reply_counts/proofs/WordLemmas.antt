@@ -6,6 +6,7 @@ use Rattle.std.proofs.Math.Seq.{take-append_seam}
 use Rattle.std.specs.Prelude.{codes, if◌then◌else◌}
 use Rattle.ipv4_fields.specs.Cut.{IsSplitAt, Lacks}
 use Rattle.reply_counts.specs.Verdict.{first_three, grow_first, is_among, names_alone, names_of_member, verdict_at, verdict_in, words_of}
+use Rattle.reply_counts.specs.Kind.{refusal_in}
 use Rattle.reply_counts.specs.body.Words.{BeginsWithWord}
 
 -- a byte that is no space begins the first word
@@ -14,7 +15,7 @@ unfolding words_of
 in_word byte rest apart = cond-false (byte == 32) ([] ∷ words_of rest) (grow_first byte (words_of rest)) (false_from_ne_true (byte == 32) (λ is. apart (eqb-true byte 32 is)))
 
 -- where there is no space there is one word
-one_word : (text : List ℕ) → Lacks 32 text → words_of text ≡ text ∷ []
+pub one_word : (text : List ℕ) → Lacks 32 text → words_of text ≡ text ∷ []
 unfolding words_of
 one_word [] lacks = refl
 one_word (byte ∷ rest) lacks =
@@ -111,3 +112,37 @@ module _ (text first behind number verdict : List ℕ) (one : IsSplitAt 32 text 
   pub not_judged : bytes_eq first (codes "version") ≡ false → verdict_in (words_of text) ≡ None
   unfolding verdict_in
   not_judged is = ap verdict_in words_are ∙ simp is refl
+
+-- ---- the refusal of a reply
+
+pub one_word_refuses_nothing : (text : List ℕ) → Lacks 32 text → refusal_in (words_of text) ≡ None
+unfolding refusal_in
+one_word_refuses_nothing text lacks = ap refusal_in (one_word text lacks) ∙ no_verdict (bytes_eq text (codes "refused"))
+
+module _ (text first behind code : List ℕ) (cut : IsSplitAt 32 text first behind) (word : BeginsWithWord behind code) where
+  begins_with_two : words_of text ≡ first ∷ (code ∷ word.words)
+  begins_with_two = cut_words text first behind cut ∙ ap (λ (words : List (List ℕ)). first ∷ words) word.first
+
+  refused_two : List ℕ
+  refused_two = first ++ codes " " ++ code
+
+  length-refused_two : length refused_two ≡ length first + 1 + length code
+  unfolding refused_two
+  length-refused_two = simp length-append (omega arith)
+
+  two_in_front : text ≡ refused_two ++ word.rest
+  unfolding refused_two
+  two_in_front = cut.whole ∙ (ap (λ (b : List ℕ). first ++ 32 ∷ b) word.front ∙ simp append_assoc)
+
+  two_taken : take (length first + 1 + length code) text ≡ refused_two
+  two_taken =
+      ap (λ (n : ℕ). take n text) (sym length-refused_two)
+      ∙ (ap (λ (t : List ℕ). take (length refused_two) t) two_in_front ∙ take-append_seam refused_two word.rest)
+
+  pub refused : bytes_eq first (codes "refused") ≡ true → ◌≡◌ {A = Option (List ℕ)} (Some (take (length first + 1 + length code) text)) (refusal_in (words_of text))
+  unfolding refusal_in refused_two
+  refused is = ap (λ (t : List ℕ). Some t) two_taken ∙ sym (ap refusal_in begins_with_two ∙ simp is refl)
+
+pub not_refused : (text first behind : List ℕ) → IsSplitAt 32 text first behind → bytes_eq first (codes "refused") ≡ false → refusal_in (words_of text) ≡ None
+unfolding refusal_in
+not_refused text first behind cut is = ap refusal_in (cut_words text first behind cut) ∙ simp is refl

@@ -1,3 +1,4 @@
 pub mod Verdict
+pub mod Kind
 pub mod Summary
 pub mod body

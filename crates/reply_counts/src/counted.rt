@@ -1,29 +1,29 @@
-//! Counting the verdicts of replies that come in pieces.
+//! Counting replies by their kinds, where they come in pieces.
 
 ghost use Rattle.std.specs.Prelude.{◌≡◌, ◌≤◌, ◌++◌, ◌∷◌, AllPairs, IfErr, IfOk, List, OnOk, [], length, ℕ};
 ghost use Rattle.std.specs.List.{flat_map};
 ghost use Rattle.reply_counts.specs.Summary.{AreRows, IsBefore, row_text};
 ghost use Rattle.reply_counts.specs.body.Counted.{AreAbove, AreBelow, IsAt, IsPlaceOf};
 
+use crate::kind::reply_kind;
 use crate::row::Row;
-use crate::verdict::verdict_of;
 use ipv4_fields::split_at;
 use std::alloc::{AllocError, Global};
 use std::cmp::Ordering;
 
-// The place of the verdict's row, or where it belongs.
-fn place_of(rows: &[Row], verdict: &[u8]) -> Result<usize, usize>
-    ensures found { IfOk result (λ place. IsPlaceOf rows.now verdict.now place) }
+// The place of the kind's row, or where it belongs.
+fn place_of(rows: &[Row], kind: &[u8]) -> Result<usize, usize>
+    ensures found { IfOk result (λ place. IsPlaceOf rows.now kind.now place) }
     ensures within { IfErr result (λ place. place ≤ length rows.now) }
-    ensures below { IfErr result (λ place. AllPairs IsBefore rows.now → AreBelow rows.now place verdict.now) }
-    ensures above { IfErr result (λ place. AllPairs IsBefore rows.now → AreAbove rows.now place verdict.now) }
+    ensures below { IfErr result (λ place. AllPairs IsBefore rows.now → AreBelow rows.now place kind.now) }
+    ensures above { IfErr result (λ place. AllPairs IsBefore rows.now → AreAbove rows.now place kind.now) }
 {
     let mut low = 0;
     let mut high = rows.len();
     while low < high {
         let middle = low + (high - low) / 2;
         let row = &rows[middle];
-        match row.compare(verdict) {
+        match row.compare(kind) {
             Ordering::Less => low = middle + 1,
             Ordering::Greater => high = middle,
             Ordering::Equal => return Ok(middle),
@@ -32,17 +32,17 @@ fn place_of(rows: &[Row], verdict: &[u8]) -> Result<usize, usize>
     Err(low)
 }
 
-// One reply more told the verdict.
-fn add_verdict(alloc: Global, rows: &mut Vec<Row>, verdict: &[u8]) -> Result<(), AllocError>
-    ensures { OnOk result ((verdicts : List (List ℕ)) → AreRows verdicts rows.old.items → AreRows (verdicts ++ verdict.now ∷ []) rows.new.items) }
+// One reply more is of the kind.
+fn add_reply(alloc: Global, rows: &mut Vec<Row>, kind: &[u8]) -> Result<(), AllocError>
+    ensures { OnOk result ((kinds : List (List ℕ)) → AreRows kinds rows.old.items → AreRows (kinds ++ kind.now ∷ []) rows.new.items) }
 {
-    match place_of(rows, verdict) {
+    match place_of(rows, kind) {
         Ok(place) => {
             let row = &mut rows[place];
             row.add_one();
         }
         Err(place) => {
-            let row = Row::new(alloc, verdict)?;
+            let row = Row::new(alloc, kind)?;
             rows.insert(place, row)?;
         }
     }
@@ -72,8 +72,8 @@ impl Counted {
     fn count_held(&mut self) -> Result<(), AllocError>
         ensures { OnOk result ((text : List ℕ) → IsAt text self.old.held.items self.old.rows.items → IsAt (text ++ 10 ∷ []) self.new.held.items self.new.rows.items) }
     {
-        if let Some(verdict) = verdict_of(&self.held) {
-            add_verdict(self.alloc, &mut self.rows, verdict)?;
+        if let Some(kind) = reply_kind(&self.held) {
+            add_reply(self.alloc, &mut self.rows, kind)?;
         }
         self.held.clear();
         Ok(())

@@ -8,9 +8,9 @@ use crate::put_text::PutText;
 use std::alloc::{AllocError, Global};
 use std::marker::Model;
 
-/// The counts of the verdicts that the lines of a text of replies tell. Contracts see the text that was put.
+/// The counts of the kinds of the lines of a text of replies. Contracts see the text that was put.
 ///
-/// It holds a row for each verdict that was told, and the line that is not ended. A count stays at the greatest number of 64 bits.
+/// It holds a row for each kind that occurred, and the line that is not ended. A count stays at the greatest number of 64 bits.
 /// Where memory is refused it counts no more.
 #[derive(Drop)]
 pub struct ReplyCounts {
@@ -52,8 +52,8 @@ impl ReplyCounts {
         }
     }
 
-    /// The summary of the replies: a line for each verdict that was told, in rising order of its bytes. What stands behind the last
-    /// LF is no reply.
+    /// The summary of the replies: a line for each kind that occurred, in rising order of its bytes. What stands behind the last LF
+    /// is no reply.
     pub fn summary(&self) -> Result<Vec<u8>, AllocError>
         ensures { IfOk result (λ summary. IsSummaryOf self.now summary.items) }
     {

@@ -1,12 +1,13 @@
-//! How many replies of a text tell which verdict (docs/COMMANDS.md, "replay").
+//! How many replies of a text tell which verdict, and how many refuse a line for which code (docs/COMMANDS.md, "replay").
 //!
-//! A `ReplyCounts` takes the text in pieces, and makes its summary: a line for each verdict, with its count.
+//! A `ReplyCounts` takes the text in pieces, and makes its summary: a line for each of these kinds of reply, with its count.
 #![tactic(auto)]
 
 ghost use Rattle.reply_counts.specs.Summary.{HasOneSummary};
 
 mod counted;
 mod counts;
+mod kind;
 mod put_text;
 mod row;
 #[cfg(test)]
@@ -14,6 +15,7 @@ mod tests;
 mod verdict;
 
 pub use counts::ReplyCounts;
+pub use kind::reply_kind;
 pub use verdict::verdict_of;
 
 /// Law: a text of replies has one summary. It runs nothing.

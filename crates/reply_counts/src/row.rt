@@ -1,4 +1,4 @@
-//! A row of the counts: a verdict, and how many replies told it.
+//! A row of the counts: a kind of reply, and how many replies are of it.
 
 ghost use Rattle.std.specs.Prelude.{◌≡◌, ◌+◌, ◌-◌, ◌^◌, ◌++◌, IfOk, OnOk, min};
 ghost use Rattle.std.specs.Cmp.Lexicographic.{slice_cmp};
@@ -9,10 +9,10 @@ use std::alloc::{AllocError, Global};
 use std::cmp::Ordering;
 use std::marker::Model;
 
-/// A verdict, and how many replies told it, up to the greatest number of 64 bits.
+/// A kind of reply, and how many replies are of it, up to the greatest number of 64 bits.
 #[derive(Drop)]
 pub(crate) struct Row {
-    verdict: Vec<u8>,
+    kind: Vec<u8>,
     count: u64,
 }
 
@@ -21,28 +21,28 @@ impl Model for Row {
 
     ghost Value = { RowValue };
 
-    ghost view = { λ row. record { verdict = row.verdict.items; count = row.count } };
+    ghost view = { λ row. record { kind = row.kind.items; count = row.count } };
 }
 
 impl Row {
-    /// One reply told the verdict.
-    pub(crate) fn new(alloc: Global, verdict: &[u8]) -> Result<Row, AllocError>
-        ensures { IfOk result (λ row. row ≡ record { verdict = verdict.now; count = 1 }) }
+    /// One reply is of the kind.
+    pub(crate) fn new(alloc: Global, kind: &[u8]) -> Result<Row, AllocError>
+        ensures { IfOk result (λ row. row ≡ record { kind = kind.now; count = 1 }) }
     {
         Ok(Row {
-            verdict: verdict.to_vec(alloc)?,
+            kind: kind.to_vec(alloc)?,
             count: 1,
         })
     }
 
-    /// Compares the row's verdict with another.
-    pub(crate) fn compare(&self, verdict: &[u8]) -> Ordering
-        ensures { result ≡ slice_cmp nat_cmp self.now.verdict verdict.now }
+    /// Compares the row's kind with another.
+    pub(crate) fn compare(&self, kind: &[u8]) -> Ordering
+        ensures { result ≡ slice_cmp nat_cmp self.now.kind kind.now }
     {
-        self.verdict.as_slice().cmp(verdict)
+        self.kind.as_slice().cmp(kind)
     }
 
-    /// One reply more told it.
+    /// One reply more is of it.
     pub(crate) fn add_one(&mut self)
         ensures { self.new ≡ record self.old { count = min (self.old.count + 1) (2 ^ 64 - 1) } }
     {
@@ -55,7 +55,7 @@ impl Row {
     {
         let count = self.count;
         let count = format!(in alloc; " {count}\n")?;
-        text.extend_from_slice(&self.verdict)?;
+        text.extend_from_slice(&self.kind)?;
         text.extend_from_slice(count.as_bytes())?;
         Ok(())
     }

@@ -1,10 +1,10 @@
 //! Replies and the summaries of their texts.
 
-use crate::{ReplyCounts, verdict_of};
+use crate::{ReplyCounts, reply_kind};
 use std::alloc::Global;
 
-// The replies are those of docs/COMMANDS.md, "replay" and "Control lines"; the last ones are no replies.
-const REPLIES: [(&str, Option<&str>); 18] = [
+// The replies are those of docs/COMMANDS.md, "replay", "Control lines" and "Refusals"; the last ones are no replies.
+const REPLIES: [(&str, Option<&str>); 24] = [
     ("version 0 malformed", Some("malformed")),
     ("version 0 nogroup", Some("nogroup")),
     ("version 1 nomembers", Some("nomembers")),
@@ -19,7 +19,10 @@ const REPLIES: [(&str, Option<&str>); 18] = [
     ("version 2 groups 1 members 1 charge 10", None),
     ("ok version 2", None),
     ("ok reclaimed 1 0", None),
-    ("refused C2", None),
+    ("refused C2", Some("refused C2")),
+    ("refused V10", Some("refused V10")),
+    ("refused A1 12", Some("refused A1")),
+    ("failed E3", None),
     ("", None),
     ("version", None),
     ("version 1", None),
@@ -32,12 +35,15 @@ const REPLIES: [(&str, Option<&str>); 18] = [
         Some("dropped 10.0.0.2:53 "),
     ),
     ("version 1 nogroup at all", Some("nogroup")),
+    ("refused", None),
+    ("refusedC2 1", None),
+    ("ok refused C2", None),
 ];
 
 #[test]
-fn replies_tell_their_verdicts(rt: HostRuntime) {
-    for (reply, verdict) in &REPLIES {
-        let told = match (verdict_of(reply.as_bytes()), verdict) {
+fn replies_have_their_kinds(rt: HostRuntime) {
+    for (reply, kind) in &REPLIES {
+        let told = match (reply_kind(reply.as_bytes()), kind) {
             (Some(told), Some(wanted)) => told == wanted.as_bytes(),
             (None, None) => true,
             _ => false,
@@ -58,7 +64,7 @@ fn summarizes(alloc: Global, pieces: &[&str], summary: &str) -> bool {
 }
 
 // Pieces of a text, and its summary.
-const TEXTS: [(&[&str], &str); 9] = [
+const TEXTS: [(&[&str], &str); 10] = [
     (&[], ""),
     (&["", "ok version 1\n", ""], ""),
     (&["version 0 nogroup\n"], "nogroup 1\n"),
@@ -85,7 +91,7 @@ const TEXTS: [(&[&str], &str); 9] = [
             "version 2 groups 1 members 1 charge 10\nrefused C2\n",
             "version 3 deliver 10.0.0.2:53 1 127.0.0.1:9002 29\n",
         ],
-        "deliver 10.0.0.2:53 1 2\nnomembers 1\n",
+        "deliver 10.0.0.2:53 1 2\nnomembers 1\nrefused C2 1\n",
     ),
     // The order is that of the bytes, not that of the members' numbers.
     (
@@ -97,6 +103,14 @@ const TEXTS: [(&[&str], &str); 9] = [
         "deliver 9.0.0.2:53 1 1\ndropped 10.0.0.10:53 1 1\ndropped 10.0.0.2:53 1 1\ndropped 10.0.0.2:53 10 1\ndropped 10.0.0.2:53 2 2\n",
     ),
     (&["\n\n\nversion 0 malformed\n\n"], "malformed 1\n"),
+    // A refusal is counted by its code alone, in the order of the bytes, after the verdicts.
+    (
+        &[
+            "refused P1 3\nrefused A1 2\nversion 0 nogroup\nrefused P1 40\n",
+            "refused G9\nrefused V10\nrefused V1\n",
+        ],
+        "nogroup 1\nrefused A1 1\nrefused G9 1\nrefused P1 2\nrefused V1 1\nrefused V10 1\n",
+    ),
 ];
 
 #[test]

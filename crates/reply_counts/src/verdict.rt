@@ -21,7 +21,7 @@ pub fn verdict_of(reply: &[u8]) -> Option<&[u8]>
     }
 }
 
-fn is_name(word: &[u8], name: &str) -> bool
+pub(crate) fn is_name(word: &[u8], name: &str) -> bool
     ensures { result ≡ bytes_eq word.now name.now }
 {
     word == name.as_bytes()
@@ -63,7 +63,7 @@ fn three_words(bytes: &[u8]) -> Option<&[u8]>
     Some(&bytes[..name.len() + 1 + key.len() + 1 + id.len()])
 }
 
-fn first_word(bytes: &[u8]) -> &[u8]
+pub(crate) fn first_word(bytes: &[u8]) -> &[u8]
     ensures { BeginsWithWord bytes.now result.now }
 {
     match split_at(b' ', bytes) {

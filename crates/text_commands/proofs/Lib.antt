@@ -2,6 +2,7 @@ mod PacketsLemmas
 mod RequestLemmas
 mod RepliesLemmas
 mod SummaryLemmas
+mod KindLemmas
 mod StopLemmas
 mod WriteLemmas
 pub mod FirstLemmas

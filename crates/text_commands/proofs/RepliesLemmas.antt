@@ -16,7 +16,8 @@ use Rattle.command_line.specs.declared.ending.Failure.TheVariants.{OutOfMemory, 
 use Rattle.command_line.specs.CommandLine.{Request, check, compile, explain, faults_in, first, flood, judge, packets, replay, run, serve, tell}
 use Rattle.text_commands.specs.body.Stop.{failure_of_replay}
 use Rattle.text_commands.specs.Input.{BeginsInput, IsInput}
-use Rattle.text_commands.specs.Request.{IsTextOfInput, RepliesToFirstLines, WritesBefore, WritesBeforeBy}
+use Rattle.text_commands.specs.Replaying.{IsTextOfInput, RepliesToFirstLines}
+use Rattle.text_commands.specs.Request.{WritesBefore, WritesBeforeBy}
 use Rattle.command_line.proofs.EndingLemmas.{appends_kept, appends_nothing}
 
 -- ---- what was read
@@ -40,7 +41,7 @@ text_of : (input' : InputValue) (known : Option (List ℕ)) (lines rest text : L
 text_of input' known lines rest text read (inl answered) = inl (lines, answered.0, begins known input'.coming lines rest read, answered.1)
 text_of input' known lines rest text read (inr whole) =
     let all = subst (Consumes known input'.coming) (ap (λ r. lines ++ r) whole.0 ∙ append-nil lines) read in
-    inr (lines, is_whole known input'.coming lines all whole.1, whole.2)
+    inr (record { script = lines; whole = is_whole known input'.coming lines all whole.1; are = whole.2 })
 
 -- ---- what was written
 
@@ -99,7 +100,7 @@ module _ (input input' : InputValue) (output output' : OutputValue) (now after :
   before_failed_flush same all =
       let none : output'.failures ≡ 0 = same ∙ new_output in (
         all.text,
-        inr (all.script, is_whole input.coming input'.coming all.script all.read all.to_the_end, all.is_text),
+        inr (record { script = all.script; whole = is_whole input.coming input'.coming all.script all.read all.to_the_end; are = all.is_text }),
         (all.text, [], appended all.text (omega arith) all.written, sym (append-nil all.text)),
       )
 

@@ -14,8 +14,9 @@ use Rattle.command_line.specs.declared.ending.Status.TheVariants.{Done}
 use Rattle.command_line.proofs.EndingLemmas.{appends_more}
 use Rattle.command_line.specs.CommandLine.{replay}
 use Rattle.text_commands.specs.body.Stop.{failure_of_replay}
-use Rattle.text_commands.specs.body.Summarizing.{AreRepliesTo, BeginsSummary, WritesSummary}
-use Rattle.text_commands.specs.Request.{WritesAllReplies, WritesBefore, WritesBeginningFor, WritesFor, WritesReplay}
+use Rattle.text_commands.specs.Replaying.{AreRepliesTo, WritesAllReplies, WritesBeginningFor, WritesScript}
+use Rattle.text_commands.specs.body.Summarizing.{BeginsSummary, WritesSummary}
+use Rattle.text_commands.specs.Request.{WritesBefore}
 use Rattle.text_commands.proofs.RepliesLemmas.{failed_flush_told, fault_told}
 
 -- ---- the counts have the text that was written
@@ -147,34 +148,31 @@ module _ (input input' : InputValue) (output output' : OutputValue) (known befor
 module _ (known before mid : Option (List ℕ)) (counts : List ℕ) (replied : AreRepliesTo known counts) (written : Appends before mid counts) where
   pub summary_begun : (after : Option (List ℕ)) → BeginsSummary counts mid after → WritesBeginningFor true false known before after
   summary_begun after begun =
-      let cut = begun.2 in (
-        replied.0,
-        counts,
-        counts ++ begun.0,
-        replied.1,
-        replied.2,
-        (begun.0, begun.1, refl),
-        (
+      let cut = begun.2 in record {
+        replies = counts;
+        text = counts ++ begun.0;
+        answered = replied;
+        asked_for = (begun.0, begun.1, refl);
+        begun = (
           counts ++ cut.0,
           cut.1,
           appends_more before mid after counts cut.0 written cut.2,
           ap (λ (s : List ℕ). counts ++ s) cut.3 ∙ sym (append_assoc counts cut.0 cut.1),
-        ),
-      )
+        );
+      }
 
   pub replies_alone : (after : Option (List ℕ)) → after ≡ mid → WritesAllReplies known before after
-  replies_alone after same = (replied.0, counts, replied.1, replied.2, subst (λ (a : Option (List ℕ)). Appends before a counts) (sym same) written)
+  replies_alone after same = record { replies = counts; answered = replied; written = subst (λ (a : Option (List ℕ)). Appends before a counts) (sym same) written }
 
-  pub summary_behind : (after : Option (List ℕ)) → WritesSummary counts mid after → WritesFor true false known Done before after
-  summary_behind after whole = (
-    replied.0,
-    counts,
-    counts ++ whole.0,
-    replied.1,
-    replied.2,
-    (whole.0, whole.1, refl),
-    appends_more before mid after counts whole.0 written whole.2,
-  )
+  pub summary_behind : (after : Option (List ℕ)) → WritesSummary counts mid after → WritesScript true false known Done before after
+  summary_behind after whole = record {
+    done = refl;
+    replies = counts;
+    text = counts ++ whole.0;
+    answered = replied;
+    asked_for = (whole.0, whole.1, refl);
+    written = appends_more before mid after counts whole.0 written whole.2;
+  }
 
   -- what writing the summary has left
   pub told_behind : (after : Option (List ℕ)) (result : Result Status Failure) → IfErr result (λ failure. (failure ≡ WriteFailed) ⊎ (failure ≡ OutOfMemory))
@@ -187,7 +185,7 @@ module _ (known before mid : Option (List ℕ)) (counts : List ℕ) (replied : A
       subst (λ (f : Failure). WritesBefore (replay true false) f known before after) (sym is) (inr (replies_alone after (memory (ap (λ (f : Failure). Err f) is))))
 
   pub done_behind : (after : Option (List ℕ)) (result : Result Status Failure) → IfOk result (λ status. status ≡ Done) → OnOk result (WritesSummary counts mid after)
-      → IfOk result (λ status. WritesReplay true false known status before after)
+      → IfOk result (λ status. WritesScript true false known status before after)
   done_behind after (Err failure) done whole = tt
   done_behind after (Ok status) done whole =
-      subst (λ (s : Status). WritesReplay true false known s before after) (sym done) (summary_behind after whole)
+      subst (λ (s : Status). WritesScript true false known s before after) (sym done) (summary_behind after whole)

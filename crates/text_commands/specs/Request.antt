@@ -1,10 +1,11 @@
--- What a command makes of its arguments and its input: a result, or why there is none (docs/COMMANDS.md).
-use Rattle.std.specs.Prelude.{◌≡◌, ◌++◌, ◌⊎◌, Bool, Contains, IsSome, IsSomeAnd, List, MatchOption, Option, Some, [], codes, false, true, ℕ}
+-- What a command makes of its arguments and its input: a result, or why there is none (docs/COMMANDS.md). `known` are the bytes of the
+-- input, where they are known. `before` and `after` are what the output held before the command and holds after it, where that is
+-- known; `told_before` and `told_after` are the same of standard error.
+use Rattle.std.specs.Prelude.{◌≡◌, ◌++◌, ◌⊎◌, Contains, IsSome, IsSomeAnd, List, MatchOption, Option, Some, [], codes, ℕ}
 use Rattle.std.specs.Io.KnownBytes.{Appends}
 use Rattle.clap.specs.Words.{Text}
 use Rattle.control.specs.Packet.{IsRefusalOfHex, SpellsPacket}
 use Rattle.control.specs.Reason.{IsRefusalOfExpression, refusal_text}
-use Rattle.control.specs.Script.{AreAnswered, IsScriptText, Standing}
 use Rattle.control_line.specs.declared.reason.Reason.{Reason}
 use Rattle.control_line.specs.declared.reason.Reason.TheVariants.{BadForm}
 use Rattle.text_commands.specs.declared.command_result.CommandResult.{CommandResult}
@@ -22,8 +23,8 @@ use Rattle.program_formats.specs.declared.fault.FormatFault.{FormatFault}
 use Rattle.refusal_text.specs.Explanation.{codes_explained}
 use Rattle.text_commands.specs.Format.{IsFormatFault, IsRefusalOfProgram, input_format_of, misformed_text, output_format_of}
 use Rattle.text_commands.specs.FirstPath.{first_text}
-use Rattle.text_commands.specs.Input.{BeginsInput, IsInput}
-use Rattle.reply_counts.specs.Summary.{IsSummaryOf}
+use Rattle.text_commands.specs.Input.{IsInput}
+use Rattle.text_commands.specs.Replaying.{ReplayWritesBefore, WritesScript}
 use Rattle.packet_lines.specs.Packets.{TellsCounts, WritesFirst, WritesText}
 
 -- the two lines of the first path
@@ -104,7 +105,7 @@ IsFailureOf request BindFailed = ⊥
 IsFailureOf request PollFailed = ⊥
 IsFailureOf request NoAnswer = ⊥
 
--- the same of an input of which the bytes may be known
+-- ---- the same of an input of which the bytes may be known
 
 abbrev pub IsResultOf : Request → Option (List ℕ) → CommandResult → Type 0
 IsResultOf request known answer = (input : List ℕ) × IsInput known input × IsResult request input answer
@@ -132,49 +133,22 @@ IsAnswerText request known Done text = (answer : CommandResult) × IsResultOf re
 IsAnswerText request known Refused text = IsRefusalLine request known text
 IsAnswerText request known _ text = ⊥
 
--- the command's text was written behind what stood before, and nothing else
+-- the command's text was written after what stood there before, and nothing else
 abbrev pub WritesAnswer : Request → Option (List ℕ) → Status → Option (List ℕ) → Option (List ℕ) → Type 0
 WritesAnswer request known status before after = (text : List ℕ) × IsAnswerText request known status text × Appends before after text
-
--- the input was read to its end, and the replies to that script were written, and nothing else
-abbrev pub WritesReplies : Option (List ℕ) → Status → Option (List ℕ) → Option (List ℕ) → Type 0
-WritesReplies known Done before after =
-    (script text : List ℕ) × IsInput known script × IsScriptText script text × Appends before after text
-WritesReplies known _ before after = ⊥
-
--- what is written for all the replies to a script, where a summary is asked for, or the replies are not
-abbrev pub IsTextFor : Bool → Bool → List ℕ → List ℕ → Type 0
-IsTextFor false false replies text = text ≡ replies
-IsTextFor false true replies text = text ≡ []
-IsTextFor true false replies text = (summary : List ℕ) × IsSummaryOf replies summary × (text ≡ replies ++ summary)
-IsTextFor true true replies text = IsSummaryOf replies text
-
--- the input was read to its end, and this was written, and nothing else
-abbrev pub WritesFor : Bool → Bool → Option (List ℕ) → Status → Option (List ℕ) → Option (List ℕ) → Type 0
-WritesFor summary quiet known Done before after =
-    (script replies text : List ℕ)
-    × IsInput known script
-    × IsScriptText script replies
-    × IsTextFor summary quiet replies text
-    × Appends before after text
-WritesFor summary quiet known _ before after = ⊥
-
--- what `replay` writes, with its options or without
-abbrev pub WritesReplay : Bool → Bool → Option (List ℕ) → Status → Option (List ℕ) → Option (List ℕ) → Type 0
-WritesReplay false false known status before after = WritesReplies known status before after
-WritesReplay summary quiet known status before after = WritesFor summary quiet known status before after
 
 -- the input was read to its end, and the text of that file was written, and nothing else
 abbrev pub WritesPackets : Option (List ℕ) → Status → Option (List ℕ) → Option (List ℕ) → Type 0
 WritesPackets known status before after = (file : List ℕ) × IsInput known file × WritesText file status before after
 
--- so were the counts of that file
+-- the input was read to its end, and a beginning of the counts of that file was told, and nothing else; nothing where its header is at
+-- fault
 abbrev pub TellsCountsOf : Option (List ℕ) → Option (List ℕ) → Option (List ℕ) → Type 0
 TellsCountsOf known before after = (file : List ℕ) × IsInput known file × TellsCounts file before after
 
--- what a command writes that ends with a status
+-- what a command has written that ends with a status
 abbrev pub Writes : Request → Option (List ℕ) → Status → Option (List ℕ) → Option (List ℕ) → Type 0
-Writes (replay summary quiet) known status before after = WritesReplay summary quiet known status before after
+Writes (replay summary quiet) known status before after = WritesScript summary quiet known status before after
 Writes packets known status before after = WritesPackets known status before after
 Writes request known status before after = WritesAnswer request known status before after
 
@@ -205,58 +179,9 @@ MayFailBy words NoAnswer = ⊥
 
 -- ---- what a command that failed has written
 
--- the replies to some first lines of the input were written, and nothing else
-pub record RepliesToFirstLines (known before after : Option (List ℕ)) : Type 0 where
-  pub lines : List ℕ
-  pub text : List ℕ
-  pub last : Standing
-  pub read : BeginsInput known lines
-  pub answered : AreAnswered lines text last
-  pub written : Appends before after text
-
--- this is the text of some first lines of the input, or of all of it
-abbrev pub IsTextOfInput : Option (List ℕ) → List ℕ → Type 0
-IsTextOfInput known text =
-    ((lines : List ℕ) × (last : Standing) × BeginsInput known lines × AreAnswered lines text last)
-    ⊎ ((script : List ℕ) × IsInput known script × IsScriptText script text)
-
--- of the replies to these a beginning was written, and nothing else
-abbrev pub WritesBeginningOfReplies : Option (List ℕ) → Option (List ℕ) → Option (List ℕ) → Type 0
-WritesBeginningOfReplies known before after = (text : List ℕ) × IsTextOfInput known text × AppendsBeginning before after text
-
 -- of the packets of the input, those of some first records were written, and nothing else
 abbrev pub WritesFirstPackets : Option (List ℕ) → Option (List ℕ) → Option (List ℕ) → Type 0
 WritesFirstPackets known before after = (file : List ℕ) × IsInput known file × WritesFirst file before after
-
--- all the replies were written, and nothing else
-abbrev pub WritesAllReplies : Option (List ℕ) → Option (List ℕ) → Option (List ℕ) → Type 0
-WritesAllReplies known before after =
-    (script replies : List ℕ) × IsInput known script × IsScriptText script replies × Appends before after replies
-
--- of the text for all the replies a beginning was written, and nothing else
-abbrev pub WritesBeginningFor : Bool → Bool → Option (List ℕ) → Option (List ℕ) → Option (List ℕ) → Type 0
-WritesBeginningFor summary quiet known before after =
-    (script replies text : List ℕ)
-    × IsInput known script
-    × IsScriptText script replies
-    × IsTextFor summary quiet replies text
-    × AppendsBeginning before after text
-
--- what `replay` has written before each failure. A summary is written only behind the replies to the whole input; the memory for it
--- may be refused behind these
-abbrev pub ReplayWritesBefore : Bool → Bool → Failure → Option (List ℕ) → Option (List ℕ) → Option (List ℕ) → Type 0
-ReplayWritesBefore false false ReadFailed known before after = RepliesToFirstLines known before after
-ReplayWritesBefore false false WriteFailed known before after = WritesBeginningOfReplies known before after
-ReplayWritesBefore false false OutOfMemory known before after = RepliesToFirstLines known before after
-ReplayWritesBefore true false ReadFailed known before after = RepliesToFirstLines known before after
-ReplayWritesBefore true false WriteFailed known before after =
-    WritesBeginningOfReplies known before after ⊎ WritesBeginningFor true false known before after
-ReplayWritesBefore true false OutOfMemory known before after = RepliesToFirstLines known before after ⊎ WritesAllReplies known before after
-ReplayWritesBefore true true WriteFailed known before after = WritesBeginningFor true true known before after
-ReplayWritesBefore summary true ReadFailed known before after = after ≡ before
-ReplayWritesBefore false true WriteFailed known before after = ⊥
-ReplayWritesBefore summary true OutOfMemory known before after = after ≡ before
-ReplayWritesBefore summary quiet failure known before after = ⊥
 
 -- what was written before each failure: what is promised of a failed write is promised of `replay` alone
 abbrev pub WritesBefore : Request → Failure → Option (List ℕ) → Option (List ℕ) → Option (List ℕ) → Type 0

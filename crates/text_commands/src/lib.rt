@@ -8,6 +8,7 @@ ghost use Rattle.std.specs.Prelude.{◌≡◌, ◌≢◌, ◌⊎◌, [], IfErr, 
 ghost use Rattle.clap.specs.Words.{kind_of};
 ghost use Rattle.command_line.specs.CommandLine.{AskToWait, AsksForText, HasMisuse, MayWait, faults_in, packets, request_in, request_of};
 ghost use Rattle.command_line.specs.Ending.{IsStatus, code_of};
+ghost use Rattle.text_commands.specs.Counted.{ChangesAreNotCounted, RefusalsAreCounted, ShowsAreNotCounted, SweepsAreNotCounted, VerdictsAreCounted};
 ghost use Rattle.text_commands.specs.Request.{EndsInFailure, MayFail, MayFailBy, TellsCountsOf, Writes, WritesAnswerTo, WritesBefore, WritesBeforeBy};
 
 mod capturing;
@@ -76,6 +77,16 @@ pub fn tool<R: Read + Drop, W: Write, E: Write>(
         Err(failure) => Some(failure.report(errs) as u8),
     }
 }
+
+/// Law: a summary counts the reply to a packet by its verdict, and the reply that refuses a line by its code, and counts no other
+/// reply. It runs nothing.
+pub fn replies_are_counted()
+    ensures verdicts { VerdictsAreCounted }
+    ensures refusals { RefusalsAreCounted }
+    ensures changes { ChangesAreNotCounted }
+    ensures shows { ShowsAreNotCounted }
+    ensures sweeps { SweepsAreNotCounted }
+{}
 
 // `None` where the words ask for a command that may wait.
 fn run_words<R: Read + Drop, W: Write, E: Write>(

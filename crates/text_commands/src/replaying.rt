@@ -2,7 +2,8 @@
 
 ghost use Rattle.std.specs.Prelude.{◌≡◌, IfErr, IfOk, false};
 ghost use Rattle.command_line.specs.CommandLine.{replay};
-ghost use Rattle.text_commands.specs.Request.{MayFail, WritesBefore, WritesReplay, WritesReplies};
+ghost use Rattle.text_commands.specs.Replaying.{WritesScript};
+ghost use Rattle.text_commands.specs.Request.{MayFail, WritesBefore};
 ghost use Rattle.text_commands.specs.body.Stop.{failure_of_replay};
 
 use crate::summarizing::{summarize_alone, summarize_replies};
@@ -12,7 +13,7 @@ use control::{FromRead, ReplayFault, ToWrite, replay};
 use std::alloc::Global;
 use std::io::{Read, Write};
 
-/// Answers each line of the input by one line. Where a summary is asked for it is written behind the replies; and where these are
+/// Answers each line of the input by one line. Where a summary is asked for it is written after the replies; and where these are
 /// not, in their place.
 pub fn run_replay<R: Read + Drop, W: Write>(
     alloc: Global,
@@ -25,7 +26,7 @@ pub fn run_replay<R: Read + Drop, W: Write>(
     ensures failed_written { IfErr result (λ failure.
         WritesBefore (replay summary quiet) failure (R.remaining input) (W.contents out.old) (W.contents out.new)) }
     ensures written { IfOk result (λ status.
-        WritesReplay summary quiet (R.remaining input) status (W.contents out.old) (W.contents out.new)) }
+        WritesScript summary quiet (R.remaining input) status (W.contents out.old) (W.contents out.new)) }
 {
     match (summary, quiet) {
         (false, false) => replay_written(alloc, input, out),
@@ -44,7 +45,8 @@ fn replay_written<R: Read + Drop, W: Write>(
     ensures failed { IfErr result (MayFail (replay false false)) }
     ensures failed_written { IfErr result (λ failure.
         WritesBefore (replay false false) failure (R.remaining input) (W.contents out.old) (W.contents out.new)) }
-    ensures replied { IfOk result (λ status. WritesReplies (R.remaining input) status (W.contents out.old) (W.contents out.new)) }
+    ensures written { IfOk result (λ status.
+        WritesScript false false (R.remaining input) status (W.contents out.old) (W.contents out.new)) }
 {
     let mut output = ToWrite::new(out);
     let answer = replay(alloc, &mut FromRead::new(input), &mut output);

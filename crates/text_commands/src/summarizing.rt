@@ -4,8 +4,9 @@ ghost use Rattle.std.specs.Prelude.{◌≡◌, ◌⊎◌, Err, IfErr, IfOk, OnEr
 ghost use Rattle.std.specs.Io.KnownBytes.{Appends};
 ghost use Rattle.command_line.specs.CommandLine.{replay};
 ghost use Rattle.command_line.specs.Ending.{AppendsBeginning};
-ghost use Rattle.text_commands.specs.Request.{MayFail, WritesBefore, WritesReplay};
-ghost use Rattle.text_commands.specs.body.Summarizing.{AreRepliesTo, WritesSummary, BeginsSummary};
+ghost use Rattle.text_commands.specs.Replaying.{AreRepliesTo, WritesScript};
+ghost use Rattle.text_commands.specs.Request.{MayFail, WritesBefore};
+ghost use Rattle.text_commands.specs.body.Summarizing.{WritesSummary, BeginsSummary};
 
 use crate::counted_output::{CountedOutput, Opened};
 use crate::replaying::failure_of;
@@ -17,7 +18,7 @@ use std::alloc::Global;
 use std::io::{ErrorKind, Read, Write};
 use std::marker::Brand;
 
-/// Answers each line of the input by one line, and writes the summary of the replies behind them.
+/// Answers each line of the input by one line, and writes the summary of the replies after them.
 pub fn summarize_replies<R: Read + Drop, W: Write>(
     alloc: Global,
     input: R,
@@ -26,7 +27,7 @@ pub fn summarize_replies<R: Read + Drop, W: Write>(
     ensures failed { IfErr result (MayFail (replay true false)) }
     ensures failed_written { IfErr result (λ failure.
         WritesBefore (replay true false) failure (R.remaining input) (W.contents out.old) (W.contents out.new)) }
-    ensures written { IfOk result (λ status. WritesReplay true false (R.remaining input) status (W.contents out.old) (W.contents out.new)) }
+    ensures written { IfOk result (λ status. WritesScript true false (R.remaining input) status (W.contents out.old) (W.contents out.new)) }
 {
     let counts = count_written::<Brand, R, W>(alloc, input, out)?;
     write_summary(&counts, out)
@@ -41,7 +42,7 @@ pub fn summarize_alone<R: Read + Drop, W: Write>(
     ensures failed { IfErr result (MayFail (replay true true)) }
     ensures failed_written { IfErr result (λ failure.
         WritesBefore (replay true true) failure (R.remaining input) (W.contents out.old) (W.contents out.new)) }
-    ensures written { IfOk result (λ status. WritesReplay true true (R.remaining input) status (W.contents out.old) (W.contents out.new)) }
+    ensures written { IfOk result (λ status. WritesScript true true (R.remaining input) status (W.contents out.old) (W.contents out.new)) }
 {
     let counts = count_replies(alloc, input)?;
     write_summary(&counts, out)

@@ -1,7 +1,8 @@
 //! Replaying a script whose replies are not written.
 
 ghost use Rattle.std.specs.Prelude.{◌≡◌, ◌⊎◌, IfErr, IfOk, OnOk};
-ghost use Rattle.text_commands.specs.body.Summarizing.{AreRepliesTo, WasReplayed};
+ghost use Rattle.text_commands.specs.Replaying.{AreRepliesTo};
+ghost use Rattle.text_commands.specs.body.Summarizing.{WasReplayed};
 
 use crate::replaying::failure_of;
 use command_line::{Failure, Status};

@@ -2,7 +2,7 @@
 use Rattle.std.specs.Prelude.{◌≡◌, ◌++◌, ◌<◌, List, length, slice_index_or, ℕ}
 use Rattle.std.specs.List.{AllWithin}
 use Rattle.ipv4_fields.specs.Cut.{Lacks}
-use Rattle.reply_counts.specs.Summary.{AreRows, RowValue, lines_of, verdicts_in}
+use Rattle.reply_counts.specs.Summary.{AreRows, RowValue, lines_of, kinds_in}
 use Rattle.std.specs.Cmp.Lexicographic.{slice_cmp}
 use Rattle.std.specs.Ordering.{nat_cmp}
 use Rattle.std.specs.declared.cmp.Ordering.TheVariants.{Greater, Less}
@@ -17,15 +17,15 @@ pub record IsAt (text held : List ℕ) (rows : List RowValue) : Type 0 where
   pub is : text ≡ done ++ held
   pub ends : EndsLines done
   pub lacks : Lacks 10 held
-  pub counted : AreRows (verdicts_in done) rows
+  pub counted : AreRows (kinds_in done) rows
 
--- the rows in front of a place come before the verdict, and those behind it come after it
+-- the rows in front of a place come before the kind, and those behind it come after it
 abbrev pub AreBelow : List RowValue → ℕ → List ℕ → Type 0
-AreBelow rows high verdict = AllWithin (λ (row : RowValue). slice_cmp nat_cmp row.verdict verdict ≡ Less) rows 0 high
+AreBelow rows high kind = AllWithin (λ (row : RowValue). slice_cmp nat_cmp row.kind kind ≡ Less) rows 0 high
 
 abbrev pub AreAbove : List RowValue → ℕ → List ℕ → Type 0
-AreAbove rows low verdict = AllWithin (λ (row : RowValue). slice_cmp nat_cmp row.verdict verdict ≡ Greater) rows low (length rows)
+AreAbove rows low kind = AllWithin (λ (row : RowValue). slice_cmp nat_cmp row.kind kind ≡ Greater) rows low (length rows)
 
--- the row at this place is the verdict's
+-- the row at this place is the kind's
 abbrev pub IsPlaceOf : List RowValue → List ℕ → ℕ → Type 0
-IsPlaceOf rows verdict place = (place < length rows) × ((none : RowValue) → (slice_index_or rows place none).verdict ≡ verdict)
+IsPlaceOf rows kind place = (place < length rows) × ((none : RowValue) → (slice_index_or rows place none).kind ≡ kind)

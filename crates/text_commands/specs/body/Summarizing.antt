@@ -2,15 +2,10 @@
 use Rattle.std.specs.Prelude.{List, Option, ℕ}
 use Rattle.std.specs.Io.KnownBytes.{Appends}
 use Rattle.command_line.specs.Ending.{AppendsBeginning}
-use Rattle.control.specs.Script.{IsScriptText}
 use Rattle.reply_counts.specs.Summary.{IsSummaryOf}
-use Rattle.text_commands.specs.Input.{IsInput}
+use Rattle.text_commands.specs.Replaying.{AreRepliesTo}
 
--- these are all the replies to the input
-abbrev pub AreRepliesTo : Option (List ℕ) → List ℕ → Type 0
-AreRepliesTo known replies = (script : List ℕ) × IsInput known script × IsScriptText script replies
-
--- the input has replies
+-- the input was read to its end, and each of its lines was answered
 abbrev pub WasReplayed : Option (List ℕ) → Type 0
 WasReplayed known = (replies : List ℕ) × AreRepliesTo known replies
 

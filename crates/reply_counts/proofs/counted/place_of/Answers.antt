@@ -9,7 +9,7 @@ loop-low-preserved-in-Less c =
       ordered = omega arith;
       within = before.within;
       below = λ rising.
-          below_more c.args.rows.now rising (c.loop-low.low + (c.loop-low.high - c.loop-low.low) / 2) c.index-rows-middle.result (omega arith) c.index-rows-middle.is c.args.verdict.now
+          below_more c.args.rows.now rising (c.loop-low.low + (c.loop-low.high - c.loop-low.low) / 2) c.index-rows-middle.result (omega arith) c.index-rows-middle.is c.args.kind.now
           (sym c.in-Less.ensures);
       above = before.above;
     }
@@ -22,7 +22,7 @@ loop-low-preserved c =
       within = omega arith;
       below = before.below;
       above = λ rising.
-          above_more c.args.rows.now rising (c.loop-low.low + (c.loop-low.high - c.loop-low.low) / 2) c.index-rows-middle.result (omega arith) c.index-rows-middle.is c.args.verdict.now
+          above_more c.args.rows.now rising (c.loop-low.low + (c.loop-low.high - c.loop-low.low) / 2) c.index-rows-middle.result (omega arith) c.index-rows-middle.is c.args.kind.now
           (sym c.in-Greater.ensures);
     }
 
@@ -30,4 +30,4 @@ pub returns-in-Equal-clause-found : goal.returns-in-Equal-clause-found
 returns-in-Equal-clause-found c =
     let before = c.loop-low.invariant in
     let test = c.loop-low-test.true in
-    is_place c.args.rows.now (c.loop-low.low + (c.loop-low.high - c.loop-low.low) / 2) c.index-rows-middle.result (omega arith) c.index-rows-middle.is c.args.verdict.now (sym c.in-Equal.ensures)
+    is_place c.args.rows.now (c.loop-low.low + (c.loop-low.high - c.loop-low.low) / 2) c.index-rows-middle.result (omega arith) c.index-rows-middle.is c.args.kind.now (sym c.in-Equal.ensures)

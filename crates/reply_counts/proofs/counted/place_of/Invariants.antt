@@ -8,8 +8,8 @@ abbrev pub invariant-loop-low : goal.invariant-loop-low
 invariant-loop-low l = record {
   ordered : l.low ≤ l.high;
   within : l.high ≤ length l.rows;
-  below : AllPairs IsBefore l.rows → AreBelow l.rows l.low l.verdict;
-  above : AllPairs IsBefore l.rows → AreAbove l.rows l.high l.verdict;
+  below : AllPairs IsBefore l.rows → AreBelow l.rows l.low l.kind;
+  above : AllPairs IsBefore l.rows → AreAbove l.rows l.high l.kind;
 }
 
 abbrev pub decreases-loop-low : goal.decreases-loop-low

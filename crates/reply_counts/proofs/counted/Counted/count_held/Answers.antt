@@ -1,14 +1,14 @@
 use Rattle.std.proofs.Common.{◌∙◌, ap}
-use Rattle.reply_counts.specs.Verdict.{verdict_of}
+use Rattle.reply_counts.specs.Kind.{reply_kind}
 use Rattle.reply_counts.proofs.LineLemmas.{told_line, untold_line}
 use Rattle.reply_counts.proofs.counted.Counted.count_held.Goals as goal
-use Rattle.reply_counts.proofs.counted.Counted.count_held.Goals.{in-Some+in_ok-add_verdict, in_default}
+use Rattle.reply_counts.proofs.counted.Counted.count_held.Goals.{in-Some+in_ok-add_reply, in_default}
 
 pub returns : goal.returns
-returns c = λ text at. elim c.match-verdict_of.branch [
-  | in-Some+in_ok-add_verdict w ↦
+returns c = λ text at. elim c.match-reply_kind.branch [
+  | in-Some+in_ok-add_reply w ↦
       rw (c.clear.ensures.items, w.self-is)
-      (told_line text c.args.self.now.held.items c.args.self.now.rows.items at w.in-Some.verdict.now _ (w.in-Some.ensures ∙ ap verdict_of c.deref.ensures.value) w.in_ok-add_verdict.ensures)
+      (told_line text c.args.self.now.held.items c.args.self.now.rows.items at w.in-Some.kind.now _ (w.in-Some.ensures ∙ ap reply_kind c.deref.ensures.value) w.in_ok-add_reply.ensures)
   | in_default w ↦
-      rw (c.clear.ensures.items, w.self-is) (untold_line text c.args.self.now.held.items c.args.self.now.rows.items at (w.in_default.ensures ∙ ap verdict_of c.deref.ensures.value))
+      rw (c.clear.ensures.items, w.self-is) (untold_line text c.args.self.now.held.items c.args.self.now.rows.items at (w.in_default.ensures ∙ ap reply_kind c.deref.ensures.value))
 ]

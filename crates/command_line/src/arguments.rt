@@ -1,0 +1,116 @@
+//! The arguments of the commands, as `clap` is to read them.
+
+ghost use Rattle.std.specs.Prelude.{◌≡◌, codes, false};
+ghost use Rattle.clap.specs.Words.{rule_of};
+ghost use Rattle.command_line.specs.CommandLine.{any_number_of, datagrams_argument, flag, named_argument, required_named_argument, timeout_argument, workers_argument};
+
+use crate::command::{MAX_DATAGRAMS, MAX_TIMEOUT};
+use crate::help;
+use clap::builder::ValueParser;
+use clap::{Arg, ArgAction};
+use std::alloc::Global;
+use versions::WORKERS;
+
+// `--format NAME`
+pub(crate) fn format_argument<'a>(alloc: Global, help: &'a str) -> Arg<'a>
+    ensures rule { rule_of result ≡ named_argument (codes "format") }
+    ensures local { result.global ≡ false }
+{
+    Arg::new(alloc, "format")
+        .long("format")
+        .value_name("NAME")
+        .help(help)
+}
+
+// `--packet HEX`
+pub(crate) fn packet_argument<'a>(alloc: Global) -> Arg<'a>
+    ensures rule { rule_of result ≡ required_named_argument (codes "packet") }
+    ensures local { result.global ≡ false }
+{
+    Arg::new(alloc, "packet")
+        .long("packet")
+        .value_name("HEX")
+        .required(true)
+        .help(help::RUN_PACKET)
+}
+
+// `--expr TEXT`
+pub(crate) fn expression_argument<'a>(alloc: Global) -> Arg<'a>
+    ensures rule { rule_of result ≡ named_argument (codes "expr") }
+    ensures local { result.global ≡ false }
+{
+    Arg::new(alloc, "expr")
+        .long("expr")
+        .value_name("TEXT")
+        .help(help::RUN_EXPRESSION)
+}
+
+// `--NAME`
+pub(crate) fn flag_argument<'a>(alloc: Global, name: &'a str, help: &'a str) -> Arg<'a>
+    ensures rule { rule_of result ≡ flag name.entry.now }
+    ensures local { result.global ≡ false }
+{
+    Arg::new(alloc, name)
+        .long(name)
+        .action(ArgAction::SetTrue)
+        .help(help)
+}
+
+// `--workers N`
+pub(crate) fn workers_argument<'a>(alloc: Global, help: &'a str) -> Arg<'a>
+    ensures rule { rule_of result ≡ workers_argument }
+    ensures local { result.global ≡ false }
+{
+    Arg::new(alloc, "workers")
+        .long("workers")
+        .value_name("N")
+        .required(true)
+        .value_parser(ValueParser::unsigned(1, WORKERS as u64))
+        .help(help)
+}
+
+// `--NAME A`
+pub(crate) fn address_argument<'a>(alloc: Global, name: &'a str, help: &'a str) -> Arg<'a>
+    ensures rule { rule_of result ≡ required_named_argument name.entry.now }
+    ensures local { result.global ≡ false }
+{
+    Arg::new(alloc, name)
+        .long(name)
+        .value_name("A")
+        .required(true)
+        .help(help)
+}
+
+// `--datagrams D`
+pub(crate) fn datagrams_argument<'a>(alloc: Global) -> Arg<'a>
+    ensures rule { rule_of result ≡ datagrams_argument }
+    ensures local { result.global ≡ false }
+{
+    Arg::new(alloc, "datagrams")
+        .long("datagrams")
+        .value_name("D")
+        .value_parser(ValueParser::unsigned(1, MAX_DATAGRAMS))
+        .help(help::FLOOD_DATAGRAMS)
+}
+
+// `--timeout SECONDS`
+pub(crate) fn timeout_argument<'a>(alloc: Global) -> Arg<'a>
+    ensures rule { rule_of result ≡ timeout_argument }
+    ensures local { result.global ≡ false }
+{
+    Arg::new(alloc, "timeout")
+        .long("timeout")
+        .value_name("SECONDS")
+        .value_parser(ValueParser::unsigned(1, MAX_TIMEOUT))
+        .help(help::TELL_TIMEOUT)
+}
+
+// `LINE..`
+pub(crate) fn lines_argument<'a>(alloc: Global) -> Arg<'a>
+    ensures rule { rule_of result ≡ any_number_of (codes "LINE") }
+    ensures local { result.global ≡ false }
+{
+    Arg::new(alloc, "LINE")
+        .action(ArgAction::Append)
+        .help(help::TELL_LINES)
+}

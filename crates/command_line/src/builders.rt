@@ -1,0 +1,171 @@
+//! The commands as `clap` is to read them: each with its arguments and its help, and the program with all of them.
+
+ghost use Rattle.std.specs.Prelude.{◌≡◌, IfOk, false};
+ghost use Rattle.clap.specs.Words.{App, Rule, app_of, new_app, rule_of, with_rule, with_subcommand};
+ghost use Rattle.clap.specs.declared.builder.command.Command.TheViews.{out-Command};
+ghost use Rattle.command_line.specs.CommandLine.{check_line, command_line, compile_line, explain_line, flood_line, replay_line, run_line, serve_line, tell_line, without_commands};
+
+use crate::arguments::{
+    address_argument, datagrams_argument, expression_argument, flag_argument, format_argument,
+    lines_argument, packet_argument, timeout_argument, workers_argument,
+};
+use crate::help;
+use clap::{Arg, Command};
+use std::alloc::{AllocError, Global};
+
+// A command without arguments.
+fn plain_command<'a>(alloc: Global, name: &'a str, about: &'a str, more: &'a str) -> Command<'a>
+    ensures app { app_of result ≡ new_app name.entry.now }
+    ensures local { (out-Command result).has_globals ≡ false }
+{
+    Command::new(alloc, name).about(about).after_help(more)
+}
+
+// Adds an argument, where memory for the command was found. Commands go on without a test, since each `?` would have to drop
+// what is made.
+fn with_argument<'a>(
+    command: Result<Command<'a>, AllocError>,
+    argument: Arg<'a>,
+) -> Result<Command<'a>, AllocError>
+    ensures app { (before : App) (rule : Rule) → IfOk command.entry (λ made. app_of made ≡ before) → rule_of argument.entry ≡ rule
+        → argument.entry.global ≡ false → IfOk result (λ made. app_of made ≡ with_rule before rule) }
+    ensures local { IfOk command.entry (λ made. (out-Command made).has_globals ≡ false) → argument.entry.global ≡ false
+        → IfOk result (λ made. (out-Command made).has_globals ≡ false) }
+{
+    command?.arg(argument)
+}
+
+fn check_command<'a>(alloc: Global) -> Result<Command<'a>, AllocError>
+    ensures app { IfOk result (λ command. app_of command ≡ check_line) }
+    ensures local { IfOk result (λ command. (out-Command command).has_globals ≡ false) }
+{
+    let format = format_argument(alloc, help::INPUT_FORMAT);
+    Command::new(alloc, "check")
+        .about(help::CHECK)
+        .after_help(help::CHECK_MORE)
+        .arg(format)
+}
+
+fn compile_command<'a>(alloc: Global) -> Result<Command<'a>, AllocError>
+    ensures app { IfOk result (λ command. app_of command ≡ compile_line) }
+    ensures local { IfOk result (λ command. (out-Command command).has_globals ≡ false) }
+{
+    let expression = Arg::new(alloc, "EXPR")
+        .required(true)
+        .help(help::COMPILE_EXPRESSION);
+    let command = plain_command(alloc, "compile", help::COMPILE, help::COMPILE_MORE);
+    let command = with_argument(Ok(command), expression);
+    with_argument(command, format_argument(alloc, help::OUTPUT_FORMAT))
+}
+
+fn run_command<'a>(alloc: Global) -> Result<Command<'a>, AllocError>
+    ensures app { IfOk result (λ command. app_of command ≡ run_line) }
+    ensures local { IfOk result (λ command. (out-Command command).has_globals ≡ false) }
+{
+    let command = plain_command(alloc, "run", help::RUN, help::RUN_MORE);
+    let command = with_argument(Ok(command), packet_argument(alloc));
+    let command = with_argument(command, expression_argument(alloc));
+    with_argument(command, format_argument(alloc, help::INPUT_FORMAT))
+}
+
+fn explain_command<'a>(alloc: Global) -> Result<Command<'a>, AllocError>
+    ensures app { IfOk result (λ command. app_of command ≡ explain_line) }
+    ensures local { IfOk result (λ command. (out-Command command).has_globals ≡ false) }
+{
+    let code = Arg::new(alloc, "CODE")
+        .required(true)
+        .help(help::EXPLAIN_CODE);
+    Command::new(alloc, "explain")
+        .about(help::EXPLAIN)
+        .after_help(help::EXPLAIN_MORE)
+        .arg(code)
+}
+
+fn replay_command<'a>(alloc: Global) -> Result<Command<'a>, AllocError>
+    ensures app { IfOk result (λ command. app_of command ≡ replay_line) }
+    ensures local { IfOk result (λ command. (out-Command command).has_globals ≡ false) }
+{
+    let summary = flag_argument(alloc, "summary", help::REPLAY_SUMMARY);
+    let quiet = flag_argument(alloc, "quiet", help::REPLAY_QUIET);
+    let command = plain_command(alloc, "replay", help::REPLAY, help::REPLAY_MORE);
+    let command = with_argument(Ok(command), summary);
+    with_argument(command, quiet)
+}
+
+fn flood_command<'a>(alloc: Global) -> Result<Command<'a>, AllocError>
+    ensures app { IfOk result (λ command. app_of command ≡ flood_line) }
+    ensures local { IfOk result (λ command. (out-Command command).has_globals ≡ false) }
+{
+    let workers = workers_argument(alloc, help::FLOOD_WORKERS);
+    let command = plain_command(alloc, "flood", help::FLOOD, help::FLOOD_MORE);
+    let command = with_argument(Ok(command), workers);
+    with_argument(command, datagrams_argument(alloc))
+}
+
+fn serve_command<'a>(alloc: Global) -> Result<Command<'a>, AllocError>
+    ensures app { IfOk result (λ command. app_of command ≡ serve_line) }
+    ensures local { IfOk result (λ command. (out-Command command).has_globals ≡ false) }
+{
+    let front = address_argument(alloc, "front", help::SERVE_FRONT);
+    let control = address_argument(alloc, "control", help::SERVE_CONTROL);
+    let command = plain_command(alloc, "serve", help::SERVE, help::SERVE_MORE);
+    let command = with_argument(Ok(command), front);
+    let command = with_argument(command, control);
+    with_argument(command, workers_argument(alloc, help::SERVE_WORKERS))
+}
+
+fn tell_command<'a>(alloc: Global) -> Result<Command<'a>, AllocError>
+    ensures app { IfOk result (λ command. app_of command ≡ tell_line) }
+    ensures local { IfOk result (λ command. (out-Command command).has_globals ≡ false) }
+{
+    let control = address_argument(alloc, "control", help::TELL_CONTROL);
+    let command = plain_command(alloc, "tell", help::TELL, help::TELL_MORE);
+    let command = with_argument(Ok(command), control);
+    let command = with_argument(command, timeout_argument(alloc));
+    with_argument(command, lines_argument(alloc))
+}
+
+// The program before its commands.
+fn without_commands<'a>(alloc: Global) -> Result<Command<'a>, AllocError>
+    ensures { IfOk result (λ program. app_of program ≡ without_commands) }
+{
+    Ok(
+        Command::new(alloc, "dswitch")
+            .bin_name("dswitch")?
+            .about(help::PROGRAM)
+            .after_help(help::STATUSES)
+            .version("0.2.0")
+            .no_binary_name(true)
+            .subcommand_required(true),
+    )
+}
+
+// Adds a command, where memory for both was found.
+fn with_command<'a>(
+    program: Result<Command<'a>, AllocError>,
+    command: Result<Command<'a>, AllocError>,
+) -> Result<Command<'a>, AllocError>
+    ensures { (before line : App) → IfOk program.entry (λ made. app_of made ≡ before)
+        → IfOk command.entry (λ made. (app_of made ≡ line) × ((out-Command made).has_globals ≡ false))
+        → IfOk result (λ made. app_of made ≡ with_subcommand before line.top) }
+{
+    program?.subcommand(command?)
+}
+
+pub(crate) fn program<'a>(alloc: Global) -> Result<Command<'a>, AllocError>
+    ensures { IfOk result (λ program. app_of program ≡ command_line) }
+{
+    let program = without_commands(alloc);
+    let first = plain_command(alloc, "first", help::FIRST, help::FIRST_MORE);
+    let program = with_command(program, Ok(first));
+    let program = with_command(program, check_command(alloc));
+    let program = with_command(program, compile_command(alloc));
+    let program = with_command(program, run_command(alloc));
+    let program = with_command(program, explain_command(alloc));
+    let program = with_command(program, replay_command(alloc));
+    let packets = plain_command(alloc, "packets", help::PACKETS, help::PACKETS_MORE);
+    let program = with_command(program, Ok(packets));
+    let program = with_command(program, flood_command(alloc));
+    let program = with_command(program, serve_command(alloc));
+    with_command(program, tell_command(alloc))
+}
