@@ -1,6 +1,7 @@
 //! A script that is read in pieces: the switch that has answered its lines, and the line that is not ended yet.
 
-ghost use Rattle.std.specs.Prelude.{◌≡◌, ◌≤◌, ◌++◌, IfOk, List, Ok, OnOk, Option, [], length, suc, take, ℕ};
+ghost use Rattle.std.specs.Prelude.{◌≡◌, ◌≤◌, ◌++◌, IfOk, List, MatchOption, Ok, OnOk, Option, [], length, suc, take, ℕ};
+ghost use Rattle.ipv4_fields.specs.Cut.{IsSplitAt, Lacks};
 ghost use Rattle.control_line.specs.declared.TheConstants.{LINE_LIMIT};
 ghost use Rattle.control.specs.body.Ready.{AreOutside};
 ghost use Rattle.control.specs.body.ScriptSoFar.{Advances, AnswersHeld, Ends, IsAt, OutputFailedBy};
@@ -11,7 +12,7 @@ use crate::replies::Replies;
 use crate::streams::Output;
 use crate::switch::Switch;
 use control_line::LINE_LIMIT;
-use ipv4_fields::split_at;
+use memchr::memchr;
 use std::alloc::{AllocError, Global};
 
 /// A script that was answered up to a place of it.
@@ -83,7 +84,7 @@ impl Script {
         ensures rest_kept { W.rest writer.new ≡ W.rest writer.old }
     {
         let mut left = bytes;
-        while let Some((front, behind)) = split_at(b'\n', left) {
+        while let Some((front, behind)) = split_line(left) {
             self.hold(front)?;
             self.answer_held(alloc, replies, writer)?;
             left = behind;
@@ -132,6 +133,14 @@ impl Script {
         };
         Ok(())
     }
+}
+
+// Cuts a text at the first LF in it.
+fn split_line(text: &[u8]) -> Option<(&[u8], &[u8])>
+    ensures { MatchOption result (Lacks 10 text.now) (λ parts. IsSplitAt 10 text.now parts.0.now parts.1.now) }
+{
+    let end = memchr(b'\n', text)?;
+    Some((&text[..end], &text[end + 1..]))
 }
 
 // Writes the replies that wait, also where memory was refused behind them. Where a write failed nothing more is written.

@@ -1,6 +1,7 @@
 mod FormLemmas
 mod RequestLemmas
 mod PacketLemmas
+mod LaneLemmas
 mod ProgramLemmas
 pub mod OverLemmas
 pub mod ChangeLemmas

@@ -10,6 +10,7 @@ use Rattle.hex.specs.Hex.{decode_of, decode_pairs, digit_or_error, hex_digit_val
 use Rattle.hex.proofs.HexLemmas.{decode_of-even, decode_of-ok}
 use Rattle.hex.proofs.Pairs.{cons_byte, decode_pairs-ok_pair}
 use Rattle.control_line.specs.Packet.{SpellsTooMuch, digit_worth}
+use Rattle.control_line.specs.body.Pairs.{ArePairs, IsPair}
 
 -- ---- what a byte is worth
 
@@ -36,18 +37,12 @@ is_some_value : (o : Option ℕ) → is_some o ≡ true → (v : ℕ) × (o ≡ 
 is_some_value (Some v) is = (v, refl)
 is_some_value None is = cc is
 
-digit_is_small : (c : ℕ) → is_hex_digit c ≡ true → digit_worth c < 16
+pub digit_is_small : (c : ℕ) → is_hex_digit c ≡ true → digit_worth c < 16
 digit_is_small c is =
     let (v, value) = is_some_value (hex_digit_value c) is in
     subst (λ (o : Option ℕ). unwrap_or o 16 < 16) (sym value) (value_small c v value)
 
 -- ---- pairs of digits
-
--- at place k there is a pair of digits, and this byte
-pub record IsPair (digits packet : List ℕ) (k : ℕ) : Type 0 where
-  pub high : digit_worth (slice_index digits (2 * k)) < 16
-  pub low : digit_worth (slice_index digits (2 * k + 1)) < 16
-  pub byte : slice_index packet k ≡ digit_worth (slice_index digits (2 * k)) * 16 + digit_worth (slice_index digits (2 * k + 1))
 
 pair_read : (a b i : ℕ) → digit_worth a < 16 → digit_worth b < 16 → pair_value a b i ≡ Ok (digit_worth a * 16 + digit_worth b)
 pair_read a b i high low =
@@ -84,23 +79,23 @@ packet_read digits packet len pairs = decode_of-even digits (omega arith) ∙ pa
 
 -- ---- the loop over the pairs
 
--- below 16 are all, or one is not
-both_below : (bits high low : ℕ) → bit_or bits (bit_or high low) < 16 → (bits < 16) × (high < 16) × (low < 16)
-both_below bits high low below =
-    let one = le_or_l bits (bit_or high low) in let two = le_or_r bits (bit_or high low) in
-    let three = le_or_l high low in let four = le_or_r high low in
-    (omega arith, omega arith, omega arith)
+-- below 16 are both, or one is not
+pub both_below : (a b : ℕ) → bit_or a b < 16 → (a < 16) × (b < 16)
+both_below a b below = let left = le_or_l a b in let right = le_or_r a b in (omega arith, omega arith)
 
-below_all : (bits high low : ℕ) → bits < 16 → high < 16 → low < 16 → bit_or bits (bit_or high low) < 16
-below_all bits high low one two three = or_lt 4 bits (bit_or high low) one (or_lt 4 high low two three)
+pub below_both : (a b : ℕ) → a < 16 → b < 16 → bit_or a b < 16
+below_both a b left right = or_lt 4 a b left right
+
+all_below : (bits high low : ℕ) → bit_or bits (bit_or high low) < 16 → (bits < 16) × (high < 16) × (low < 16)
+all_below bits high low below = let all = both_below bits (bit_or high low) below in let both = both_below high low all.1 in (all.0, both.0, both.1)
 
 -- so far each is a pair of digits, or the bits tell that one is not
 pub record AreRead (digits packet : List ℕ) (i bits : ℕ) : Type 0 where
   pub pairs : bits < 16 → (k : ℕ) → k < i → IsPair digits packet k
   pub small : AllPass is_hex_digit digits → bits < 16
 
-pub none_read : (digits packet : List ℕ) → AreRead digits packet 0 0
-none_read digits packet = record { pairs = λ low k inside. absurd (omega arith); small = λ all. omega arith }
+pub read_so_far : (digits packet : List ℕ) (n : ℕ) → ArePairs digits packet n → AreRead digits packet n 0
+read_so_far digits packet n pairs = record { pairs = λ low. pairs; small = λ all. omega arith }
 
 module _ (digits packet : List ℕ) (i bits : ℕ) (before : AreRead digits packet i bits) (inside : i < length packet) (long : length digits ≡ 2 * length packet)
     (high low : ℕ) (high_is : high ≡ digit_worth (slice_index digits (2 * i))) (low_is : low ≡ digit_worth (slice_index digits (2 * i + 1))) where
@@ -129,10 +124,10 @@ module _ (digits packet : List ℕ) (i bits : ℕ) (before : AreRead digits pack
 
   pub pair_added : AreRead digits after (i + 1) (bit_or bits (bit_or high low))
   pair_added = record {
-    pairs = λ below. pair_at (both_below bits high low below);
-    small = λ all. below_all bits high low (before.small all)
+    pairs = λ below. pair_at (all_below bits high low below);
+    small = λ all. below_both bits (bit_or high low) (before.small all) (below_both high low
         (subst (λ n. n < 16) (sym high_is) (digit_is_small (slice_index digits (2 * i)) (all (2 * i) 0 (omega arith))))
-        (subst (λ n. n < 16) (sym low_is) (digit_is_small (slice_index digits (2 * i + 1)) (all (2 * i + 1) 0 (omega arith))));
+        (subst (λ n. n < 16) (sym low_is) (digit_is_small (slice_index digits (2 * i + 1)) (all (2 * i + 1) 0 (omega arith)))));
   }
 
 pub all_read : (digits packet : List ℕ) (i bits : ℕ) → AreRead digits packet i bits → length packet ≤ i → length digits ≡ 2 * length packet → nat_lt bits 16 ≡ true → decode_of digits ≡ Ok packet

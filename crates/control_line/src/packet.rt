@@ -1,14 +1,16 @@
 //! Packets as hexadecimal digits (docs/COMMANDS.md, "run").
 
-ghost use Rattle.std.specs.Prelude.{◌≡◌, ◌*◌, IfOk, IsFalse, IsTrue, MatchResult, Ok, length};
+ghost use Rattle.std.specs.Prelude.{◌≡◌, ◌+◌, ◌*◌, ◌/◌, ◌≤◌, IfOk, IsFalse, IsTrue, MatchResult, Ok, length, map};
 ghost use Rattle.std.specs.List.{AllPass};
 ghost use Rattle.hex.specs.Hex.{decode_of, is_hex_digit};
 ghost use Rattle.control_line.specs.Packet.{IsRefusalOfHex, SpellsPacket, digit_worth};
+ghost use Rattle.control_line.specs.body.Pairs.{ArePairs};
 
 use crate::OutOfMemory;
 use crate::reason::Reason;
 use bpf_machine::MAX_PACKET;
 use std::alloc::Global;
+use std::simd::prelude::*;
 
 // What a byte is worth that is no digit.
 const NO_DIGIT: u8 = 16;
@@ -34,21 +36,80 @@ fn worth_of(byte: u8) -> u8
     DIGITS[byte as usize]
 }
 
-// Writes the bytes of pairs of digits, and tells whether all were digits. It has no branch at a digit: the bits of what each is
-// worth are collected, and looked at once, behind the last.
-fn read_pairs(digits: &[u8], packet: &mut [u8]) -> bool
+// How many bytes are read at once: the lanes of a vector.
+const BLOCK: usize = 16;
+
+// What each of these bytes is worth as a digit.
+#[inline(always)]
+fn worths_of(bytes: u8x16) -> u8x16
+    ensures { result ≡ map digit_worth bytes }
+{
+    let number = bytes - u8x16::splat(b'0');
+    let letter = (bytes | u8x16::splat(32)) - u8x16::splat(b'a');
+    let other = letter
+        .simd_lt(u8x16::splat(6))
+        .select(letter + u8x16::splat(10), u8x16::splat(NO_DIGIT));
+    number.simd_lt(u8x16::splat(10)).select(number, other)
+}
+
+// Writes a block of bytes, from this place on, and tells whether all of their digits were good.
+#[inline(always)]
+fn read_block(digits: &[u8], packet: &mut [u8], at: usize) -> bool
+    requires pairs { length digits.now ≡ 2 * length packet.old }
+    requires inside { at + BLOCK ≤ length packet.old }
+    ensures len { length packet.new ≡ length packet.old }
+    ensures pairs { IsTrue result → ArePairs digits.now packet.old at → ArePairs digits.now packet.new (at + BLOCK) }
+    ensures bad_digit { IsFalse result → AllPass is_hex_digit digits.now → ⊥ }
+{
+    let first = u8x16::from_slice(&digits[2 * at..]);
+    let second = u8x16::from_slice(&digits[2 * at + BLOCK..]);
+    let (high, low) = first.deinterleave(second);
+    let (high, low) = (worths_of(high), worths_of(low));
+    (high * u8x16::splat(16) + low).copy_to_slice(&mut packet[at..]);
+    (high | low).simd_ge(u8x16::splat(NO_DIGIT)).to_bitmask() == 0
+}
+
+// Writes the bytes that make whole blocks. It ends at the first block with a bad digit.
+fn read_blocks(digits: &[u8], packet: &mut [u8]) -> bool
     requires { length digits.now ≡ 2 * length packet.old }
+    ensures len { length packet.new ≡ length packet.old }
+    ensures pairs { IsTrue result → ArePairs digits.now packet.new (length packet.old / BLOCK * BLOCK) }
+    ensures bad_digit { IsFalse result → AllPass is_hex_digit digits.now → ⊥ }
+{
+    for block in 0..packet.len() / BLOCK {
+        if !read_block(digits, packet, block * BLOCK) {
+            return false;
+        }
+    }
+    true
+}
+
+// Writes the bytes from this place on, one by one. It has no branch at a digit: the bits of what each is worth are collected, and
+// looked at once, behind the last.
+fn read_rest(digits: &[u8], packet: &mut [u8], from: usize) -> bool
+    requires pairs { length digits.now ≡ 2 * length packet.old }
+    requires read { ArePairs digits.now packet.old from }
     ensures packet { IsTrue result → decode_of digits.now ≡ Ok packet.new }
-    ensures no_packet { IsFalse result → AllPass is_hex_digit digits.now → ⊥ }
+    ensures bad_digit { IsFalse result → AllPass is_hex_digit digits.now → ⊥ }
 {
     let mut bits = 0;
-    for i in 0..packet.len() {
+    for i in from..packet.len() {
         let high = worth_of(digits[2 * i]);
         let low = worth_of(digits[2 * i + 1]);
         packet[i] = high.wrapping_mul(16).wrapping_add(low);
         bits |= high | low;
     }
     bits < NO_DIGIT
+}
+
+// Writes the bytes of pairs of digits, and tells whether all were digits.
+fn read_pairs(digits: &[u8], packet: &mut [u8]) -> bool
+    requires { length digits.now ≡ 2 * length packet.old }
+    ensures packet { IsTrue result → decode_of digits.now ≡ Ok packet.new }
+    ensures no_packet { IsFalse result → AllPass is_hex_digit digits.now → ⊥ }
+{
+    let from = packet.len() / BLOCK * BLOCK;
+    read_blocks(digits, packet) && read_rest(digits, packet, from)
 }
 
 /// Reads the packet that the digits write, two a byte, of either case, into a buffer that is used again: no more memory is taken

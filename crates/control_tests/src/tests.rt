@@ -1,5 +1,6 @@
 //! Lines in a row and their replies: a session, what is no line, and lines at their limits.
 
+mod digits;
 mod judged;
 mod refusals;
 mod refused;

@@ -1,0 +1,46 @@
+//! Digits of packets. They are read in blocks, and as the kit's decoder reads them, one by one.
+
+use control::{Reason, packet_of_hex};
+use hex::FromHexError;
+use std::alloc::Global;
+use std::test::Fail;
+
+// The digits of two blocks of 16 bytes, and of three bytes behind them.
+const DIGITS: [u8; 70] = *b"0123456789abcdefABCDEF9081726354afbecdAFBECD00ff00FFa0B1c2D3e4F5998877";
+
+fn are_read_alike(alloc: Global, digits: &[u8]) -> Result<bool, Fail> {
+    Ok(match (packet_of_hex(alloc, digits)?, hex::decode(alloc, digits)) {
+        (Ok(packet), Ok(expected)) => packet == expected,
+        (Err(Reason::BadForm), Err(FromHexError::InvalidHexCharacter { .. })) => true,
+        (Err(Reason::BadForm), Err(FromHexError::OddLength)) => true,
+        _ => false,
+    })
+}
+
+// With this byte in the place of a digit.
+fn are_read_alike_with(alloc: Global, place: usize, byte: u8) -> Result<bool, Fail> {
+    let mut digits = DIGITS;
+    if let Some(digit) = digits.get_mut(place) {
+        *digit = byte;
+    }
+    are_read_alike(alloc, &digits)
+}
+
+#[test]
+fn digits_of_each_number(rt: HostRuntime) -> Result<(), Fail> {
+    for len in 0..=DIGITS.len() {
+        assert!(rt; are_read_alike(rt.alloc(), &DIGITS[..len])?);
+    }
+    Ok(())
+}
+
+// High and low digits in each block, at its ends, and behind the blocks.
+#[test]
+fn each_byte_in_blocks(rt: HostRuntime) -> Result<(), Fail> {
+    for place in [0, 17, 31, 32, 63, 64, 69] {
+        for byte in 0..=255 {
+            assert!(rt; are_read_alike_with(rt.alloc(), place, byte)?);
+        }
+    }
+    Ok(())
+}
