@@ -22,6 +22,17 @@ pub trait Words {
         ensures value { slice_get (words self.old) i ≡ Some result }
         ensures words_kept { words self.new ≡ words self.old }
         ensures rest_kept { rest self.new ≡ rest self.old };
+
+    /// Reads word `i`, as `word` does. Programs are run by this call, so an implementor may make it fast for words that lie near
+    /// the one that was read before.
+    fn program_word(&mut self, i: usize) -> u64
+        requires { i < length (words self.old) }
+        ensures value { slice_get (words self.old) i ≡ Some result }
+        ensures words_kept { words self.new ≡ words self.old }
+        ensures rest_kept { rest self.new ≡ rest self.old }
+    {
+        self.word(i)
+    }
 }
 
 impl<'a> Words for &'a [u64] {

@@ -43,7 +43,7 @@ fn fetch<W: Words>(words: &mut W, from: usize, len: usize, place: usize) -> Insn
     ensures words_kept { W.words words.new ≡ W.words words.old }
     ensures rest_kept { W.rest words.new ≡ W.rest words.old }
 {
-    Insn::from_instruction_word(words.word(place))
+    Insn::from_instruction_word(words.program_word(place))
 }
 
 /// Runs the program of the `len` words from place `from` on, on a packet.

@@ -3,7 +3,9 @@
 ghost use Rattle.read_section.specs.body.Found.{Knows, KnowsIn-prop};
 
 use crate::found::{Found, Kept, NOTHING_FOUND};
-use crate::reading::{heads_of, length_of, part_with, read_from_form};
+use crate::reading::{
+    heads_of, is_in_programs, length_of, part_with, read_by_row, read_from_form,
+};
 use crate::worker::Worker;
 use bpf_insn::Words;
 use config_image::ROW_WORDS;
@@ -75,6 +77,28 @@ impl Words for Section<'_> {
             self.kept.found.form = read.form;
         }
         read.word
+    }
+
+    // What a program seldom reads stands behind calls that are not inlined, so that the registers are left to its run.
+    #[inline(always)]
+    fn program_word(&mut self, i: usize) -> u64
+        requires { i < length (held_words (worker_of self.old)) }
+        ensures value { slice_get (held_words (worker_of self.old)) i ≡ Some result }
+        ensures few_fetches { FewFetches i result (worker_of self.old) (worker_of self.new) }
+        ensures same_worker { borrow_of self.new ≡ borrow_of self.old }
+        ensures words_kept { held_words (worker_of self.new) ≡ held_words (worker_of self.old) }
+        ensures rest_kept { section_rest self.new ≡ section_rest self.old }
+    {
+        let ahead = i.wrapping_sub(self.kept.found.at);
+        if ahead < self.kept.found.len {
+            return self.worker.fetch(self.kept.found.begin + ahead);
+        }
+        if !is_in_programs(self.kept.found.form, i) {
+            return read_by_row(self.worker, self.kept.row, i);
+        }
+        self.kept.found = part_with(self.worker, self.kept.row, self.kept.found, i);
+        self.worker
+            .fetch(self.kept.found.begin + (i - self.kept.found.at))
     }
 }
 

@@ -1,0 +1,56 @@
+use Rattle.std.proofs.Common.{arith, refl}
+use Rattle.read_section.specs.Section.{borrow_of, worker_of}
+use Rattle.read_section.proofs.AheadLemmas.{fast_held, fast_reads, fast_value, fast_within}
+use Rattle.read_section.proofs.PartReadLemmas.{part_held, part_reads, part_value, part_within}
+use Rattle.read_section.proofs.ReadLemmas.{pinned_kept}
+use Rattle.read_section.proofs.RowReadLemmas.{sought_there}
+use Rattle.read_section.proofs.section.SectionWords.program_word.Goals as goal
+
+pub overflow_add-self : goal.overflow_add-self
+overflow_add-self c = let s = c.args.self.now in let within = fast_within (worker_of s) s.kept.row s.kept.found c.args.i s.known c.requires c.ranges.i.fits _ refl c.if-ahead-self.true in omega arith
+
+pub fetch-requires-clause-held : goal.fetch-requires-clause-held
+fetch-requires-clause-held c = let s = c.args.self.now in fast_held (worker_of s) s.kept.row s.kept.found c.args.i s.known c.requires c.ranges.i.fits _ refl c.if-ahead-self.true
+
+pub fetch-requires-clause-within : goal.fetch-requires-clause-within
+fetch-requires-clause-within c = let s = c.args.self.now in fast_within (worker_of s) s.kept.row s.kept.found c.args.i s.known c.requires c.ranges.i.fits _ refl c.if-ahead-self.true
+
+pub returns-then-ahead-self-clause-value : goal.returns-then-ahead-self-clause-value
+returns-then-ahead-self-clause-value c = let s = c.args.self.now in fast_value (worker_of s) s.kept.row s.kept.found c.args.i s.known c.requires c.ranges.i.fits _ refl c.if-ahead-self.true c.fetch.result c.fetch.ensures.word
+
+pub returns-then-ahead-self-clause-few_fetches : goal.returns-then-ahead-self-clause-few_fetches
+returns-then-ahead-self-clause-few_fetches c = let s = c.args.self.now in fast_reads (worker_of s) s.kept.row s.kept.found c.args.i s.known c.requires c.ranges.i.fits _ refl c.if-ahead-self.true c.fetch.result c.fetch.new.self c.fetch.ensures.one_fetch
+
+pub returns-then-not-is_in_programs-clause-rest_kept : goal.returns-then-not-is_in_programs-clause-rest_kept
+returns-then-not-is_in_programs-clause-rest_kept c = let s = c.args.self.now in λ j. record { borrow = borrow_of s; pinned = pinned_kept 13 c.args.i c.read_by_row.result (worker_of s) c.read_by_row.new.worker c.read_by_row.ensures.few_fetches j }
+
+pub part_with-self-requires-clause-sought : goal.part_with-self-requires-clause-sought
+part_with-self-requires-clause-sought c = let s = c.args.self.now in let inside = c.is_in_programs.ensures c.if-not-is_in_programs.false in
+    sought_there (worker_of s) s.kept.row s.kept.found c.args.i s.known c.requires (inside.0, inside.2) inside.1
+
+pub overflow_add-self-2 : goal.overflow_add-self-2
+overflow_add-self-2 c = let s = c.args.self.now in let w = worker_of s in let p = c.part_with-self.result in let known = c.part_with-self.ensures.known in let there = c.part_with-self.ensures.there in
+    let within = part_within w s.kept.row p c.args.i known c.requires there in omega arith
+
+pub fetch-requires-2-clause-held : goal.fetch-requires-2-clause-held
+fetch-requires-2-clause-held c = let s = c.args.self.now in let w = worker_of s in let p = c.part_with-self.result in let known = c.part_with-self.ensures.known in let there = c.part_with-self.ensures.there in let few = c.part_with-self.ensures.few in
+    part_held w s.kept.row p c.args.i known c.requires there few.0 c.part_with-self.new.worker few.2
+
+pub fetch-requires-2-clause-within : goal.fetch-requires-2-clause-within
+fetch-requires-2-clause-within c = let s = c.args.self.now in let w = worker_of s in let p = c.part_with-self.result in let known = c.part_with-self.ensures.known in let there = c.part_with-self.ensures.there in
+    part_within w s.kept.row p c.args.i known c.requires there
+
+pub returns-clause-value : goal.returns-clause-value
+returns-clause-value c = let s = c.args.self.now in let w = worker_of s in let p = c.part_with-self.result in let known = c.part_with-self.ensures.known in let there = c.part_with-self.ensures.there in let few = c.part_with-self.ensures.few in
+    part_value w s.kept.row p c.args.i known c.requires there few.0 c.part_with-self.new.worker few.2 c.fetch-2.result c.fetch-2.ensures.word
+
+pub returns-clause-few_fetches : goal.returns-clause-few_fetches
+returns-clause-few_fetches c = let s = c.args.self.now in let w = worker_of s in let p = c.part_with-self.result in let known = c.part_with-self.ensures.known in let there = c.part_with-self.ensures.there in let few = c.part_with-self.ensures.few in let most = few.1 in
+    part_reads w s.kept.row p c.args.i known c.requires there few.0 c.part_with-self.new.worker few.2 c.fetch-2.result c.fetch-2.new.self (omega arith) c.fetch-2.ensures.one_fetch
+
+pub returns-clause-rest_kept : goal.returns-clause-rest_kept
+returns-clause-rest_kept c = let s = c.args.self.now in let w = worker_of s in let p = c.part_with-self.result in let known = c.part_with-self.ensures.known in let there = c.part_with-self.ensures.there in let few = c.part_with-self.ensures.few in let most = few.1 in
+    λ j. record {
+      borrow = borrow_of s;
+      pinned = pinned_kept 13 c.args.i c.fetch-2.result w c.fetch-2.new.self (part_reads w s.kept.row p c.args.i known c.requires there few.0 c.part_with-self.new.worker few.2 c.fetch-2.result c.fetch-2.new.self (omega arith) c.fetch-2.ensures.one_fetch) j;
+    }
