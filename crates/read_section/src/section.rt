@@ -79,7 +79,8 @@ impl Words for Section<'_> {
         read.word
     }
 
-    // What a program seldom reads stands behind calls that are not inlined, so that the registers are left to its run.
+    // What a program seldom reads stands behind calls that are not inlined: they leave the registers to its run, and the word goes
+    // straight on to what it does.
     #[inline(always)]
     fn program_word(&mut self, i: usize) -> u64
         requires { i < length (held_words (worker_of self.old)) }
@@ -89,9 +90,9 @@ impl Words for Section<'_> {
         ensures words_kept { held_words (worker_of self.new) ≡ held_words (worker_of self.old) }
         ensures rest_kept { section_rest self.new ≡ section_rest self.old }
     {
-        let ahead = i.wrapping_sub(self.kept.found.at);
-        if ahead < self.kept.found.len {
-            return self.worker.fetch(self.kept.found.begin + ahead);
+        let past = i.wrapping_sub(self.kept.found.at);
+        if past < self.kept.found.len {
+            return self.worker.fetch(self.kept.found.begin + past);
         }
         if !is_in_programs(self.kept.found.form, i) {
             return read_by_row(self.worker, self.kept.row, i);

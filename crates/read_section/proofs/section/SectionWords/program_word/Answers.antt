@@ -7,19 +7,19 @@ use Rattle.read_section.proofs.RowReadLemmas.{sought_there}
 use Rattle.read_section.proofs.section.SectionWords.program_word.Goals as goal
 
 pub overflow_add-self : goal.overflow_add-self
-overflow_add-self c = let s = c.args.self.now in let within = fast_within (worker_of s) s.kept.row s.kept.found c.args.i s.known c.requires c.ranges.i.fits _ refl c.if-ahead-self.true in omega arith
+overflow_add-self c = let s = c.args.self.now in let within = fast_within (worker_of s) s.kept.row s.kept.found c.args.i s.known c.requires c.ranges.i.fits _ refl c.if-past-self.true in omega arith
 
 pub fetch-requires-clause-held : goal.fetch-requires-clause-held
-fetch-requires-clause-held c = let s = c.args.self.now in fast_held (worker_of s) s.kept.row s.kept.found c.args.i s.known c.requires c.ranges.i.fits _ refl c.if-ahead-self.true
+fetch-requires-clause-held c = let s = c.args.self.now in fast_held (worker_of s) s.kept.row s.kept.found c.args.i s.known c.requires c.ranges.i.fits _ refl c.if-past-self.true
 
 pub fetch-requires-clause-within : goal.fetch-requires-clause-within
-fetch-requires-clause-within c = let s = c.args.self.now in fast_within (worker_of s) s.kept.row s.kept.found c.args.i s.known c.requires c.ranges.i.fits _ refl c.if-ahead-self.true
+fetch-requires-clause-within c = let s = c.args.self.now in fast_within (worker_of s) s.kept.row s.kept.found c.args.i s.known c.requires c.ranges.i.fits _ refl c.if-past-self.true
 
-pub returns-then-ahead-self-clause-value : goal.returns-then-ahead-self-clause-value
-returns-then-ahead-self-clause-value c = let s = c.args.self.now in fast_value (worker_of s) s.kept.row s.kept.found c.args.i s.known c.requires c.ranges.i.fits _ refl c.if-ahead-self.true c.fetch.result c.fetch.ensures.word
+pub returns-then-past-self-clause-value : goal.returns-then-past-self-clause-value
+returns-then-past-self-clause-value c = let s = c.args.self.now in fast_value (worker_of s) s.kept.row s.kept.found c.args.i s.known c.requires c.ranges.i.fits _ refl c.if-past-self.true c.fetch.result c.fetch.ensures.word
 
-pub returns-then-ahead-self-clause-few_fetches : goal.returns-then-ahead-self-clause-few_fetches
-returns-then-ahead-self-clause-few_fetches c = let s = c.args.self.now in fast_reads (worker_of s) s.kept.row s.kept.found c.args.i s.known c.requires c.ranges.i.fits _ refl c.if-ahead-self.true c.fetch.result c.fetch.new.self c.fetch.ensures.one_fetch
+pub returns-then-past-self-clause-few_fetches : goal.returns-then-past-self-clause-few_fetches
+returns-then-past-self-clause-few_fetches c = let s = c.args.self.now in fast_reads (worker_of s) s.kept.row s.kept.found c.args.i s.known c.requires c.ranges.i.fits _ refl c.if-past-self.true c.fetch.result c.fetch.new.self c.fetch.ensures.one_fetch
 
 pub returns-then-not-is_in_programs-clause-rest_kept : goal.returns-then-not-is_in_programs-clause-rest_kept
 returns-then-not-is_in_programs-clause-rest_kept c = let s = c.args.self.now in λ j. record { borrow = borrow_of s; pinned = pinned_kept 13 c.args.i c.read_by_row.result (worker_of s) c.read_by_row.new.worker c.read_by_row.ensures.few_fetches j }
