@@ -27,14 +27,20 @@ pub(crate) fn section_rounds(worker: &mut Worker, rounds: u64) -> u64
 
 // Not inlined, as what judges packets in dispatch is not.
 #[inline(never)]
+fn judge_in_section(worker: &mut Worker, packet: &[u8])
+    requires { length packet.now ≤ 65535 }
+{
+    let mut section = worker.enter();
+    let _ = judge(&mut section, packet);
+    section.leave();
+}
+
 pub(crate) fn judge_rounds(worker: &mut Worker, packet: &[u8], rounds: u64) -> u64
     requires { length packet.now ≤ 65535 }
     ensures { result ≡ rounds }
 {
     for _ in 0..rounds {
-        let mut section = worker.enter();
-        let _ = judge(&mut section, packet);
-        section.leave();
+        judge_in_section(worker, packet);
     }
     rounds
 }
