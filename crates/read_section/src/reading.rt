@@ -1,6 +1,6 @@
 //! How a word is read whose place its section does not know: by a few fetches that find it.
 
-ghost use Rattle.std.specs.Prelude.{◌≡◌, ◌+◌, ◌-◌, ◌*◌, ◌/◌, ◌%◌, ◌^◌, ◌<◌, ◌≤◌, IsTrue, Some, length, slice_get, ℕ};
+ghost use Rattle.std.specs.Prelude.{◌≡◌, ◌+◌, ◌-◌, ◌*◌, ◌/◌, ◌%◌, ◌^◌, ◌<◌, ◌≤◌, Some, length, slice_get, ℕ};
 ghost use Rattle.config_image.specs.declared.TheConstants.{PAGE_WORDS};
 ghost use Rattle.versions.specs.declared.layout.TheConstants.{POOL_BEGIN};
 ghost use Rattle.read_section.specs.declared.reading.TheConstants.{FEW_PARTS};
@@ -37,15 +37,6 @@ fn entries_of(form: u64) -> usize
     ensures { result ≡ form % 65536 }
 {
     (form & 0xffff) as usize
-}
-
-/// Tells whether word `i` is one of a program. Cold, so that its caller need not keep what it computes.
-#[cold]
-#[inline(never)]
-pub(crate) fn is_in_programs(form: u64, i: usize) -> bool
-    ensures { IsTrue result → (0 < i) × (form / 65536 % 65536 ≤ i) × (i < form / 2 ^ 32) }
-{
-    0 < i && heads_of(form) <= i && i < length_of(form)
 }
 
 // The place in the image of the first word of a name's part.

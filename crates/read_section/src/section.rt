@@ -3,9 +3,7 @@
 ghost use Rattle.read_section.specs.body.Found.{Knows, KnowsIn-prop};
 
 use crate::found::{Found, Kept, NOTHING_FOUND};
-use crate::reading::{
-    heads_of, is_in_programs, length_of, part_with, read_by_row, read_from_form,
-};
+use crate::reading::{heads_of, length_of, part_with, read_by_row, read_from_form};
 use crate::worker::Worker;
 use bpf_insn::Words;
 use config_image::ROW_WORDS;
@@ -94,7 +92,7 @@ impl Words for Section<'_> {
         if past < self.kept.found.len {
             return self.worker.fetch(self.kept.found.begin + past);
         }
-        if !is_in_programs(self.kept.found.form, i) {
+        if i == 0 || i < heads_of(self.kept.found.form) || length_of(self.kept.found.form) <= i {
             return read_by_row(self.worker, self.kept.row, i);
         }
         self.kept.found = part_with(self.worker, self.kept.row, self.kept.found, i);

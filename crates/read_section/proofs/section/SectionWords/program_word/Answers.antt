@@ -21,12 +21,12 @@ returns-then-past-self-clause-value c = let s = c.args.self.now in fast_value (w
 pub returns-then-past-self-clause-few_fetches : goal.returns-then-past-self-clause-few_fetches
 returns-then-past-self-clause-few_fetches c = let s = c.args.self.now in fast_reads (worker_of s) s.kept.row s.kept.found c.args.i s.known c.requires c.ranges.i.fits _ refl c.if-past-self.true c.fetch.result c.fetch.new.self c.fetch.ensures.one_fetch
 
-pub returns-then-not-is_in_programs-clause-rest_kept : goal.returns-then-not-is_in_programs-clause-rest_kept
-returns-then-not-is_in_programs-clause-rest_kept c = let s = c.args.self.now in λ j. record { borrow = borrow_of s; pinned = pinned_kept 13 c.args.i c.read_by_row.result (worker_of s) c.read_by_row.new.worker c.read_by_row.ensures.few_fetches j }
+pub returns-then-i-eq0-clause-rest_kept : goal.returns-then-i-eq0-clause-rest_kept
+returns-then-i-eq0-clause-rest_kept c = let s = c.args.self.now in λ j. record { borrow = borrow_of s; pinned = pinned_kept 13 c.args.i c.read_by_row.result (worker_of s) c.read_by_row.new.worker c.read_by_row.ensures.few_fetches j }
 
 pub part_with-self-requires-clause-sought : goal.part_with-self-requires-clause-sought
-part_with-self-requires-clause-sought c = let s = c.args.self.now in let inside = c.is_in_programs.ensures c.if-not-is_in_programs.false in
-    sought_there (worker_of s) s.kept.row s.kept.found c.args.i s.known c.requires (inside.0, inside.2) inside.1
+part_with-self-requires-clause-sought c = let s = c.args.self.now in let e = c.length_of.ensures in let h = c.heads_of.ensures in let zero = c.if-i-eq0.false in let low = c.if-i-heads_of.false in let high = c.if-length_of-i.false in
+    sought_there (worker_of s) s.kept.row s.kept.found c.args.i s.known c.requires (omega arith, omega arith) (omega arith)
 
 pub overflow_add-self-2 : goal.overflow_add-self-2
 overflow_add-self-2 c = let s = c.args.self.now in let w = worker_of s in let p = c.part_with-self.result in let known = c.part_with-self.ensures.known in let there = c.part_with-self.ensures.there in
