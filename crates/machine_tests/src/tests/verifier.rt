@@ -258,8 +258,8 @@ fn store_and_load(alloc: Global, first: u64, between: usize) -> Result<Vec<u64>,
 
 #[test]
 fn short_and_long_programs(rt: HostRuntime) -> Result<(), Fail> {
-    // Programs of 64, 65 and 4096 instructions.
-    for (between, load) in [(60, 62), (61, 63), (4092, 4094)] {
+    // Programs of 64, 65, 512, 513 and 4096 instructions.
+    for (between, load) in [(60, 62), (61, 63), (508, 510), (509, 511), (4092, 4094)] {
         let stored = store_and_load(rt.alloc(), 0, between)?;
         assert_eq!(rt; verdict(&stored), Ok(()));
         let around = store_and_load(rt.alloc(), 0x0015_0001_0000_0000, between)?;
