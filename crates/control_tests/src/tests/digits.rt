@@ -9,12 +9,14 @@ use std::test::Fail;
 const DIGITS: [u8; 70] = *b"0123456789abcdefABCDEF9081726354afbecdAFBECD00ff00FFa0B1c2D3e4F5998877";
 
 fn are_read_alike(alloc: Global, digits: &[u8]) -> Result<bool, Fail> {
-    Ok(match (packet_of_hex(alloc, digits)?, hex::decode(alloc, digits)) {
-        (Ok(packet), Ok(expected)) => packet == expected,
-        (Err(Reason::BadForm), Err(FromHexError::InvalidHexCharacter { .. })) => true,
-        (Err(Reason::BadForm), Err(FromHexError::OddLength)) => true,
-        _ => false,
-    })
+    Ok(
+        match (packet_of_hex(alloc, digits)?, hex::decode(alloc, digits)) {
+            (Ok(packet), Ok(expected)) => packet == expected,
+            (Err(Reason::BadForm), Err(FromHexError::InvalidHexCharacter { .. })) => true,
+            (Err(Reason::BadForm), Err(FromHexError::OddLength)) => true,
+            _ => false,
+        },
+    )
 }
 
 // With this byte in the place of a digit.
