@@ -1,5 +1,5 @@
 -- The lines that ask for a change, by their words: no two rows of the table have one word, and what stands behind each.
-use Rattle.std.proofs.Common.{◌≡◌, ◌≢◌, ◌∙◌, ◌==◌, false, ◌%◌, ◌/◌, ◌^◌, ◌<◌, ◌∷◌, ◌++◌, List, None, Option, Some, [], ap, arith, codes, decimal, find, get_or, inl, not, refl, subst, sym, true, ℕ}
+use Rattle.std.proofs.Common.{◌≡◌, ◌∙◌, ◌==◌, false, ◌%◌, ◌/◌, ◌^◌, ◌<◌, ◌∷◌, ◌++◌, List, None, Option, Some, [], ap, arith, codes, decimal, find, get_or, inl, not, refl, subst, sym, true, ℕ}
 use Rattle.std.specs.Prelude.{bytes_eq}
 use Rattle.std.specs.List.{list_all}
 use Rattle.std.proofs.lemmas.Slice.Eq.{bytes_eq-Decides}

@@ -10,7 +10,7 @@ use Rattle.hex.specs.Hex.{decode_of, decode_pairs, digit_or_error, hex_digit_val
 use Rattle.hex.proofs.HexLemmas.{decode_of-even, decode_of-ok}
 use Rattle.hex.proofs.Pairs.{cons_byte, decode_pairs-ok_pair}
 use Rattle.control_line.specs.Packet.{SpellsTooMuch, digit_worth}
-use Rattle.control_line.specs.body.Pairs.{ArePairs, IsPair}
+use Rattle.control_line.specs.body.Pairs.{IsPair}
 
 -- ---- what a byte is worth
 
@@ -93,9 +93,6 @@ all_below bits high low below = let all = both_below bits (bit_or high low) belo
 pub record AreRead (digits packet : List ℕ) (i bits : ℕ) : Type 0 where
   pub pairs : bits < 16 → (k : ℕ) → k < i → IsPair digits packet k
   pub small : AllPass is_hex_digit digits → bits < 16
-
-pub read_so_far : (digits packet : List ℕ) (n : ℕ) → ArePairs digits packet n → AreRead digits packet n 0
-read_so_far digits packet n pairs = record { pairs = λ low. pairs; small = λ all. omega arith }
 
 module _ (digits packet : List ℕ) (i bits : ℕ) (before : AreRead digits packet i bits) (inside : i < length packet) (long : length digits ≡ 2 * length packet)
     (high low : ℕ) (high_is : high ≡ digit_worth (slice_index digits (2 * i))) (low_is : low ≡ digit_worth (slice_index digits (2 * i + 1))) where
