@@ -47,6 +47,21 @@ fn replies_of_one_read_are_one_write(rt: HostRuntime) -> Result<(), Fail> {
     Ok(())
 }
 
+// Of these replies, of 38 bytes each, 107 fit a write.
+#[test]
+fn writes_have_whole_lines(rt: HostRuntime) -> Result<(), Fail> {
+    let alloc = rt.alloc();
+    let mut script = String::new(alloc);
+    for _ in 0..300 {
+        script.push_str("show\n")?;
+    }
+    let (_, out, _) = told(alloc, &["replay"], script.as_bytes())?;
+    assert_eq!(rt; out.writes, 3);
+    assert_eq!(rt; out.longest, 107 * 38);
+    assert!(rt; out.whole_lines);
+    Ok(())
+}
+
 #[test]
 fn script_through_the_command(rt: HostRuntime) -> Result<(), Fail> {
     assert_told(&rt, rt.alloc(), &["replay"], SCRIPT, 0, REPLIES)?;
@@ -89,7 +104,9 @@ fn script_that_cannot_be_read_on(rt: HostRuntime) -> Result<(), Fail> {
 }
 
 const SUMMARY: &str = "deliver 10.0.0.2:53 3 1\n\
-    dropped 10.0.0.2:53 3 1\n";
+    dropped 10.0.0.2:53 3 1\n\
+    refused C1 1\n\
+    refused G3 1\n";
 
 fn both(alloc: Global) -> Result<String, AllocError> {
     let mut text = String::from_str(alloc, REPLIES)?;
@@ -108,7 +125,7 @@ fn summary_is_asked_for(rt: HostRuntime) -> Result<(), Fail> {
     assert_told(&rt, alloc, &["replay", "--quiet"], SCRIPT, 0, "")
 }
 
-// Verdicts without a member, of which the last reply has no LF in the script.
+// Verdicts without a member, and packets that are no good digits. The last line has no LF.
 #[test]
 fn summary_has_each_verdict(rt: HostRuntime) -> Result<(), Fail> {
     let script = "packet 45\n\
@@ -124,7 +141,7 @@ fn summary_has_each_verdict(rt: HostRuntime) -> Result<(), Fail> {
         &["replay", "--quiet", "--summary"],
         script,
         0,
-        "malformed 2\nnogroup 1\nnomembers 1\n",
+        "malformed 2\nnogroup 1\nnomembers 1\nrefused C1 2\n",
     )
 }
 

@@ -4,11 +4,13 @@ use std::alloc::Global;
 use std::io;
 use std::io::{ErrorKind, Read, Write};
 
-/// Keeps what it is given, in so many writes at most.
+/// Keeps what it is given, in so many writes at most, and how long the longest of them was, and whether each ended with LF.
 #[derive(Drop)]
 pub struct Sink {
     kept: Vec<u8>,
     pub writes: usize,
+    pub longest: usize,
+    pub whole_lines: bool,
     limit: usize,
     flushes: bool,
 }
@@ -18,6 +20,8 @@ impl Sink {
         Sink {
             kept: Vec::new(alloc),
             writes: 0,
+            longest: 0,
+            whole_lines: true,
             limit,
             flushes,
         }
@@ -38,6 +42,8 @@ impl Write for Sink {
             return Err(io::Error::from(ErrorKind::BrokenPipe));
         }
         self.writes += 1;
+        self.longest = self.longest.max(buf.len());
+        self.whole_lines = self.whole_lines && buf.last() == Some(&b'\n');
         self.kept.write(buf)
     }
 
