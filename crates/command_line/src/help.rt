@@ -123,7 +123,7 @@ Example:
 pub const REPLAY: &str = "Answer a script of control lines and packets";
 
 pub const REPLAY_SUMMARY: &str =
-    "Tells at the end how many packets had which verdict, and lines which refusal";
+    "Counts packets by their verdict and refused lines by their code, at the end";
 
 pub const REPLAY_QUIET: &str = "Writes no replies; with --summary the summary alone";
 

@@ -36,7 +36,7 @@ fn worth_of(byte: u8) -> u8
     DIGITS[byte as usize]
 }
 
-// How many bytes are read at once: the lanes of a vector.
+// How many bytes of a packet are made at once, each of two digits: the lanes of a vector.
 const BLOCK: usize = 16;
 
 // What each of these bytes is worth as a digit.
@@ -45,6 +45,7 @@ fn worths_of(bytes: u8x16) -> u8x16
     ensures { result ≡ map digit_worth bytes }
 {
     let number = bytes - u8x16::splat(b'0');
+    // The bit 32 turns a capital letter into a small one, and no other byte into a letter from a to f.
     let letter = (bytes | u8x16::splat(32)) - u8x16::splat(b'a');
     let other = letter
         .simd_lt(u8x16::splat(6))

@@ -78,7 +78,8 @@ impl Words for Section<'_> {
     }
 
     // What a program seldom reads stands behind calls that are not inlined: they leave the registers to its run, and the word goes
-    // straight on to what it does.
+    // straight on to what it does. Nothing is kept of the row's first word here: `word` does that, for a place above 0, as the look-up
+    // of a group reads it before a program. Without that each word is searched for.
     #[inline(always)]
     fn program_word(&mut self, i: usize) -> u64
         requires { i < length (held_words (worker_of self.old)) }
