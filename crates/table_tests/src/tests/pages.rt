@@ -1,7 +1,9 @@
 //! Pages of the pool, and words of rows, as an operator tells and fills them.
 
 use super::numbered::config_of;
+use super::sections::read_whole;
 use read_section::{Operator, PAGE_WORDS, PAGES, ROW_WORDS, open};
+use std::process::Abort;
 use std::test::Fail;
 
 // Fills a place of a page; tells whether the page was free, and so may be filled.
@@ -23,19 +25,19 @@ const FREE_FROM: [(usize, Option<usize>); 6] = [
     (usize::MAX, None),
 ];
 
+fn each_is_free(rt: &impl Abort, operator: &mut Operator) {
+    for (from, least) in &FREE_FROM {
+        assert!(rt; operator.free_page(*from) == *least, "from {from}");
+        let is_page = *from < PAGES;
+        assert!(rt; page_filled(operator, *from, 0) == is_page, "page {from}");
+        assert!(rt; page_filled(operator, *from, 15) == is_page, "page {from}");
+    }
+}
+
 #[test]
 fn each_page_is_free_at_first(rt: HostRuntime) -> Result<(), Fail> {
     let (mut operator, _workers) = open(config_of(rt.alloc(), 0)?)?;
-    for (from, least) in &FREE_FROM {
-        assert_eq!(rt; operator.free_page(*from), *least, "from {from}");
-        for place in [0, 15] {
-            assert_eq!(rt;
-                page_filled(&mut operator, *from, place),
-                *from < PAGES,
-                "page {from}"
-            );
-        }
-    }
+    each_is_free(&rt, &mut operator);
     Ok(())
 }
 
@@ -58,28 +60,24 @@ const FILLS: [(usize, usize, u64, bool, u64); 6] = [
     (0, 8191, 9, false, 0),
 ];
 
+fn fills_are_told(rt: &impl Abort, operator: &mut Operator) {
+    // The image's length, where programs would begin, and no part.
+    assert!(rt; operator.row_word(0, 0) == 0x0006_0006_0000 && operator.row_word(15, 0) == 0);
+    for fill in &FILLS {
+        let (row, place, word, may, after) = *fill;
+        assert!(rt; row_filled(operator, row, place, word) == may, "{fill:?}");
+        assert!(rt; operator.row_word(row, place) == after, "{fill:?}");
+    }
+}
+
 #[test]
 fn words_of_rows_are_told(rt: HostRuntime) -> Result<(), Fail> {
     let (mut operator, mut workers) = open(config_of(rt.alloc(), 0)?)?;
-    // The image's length, where programs would begin, and no part.
-    assert_eq!(rt; operator.row_word(0, 0), 0x0006_0006_0000);
-    assert_eq!(rt; operator.row_word(15, 0), 0);
-    for (row, place, word, may, after) in &FILLS {
-        assert_eq!(rt;
-            row_filled(&mut operator, *row, *place, *word),
-            *may,
-            "row {row}, place {place}"
-        );
-        assert_eq!(rt;
-            operator.row_word(*row, *place),
-            *after,
-            "row {row}, place {place}"
-        );
-    }
+    fills_are_told(&rt, &mut operator);
     // The current version stands as it stood.
     let Some(worker) = workers.first_mut() else {
         return Err(Fail::from("there are workers"));
     };
-    assert_eq!(rt; super::sections::read_whole(worker), (0, 0));
+    assert!(rt; read_whole(worker) == (0, 0));
     Ok(())
 }

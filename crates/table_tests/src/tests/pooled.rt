@@ -2,16 +2,17 @@
 
 use super::history::{begin_of, begin_of_page};
 use super::numbered::applied;
+use super::worlds::answers;
 use bpf_verify::Program;
 use ipv4_fields::Endpoint;
 use member_group::{Command, Config};
-use read_section::{Operator, open};
+use read_section::{Operator, ROW_WORDS, ROWS, open};
 use retire::Retire;
 use std::alloc::Global;
 use std::process::Abort;
 use std::test::Fail;
-use versions::Step::{Announce, Fetch, Fill, Peek, Pin, Publish};
-use versions::{StepFault, World};
+use versions::Step::{self, Announce, Fetch, Fill, Peek, Pin, Publish};
+use versions::World;
 
 // 10.0.0.2:53
 const KEY: Endpoint = Endpoint {
@@ -77,22 +78,42 @@ const SELECTOR_ROW: [u64; 8] = [
     0,
 ];
 
+// A word of a row, as an operator tells it.
+fn row_word(operator: &Operator, row: usize, place: usize) -> Option<u64> {
+    if row < ROWS && place < ROW_WORDS {
+        Some(operator.row_word(row, place))
+    } else {
+        None
+    }
+}
+
+// The first words of row 0.
+fn operator_has(rt: &impl Abort, operator: &Operator, words: &[u64]) {
+    for (place, word) in words.iter().enumerate() {
+        assert_eq!(rt; row_word(operator, 0, place), Some(*word), "place {place}");
+    }
+}
+
+// Words of a world from a place on.
+fn world_has(rt: &impl Abort, world: &World, begin: usize, words: &[u64]) {
+    for (i, word) in words.iter().enumerate() {
+        let place = begin.wrapping_add(i);
+        assert_eq!(rt; world.word(place), Some(*word), "place {place}");
+    }
+}
+
 #[test]
 fn pooled_empty_row(rt: HostRuntime) -> Result<(), Fail> {
     let (operator, _workers) = open(Config::new(rt.alloc()))?;
-    for (place, word) in [0x0002_0002_0000, 0, 0].iter().enumerate() {
-        assert_eq!(rt; operator.row_word(0, place), *word, "place {place}");
-    }
-    assert_eq!(rt; operator.current_pages().len(), 0);
+    operator_has(&rt, &operator, &[0x0002_0002_0000, 0, 0]);
+    assert!(rt; pages_are_from(&operator, 0, 0));
     Ok(())
 }
 
 // The row and its page, as an operator tells them.
 fn operator_stores_selector(rt: &impl Abort, alloc: Global) -> Result<(), Fail> {
     let (operator, _workers) = open(with_selector(alloc)?)?;
-    for (place, word) in SELECTOR_ROW.iter().enumerate() {
-        assert_eq!(rt; operator.row_word(0, place), *word, "place {place}");
-    }
+    operator_has(rt, &operator, &SELECTOR_ROW);
     assert!(rt; pages_are_from(&operator, 0, 1));
     assert!(rt; !operator.page_is_free(0) && operator.page_is_free(1));
     Ok(())
@@ -101,13 +122,8 @@ fn operator_stores_selector(rt: &impl Abort, alloc: Global) -> Result<(), Fail> 
 // The same, word by word.
 fn world_stores_selector(rt: &impl Abort, alloc: Global) -> Result<(), Fail> {
     let world = World::new(with_selector(alloc)?)?;
-    for (place, word) in SELECTOR_ROW.iter().enumerate() {
-        let at = begin_of(0).wrapping_add(place);
-        assert_eq!(rt; world.word(at), Some(*word), "place {place}");
-    }
-    let page = begin_of_page(0);
-    assert_eq!(rt; world.word(page), Some(RETURN));
-    assert_eq!(rt; world.word(page.wrapping_add(1)), Some(0));
+    world_has(rt, &world, begin_of(0), &SELECTOR_ROW);
+    world_has(rt, &world, begin_of_page(0), &[RETURN, 0]);
     Ok(())
 }
 
@@ -117,36 +133,38 @@ fn pooled_selector_row(rt: HostRuntime) -> Result<(), Fail> {
     world_stores_selector(&rt, rt.alloc())
 }
 
+fn fetch(place: usize) -> Step {
+    Fetch { worker: 5, place }
+}
+
 // Enters on version 0 and fetches: its program's one word, and no other of the pool.
+fn fetches_pool_words(rt: &impl Abort, world: &mut World) {
+    let page = begin_of_page(0);
+    answers(
+        rt,
+        world,
+        &[
+            (Peek { worker: 5 }, Some(0)),
+            (Announce { worker: 5 }, Some(1)),
+            (fetch(page), None),
+            (Pin { worker: 5 }, Some(0)),
+            (fetch(page), Some(RETURN)),
+            (fetch(page.wrapping_add(1)), None),
+            (fetch(page.wrapping_add(15)), None),
+            (fetch(begin_of_page(1)), None),
+        ],
+    );
+}
+
 #[test]
 fn pool_words_of_the_version_are_fetched(rt: HostRuntime) -> Result<(), Fail> {
     let mut world = World::new(with_selector(rt.alloc())?)?;
-    let fetch = |place| Fetch { worker: 5, place };
-    for step in [Peek { worker: 5 }, Announce { worker: 5 }] {
-        assert!(rt; world.step(step).is_ok(), "{step:?}");
-    }
-    assert_eq!(rt;
-        world.step(fetch(begin_of_page(0))),
-        Err(StepFault::NotLegal)
-    );
-    assert_eq!(rt; world.step(Pin { worker: 5 }), Ok(0));
-    assert_eq!(rt; world.step(fetch(begin_of_page(0))), Ok(RETURN));
-    for place in [
-        begin_of_page(0).wrapping_add(1),
-        begin_of_page(0).wrapping_add(15),
-        begin_of_page(1),
-    ] {
-        assert_eq!(rt;
-            world.step(fetch(place)),
-            Err(StepFault::NotLegal),
-            "place {place}"
-        );
-    }
+    fetches_pool_words(&rt, &mut world);
     Ok(())
 }
 
 // Fills row 1 as the selector's row, with its program in a page.
-fn fills_row(rt: &impl Abort, world: &mut World, page: u64) -> Result<(), Fail> {
+fn fills_row(rt: &impl Abort, world: &mut World, page: u64) {
     for (i, word) in SELECTOR_ROW.iter().enumerate() {
         let named = if i == 6 {
             word.wrapping_add(page)
@@ -156,41 +174,53 @@ fn fills_row(rt: &impl Abort, world: &mut World, page: u64) -> Result<(), Fail> 
         let place = begin_of(1).wrapping_add(i);
         assert_eq!(rt; world.step(Fill { place, word: named }), Ok(named));
     }
-    Ok(())
+}
+
+// A world whose version 0 has the selector, and which is to publish the same configuration again.
+fn world_with_the_same(alloc: Global) -> Result<World, Fail> {
+    let mut world = World::new(with_selector(alloc)?)?;
+    world.propose(with_selector(alloc)?)?;
+    Ok(world)
 }
 
 // A row is published where the page that it names has the program, and not before.
+fn publishes_with_its_pages(rt: &impl Abort, world: &mut World) {
+    fills_row(rt, world, 1);
+    let place = begin_of_page(1);
+    let other = begin_of_page(0);
+    let word = RETURN;
+    answers(
+        rt,
+        world,
+        &[
+            (Publish { row: 1 }, None),
+            (Fill { place, word }, Some(RETURN)),
+            (Publish { row: 1 }, Some(17)),
+            // The page is not free then, nor is page 0, whose version is not scanned clear.
+            (
+                Fill {
+                    place: other,
+                    word: 1,
+                },
+                None,
+            ),
+            (Fill { place, word: 1 }, None),
+        ],
+    );
+}
+
 #[test]
 fn row_is_published_with_its_pages(rt: HostRuntime) -> Result<(), Fail> {
-    let mut world = World::new(with_selector(rt.alloc())?)?;
-    world.propose(with_selector(rt.alloc())?)?;
-    fills_row(&rt, &mut world, 1)?;
-    assert_eq!(rt; world.step(Publish { row: 1 }), Err(StepFault::NotLegal));
-    let place = begin_of_page(1);
-    assert_eq!(rt;
-        world.step(Fill {
-            place,
-            word: RETURN
-        }),
-        Ok(RETURN)
-    );
-    assert_eq!(rt; world.step(Publish { row: 1 }), Ok(17));
-    // The page is not free then, nor is page 0, whose version is not scanned clear.
-    for place in [begin_of_page(0), begin_of_page(1)] {
-        assert_eq!(rt;
-            world.step(Fill { place, word: 1 }),
-            Err(StepFault::NotLegal)
-        );
-    }
+    let mut world = world_with_the_same(rt.alloc())?;
+    publishes_with_its_pages(&rt, &mut world);
     Ok(())
 }
 
 // The page of the version before may be named again, without a fill.
 #[test]
 fn row_is_published_with_a_page_of_the_version_before(rt: HostRuntime) -> Result<(), Fail> {
-    let mut world = World::new(with_selector(rt.alloc())?)?;
-    world.propose(with_selector(rt.alloc())?)?;
-    fills_row(&rt, &mut world, 0)?;
+    let mut world = world_with_the_same(rt.alloc())?;
+    fills_row(&rt, &mut world, 0);
     assert_eq!(rt; world.step(Publish { row: 1 }), Ok(17));
     Ok(())
 }
@@ -215,13 +245,22 @@ const LONG_ROW: [(usize, u64); 4] = [
     (266, 0),
 ];
 
+// Words of a row at places, and the pages of the filter, behind which all are free.
+fn has_filter(rt: &impl Abort, operator: &Operator, row: usize, words: &[(usize, u64)]) {
+    for (place, word) in words {
+        assert_eq!(rt;
+            row_word(operator, row, *place),
+            Some(*word),
+            "place {place}"
+        );
+    }
+    assert!(rt; pages_are_from(operator, 0, 256));
+    assert_eq!(rt; operator.free_page(0), Some(256));
+}
+
 fn operator_stores_filter(rt: &impl Abort, alloc: Global) -> Result<(), Fail> {
     let (operator, _workers) = open(with_long_filter(alloc, 0)?)?;
-    for (place, word) in &LONG_ROW {
-        assert_eq!(rt; operator.row_word(0, *place), *word, "place {place}");
-    }
-    assert!(rt; pages_are_from(&operator, 0, 256));
-    assert_eq!(rt; operator.free_page(0), Some(256));
+    has_filter(rt, &operator, 0, &LONG_ROW);
     Ok(())
 }
 
@@ -236,8 +275,7 @@ const LONG_PAGES: [(usize, usize, u64); 4] = [
 fn world_stores_filter(rt: &impl Abort, alloc: Global) -> Result<(), Fail> {
     let world = World::new(with_long_filter(alloc, 0)?)?;
     for (page, k, word) in &LONG_PAGES {
-        let place = begin_of_page(*page).wrapping_add(*k);
-        assert_eq!(rt; world.word(place), Some(*word), "place {place}");
+        world_has(rt, &world, begin_of_page(*page).wrapping_add(*k), &[*word]);
     }
     Ok(())
 }
@@ -248,27 +286,39 @@ fn pooled_long_filter(rt: HostRuntime) -> Result<(), Fail> {
     world_stores_filter(&rt, rt.alloc())
 }
 
+// Publishes the group with another filter, as the version of this number.
+fn is_published(alloc: Global, operator: &mut Operator, number: u32) -> Result<bool, Fail> {
+    let published = operator.publish(with_long_filter(alloc, number)?);
+    Ok(matches!(published, Ok(found) if found == u64::from(number)))
+}
+
+// The first three versions, and the first page of each.
+const FIRST_PAGES: [(u32, u32); 3] = [(1, 256), (2, 512), (3, 768)];
+
+fn takes_the_least_free_pages(
+    rt: &impl Abort,
+    alloc: Global,
+    operator: &mut Operator,
+) -> Result<(), Fail> {
+    for (number, first) in &FIRST_PAGES {
+        assert!(rt; is_published(alloc, operator, *number)?, "version {number}");
+        assert!(rt; pages_are_from(operator, *first, 256), "version {number}");
+    }
+    let reclaimed = operator.sweep();
+    assert_eq!(rt; (reclaimed.first, reclaimed.count), (0, 3));
+    assert!(rt; is_published(alloc, operator, 4)?);
+    assert!(rt; pages_are_from(operator, 0, 256));
+    // The least free row, row 0, has the names of these pages.
+    assert_eq!(rt; operator.row_word(0, 265), 0x0ffa_00ff);
+    Ok(())
+}
+
 // Each publication of another filter takes the least free pages: behind those of the versions before, and those again when these are
 // free.
 #[test]
 fn new_pages_are_the_least_free_ones(rt: HostRuntime) -> Result<(), Fail> {
     let (mut operator, _workers) = open(with_long_filter(rt.alloc(), 0)?)?;
-    for (number, bytes, first) in [(1u64, 1u32, 256u32), (2, 2, 512), (3, 3, 768)] {
-        let published = operator.publish(with_long_filter(rt.alloc(), bytes)?);
-        assert!(rt;
-            matches!(published, Ok(found) if found == number),
-            "version {number}"
-        );
-        assert!(rt; pages_are_from(&operator, first, 256), "version {number}");
-    }
-    let reclaimed = operator.sweep();
-    assert_eq!(rt; (reclaimed.first, reclaimed.count), (0, 3));
-    let published = operator.publish(with_long_filter(rt.alloc(), 4)?);
-    assert!(rt; matches!(published, Ok(4)));
-    assert!(rt; pages_are_from(&operator, 0, 256));
-    // The least free row, row 0, has the names of these pages.
-    assert_eq!(rt; operator.row_word(0, 265), 0x0ffa_00ff);
-    Ok(())
+    takes_the_least_free_pages(&rt, rt.alloc(), &mut operator)
 }
 
 // The row after a second member has joined: word 0, the filter's first name, which is behind one member record more, its last name,
@@ -281,16 +331,16 @@ const JOINED_ROW: [(usize, u64); 4] = [
 ];
 
 // A member without a filter joins: the long filter stays in its pages, and no other page is taken.
+fn keeps_its_pages(rt: &impl Abort, operator: &mut Operator) -> Result<(), Fail> {
+    let next = joined(operator.config(), 1)?;
+    assert!(rt; matches!(operator.publish(next), Ok(1)));
+    has_filter(rt, operator, 1, &JOINED_ROW);
+    assert_eq!(rt; operator.zeros_from(1), 270);
+    Ok(())
+}
+
 #[test]
 fn pooled_long_filter_and_join(rt: HostRuntime) -> Result<(), Fail> {
     let (mut operator, _workers) = open(with_long_filter(rt.alloc(), 0)?)?;
-    let next = joined(operator.config(), 1)?;
-    assert!(rt; matches!(operator.publish(next), Ok(1)));
-    for (place, word) in &JOINED_ROW {
-        assert_eq!(rt; operator.row_word(1, *place), *word, "place {place}");
-    }
-    assert!(rt; pages_are_from(&operator, 0, 256));
-    assert_eq!(rt; operator.free_page(0), Some(256));
-    assert_eq!(rt; operator.zeros_from(1), 270);
-    Ok(())
+    keeps_its_pages(&rt, &mut operator)
 }

@@ -119,17 +119,26 @@ fn is_used_again(
     Ok(())
 }
 
-#[test]
-fn rows_are_used_again(rt: HostRuntime) -> Result<(), Fail> {
-    let (mut operator, mut worker) = table(rt.alloc())?;
+// Two rounds of scans.
+fn are_used_again(
+    rt: &impl Abort,
+    alloc: Global,
+    operator: &mut Operator,
+    worker: &mut Worker,
+) -> Result<(), Fail> {
     assert_eq!(rt; (operator.zeros_from(0), operator.zeros_from(1)), (6, 0));
     assert!(rt; !operator.is_free(0) && operator.is_free(1) && !operator.is_free(ROWS));
-    // Two rounds of scans.
     for number in 1..44u64 {
-        is_used_again(&rt, rt.alloc(), &mut operator, &mut worker, number)?;
+        is_used_again(rt, alloc, operator, worker, number)?;
     }
     assert_eq!(rt; operator.number(), 43);
     Ok(())
+}
+
+#[test]
+fn rows_are_used_again(rt: HostRuntime) -> Result<(), Fail> {
+    let (mut operator, mut worker) = table(rt.alloc())?;
+    are_used_again(&rt, rt.alloc(), &mut operator, &mut worker)
 }
 
 // Enters so many times: how many sections were not whole, or older than one before.
@@ -173,6 +182,20 @@ fn table_of(alloc: Global, count: usize) -> Result<(Operator, Vec<Worker>), Fail
     Ok((operator, workers))
 }
 
+// No publication was wrong, and no section was.
+fn are_whole(
+    rt: &impl Abort,
+    operator: &Operator,
+    bad_publications: Result<u32, Fail>,
+    bad_sections: u32,
+) -> Result<(), Fail> {
+    assert_eq!(rt; bad_publications?, 0);
+    assert_eq!(rt; bad_sections, 0);
+    // As many versions as there are other rows find one that was never used, whoever reads.
+    assert!(rt; operator.number() >= LAST_WITH_ROW);
+    Ok(())
+}
+
 // Four workers read in threads of their own while the operator publishes: each section is one whole version, in every schedule.
 #[test]
 fn sections_beside_publications(rt: HostRuntime) -> Result<(), Fail> {
@@ -192,12 +215,8 @@ fn sections_beside_publications(rt: HostRuntime) -> Result<(), Fail> {
             }
         }
         bad_publications(alloc, &mut operator, 4000)
-    })?;
-    assert_eq!(rt; published, 0);
-    // As many versions as there are other rows find one that was never used, whoever reads.
-    assert!(rt; operator.number() >= LAST_WITH_ROW);
-    assert_eq!(rt; bad.into_inner(), 0);
-    Ok(())
+    });
+    are_whole(&rt, &operator, published, bad.into_inner())
 }
 
 // Publishes beside a section on version 0 until no row is free.
@@ -209,10 +228,13 @@ fn fills_beside(alloc: Global, operator: &mut Operator, worker: &mut Worker) -> 
 }
 
 // A worker stays in version 0: fifteen more versions have a row, and then none is free before it leaves.
-#[test]
-fn busy_when_no_row_is_free(rt: HostRuntime) -> Result<(), Fail> {
-    let (mut operator, mut worker) = table(rt.alloc())?;
-    assert!(rt; fills_beside(rt.alloc(), &mut operator, &mut worker)?);
+fn is_busy_beside(
+    rt: &impl Abort,
+    alloc: Global,
+    operator: &mut Operator,
+    worker: &mut Worker,
+) -> Result<(), Fail> {
+    assert!(rt; fills_beside(alloc, operator, worker)?);
     assert_eq!(rt;
         operator.sweep(),
         Reclaimed {
@@ -227,23 +249,34 @@ fn busy_when_no_row_is_free(rt: HostRuntime) -> Result<(), Fail> {
             count: 0
         }
     );
-    assert!(rt; is_published(rt.alloc(), &mut operator, 16)?);
+    assert!(rt; is_published(alloc, operator, 16)?);
     Ok(())
 }
 
-// A worker abandons its section on version 0 and is gone: fifteen more versions have a row, and then none is free for good.
+#[test]
+fn busy_when_no_row_is_free(rt: HostRuntime) -> Result<(), Fail> {
+    let (mut operator, mut worker) = table(rt.alloc())?;
+    is_busy_beside(&rt, rt.alloc(), &mut operator, &mut worker)
+}
+
+// Fifteen more versions have a row, and then none is free for good.
+fn stays_busy(rt: &impl Abort, alloc: Global, operator: &mut Operator) -> Result<(), Fail> {
+    assert!(rt; fills_all_rows(alloc, operator)?);
+    for _ in 0..3usize {
+        assert_eq!(rt; operator.sweep(), Reclaimed { first: 0, count: 0 });
+        assert!(rt; is_busy(alloc, operator)?);
+    }
+    assert_eq!(rt; operator.number(), 15);
+    Ok(())
+}
+
+// A worker abandons its section on version 0, and is gone.
 #[test]
 fn lost_worker_keeps_its_version(rt: HostRuntime) -> Result<(), Fail> {
     let (mut operator, mut worker) = table(rt.alloc())?;
     worker.enter().abandon();
     drop(worker);
-    assert!(rt; fills_all_rows(rt.alloc(), &mut operator)?);
-    for _ in 0..3usize {
-        assert_eq!(rt; operator.sweep(), Reclaimed { first: 0, count: 0 });
-        assert!(rt; is_busy(rt.alloc(), &mut operator)?);
-    }
-    assert_eq!(rt; operator.number(), 15);
-    Ok(())
+    stays_busy(&rt, rt.alloc(), &mut operator)
 }
 
 // Adds a member with a filter of so many instructions.
@@ -289,11 +322,19 @@ fn one_more_is_refused(alloc: Global, operator: &mut Operator) -> Result<bool, F
     Ok(matches!(&refused, Err((PublishFault::TooBig, config)) if config.charge() == 8193))
 }
 
+fn publishes_up_to_the_limit(
+    rt: &impl Abort,
+    alloc: Global,
+    operator: &mut Operator,
+) -> Result<(), Fail> {
+    assert!(rt; greatest_is_published(alloc, operator)?);
+    assert!(rt; one_more_is_refused(alloc, operator)?);
+    assert_eq!(rt; operator.number(), 1);
+    Ok(())
+}
+
 #[test]
 fn largest_charge_is_published(rt: HostRuntime) -> Result<(), Fail> {
     let (mut operator, _worker) = table(rt.alloc())?;
-    assert!(rt; greatest_is_published(rt.alloc(), &mut operator)?);
-    assert!(rt; one_more_is_refused(rt.alloc(), &mut operator)?);
-    assert_eq!(rt; operator.number(), 1);
-    Ok(())
+    publishes_up_to_the_limit(&rt, rt.alloc(), &mut operator)
 }

@@ -4,6 +4,8 @@ ghost use Rattle.std.specs.Prelude.{◌<◌};
 
 use super::history::{EMPTY_ROW, History, begin_of, begin_of_page};
 use member_group::Config;
+use std::alloc::Global;
+use std::process::Abort;
 use std::test::Fail;
 use versions::Step::{self, Announce, Fetch, Fill, Leave, Peek, Pin, Publish, Scan};
 use versions::{PAGES, ROWS, StepFault, TABLE_WORDS, WORKERS, World};
@@ -57,37 +59,68 @@ impl Numbers {
     }
 }
 
-#[test]
-fn steps_in_no_order(rt: HostRuntime) -> Result<(), Fail> {
-    let mut world = World::new(Config::new(rt.alloc()))?;
-    let mut words = vec![in rt.alloc(); 0; TABLE_WORDS]?;
-    if let Some(first) = words.get_mut(begin_of(0)) {
-        *first = EMPTY_ROW[0];
+// Makes a step in both, where it is legal, and tells whether it is.
+fn steps(
+    rt: &impl Abort,
+    world: &mut World,
+    history: &mut History,
+    turn: u32,
+    step: Step,
+) -> Result<bool, Fail> {
+    let wanted = history.answer(step);
+    assert_eq!(rt;
+        world.step(step),
+        wanted.ok_or(StepFault::NotLegal),
+        "turn {turn}: {step:?}"
+    );
+    match wanted {
+        None => Ok(false),
+        Some(word) => {
+            history.make(step, word)?;
+            Ok(true)
+        }
     }
-    let mut history = History {
-        words,
-        made: Vec::new(rt.alloc()),
-        proposed: false,
-    };
+}
+
+// Tells how many steps were legal.
+fn steps_at_random(
+    rt: &impl Abort,
+    alloc: Global,
+    world: &mut World,
+    history: &mut History,
+) -> Result<u32, Fail> {
     let mut numbers = Numbers(1);
     let mut legal = 0u32;
     for turn in 0..4000u32 {
         if turn % 8 == 0 {
-            world.propose(Config::new(rt.alloc()))?;
+            world.propose(Config::new(alloc))?;
             history.proposed = true;
         }
-        let step = numbers.step();
-        let wanted = history.answer(step);
-        assert_eq!(rt;
-            world.step(step),
-            wanted.ok_or(StepFault::NotLegal),
-            "turn {turn}: {step:?}"
-        );
-        if let Some(word) = wanted {
-            history.make(step, word)?;
+        if steps(rt, world, history, turn, numbers.step())? {
             legal = legal.wrapping_add(1);
         }
     }
+    Ok(legal)
+}
+
+// The history of a table at version 0, which is the empty configuration.
+fn opened(alloc: Global) -> Result<History, Fail> {
+    let mut words = vec![in alloc; 0; TABLE_WORDS]?;
+    if let Some(first) = words.get_mut(begin_of(0)) {
+        *first = EMPTY_ROW[0];
+    }
+    Ok(History {
+        words,
+        made: Vec::new(alloc),
+        proposed: false,
+    })
+}
+
+#[test]
+fn steps_in_no_order(rt: HostRuntime) -> Result<(), Fail> {
+    let mut world = World::new(Config::new(rt.alloc()))?;
+    let mut history = opened(rt.alloc())?;
+    let legal = steps_at_random(&rt, rt.alloc(), &mut world, &mut history)?;
     assert!(rt;
         800 < legal && 20 < history.number(),
         "{legal} steps were legal"

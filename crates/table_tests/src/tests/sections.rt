@@ -110,25 +110,27 @@ fn enter_told(worker: &mut Worker, other: &mut Worker) -> (u64, usize)
     (number, wrong)
 }
 
-// A worker that abandoned its section counts as inside, also where it meets the operator, until it enters again and leaves.
-#[test]
-fn entering_after_abandon(rt: HostRuntime) -> Result<(), Fail> {
-    let alloc = rt.alloc();
-    let (mut operator, _, mut worker) = opened(&rt, alloc)?;
-    let section = worker.enter();
-    section.abandon();
+// The last worker, after it abandoned its section, counts as inside, also where it meets the operator, until it enters again and
+// leaves.
+fn counts_as_inside(rt: &impl Abort, operator: &mut Operator, worker: &mut Worker)
+    requires { worker.old.table ≡ operator.old.table }
+{
+    worker.enter().abandon();
     assert_eq!(rt; operator.scan(WORKERS - 1), 1);
-    worker.meet(&mut operator);
+    worker.meet(operator);
     assert_eq!(rt; operator.scan(WORKERS - 1), 1);
-    assert_eq!(rt; read_whole(&mut worker), (0, 0));
+    assert_eq!(rt; read_whole(worker), (0, 0));
     assert_eq!(rt; operator.scan(WORKERS - 1), 0);
-    Ok(())
 }
 
 #[test]
-fn table_at_version_zero(rt: HostRuntime) -> Result<(), Fail> {
-    let alloc = rt.alloc();
-    let (mut operator, mut worker, _) = opened(&rt, alloc)?;
+fn entering_after_abandon(rt: HostRuntime) -> Result<(), Fail> {
+    let (mut operator, _, mut worker) = opened(&rt, rt.alloc())?;
+    counts_as_inside(&rt, &mut operator, &mut worker);
+    Ok(())
+}
+
+fn is_at_version_zero(rt: &impl Abort, operator: &mut Operator, worker: &mut Worker) {
     assert_eq!(rt; operator.number(), 0);
     assert_eq!(rt; (operator.zeros_from(0), operator.zeros_from(1)), (6, 0));
     assert_eq!(rt;
@@ -140,7 +142,13 @@ fn table_at_version_zero(rt: HostRuntime) -> Result<(), Fail> {
         (false, true, false)
     );
     assert_eq!(rt; operator.report(), Reclaimed { first: 0, count: 0 });
-    assert_eq!(rt; read_whole(&mut worker), (0, 0));
+    assert_eq!(rt; read_whole(worker), (0, 0));
+}
+
+#[test]
+fn table_at_version_zero(rt: HostRuntime) -> Result<(), Fail> {
+    let (mut operator, mut worker, _) = opened(&rt, rt.alloc())?;
+    is_at_version_zero(&rt, &mut operator, &mut worker);
     Ok(())
 }
 
@@ -172,28 +180,42 @@ fn section_keeps_its_version(rt: HostRuntime) -> Result<(), Fail> {
     keeps_its_version(&rt, rt.alloc(), &mut operator, &mut worker)
 }
 
-// A worker that never met the operator is told of a version by one that did.
-#[test]
-fn told_by_another_worker(rt: HostRuntime) -> Result<(), Fail> {
-    let alloc = rt.alloc();
-    let (mut operator, mut first, mut last) = opened(&rt, alloc)?;
-    publish(&rt, alloc, &mut operator, 1)?;
-    first.meet(&mut operator);
-    assert_eq!(rt; enter_told(&mut last, &mut first), (1, 0));
+// The last worker never met the operator: it is told of a version by the first one, which did.
+fn is_told(
+    rt: &impl Abort,
+    alloc: Global,
+    operator: &mut Operator,
+    first: &mut Worker,
+    last: &mut Worker,
+) -> Result<(), Fail>
+    requires first { first.old.table ≡ operator.old.table }
+    requires last { last.old.table ≡ operator.old.table }
+{
+    publish(rt, alloc, operator, 1)?;
+    first.meet(operator);
+    assert_eq!(rt; enter_told(last, first), (1, 0));
     Ok(())
 }
 
 #[test]
+fn told_by_another_worker(rt: HostRuntime) -> Result<(), Fail> {
+    let (mut operator, mut first, mut last) = opened(&rt, rt.alloc())?;
+    is_told(&rt, rt.alloc(), &mut operator, &mut first, &mut last)
+}
+
+// The charge of version 0, where the table opens.
+fn opened_charge(config: Config) -> Result<u64, OpenFault> {
+    let (operator, _workers) = open(config)?;
+    Ok(operator.config().charge())
+}
+
+#[test]
 fn largest_charge_opens(rt: HostRuntime) -> Result<(), Fail> {
-    let alloc = rt.alloc();
-    let largest = with_selectors(alloc, [4096, 4086])?;
+    let largest = with_selectors(rt.alloc(), [4096, 4086])?;
     assert_eq!(rt; largest.charge(), 8192);
-    let (operator, _) = open(largest)?;
-    assert_eq!(rt; operator.config().charge(), 8192);
-    let greater = with_selectors(alloc, [4096, 4087])?;
+    assert_eq!(rt; opened_charge(largest), Ok(8192));
+    let greater = with_selectors(rt.alloc(), [4096, 4087])?;
     assert_eq!(rt; greater.charge(), 8193);
-    match open(greater) {
-        Err(OpenFault::TooBig) => Ok(()),
-        _ => Err(Fail::from("a charge of 8193 is refused")),
-    }
+    assert_eq!(rt; opened_charge(greater), Err(OpenFault::TooBig));
+    Ok(())
 }

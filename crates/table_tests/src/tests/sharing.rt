@@ -10,6 +10,7 @@ use member_group::{Command, Config};
 use read_section::{Operator, Worker, open};
 use retire::{PublishFault, Retire};
 use std::alloc::Global;
+use std::process::Abort;
 use std::sync::{Mutex, Wait};
 use std::test::Fail;
 use std::thread;
@@ -64,27 +65,45 @@ const CHANGES: [(u32, u64, [u32; 3]); 5] = [
     (1, 12, [5, 4, 3]),
 ];
 
-#[test]
-fn equal_programs_take_the_pages_of_the_version_before(rt: HostRuntime) -> Result<(), Fail> {
-    let (mut operator, _workers) = open(three_groups(rt.alloc())?)?;
+fn selecting_for_both(alloc: Global, config: &Config, bytes: u64) -> Result<Config, Fail> {
+    let first = selecting(alloc, config, 1, bytes)?;
+    selecting(alloc, &first, 2, bytes)
+}
+
+// Publishes a selector of groups 1 and 2 that neither had.
+fn selects_for_both(alloc: Global, operator: &mut Operator, bytes: u64) -> Result<bool, Fail> {
+    let both = selecting_for_both(alloc, operator.config(), bytes)?;
+    Ok(operator.publish(both).is_ok())
+}
+
+fn removes(operator: &mut Operator, group: u32) -> Result<bool, Fail> {
+    let key = key_of(group);
+    let without = applied(operator.config(), Command::RemoveGroup { key })?;
+    Ok(operator.publish(without).is_ok())
+}
+
+fn takes_equal_pages(rt: &impl Abort, alloc: Global, operator: &mut Operator) -> Result<(), Fail> {
     for (group, bytes, pages) in &CHANGES {
-        assert!(rt; selects(rt.alloc(), &mut operator, *group, *bytes)?);
-        assert!(rt; pages_are(&operator, pages), "{bytes} bytes");
+        assert!(rt; selects(alloc, operator, *group, *bytes)?);
+        assert!(rt; pages_are(operator, pages), "{bytes} bytes");
     }
     // The pages of the versions before are free, but for those that the current version names.
     assert_eq!(rt; operator.sweep().count, 5);
-    assert!(rt; selects(rt.alloc(), &mut operator, 3, 11)?);
-    assert!(rt; pages_are(&operator, &[5, 4, 0]));
+    assert!(rt; selects(alloc, operator, 3, 11)?);
+    assert!(rt; pages_are(operator, &[5, 4, 0]));
     // Two equal programs that are new take a page each.
-    let first = selecting(rt.alloc(), operator.config(), 1, 30)?;
-    let both = selecting(rt.alloc(), &first, 2, 30)?;
-    assert!(rt; operator.publish(both).is_ok());
-    assert!(rt; pages_are(&operator, &[1, 2, 0]));
+    assert!(rt; selects_for_both(alloc, operator, 30)?);
+    assert!(rt; pages_are(operator, &[1, 2, 0]));
     // Without group 1 the selector of group 2 is found in the first page that has its words.
-    let without = applied(operator.config(), Command::RemoveGroup { key: key_of(1) })?;
-    assert!(rt; operator.publish(without).is_ok());
-    assert!(rt; pages_are(&operator, &[1, 0]));
+    assert!(rt; removes(operator, 1)?);
+    assert!(rt; pages_are(operator, &[1, 0]));
     Ok(())
+}
+
+#[test]
+fn equal_programs_take_the_pages_of_the_version_before(rt: HostRuntime) -> Result<(), Fail> {
+    let (mut operator, _workers) = open(three_groups(rt.alloc())?)?;
+    takes_equal_pages(&rt, rt.alloc(), &mut operator)
 }
 
 // ---- ten thousand versions beside sections
@@ -228,6 +247,19 @@ fn add(rt: &impl Wait, sum: &Mutex<u32>, number: u32) {
     *sum = sum.wrapping_add(number);
 }
 
+// No publication was wrong, and no section was.
+fn are_whole(
+    rt: &impl Abort,
+    operator: &Operator,
+    bad_publications: Result<u32, Fail>,
+    bad_sections: u32,
+) -> Result<(), Fail> {
+    assert_eq!(rt; bad_publications?, 0);
+    assert_eq!(rt; operator.number(), LAST);
+    assert_eq!(rt; bad_sections, 0);
+    Ok(())
+}
+
 // Four workers read in threads of their own, each word of each section's image.
 #[test]
 fn changed_programs_beside_sections(rt: HostRuntime) -> Result<(), Fail> {
@@ -248,9 +280,6 @@ fn changed_programs_beside_sections(rt: HostRuntime) -> Result<(), Fail> {
             }
         }
         bad_publications(alloc, &mut operator)
-    })?;
-    assert_eq!(rt; published, 0);
-    assert_eq!(rt; operator.number(), LAST);
-    assert_eq!(rt; bad.into_inner(), 0);
-    Ok(())
+    });
+    are_whole(&rt, &operator, published, bad.into_inner())
 }

@@ -207,19 +207,29 @@ const ANSWERS: [(Step, Option<u64>); 37] = [
     (Scan { place: 1 }, Some(0)),
 ];
 
-#[test]
-fn steps_and_their_answers(rt: HostRuntime) -> Result<(), Fail> {
-    let mut world = World::new(Config::new(rt.alloc()))?;
-    for (step, answer) in &ANSWERS {
+// Once a configuration is proposed: publications from a row, with their answers.
+const PUBLICATIONS: [(Step, Option<u64>); 3] = [
+    (Publish { row: 7 }, None),
+    (Publish { row: 1 }, Some(17)),
+    (Publish { row: 1 }, None),
+];
+
+// Each step with its answer; no answer is "not legal".
+pub fn answers(rt: &impl Abort, world: &mut World, steps: &[(Step, Option<u64>)]) {
+    for (step, answer) in steps {
         assert!(rt;
             world.step(*step) == answer.ok_or(StepFault::NotLegal),
             "{step:?}"
         );
     }
+}
+
+#[test]
+fn steps_and_their_answers(rt: HostRuntime) -> Result<(), Fail> {
+    let mut world = World::new(Config::new(rt.alloc()))?;
+    answers(&rt, &mut world, &ANSWERS);
     world.propose(Config::new(rt.alloc()))?;
-    assert_eq!(rt; world.step(Publish { row: 7 }), Err(StepFault::NotLegal));
-    assert_eq!(rt; world.step(Publish { row: 1 }), Ok(17));
-    assert_eq!(rt; world.step(Publish { row: 1 }), Err(StepFault::NotLegal));
+    answers(&rt, &mut world, &PUBLICATIONS);
     Ok(())
 }
 
@@ -283,15 +293,19 @@ fn fetches_group(rt: &impl Abort, world: &mut World) -> Result<(), Fail> {
     Ok(())
 }
 
+fn publishes_group(rt: &impl Abort, world: &mut World) -> Result<(), Fail> {
+    fills_group(rt, world)?;
+    assert_eq!(rt; world.step(Publish { row: 5 })?, 21);
+    assert_eq!(rt; world.word(0), Some(21));
+    assert_eq!(rt; world.word(TABLE_WORDS), None);
+    fetches_group(rt, world)
+}
+
 #[test]
 fn group_is_published_word_by_word(rt: HostRuntime) -> Result<(), Fail> {
     let mut world = World::new(Config::new(rt.alloc()))?;
     world.propose(with_group(rt.alloc())?)?;
-    fills_group(&rt, &mut world)?;
-    assert_eq!(rt; world.step(Publish { row: 5 })?, 21);
-    assert_eq!(rt; world.word(0), Some(21));
-    assert_eq!(rt; world.word(TABLE_WORDS), None);
-    fetches_group(&rt, &mut world)
+    publishes_group(&rt, &mut world)
 }
 
 // Steps a worker's round, until one is refused; tells how many rounds were made.
