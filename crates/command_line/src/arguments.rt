@@ -2,7 +2,7 @@
 
 ghost use Rattle.std.specs.Prelude.{◌≡◌, codes, false};
 ghost use Rattle.clap.specs.Words.{rule_of};
-ghost use Rattle.command_line.specs.CommandLine.{any_number_of, datagrams_argument, flag, named_argument, required_named_argument, timeout_argument, workers_argument};
+ghost use Rattle.command_line.specs.CommandLine.{any_number_of, datagrams_argument, flag, named_argument, required_argument, required_named_argument, timeout_argument, workers_argument};
 
 use crate::command::{MAX_DATAGRAMS, MAX_TIMEOUT};
 use crate::help;
@@ -10,6 +10,14 @@ use clap::builder::ValueParser;
 use clap::{Arg, ArgAction};
 use std::alloc::Global;
 use versions::WORKERS;
+
+// A word that stands alone, and has to be there.
+pub(crate) fn positional_argument<'a>(alloc: Global, name: &'a str, help: &'a str) -> Arg<'a>
+    ensures rule { rule_of result ≡ required_argument name.entry.now }
+    ensures local { result.global ≡ false }
+{
+    Arg::new(alloc, name).required(true).help(help)
+}
 
 // `--format NAME`
 pub(crate) fn format_argument<'a>(alloc: Global, help: &'a str) -> Arg<'a>

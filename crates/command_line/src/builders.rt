@@ -7,7 +7,7 @@ ghost use Rattle.command_line.specs.CommandLine.{check_line, command_line, compi
 
 use crate::arguments::{
     address_argument, datagrams_argument, expression_argument, flag_argument, format_argument,
-    lines_argument, packet_argument, timeout_argument, workers_argument,
+    lines_argument, packet_argument, positional_argument, timeout_argument, workers_argument,
 };
 use crate::help;
 use clap::{Arg, Command};
@@ -40,19 +40,15 @@ fn check_command<'a>(alloc: Global) -> Result<Command<'a>, AllocError>
     ensures local { IfOk result (λ command. (out-Command command).has_globals ≡ false) }
 {
     let format = format_argument(alloc, help::INPUT_FORMAT);
-    Command::new(alloc, "check")
-        .about(help::CHECK)
-        .after_help(help::CHECK_MORE)
-        .arg(format)
+    let command = plain_command(alloc, "check", help::CHECK, help::CHECK_MORE);
+    with_argument(Ok(command), format)
 }
 
 fn compile_command<'a>(alloc: Global) -> Result<Command<'a>, AllocError>
     ensures app { IfOk result (λ command. app_of command ≡ compile_line) }
     ensures local { IfOk result (λ command. (out-Command command).has_globals ≡ false) }
 {
-    let expression = Arg::new(alloc, "EXPR")
-        .required(true)
-        .help(help::COMPILE_EXPRESSION);
+    let expression = positional_argument(alloc, "EXPR", help::COMPILE_EXPRESSION);
     let command = plain_command(alloc, "compile", help::COMPILE, help::COMPILE_MORE);
     let command = with_argument(Ok(command), expression);
     with_argument(command, format_argument(alloc, help::OUTPUT_FORMAT))
@@ -72,13 +68,9 @@ fn explain_command<'a>(alloc: Global) -> Result<Command<'a>, AllocError>
     ensures app { IfOk result (λ command. app_of command ≡ explain_line) }
     ensures local { IfOk result (λ command. (out-Command command).has_globals ≡ false) }
 {
-    let code = Arg::new(alloc, "CODE")
-        .required(true)
-        .help(help::EXPLAIN_CODE);
-    Command::new(alloc, "explain")
-        .about(help::EXPLAIN)
-        .after_help(help::EXPLAIN_MORE)
-        .arg(code)
+    let code = positional_argument(alloc, "CODE", help::EXPLAIN_CODE);
+    let command = plain_command(alloc, "explain", help::EXPLAIN, help::EXPLAIN_MORE);
+    with_argument(Ok(command), code)
 }
 
 fn replay_command<'a>(alloc: Global) -> Result<Command<'a>, AllocError>

@@ -23,7 +23,7 @@ verdict_kind (Deliver key id to bytes) = codes "deliver " ++ endpoint_text key +
 abbrev pub refusal_kind : Reason → List ℕ
 refusal_kind reason = codes "refused " ++ (reason_code reason).name
 
--- a group's key and a member's number, as a verdict has them
+-- the key of a verdict is an endpoint, and its member's number is below 2^32
 abbrev pub NamesMember : Verdict → Type 0
 NamesMember (Dropped key id) = IsEndpoint key × (id < 2 ^ 32)
 NamesMember (Deliver key id to bytes) = IsEndpoint key × (id < 2 ^ 32)

@@ -78,8 +78,8 @@ pub fn tool<R: Read + Drop, W: Write, E: Write>(
     }
 }
 
-/// Law: a summary counts the reply to a packet by its verdict, and the reply that refuses a line by its code, and counts no other
-/// reply. It runs nothing.
+/// Law of single replies: the kind of the reply to a packet is its verdict, the kind of the reply that refuses a line is its code, and
+/// other replies have no kind. A summary counts the lines of a text by their kinds. It runs nothing.
 pub fn replies_are_counted()
     ensures verdicts { VerdictsAreCounted }
     ensures refusals { RefusalsAreCounted }

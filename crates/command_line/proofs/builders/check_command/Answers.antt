@@ -1,17 +1,11 @@
-use Rattle.std.proofs.Common.{rules, Bool, ◌≡◌, ◌∙◌, ◌||◌, ap, ap₂, codes, false}
-use Rattle.std.proofs.lemmas.Result.{IfOk-weaker}
-use Rattle.clap.specs.Simple.{app_of_fields}
-use Rattle.clap.specs.declared.builder.command.Command.TheViews.{out-Command}
-use Rattle.clap.specs.Words.{app_of, new_app, with_rule}
+use Rattle.std.proofs.Common.{codes}
+use Rattle.clap.specs.Words.{new_app}
+use Rattle.command_line.specs.CommandLine.{named_argument}
 use Rattle.command_line.proofs.builders.check_command.Goals as goal
 
 pub returns-clause-app : goal.returns-clause-app
 returns-clause-app c =
-    let format = c.format_argument-format.ensures in
-    let check_is : app_of c.after_help.result ≡ new_app (codes "check") = ap app_of_fields c.after_help.ensures ∙ ap app_of_fields c.about.ensures ∙ c.new.ensures.app in
-    IfOk-weaker c.arg.result _ _ (λ r adds. adds.shape format.local ∙ ap₂ with_rule check_is format.rule) c.arg.ensures
+    c.with_argument.ensures.app (new_app (codes "check")) (named_argument (codes "format")) c.plain_command-command.ensures.app c.format_argument-format.ensures.rule c.format_argument-format.ensures.local
 
 pub returns-clause-local : goal.returns-clause-local
-returns-clause-local c =
-    let start : (out-Command c.after_help.result).has_globals ≡ false = search rules in
-    IfOk-weaker c.arg.result _ _ (λ r adds. adds.globals ∙ ap₂ (λ (a b : Bool). a || b) start c.format_argument-format.ensures.local) c.arg.ensures
+returns-clause-local c = c.with_argument.ensures.local c.plain_command-command.ensures.local c.format_argument-format.ensures.local
