@@ -1,4 +1,4 @@
-//! Plain words: those of instructions that go on to the next place, and that a bound on their fields shows to be without a fault
+//! Plain words: those of instructions that go on to the next place, and that a limit on their fields shows to be without a fault
 //! (docs/MACHINE.md, "Instruction table" and "Verifier").
 
 ghost use Rattle.std.specs.Prelude.{◌≡◌, ◌<◌, IfSome, length};
@@ -15,7 +15,7 @@ struct Plain {
     stores: u16,
 }
 
-// No word of the code is plain: it is of a jump, a return or a division by a constant, or of no instruction.
+// No word of the code is plain: it is of a jump, a return, or a division or a remainder by a constant, or of no instruction.
 const NONE: Plain = Plain {
     limit: 0,
     loads: 0,
@@ -100,7 +100,7 @@ pub fn after_plain(word: u64, before: u16) -> Option<u16>
 {
     let code = (word >> 48) % 256;
     let plain = plain_of(code as usize);
-    let k = word % 16;
+    let k = word % CELLS as u64;
     let found = (before >> k) & plain.loads == plain.loads;
     if word - (code << 48) < plain.limit && found {
         Some(before | (plain.stores << k))
