@@ -1,33 +1,37 @@
 //! Batches of four datagrams: two for the third of three members, one for no group, and one cut short.
 
-use super::devices::{FailsAfter, FailsFirst, Looks};
-use super::verdicts::{PACKET, socket, with_members};
+use super::devices::{FailsAfter, FailsFirst, Looks, push, sends};
+use super::verdicts::{PACKET, socket, three_members, worker_of};
 use dispatch::{
     BatchDone, BatchFault, Counter, Datagrams, KINDS, Kind, Outbox, Sends, Source, Tally, batch,
 };
 use read_section::{Worker, open};
 use std::alloc::Global;
-use std::test::Fail;
+use std::process::Abort;
 
-pub fn four_datagrams(alloc: Global) -> Result<Datagrams, Fail> {
+pub fn four_datagrams(rt: &impl Abort, alloc: Global) -> Datagrams {
     let mut other_port = PACKET;
     other_port[23] = 54;
     let mut datagrams = Datagrams::new(alloc);
-    datagrams.push(Vec::from_slice(alloc, &PACKET)?)?;
-    datagrams.push(Vec::from_slice(alloc, &PACKET)?)?;
-    datagrams.push(Vec::from_slice(alloc, &other_port)?)?;
-    datagrams.push(Vec::from_slice(alloc, &PACKET[..27])?)?;
-    Ok(datagrams)
+    push(rt, alloc, &mut datagrams, &PACKET);
+    push(rt, alloc, &mut datagrams, &PACKET);
+    push(rt, alloc, &mut datagrams, &other_port);
+    push(rt, alloc, &mut datagrams, &PACKET[..27]);
+    datagrams
 }
 
-pub fn new_worker(alloc: Global) -> Result<Worker, Fail> {
-    let (_operator, mut workers) = open(with_members(alloc, &[1, 2, 3])?)?;
-    Ok(workers.pop().ok_or("no worker")?)
+pub fn new_worker(rt: &impl Abort, alloc: Global) -> Worker {
+    worker_of(rt, three_members(rt, alloc))
 }
 
-pub fn new_tally(alloc: Global) -> Result<(Tally, Counter), Fail> {
-    let (tally, mut counters) = Tally::open(alloc)?;
-    Ok((tally, counters.pop().ok_or("no counter")?))
+// Room for the two sends of a batch.
+pub fn two_sends(rt: &impl Abort, alloc: Global) -> Sends {
+    sends(rt, alloc, 2, 58)
+}
+
+pub fn new_tally(rt: &impl Abort, alloc: Global) -> (Tally, Counter) {
+    let (tally, mut counters) = Tally::open(alloc).expect(rt, "a tally opens");
+    (tally, counters.pop().expect(rt, "a tally has counters"))
 }
 
 pub fn totals(tally: &mut Tally) -> [u64; KINDS] {
@@ -42,39 +46,36 @@ pub fn totals(tally: &mut Tally) -> [u64; KINDS] {
     ]
 }
 
-// A worker, a tally with a counter, and room for two sends.
+// A worker, and a tally with a counter.
 #[derive(Drop)]
 struct Bench {
     worker: Worker,
     tally: Tally,
     counter: Counter,
-    sends: Sends,
 }
 
-fn new_bench(alloc: Global) -> Result<Bench, Fail> {
-    let sends = Sends::with_room(alloc, 2, 58)?;
-    let worker = new_worker(alloc)?;
-    let (tally, counter) = new_tally(alloc)?;
-    Ok(Bench {
-        worker,
+fn new_bench(rt: &impl Abort, alloc: Global) -> Bench {
+    let (tally, counter) = new_tally(rt, alloc);
+    Bench {
+        worker: new_worker(rt, alloc),
         tally,
         counter,
-        sends,
-    })
+    }
 }
 
-fn failing_after(alloc: Global, calls: u8) -> Result<FailsAfter, Fail> {
-    Ok(FailsAfter {
+pub fn failing_after(rt: &impl Abort, alloc: Global, calls: u8) -> FailsAfter {
+    FailsAfter {
         calls,
         failed: false,
-        datagrams: four_datagrams(alloc)?,
-    })
+        datagrams: four_datagrams(rt, alloc),
+    }
 }
 
-// A batch of at most so many over a source, into the bench's own outbox.
-fn batch_of<S: Source>(
+// A batch of at most so many, by the bench's worker.
+fn batch_of<S: Source, O: Outbox>(
     bench: &mut Bench,
     source: &mut S,
+    outbox: &mut O,
     limit: u64,
 ) -> Result<BatchDone, BatchFault> {
     let mut buf = [0; 64];
@@ -82,7 +83,7 @@ fn batch_of<S: Source>(
         &mut bench.worker,
         &mut bench.counter,
         source,
-        &mut bench.sends,
+        outbox,
         &mut buf,
         limit,
     )
@@ -92,63 +93,70 @@ const fn judged(judged: u64, more: bool) -> Result<BatchDone, BatchFault> {
     Ok(BatchDone { judged, more })
 }
 
-#[test]
-fn batch_at_limit_and_at_end(rt: HostRuntime) -> Result<(), Fail> {
-    for (limit, more) in [(4, true), (10, false)] {
-        let mut source = four_datagrams(rt.alloc())?;
-        let mut bench = new_bench(rt.alloc())?;
-        assert!(rt; batch_of(&mut bench, &mut source, limit) == judged(4, more));
-        assert_eq!(rt; totals(&mut bench.tally), [1, 1, 0, 0, 2, 0, 0]);
-        let sends = &bench.sends;
-        assert_eq!(rt;
-            (sends.to(0), sends.to(1)),
-            (Some(socket(3)), Some(socket(3)))
-        );
-        assert_eq!(rt; (sends.count(), sends.bytes().len()), (2, 58));
-    }
-    Ok(())
+fn judges_all_four(
+    rt: &impl Abort,
+    bench: &mut Bench,
+    source: &mut Datagrams,
+    sends: &mut Sends,
+    limit: u64,
+    more: bool,
+) {
+    let done = batch_of(bench, source, sends, limit);
+    assert!(rt; done == judged(4, more), "of at most {limit}");
+    assert_eq!(rt; totals(&mut bench.tally), [1, 1, 0, 0, 2, 0, 0]);
+    assert_eq!(rt;
+        (sends.to(0), sends.to(1), sends.count(), sends.bytes().len()),
+        (Some(socket(3)), Some(socket(3)), 2, 58)
+    );
 }
 
 #[test]
-fn batch_of_none_asks_nothing(rt: HostRuntime) -> Result<(), Fail> {
-    let mut source = failing_after(rt.alloc(), 0)?;
-    let mut bench = new_bench(rt.alloc())?;
-    assert!(rt; batch_of(&mut bench, &mut source, 0) == judged(0, true));
+fn batch_at_limit_and_at_end(rt: HostRuntime) {
+    for (limit, more) in [(4, true), (10, false)] {
+        let mut bench = new_bench(&rt, rt.alloc());
+        let mut source = four_datagrams(&rt, rt.alloc());
+        let mut sends = two_sends(&rt, rt.alloc());
+        judges_all_four(&rt, &mut bench, &mut source, &mut sends, limit, more);
+    }
+}
+
+fn none_is_asked(rt: &impl Abort, bench: &mut Bench, source: &mut FailsAfter, sends: &mut Sends) {
+    assert!(rt; batch_of(bench, source, sends, 0) == judged(0, true));
     assert!(rt; !source.failed);
-    Ok(())
+}
+
+#[test]
+fn batch_of_none_asks_nothing(rt: HostRuntime) {
+    let mut bench = new_bench(&rt, rt.alloc());
+    let mut source = failing_after(&rt, rt.alloc(), 0);
+    let mut sends = two_sends(&rt, rt.alloc());
+    none_is_asked(&rt, &mut bench, &mut source, &mut sends);
 }
 
 // The last worker of a table, and an outbox that looks at it and at a tally, with a counter of that.
-fn looking(alloc: Global) -> Result<(Worker, Counter, Looks), Fail> {
-    let (operator, mut workers) = open(with_members(alloc, &[1, 2, 3])?)?;
-    let worker = workers.pop().ok_or("no worker")?;
-    let (tally, counter) = new_tally(alloc)?;
-    let sends = Sends::with_room(alloc, 2, 58)?;
+fn looking(rt: &impl Abort, alloc: Global) -> (Worker, Counter, Looks) {
+    let (operator, mut workers) = open(three_members(rt, alloc)).expect(rt, "a table opens");
+    let worker = workers.pop().expect(rt, "a table has workers");
+    let (tally, counter) = new_tally(rt, alloc);
     let outbox = Looks {
         operator,
         tally,
         inside: 0,
         delivered: 0,
-        sends,
+        sends: two_sends(rt, alloc),
     };
-    Ok((worker, counter, outbox))
+    (worker, counter, outbox)
 }
 
-// A send that blocks holds no version, and its datagram is in the totals. A section that is abandoned shows that the outbox would
-// see a worker that is inside.
-#[test]
-fn sent_after_leaving_and_counting(rt: HostRuntime) -> Result<(), Fail> {
-    let (mut worker, mut counter, mut outbox) = looking(rt.alloc())?;
-    let mut source = four_datagrams(rt.alloc())?;
+fn sends_from_outside(
+    rt: &impl Abort,
+    worker: &mut Worker,
+    counter: &mut Counter,
+    source: &mut Datagrams,
+    outbox: &mut Looks,
+) {
     let mut buf = [0; 64];
-    let done = batch(
-        &mut worker,
-        &mut counter,
-        &mut source,
-        &mut outbox,
-        &mut buf,
-        4,
-    );
+    let done = batch(worker, counter, source, outbox, &mut buf, 4);
     assert!(rt; done == judged(4, true));
     assert_eq!(rt;
         (outbox.sends.count(), outbox.inside, outbox.delivered),
@@ -156,45 +164,58 @@ fn sent_after_leaving_and_counting(rt: HostRuntime) -> Result<(), Fail> {
     );
     worker.enter().abandon();
     let _ = outbox.send(socket(1), &[]);
-    assert_eq!(rt; outbox.inside, 1);
-    Ok(())
+    assert!(rt; outbox.inside == 1, "inside at {} sends", outbox.inside);
+}
+
+// A send that blocks holds no version, and its datagram is in the totals. A section that is abandoned shows that the outbox would
+// see a worker that is inside.
+#[test]
+fn sent_after_leaving_and_counting(rt: HostRuntime) {
+    let (mut worker, mut counter, mut outbox) = looking(&rt, rt.alloc());
+    let mut source = four_datagrams(&rt, rt.alloc());
+    sends_from_outside(&rt, &mut worker, &mut counter, &mut source, &mut outbox);
+}
+
+fn first_send_fails(
+    rt: &impl Abort,
+    bench: &mut Bench,
+    source: &mut Datagrams,
+    outbox: &mut FailsFirst,
+) {
+    assert!(rt; batch_of(bench, source, outbox, 4) == judged(4, true));
+    assert_eq!(rt;
+        (totals(&mut bench.tally), outbox.sends.count()),
+        ([1, 1, 0, 0, 2, 1, 0], 1)
+    );
 }
 
 #[test]
-fn outbox_fails_first(rt: HostRuntime) -> Result<(), Fail> {
-    let mut source = four_datagrams(rt.alloc())?;
-    let Bench {
-        mut worker,
-        mut tally,
-        mut counter,
-        sends,
-    } = new_bench(rt.alloc())?;
+fn outbox_fails_first(rt: HostRuntime) {
+    let mut bench = new_bench(&rt, rt.alloc());
+    let mut source = four_datagrams(&rt, rt.alloc());
     let mut outbox = FailsFirst {
         failed: false,
-        sends,
+        sends: two_sends(&rt, rt.alloc()),
     };
-    let mut buf = [0; 64];
-    let done = batch(
-        &mut worker,
-        &mut counter,
-        &mut source,
-        &mut outbox,
-        &mut buf,
-        4,
-    );
-    assert!(rt; done == judged(4, true));
-    assert_eq!(rt; totals(&mut tally), [1, 1, 0, 0, 2, 1, 0]);
-    assert_eq!(rt; outbox.sends.count(), 1);
-    Ok(())
+    first_send_fails(&rt, &mut bench, &mut source, &mut outbox);
+}
+
+fn third_receive_fails(
+    rt: &impl Abort,
+    bench: &mut Bench,
+    source: &mut FailsAfter,
+    sends: &mut Sends,
+) {
+    assert!(rt; batch_of(bench, source, sends, 10) == Err(BatchFault::ReceiveFailed));
+    assert_eq!(rt; totals(&mut bench.tally), [0, 0, 0, 0, 2, 0, 1]);
+    assert!(rt; batch_of(bench, source, sends, 10) == judged(2, false));
+    assert_eq!(rt; totals(&mut bench.tally), [1, 1, 0, 0, 2, 0, 1]);
 }
 
 #[test]
-fn source_fails_third(rt: HostRuntime) -> Result<(), Fail> {
-    let mut source = failing_after(rt.alloc(), 2)?;
-    let mut bench = new_bench(rt.alloc())?;
-    assert!(rt; batch_of(&mut bench, &mut source, 10) == Err(BatchFault::ReceiveFailed));
-    assert_eq!(rt; totals(&mut bench.tally), [0, 0, 0, 0, 2, 0, 1]);
-    assert!(rt; batch_of(&mut bench, &mut source, 10) == judged(2, false));
-    assert_eq!(rt; totals(&mut bench.tally), [1, 1, 0, 0, 2, 0, 1]);
-    Ok(())
+fn source_fails_third(rt: HostRuntime) {
+    let mut bench = new_bench(&rt, rt.alloc());
+    let mut source = failing_after(&rt, rt.alloc(), 2);
+    let mut sends = two_sends(&rt, rt.alloc());
+    third_receive_fails(&rt, &mut bench, &mut source, &mut sends);
 }

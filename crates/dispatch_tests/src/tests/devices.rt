@@ -6,7 +6,7 @@ use dispatch::{Datagrams, Failed, Kind, Outbox, Sends, Source, Tally};
 use ipv4_fields::Endpoint;
 use read_section::{Operator, WORKERS};
 use std::alloc::Global;
-use std::test::Fail;
+use std::process::Abort;
 
 /// A source that fails once, after so many calls.
 #[derive(Drop)]
@@ -86,39 +86,49 @@ const PORT_53: Endpoint = Endpoint {
     port: 53,
 };
 
+/// Puts a datagram of these bytes behind the others.
+pub fn push(rt: &impl Abort, alloc: Global, datagrams: &mut Datagrams, bytes: &[u8]) {
+    let datagram = Vec::from_slice(alloc, bytes).expect(rt, "a datagram's bytes");
+    datagrams.push(datagram).expect(rt, "one datagram more");
+}
+
 #[test]
-fn datagrams_come_in_order_and_cut(rt: HostRuntime) -> Result<(), Fail> {
+fn datagrams_come_in_order_and_cut(rt: HostRuntime) {
     let mut datagrams = Datagrams::new(rt.alloc());
-    datagrams.push(Vec::from_slice(rt.alloc(), &[1, 2])?)?;
-    datagrams.push(Vec::new(rt.alloc()))?;
-    datagrams.push(Vec::from_slice(rt.alloc(), &[3, 4, 5, 6])?)?;
+    push(&rt, rt.alloc(), &mut datagrams, &[1, 2]);
+    push(&rt, rt.alloc(), &mut datagrams, &[]);
+    push(&rt, rt.alloc(), &mut datagrams, &[3, 4, 5, 6]);
     let mut buf = [0; 3];
-    assert_eq!(rt; datagrams.next(&mut buf), Ok(Some(2)));
-    assert_eq!(rt; buf, [1, 2, 0]);
+    assert_eq!(rt; (datagrams.next(&mut buf), buf), (Ok(Some(2)), [1, 2, 0]));
     assert_eq!(rt; datagrams.next(&mut buf), Ok(Some(0)));
-    assert_eq!(rt; datagrams.next(&mut buf), Ok(Some(3)));
-    assert_eq!(rt; buf, [3, 4, 5]);
+    assert_eq!(rt; (datagrams.next(&mut buf), buf), (Ok(Some(3)), [3, 4, 5]));
     assert_eq!(rt; datagrams.next(&mut buf), Ok(None));
-    Ok(())
 }
 
-fn sends(alloc: Global, count: usize, bytes: usize) -> Result<Sends, Fail> {
-    Ok(Sends::with_room(alloc, count, bytes)?)
+/// Room for so many sends, and for so many bytes in all of them.
+pub fn sends(rt: &impl Abort, alloc: Global, count: usize, bytes: usize) -> Sends {
+    Sends::with_room(alloc, count, bytes).expect(rt, "room for sends")
 }
 
 #[test]
-fn sends_past_the_room_fail(rt: HostRuntime) -> Result<(), Fail> {
-    let mut few = sends(rt.alloc(), 1, 9)?;
-    assert_eq!(rt; few.send(PORT_53, &[1, 2]), Ok(()));
-    assert_eq!(rt; few.send(PORT_53, &[3]), Err(Failed));
+fn sends_past_the_room_fail(rt: HostRuntime) {
+    let mut few = sends(&rt, rt.alloc(), 1, 9);
+    assert_eq!(rt;
+        (few.send(PORT_53, &[1, 2]), few.send(PORT_53, &[3])),
+        (Ok(()), Err(Failed))
+    );
     assert_eq!(rt;
         (few.count(), few.to(0), few.to(1)),
         (1, Some(PORT_53), None)
     );
-    let mut short = sends(rt.alloc(), 9, 3)?;
-    assert_eq!(rt; short.send(PORT_53, &[1, 2]), Ok(()));
-    assert_eq!(rt; short.send(PORT_53, &[3, 4]), Err(Failed));
-    assert_eq!(rt; short.send(PORT_53, &[5]), Ok(()));
+    let mut short = sends(&rt, rt.alloc(), 9, 3);
+    assert_eq!(rt;
+        (
+            short.send(PORT_53, &[1, 2]),
+            short.send(PORT_53, &[3, 4]),
+            short.send(PORT_53, &[5])
+        ),
+        (Ok(()), Err(Failed), Ok(()))
+    );
     assert_eq!(rt; short.bytes(), [1, 2, 5].as_slice());
-    Ok(())
 }

@@ -1,10 +1,8 @@
 //! A job of batches of one datagram, over a source that fails once.
 
-use super::batches::{four_datagrams, new_tally, new_worker, totals};
-use super::devices::FailsAfter;
-use dispatch::{Gate, Job, Sends, finish};
+use super::batches::{failing_after, new_tally, new_worker, totals, two_sends};
+use dispatch::{Gate, Job, finish};
 use std::cell::Cell;
-use std::test::Fail;
 
 // The sums of the numbers that it was told.
 #[derive(Drop)]
@@ -25,19 +23,14 @@ impl Gate for Sums {
 
 // Two batches of a datagram, one that fails to receive, two of a datagram, and one at the end: 2 + 5 + 8 + 11 + 14 + 17.
 #[test]
-fn job_runs_to_its_end(rt: HostRuntime) -> Result<(), Fail> {
-    let (mut tally, counter) = new_tally(rt.alloc())?;
-    let source = FailsAfter {
-        calls: 2,
-        failed: false,
-        datagrams: four_datagrams(rt.alloc())?,
-    };
+fn job_runs_to_its_end(rt: HostRuntime) {
+    let (mut tally, counter) = new_tally(&rt, rt.alloc());
     let job = Job {
-        worker: new_worker(rt.alloc())?,
+        worker: new_worker(&rt, rt.alloc()),
         counter,
-        source,
-        outbox: Sends::with_room(rt.alloc(), 2, 58)?,
-        buffer: vec![in rt.alloc(); 0; 64]?,
+        source: failing_after(&rt, rt.alloc(), 2),
+        outbox: two_sends(&rt, rt.alloc()),
+        buffer: vec![in rt.alloc(); 0; 64].expect(&rt, "a buffer"),
         limit: 1,
     };
     let gate = Sums {
@@ -46,7 +39,8 @@ fn job_runs_to_its_end(rt: HostRuntime) -> Result<(), Fail> {
     };
     let done = finish(&rt, &gate, (2, 3), job);
     assert_eq!(rt; (gate.started.get(), gate.ended.get()), (57, 57));
-    assert_eq!(rt; totals(&mut tally), [1, 1, 0, 0, 2, 0, 1]);
-    assert_eq!(rt; done.outbox.count(), 2);
-    Ok(())
+    assert_eq!(rt;
+        (totals(&mut tally), done.outbox.count()),
+        ([1, 1, 0, 0, 2, 0, 1], 2)
+    );
 }

@@ -7,7 +7,7 @@ use member_group::{Command, Config};
 use packet_verdict::{Verdict, judge};
 use read_section::{Worker, open};
 use std::alloc::Global;
-use std::test::Fail;
+use std::process::Abort;
 
 // 29 bytes of UDP over IPv4 from 10.0.0.1:5000 to 10.0.0.2:53, with the payload `a`.
 pub const PACKET: [u8; 29] = [
@@ -31,72 +31,61 @@ pub fn socket(member: u16) -> Endpoint {
     }
 }
 
-fn applied(config: &Config, command: Command) -> Result<Config, Fail> {
-    match config.apply(&command) {
-        Ok(next) => Ok(next),
-        Err(_) => Err(Fail::from("the command is applied")),
-    }
+fn applied(rt: &impl Abort, config: &Config, command: Command) -> Config {
+    config.apply(&command).expect(rt, "the command is applied")
 }
 
 // The program `ret #number`.
-fn returning(alloc: Global, number: u32) -> Result<Program<Global>, Fail> {
-    match Program::new(vec![in alloc; RET | u64::from(number); 1]?) {
-        Ok(program) => Ok(program),
-        Err(_) => Err(Fail::from("a return is a program")),
-    }
+fn returning(rt: &impl Abort, alloc: Global, number: u32) -> Program<Global> {
+    let words = vec![in alloc; RET | u64::from(number); 1].expect(rt, "one word");
+    Program::new(words).expect(rt, "a return is a program")
 }
 
-pub fn with_members(alloc: Global, members: &[u16]) -> Result<Config, Fail> {
-    let mut config = applied(&Config::new(alloc), Command::AddGroup { key: KEY })?;
+fn with_members(rt: &impl Abort, alloc: Global, members: &[u16]) -> Config {
+    let mut config = applied(rt, &Config::new(alloc), Command::AddGroup { key: KEY });
     for member in members {
         config = applied(
+            rt,
             &config,
             Command::Join {
                 key: KEY,
                 member: u32::from(*member),
                 to: socket(*member),
             },
-        )?;
+        );
     }
-    Ok(config)
+    config
 }
 
-fn with_selector(alloc: Global, config: &Config, number: u32) -> Result<Config, Fail> {
-    applied(
-        config,
-        Command::SetSelector {
-            key: KEY,
-            program: returning(alloc, number)?,
-        },
-    )
+pub fn three_members(rt: &impl Abort, alloc: Global) -> Config {
+    with_members(rt, alloc, &[1, 2, 3])
 }
 
-fn with_filter(alloc: Global, config: &Config, member: u32, number: u32) -> Result<Config, Fail> {
-    applied(
-        config,
-        Command::SetFilter {
-            key: KEY,
-            member,
-            program: returning(alloc, number)?,
-        },
-    )
+fn with_selector(rt: &impl Abort, alloc: Global, config: &Config, number: u32) -> Config {
+    let program = returning(rt, alloc, number);
+    applied(rt, config, Command::SetSelector { key: KEY, program })
+}
+
+// The last worker of a table with the configuration.
+pub fn worker_of(rt: &impl Abort, config: Config) -> Worker {
+    let (_operator, mut workers) = open(config).expect(rt, "a table opens");
+    workers.pop().expect(rt, "a table has workers")
 }
 
 // The verdict of the version that is current, in a section of its own.
-pub fn judged_by(worker: &mut Worker, packet: &[u8]) -> Result<Verdict, Fail> {
-    if packet.len() > MAX_PACKET {
-        return Err(Fail::from("a packet has at most 65,535 bytes"));
-    }
+pub fn judged_by(rt: &impl Abort, worker: &mut Worker, packet: &[u8]) -> Verdict {
+    assert!(rt;
+        packet.len() <= MAX_PACKET,
+        "a packet has at most 65,535 bytes"
+    );
     let mut section = worker.enter();
     let verdict = judge(&mut section, packet);
     section.leave();
-    Ok(verdict)
+    verdict
 }
 
-fn judged(config: Config, packet: &[u8]) -> Result<Verdict, Fail> {
-    let (_operator, mut workers) = open(config)?;
-    let mut worker = workers.pop().ok_or("no worker")?;
-    judged_by(&mut worker, packet)
+fn judged(rt: &impl Abort, config: Config, packet: &[u8]) -> Verdict {
+    judged_by(rt, &mut worker_of(rt, config), packet)
 }
 
 pub fn delivered(member: u16, bytes: usize) -> Verdict {
@@ -108,49 +97,54 @@ pub fn delivered(member: u16, bytes: usize) -> Verdict {
     }
 }
 
+// A group of members 1, 2 and 3, of which 1 left.
+fn first_left(rt: &impl Abort, alloc: Global) -> Config {
+    let leave = Command::Leave {
+        key: KEY,
+        member: 1,
+    };
+    applied(rt, &three_members(rt, alloc), leave)
+}
+
 #[test]
-fn last_member_fills_the_gap(rt: HostRuntime) -> Result<(), Fail> {
-    let three = with_members(rt.alloc(), &[1, 2, 3])?;
-    let two = applied(
-        &three,
-        Command::Leave {
-            key: KEY,
-            member: 1,
-        },
-    )?;
-    let first = with_selector(rt.alloc(), &two, 0)?;
-    assert_eq!(rt; judged(first, &PACKET)?, delivered(3, 29));
-    Ok(())
+fn last_member_fills_the_gap(rt: HostRuntime) {
+    let two = first_left(&rt, rt.alloc());
+    let first = with_selector(&rt, rt.alloc(), &two, 0);
+    assert_eq!(rt; judged(&rt, first, &PACKET), delivered(3, 29));
+}
+
+// A selector of three members, and the member that is found with it.
+const SELECTED: [(Option<u32>, u16); 5] = [
+    (None, 3),
+    (Some(0), 1),
+    (Some(1), 2),
+    (Some(3), 3),
+    (Some(0xffff_ffff), 3),
+];
+
+fn selected(rt: &impl Abort, alloc: Global, selector: Option<u32>) -> Config {
+    let three = three_members(rt, alloc);
+    match selector {
+        Some(number) => with_selector(rt, alloc, &three, number),
+        None => three,
+    }
 }
 
 // 0x0a000001 xor 0x0a000002 xor (5000 * 65536 + 53) is 327680054, which leaves 2 where it is divided by 3.
 #[test]
-fn selector_out_of_range_falls_back(rt: HostRuntime) -> Result<(), Fail> {
-    let cases: [(Option<u32>, u16); 5] = [
-        (None, 3),
-        (Some(0), 1),
-        (Some(1), 2),
-        (Some(3), 3),
-        (Some(0xffff_ffff), 3),
-    ];
-    for (selector, member) in cases {
-        let three = with_members(rt.alloc(), &[1, 2, 3])?;
-        let config = match selector {
-            Some(number) => with_selector(rt.alloc(), &three, number)?,
-            None => three,
-        };
+fn selector_out_of_range_falls_back(rt: HostRuntime) {
+    for (selector, member) in &SELECTED {
+        let config = selected(&rt, rt.alloc(), *selector);
         assert_eq!(rt;
-            judged(config, &PACKET)?,
-            delivered(member, 29),
+            judged(&rt, config, &PACKET),
+            delivered(*member, 29),
             "{selector:?}"
         );
     }
-    Ok(())
 }
 
 #[test]
-fn malformed_packets_and_an_empty_group(rt: HostRuntime) -> Result<(), Fail> {
-    let empty = || with_members(rt.alloc(), &[]);
+fn malformed_packets_and_an_empty_group(rt: HostRuntime) {
     let mut longer = PACKET;
     longer[3] = 30;
     let mut fragment = PACKET;
@@ -165,14 +159,24 @@ fn malformed_packets_and_an_empty_group(rt: HostRuntime) -> Result<(), Fail> {
         (&PACKET, Verdict::NoMembers),
         (&other_port, Verdict::NoGroup),
     ];
-    for (packet, verdict) in cases {
-        assert_eq!(rt; judged(empty()?, packet)?, verdict, "{packet:?}");
+    for (packet, verdict) in &cases {
+        let empty = with_members(&rt, rt.alloc(), &[]);
+        assert_eq!(rt; judged(&rt, empty, packet), *verdict, "{packet:?}");
     }
-    Ok(())
+}
+
+// A group of member 7, whose filter returns the number.
+fn filtered(rt: &impl Abort, alloc: Global, number: u32) -> Config {
+    let filter = Command::SetFilter {
+        key: KEY,
+        member: 7,
+        program: returning(rt, alloc, number),
+    };
+    applied(rt, &with_members(rt, alloc, &[7]), filter)
 }
 
 #[test]
-fn filters_keep_the_first_bytes(rt: HostRuntime) -> Result<(), Fail> {
+fn filters_keep_the_first_bytes(rt: HostRuntime) {
     let cases = [
         (1, delivered(7, 1)),
         (28, delivered(7, 28)),
@@ -187,10 +191,8 @@ fn filters_keep_the_first_bytes(rt: HostRuntime) -> Result<(), Fail> {
             },
         ),
     ];
-    for (number, verdict) in cases {
-        let one = with_members(rt.alloc(), &[7])?;
-        let config = with_filter(rt.alloc(), &one, 7, number)?;
-        assert_eq!(rt; judged(config, &PACKET)?, verdict, "{number}");
+    for (number, verdict) in &cases {
+        let config = filtered(&rt, rt.alloc(), *number);
+        assert_eq!(rt; judged(&rt, config, &PACKET), *verdict, "{number}");
     }
-    Ok(())
 }

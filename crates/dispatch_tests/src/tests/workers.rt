@@ -1,49 +1,57 @@
 //! Two jobs in threads of their own, and what runs beside them.
 
-ghost use Rattle.std.specs.Prelude.{◌≡◌, ◌≤◌, IfOk};
+ghost use Rattle.std.specs.Prelude.{◌≡◌, ◌≤◌};
 
-use super::batches::{four_datagrams, totals};
-use super::verdicts::with_members;
-use dispatch::{Counter, Datagrams, Gate, Job, Sends, Tally, run_workers};
+use super::batches::{four_datagrams, totals, two_sends};
+use super::verdicts::three_members;
+use dispatch::{Counter, Datagrams, Done, Gate, Job, Sends, Tally, run_workers};
 use read_section::{Worker, open};
 use std::alloc::Global;
+use std::process::Abort;
 use std::sync::atomic::{AtomicU64, Ordering};
-use std::test::Fail;
 use std::thread;
 
-// A job over four datagrams.
+// A job over four datagrams, by the last worker and the last counter.
 fn job(
+    rt: &impl Abort,
     alloc: Global,
-    worker: Worker,
-    counter: Counter,
+    workers: &mut Vec<Worker>,
+    counters: &mut Vec<Counter>,
     limit: u64,
-) -> Result<Job<Datagrams, Sends>, Fail>
+) -> Job<Datagrams, Sends>
     requires limit { 1 ≤ limit }
-    ensures limit { IfOk result (λ job. job.limit ≡ limit) }
+    ensures limit { result.limit ≡ limit }
 {
-    Ok(Job {
-        worker,
-        counter,
-        source: four_datagrams(alloc)?,
-        outbox: Sends::with_room(alloc, 2, 58)?,
-        buffer: vec![in alloc; 0; 64]?,
+    Job {
+        worker: workers.pop().expect(rt, "a worker"),
+        counter: counters.pop().expect(rt, "a counter"),
+        source: four_datagrams(rt, alloc),
+        outbox: two_sends(rt, alloc),
+        buffer: vec![in alloc; 0; 64].expect(rt, "a buffer"),
         limit,
-    })
+    }
 }
 
 // Two of them, and their tally.
-fn two_jobs(alloc: Global, limit: u64) -> Result<(Tally, Vec<Job<Datagrams, Sends>>), Fail>
+fn two_jobs(rt: &impl Abort, alloc: Global, limit: u64) -> (Tally, Vec<Job<Datagrams, Sends>>)
     requires { 1 ≤ limit }
 {
-    let (_operator, mut workers) = open(with_members(alloc, &[1, 2, 3])?)?;
-    let (tally, mut counters) = Tally::open(alloc)?;
+    let (_operator, mut workers) = open(three_members(rt, alloc)).expect(rt, "a table opens");
+    let (tally, mut counters) = Tally::open(alloc).expect(rt, "a tally opens");
     let mut jobs = Vec::new(alloc);
     for _ in 0..2usize {
-        if let (Some(worker), Some(counter)) = (workers.pop(), counters.pop()) {
-            jobs.push(job(alloc, worker, counter, limit)?)?;
-        }
+        let job = job(rt, alloc, &mut workers, &mut counters, limit);
+        jobs.push(job).expect(rt, "one job more");
     }
-    Ok((tally, jobs))
+    (tally, jobs)
+}
+
+// Each of the two jobs sent twice, and has its buffer still.
+fn are_both_done(rt: &impl Abort, tally: &mut Tally, dones: &[Done<Datagrams, Sends>]) {
+    assert_eq!(rt; (dones.len(), totals(tally)), (2, [2, 2, 0, 0, 4, 0, 0]));
+    for done in dones {
+        assert_eq!(rt; (done.outbox.count(), done.buffer.len()), (2, 64));
+    }
 }
 
 // Three that wait for each other, each for `TURNS` turns at most.
@@ -83,23 +91,19 @@ impl Gate for Meeting {
 }
 
 #[test]
-fn two_jobs_and_side_run_at_once(rt: HostRuntime) -> Result<(), Fail> {
-    let (mut tally, jobs) = two_jobs(rt.alloc(), 10)?;
+fn two_jobs_and_side_run_at_once(rt: HostRuntime) {
+    let (mut tally, jobs) = two_jobs(&rt, rt.alloc(), 10);
     let meeting = Meeting {
         came: AtomicU64::new(0),
         failures: AtomicU64::new(0),
     };
     let gate = &meeting;
-    let Ok(dones) = run_workers(&rt, rt.alloc(), jobs, gate, || gate.come(100)) else {
-        return Err(Fail::from("both jobs run"));
-    };
+    let dones = run_workers(&rt, rt.alloc(), jobs, gate, || gate.come(100)).expect(
+        &rt,
+        "both jobs run",
+    );
     assert_eq!(rt; meeting.failures.into_inner(), 0);
-    assert_eq!(rt; totals(&mut tally), [2, 2, 0, 0, 4, 0, 0]);
-    for done in &dones {
-        assert_eq!(rt; (done.outbox.count(), done.buffer.len()), (2, 64));
-    }
-    assert_eq!(rt; dones.len(), 2);
-    Ok(())
+    are_both_done(&rt, &mut tally, &dones);
 }
 
 // How often each number was told: in hexadecimal, digit n counts number n, from 1 to 10, and digit 0 any other.
@@ -125,36 +129,32 @@ impl Gate for Numbers {
 
 // Each job has four batches of a datagram, and one at the end: the numbers 1 to 10, each once.
 #[test]
-fn two_jobs_number_their_batches(rt: HostRuntime) -> Result<(), Fail> {
-    let (mut tally, jobs) = two_jobs(rt.alloc(), 1)?;
+fn two_jobs_number_their_batches(rt: HostRuntime) {
+    let (mut tally, jobs) = two_jobs(&rt, rt.alloc(), 1);
     let numbers = Numbers {
         started: AtomicU64::new(0),
         ended: AtomicU64::new(0),
     };
-    let Ok(dones) = run_workers(&rt, rt.alloc(), jobs, &numbers, || {}) else {
-        return Err(Fail::from("both jobs run"));
-    };
-    assert_eq!(rt; dones.len(), 2);
-    assert_eq!(rt; totals(&mut tally), [2, 2, 0, 0, 4, 0, 0]);
+    let dones = run_workers(&rt, rt.alloc(), jobs, &numbers, || {}).expect(&rt, "both jobs run");
+    are_both_done(&rt, &mut tally, &dones);
     assert_eq!(rt;
         (numbers.started.into_inner(), numbers.ended.into_inner()),
         (0x111_1111_1110, 0x111_1111_1110)
     );
-    Ok(())
 }
 
 // Without jobs no thread is started, and `side` runs all the same.
 #[test]
-fn side_runs_without_jobs(rt: HostRuntime) -> Result<(), Fail> {
+fn side_runs_without_jobs(rt: HostRuntime) {
     let jobs: Vec<Job<Datagrams, Sends>> = Vec::new(rt.alloc());
     let meeting = Meeting {
         came: AtomicU64::new(11),
         failures: AtomicU64::new(0),
     };
     let gate = &meeting;
-    let Ok(dones) = run_workers(&rt, rt.alloc(), jobs, gate, || gate.come(100)) else {
-        return Err(Fail::from("there is nothing to start"));
-    };
+    let dones = run_workers(&rt, rt.alloc(), jobs, gate, || gate.come(100)).expect(
+        &rt,
+        "there is nothing to start",
+    );
     assert_eq!(rt; (dones.len(), meeting.came.into_inner()), (0, 111));
-    Ok(())
 }
