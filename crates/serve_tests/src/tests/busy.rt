@@ -1,11 +1,11 @@
 //! The switch while it has much to do: its front is flooded, or datagrams wait for a worker when it is asked to stop.
 
-use super::client::{Case, PACKET, Ports, TURNS, at, local, new_client, new_output};
+use super::client::{Case, Client, PACKET, Ports, TURNS, at, local, new_client, new_output};
 use dispatch::Gate;
 use std::net::{Net, UdpSocket};
+use std::process::Abort;
 use std::sync::Arc;
 use std::sync::atomic::{AtomicU64, Ordering};
-use std::test::Fail;
 use std::{io, thread};
 use udp_service::serve;
 
@@ -38,9 +38,10 @@ impl Gate for Flood {
 
 const SHOW: Case = (b"show", b"version 0 groups 0 members 0 charge 2");
 
-// Asks 20 times while the flood lasts: how often `show` was answered, and whether `stop` was then.
-fn ask_beside<N: Net>(net: &N, ports: &Ports, flood: &Flood) -> io::Result<(u32, bool)> {
-    let client = new_client(net, ports)?;
+const STOP: Case = (b"stop", b"ok stop");
+
+// Begins the flood, and waits until it is under way.
+fn begin(client: &Client, flood: &Flood) -> io::Result<()> {
     client.socket.send_to(&PACKET[..27], client.front)?;
     for _ in 0..TURNS {
         if flood.batches.load(Ordering::SeqCst) >= 100 {
@@ -48,23 +49,40 @@ fn ask_beside<N: Net>(net: &N, ports: &Ports, flood: &Flood) -> io::Result<(u32,
         }
         thread::yield_now();
     }
+    Ok(())
+}
+
+// How often `show` is answered of 20 times.
+fn times_answered(client: &Client) -> u32 {
     let mut answered = 0u32;
     for _ in 0..20u32 {
         if client.is_answered(SHOW.0, SHOW.1).unwrap_or(false) {
             answered = answered.saturating_add(1);
         }
     }
+    answered
+}
+
+// How often `show` was answered while the flood lasts, and whether `stop` was then.
+fn ask_beside<N: Net>(net: &N, ports: &Ports, flood: &Flood) -> io::Result<(u32, bool)> {
+    let client = new_client(net, ports)?;
+    answers_beside(&client, flood)
+}
+
+fn answers_beside(client: &Client, flood: &Flood) -> io::Result<(u32, bool)> {
+    begin(client, flood)?;
+    let answered = times_answered(client);
     flood.ended.store(1, Ordering::SeqCst);
-    let stopped = client.is_answered(b"stop".as_slice(), b"ok stop".as_slice())?;
+    let stopped = client.is_answered(STOP.0, STOP.1)?;
     Ok((answered, stopped))
 }
 
 #[test]
-fn control_is_answered_beside_a_flood(rt: HostRuntime) -> Result<(), Fail> {
-    let (mut out, ports) = new_output(rt.alloc())?;
+fn control_is_answered_beside_a_flood(rt: HostRuntime) {
+    let (mut out, ports) = new_output(&rt, rt.alloc());
     let flood = Flood {
-        socket: UdpSocket::bind(&rt, local(0))?,
-        ports: Arc::try_clone(&ports)?,
+        socket: UdpSocket::bind(&rt, local(0)).expect(&rt, "a socket"),
+        ports: Arc::try_clone(&ports).expect(&rt, "a third owner"),
         batches: AtomicU64::new(0),
         ended: AtomicU64::new(0),
     };
@@ -73,10 +91,9 @@ fn control_is_answered_beside_a_flood(rt: HostRuntime) -> Result<(), Fail> {
         || serve(&rt, rt.alloc(), at(0), at(0), 2, &flood, &mut out),
         || ask_beside(&rt, &ports, &flood),
     );
-    assert_eq!(rt; served, Ok(()));
-    assert_eq!(rt; asked?, (20, true));
-    assert!(rt; flood.batches.into_inner() >= 100);
-    Ok(())
+    assert!(rt; served == Ok(()), "{served:?}");
+    assert_eq!(rt; asked.expect(&rt, "a client"), (20, true));
+    assert!(rt; flood.batches.load(Ordering::SeqCst) >= 100);
 }
 
 // The first batch waits until it is let go, for `TURNS` turns at most.
@@ -103,50 +120,51 @@ impl Gate for Held {
     fn done(&self, _batch: u64) {}
 }
 
+const EIGHT_AND_STOP: [Case; 9] = [SHOW, SHOW, SHOW, SHOW, SHOW, SHOW, SHOW, SHOW, STOP];
+
 const QUEUED: &[u8] =
     b"malformed 40 nogroup 0 nomembers 0 dropped 0 delivered 0 sendfailed 0 receivefailed 0";
 
 // Fills the queue, and lets its worker go once `stop` is answered. Of eight answers the last come in a later turn than the first, so all
 // is received by then.
-fn queue_and_stop<N: Net>(net: &N, ports: &Ports, held: &Held) -> io::Result<Option<usize>> {
-    let client = new_client(net, ports)?;
+fn first_wrong_of_queued(client: &Client, held: &Held) -> io::Result<Option<usize>> {
     for _ in 0..40u32 {
         client.socket.send_to(&PACKET[..27], client.front)?;
     }
-    let wrong = client.first_wrong(&[
-        SHOW,
-        SHOW,
-        SHOW,
-        SHOW,
-        SHOW,
-        SHOW,
-        SHOW,
-        SHOW,
-        (b"stop", b"ok stop"),
-    ])?;
+    let wrong = client.first_wrong(&EIGHT_AND_STOP)?;
     held.let_go.store(1, Ordering::SeqCst);
     Ok(wrong)
 }
 
+fn queue_and_stop<N: Net>(net: &N, ports: &Ports, held: &Held) -> io::Result<Option<usize>> {
+    let client = new_client(net, ports)?;
+    first_wrong_of_queued(&client, held)
+}
+
+// The ready line, and then that of the totals.
+fn is_written(rt: &impl Abort, bytes: &[u8]) {
+    let mut lines = bytes.split(|byte| *byte == b'\n');
+    let ready = lines.next().expect(rt, "a line");
+    assert!(rt; ready.starts_with(b"ready "));
+    assert_eq!(rt; lines.next(), Some(QUEUED));
+    assert!(rt; lines.next() == Some(b"".as_slice()));
+    assert!(rt; lines.next() == None);
+}
+
 #[test]
-fn queued_datagrams_are_judged_after_stop(rt: HostRuntime) -> Result<(), Fail> {
+fn queued_datagrams_are_judged_after_stop(rt: HostRuntime) {
     let held = Held {
         let_go: AtomicU64::new(0),
         failures: AtomicU64::new(0),
     };
-    let (mut out, ports) = new_output(rt.alloc())?;
+    let (mut out, ports) = new_output(&rt, rt.alloc());
     let (served, wrong) = thread::join(
         &rt,
         || serve(&rt, rt.alloc(), at(0), at(0), 1, &held, &mut out),
         || queue_and_stop(&rt, &ports, &held),
     );
-    assert_eq!(rt; served, Ok(()));
-    assert_eq!(rt; wrong?, None);
-    assert_eq!(rt; held.failures.into_inner(), 0);
-    let mut lines = out.bytes.split(|byte| *byte == b'\n');
-    assert!(rt; lines.next().is_some_and(|line| line.starts_with(b"ready ")));
-    assert_eq!(rt; lines.next(), Some(QUEUED));
-    assert_eq!(rt; lines.next(), Some(b"".as_slice()));
-    assert_eq!(rt; lines.next(), None);
-    Ok(())
+    assert!(rt; served == Ok(()), "{served:?}");
+    assert_eq!(rt; wrong.expect(&rt, "a client"), None);
+    assert!(rt; held.failures.load(Ordering::SeqCst) == 0);
+    is_written(&rt, &out.bytes);
 }

@@ -5,9 +5,9 @@ use ipv4_fields::Endpoint;
 use std::alloc::Global;
 use std::io::{ErrorKind, Write};
 use std::net::{Ipv4Addr, Net, SocketAddr, SocketAddrV4, UdpSocket};
+use std::process::Abort;
 use std::sync::Arc;
 use std::sync::atomic::{AtomicU64, Ordering};
-use std::test::Fail;
 use std::time::Duration;
 use std::{io, thread};
 
@@ -48,25 +48,28 @@ pub struct Output {
 
 pub type Ports = Arc<AtomicU64, Global>;
 
-pub fn new_output(alloc: Global) -> Result<(Output, Ports), Fail> {
-    let Ok(ports) = Arc::new(alloc, AtomicU64::new(0)) else {
-        return Err(Fail::from("no memory"));
-    };
+pub fn new_output(rt: &impl Abort, alloc: Global) -> (Output, Ports) {
+    let ports = Arc::new(alloc, AtomicU64::new(0)).ok().expect(rt, "memory");
     let output = Output {
         bytes: Vec::new(alloc),
-        ports: Arc::try_clone(&ports)?,
+        ports: Arc::try_clone(&ports).expect(rt, "a second owner"),
     };
-    Ok((output, ports))
+    (output, ports)
+}
+
+fn port_of(word: Option<&str>) -> Option<u16> {
+    let address = word?.parse::<SocketAddr>().ok()?;
+    Some(address.port())
 }
 
 pub fn ports_in(line: &[u8]) -> Option<u64> {
     let mut words = str::from_utf8(line).ok()?.split_whitespace();
-    if words.next()? != "ready" {
+    if words.next() != Some("ready") {
         return None;
     }
-    let front = words.next()?.parse::<SocketAddr>().ok()?;
-    let control = words.next()?.parse::<SocketAddr>().ok()?;
-    Some((u64::from(front.port()) << 16) | u64::from(control.port()))
+    let front = port_of(words.next())?;
+    let control = port_of(words.next())?;
+    Some((u64::from(front) << 16) | u64::from(control))
 }
 
 impl Write for Output {

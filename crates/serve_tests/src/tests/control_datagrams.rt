@@ -1,31 +1,30 @@
 //! Answers to control datagrams.
 
 use control_datagram::{ControlAnswer, answer};
-use dispatch::{Kind, Tally};
+use dispatch::{Counter, Kind, Tally};
 use member_group::Config;
 use read_section::{Operator, open};
 use std::alloc::Global;
 use std::process::Abort;
-use std::test::Fail;
 
-fn opened(alloc: Global) -> Result<(Operator, Tally), Fail> {
-    let (operator, _workers) = open(Config::new(alloc))?;
-    let (tally, _counters) = Tally::open(alloc)?;
-    Ok((operator, tally))
+// What answers: a table without groups, and the tally of all workers.
+#[derive(Drop)]
+struct Switch {
+    operator: Operator,
+    tally: Tally,
 }
 
-fn expect(
-    rt: &impl Abort,
-    alloc: Global,
-    (operator, tally): &mut (Operator, Tally),
-    text: &[u8],
-    reply: &[u8],
-) -> Result<(), Fail> {
-    let answer = answer(alloc, text, operator, tally);
+fn opened(rt: &impl Abort, alloc: Global) -> (Switch, Vec<Counter>) {
+    let (operator, _workers) = open(Config::new(alloc)).expect(rt, "a table");
+    let (tally, counters) = Tally::open(alloc).expect(rt, "a tally");
+    (Switch { operator, tally }, counters)
+}
+
+fn expect(rt: &impl Abort, alloc: Global, switch: &mut Switch, text: &[u8], reply: &[u8]) {
+    let answer = answer(alloc, text, &mut switch.operator, &mut switch.tally);
     let mut bytes = Vec::new(alloc);
-    answer.append_to(&mut bytes)?;
+    answer.append_to(&mut bytes).expect(rt, "memory");
     assert_eq!(rt; bytes.as_slice(), reply, "{text:?}");
-    Ok(())
 }
 
 // What a datagram carries, and its reply. A text with LF is a control line's where its program may hold one, and else none.
@@ -52,64 +51,66 @@ const ANSWERS: [(&[u8], &[u8]); 16] = [
 ];
 
 #[test]
-fn datagrams_are_answered_in_turn(rt: HostRuntime) -> Result<(), Fail> {
-    let mut switch = opened(rt.alloc())?;
-    for (text, reply) in ANSWERS {
-        expect(&rt, rt.alloc(), &mut switch, text, reply)?;
+fn datagrams_are_answered_in_turn(rt: HostRuntime) {
+    let (mut switch, _counters) = opened(&rt, rt.alloc());
+    for (text, reply) in &ANSWERS {
+        expect(&rt, rt.alloc(), &mut switch, text, reply);
     }
-    Ok(())
 }
 
 // The longest that one datagram carries is no line, and not too long for one.
 #[test]
-fn longest_control_datagram(rt: HostRuntime) -> Result<(), Fail> {
-    let mut switch = opened(rt.alloc())?;
-    let text = vec![in rt.alloc(); b'z'; 65_507]?;
-    expect(
-        &rt,
-        rt.alloc(),
-        &mut switch,
-        &text,
-        b"refused C1".as_slice(),
-    )
+fn longest_control_datagram(rt: HostRuntime) {
+    let text = vec![in rt.alloc(); b'z'; 65_507].expect(&rt, "memory");
+    let (mut switch, _counters) = opened(&rt, rt.alloc());
+    expect(&rt, rt.alloc(), &mut switch, &text, b"refused C1");
 }
 
 const COUNTED: &[u8] =
     b"malformed 1 nogroup 2 nomembers 3 dropped 4 delivered 5 sendfailed 6 receivefailed 7";
 
-#[test]
-fn totals_tell_each_kind(rt: HostRuntime) -> Result<(), Fail> {
-    let (operator, _workers) = open(Config::new(rt.alloc()))?;
-    let (tally, mut counters) = Tally::open(rt.alloc())?;
-    let mut counter = counters.pop().ok_or("no counter")?;
-    for (kind, count) in [
-        (Kind::Malformed, 1u32),
-        (Kind::NoGroup, 2),
-        (Kind::NoMembers, 3),
-        (Kind::Dropped, 4),
-        (Kind::Delivered, 5),
-        (Kind::SendFailed, 6),
-        (Kind::ReceiveFailed, 7),
-    ] {
-        for _ in 0..count {
-            assert!(rt; counter.count(kind).is_ok());
+const COUNTS: [(Kind, u32); 7] = [
+    (Kind::Malformed, 1),
+    (Kind::NoGroup, 2),
+    (Kind::NoMembers, 3),
+    (Kind::Dropped, 4),
+    (Kind::Delivered, 5),
+    (Kind::SendFailed, 6),
+    (Kind::ReceiveFailed, 7),
+];
+
+fn count_each(rt: &impl Abort, counter: &mut Counter) {
+    for (kind, count) in &COUNTS {
+        for _ in 0..*count {
+            assert!(rt; counter.count(*kind).is_ok());
         }
     }
-    let mut switch = (operator, tally);
-    expect(&rt, rt.alloc(), &mut switch, b"totals".as_slice(), COUNTED)
 }
 
 #[test]
-fn only_stop_stops(rt: HostRuntime) -> Result<(), Fail> {
-    let (mut operator, mut tally) = opened(rt.alloc())?;
-    for (text, stops) in [
-        (b"stop".as_slice(), true),
-        (b"totals".as_slice(), false),
-        (b"stop ".as_slice(), false),
-        (b"sto".as_slice(), false),
-    ] {
-        let answer = answer(rt.alloc(), text, &mut operator, &mut tally);
-        assert_eq!(rt; matches!(answer, ControlAnswer::Stop), stops);
+fn totals_tell_each_kind(rt: HostRuntime) {
+    let (mut switch, mut counters) = opened(&rt, rt.alloc());
+    count_each(&rt, counters.last_mut().expect(&rt, "a counter"));
+    expect(&rt, rt.alloc(), &mut switch, b"totals", COUNTED);
+}
+
+const STOPS: [(&[u8], bool); 4] = [
+    (b"stop", true),
+    (b"totals", false),
+    (b"stop ", false),
+    (b"sto", false),
+];
+
+fn stops(alloc: Global, switch: &mut Switch, text: &[u8]) -> bool {
+    let answer = answer(alloc, text, &mut switch.operator, &mut switch.tally);
+    matches!(answer, ControlAnswer::Stop)
+}
+
+#[test]
+fn only_stop_stops(rt: HostRuntime) {
+    let (mut switch, _counters) = opened(&rt, rt.alloc());
+    for (text, wanted) in &STOPS {
+        let found = stops(rt.alloc(), &mut switch, text);
+        assert!(rt; found == *wanted, "{text:?}");
     }
-    Ok(())
 }

@@ -1,20 +1,22 @@
 //! Queues of workers, their sources and their outboxes.
 
 use dispatch::{
-    BatchDone, BatchFault, Counter, Failed, Gate, Job, KINDS, Kind, Outbox, Sends, Source, Tally,
-    batch, run_workers,
+    BatchDone, BatchFault, Counter, Done, Failed, Gate, Job, KINDS, Kind, Outbox, Sends, Source,
+    Tally, batch, run_workers,
 };
 use ipv4_fields::Endpoint;
 use member_group::{Command, Config};
 use read_section::{Worker, open};
 use std::alloc::Global;
+use std::io;
 use std::net::UdpSocket;
+use std::process::Abort;
 use std::sync::Wait;
 use std::test::Fail;
 use std::time::Duration;
 use worker_devices::{
-    ChannelSource, QUEUE_PLACES, Received, SocketOutbox, WorkerQueue, WorkerQueues, open_channel,
-    open_queue,
+    ChannelReceiver, ChannelSender, ChannelSource, QUEUE_PLACES, Received, SocketOutbox,
+    WorkerQueue, WorkerQueues, open_channel, open_queue,
 };
 
 // 29 bytes of UDP over IPv4 from 10.0.0.1:5000 to 10.0.0.2:53, with the payload `a`.
@@ -36,24 +38,21 @@ fn at_port(port: u16) -> Endpoint {
     }
 }
 
-fn applied(config: &Config, command: Command) -> Result<Config, Fail> {
-    match config.apply(&command) {
-        Ok(next) => Ok(next),
-        Err(_) => Err(Fail::from("the command is applied")),
-    }
+fn applied(rt: &impl Abort, config: &Config, command: Command) -> Config {
+    config.apply(&command).expect(rt, "the command is applied")
 }
 
 // The workers of a table whose one group has one member.
-fn new_workers(alloc: Global) -> Result<Vec<Worker>, Fail> {
-    let group = applied(&Config::new(alloc), Command::AddGroup { key: KEY })?;
+fn new_workers(rt: &impl Abort, alloc: Global) -> Vec<Worker> {
+    let group = applied(rt, &Config::new(alloc), Command::AddGroup { key: KEY });
     let join = Command::Join {
         key: KEY,
         member: 1,
         to: at_port(9001),
     };
-    let config = applied(&group, join)?;
-    let (_operator, workers) = open(config)?;
-    Ok(workers)
+    let config = applied(rt, &group, join);
+    let (_operator, workers) = open(config).expect(rt, "a table");
+    workers
 }
 
 fn totals(tally: &mut Tally) -> [u64; KINDS] {
@@ -69,116 +68,178 @@ fn totals(tally: &mut Tally) -> [u64; KINDS] {
 }
 
 // The queues of one worker, and its source.
-fn one_queue<R: Wait>(rt: &R, alloc: Global) -> Result<(ChannelSource<'_, R>, WorkerQueues), Fail> {
-    let (source, queue) = open_queue(rt, alloc)?;
+fn one_queue<R: Abort + Wait>(rt: &R, alloc: Global) -> (ChannelSource<'_, R>, WorkerQueues) {
+    let (source, queue) = open_queue(rt, alloc).expect(rt, "a queue");
     let mut queues = Vec::new(alloc);
-    queues.push(queue)?;
-    Ok((source, WorkerQueues::new(alloc, queues)))
+    queues.push(queue).expect(rt, "memory");
+    (source, WorkerQueues::new(alloc, queues))
 }
 
-#[test]
-fn failed_receive_is_counted_and_the_rest_is_judged(rt: HostRuntime) -> Result<(), Fail> {
-    let mut worker = new_workers(rt.alloc())?.pop().ok_or("no worker")?;
-    let (mut tally, mut counters) = Tally::open(rt.alloc())?;
-    let mut counter = counters.pop().ok_or("no counter")?;
-    let (mut source, mut queues) = one_queue(&rt, rt.alloc())?;
-    queues.arrive(&rt, Some(&PACKET));
-    queues.arrive(&rt, None);
-    queues.arrive(&rt, Some(&PACKET[..27]));
-    queues.arrive(&rt, Some(&PACKET));
-    drop(queues);
-    let mut outbox = Sends::with_room(rt.alloc(), 2, 58)?;
+// Two packets, and between them a failed receive and what is no packet. Then the queues end.
+fn put_packets<R: Wait>(rt: &R, mut queues: WorkerQueues) {
+    queues.arrive(rt, Some(&PACKET));
+    queues.arrive(rt, None);
+    queues.arrive(rt, Some(&PACKET[..27]));
+    queues.arrive(rt, Some(&PACKET));
+}
+
+fn rest_is_judged<R: Abort + Wait>(
+    rt: &R,
+    worker: &mut Worker,
+    counter: &mut Counter,
+    source: &mut ChannelSource<'_, R>,
+    outbox: &mut Sends,
+    tally: &mut Tally,
+) {
     let mut buf = [0; 64];
-    let ends = [
-        Err(BatchFault::ReceiveFailed),
+    let failed = batch(worker, counter, source, outbox, &mut buf, 10);
+    assert_eq!(rt; failed, Err(BatchFault::ReceiveFailed));
+    let rest = batch(worker, counter, source, outbox, &mut buf, 10);
+    assert_eq!(rt;
+        rest,
         Ok(BatchDone {
             judged: 2,
             more: false,
-        }),
-    ];
-    for end in ends {
-        let done = batch(
-            &mut worker,
-            &mut counter,
-            &mut source,
-            &mut outbox,
-            &mut buf,
-            10,
-        );
-        assert_eq!(rt; done, end);
-    }
-    assert_eq!(rt; totals(&mut tally), [1, 0, 0, 0, 2, 0, 1]);
-    assert_eq!(rt; outbox.count(), 2);
-    Ok(())
+        })
+    );
+    assert_eq!(rt; totals(tally), [1, 0, 0, 0, 2, 0, 1]);
+    assert!(rt; outbox.count() == 2);
 }
 
 #[test]
-fn receives_come_in_order_and_cut(rt: HostRuntime) -> Result<(), Fail> {
-    let (mut source, mut queues) = one_queue(&rt, rt.alloc())?;
-    queues.arrive(&rt, Some(&[1, 2]));
-    queues.arrive(&rt, Some(&[]));
-    queues.arrive(&rt, None);
-    queues.arrive(&rt, Some(&[3, 4, 5, 6]));
-    drop(queues);
+fn failed_receive_is_counted_and_the_rest_is_judged(rt: HostRuntime) {
+    let (mut source, queues) = one_queue(&rt, rt.alloc());
+    put_packets(&rt, queues);
+    let mut outbox = Sends::with_room(rt.alloc(), 2, 58).expect(&rt, "memory");
+    let (mut tally, mut counters) = Tally::open(rt.alloc()).expect(&rt, "a tally");
+    let mut workers = new_workers(&rt, rt.alloc());
+    rest_is_judged(
+        &rt,
+        workers.last_mut().expect(&rt, "a worker"),
+        counters.last_mut().expect(&rt, "a counter"),
+        &mut source,
+        &mut outbox,
+        &mut tally,
+    );
+}
+
+fn put_bytes<R: Wait>(rt: &R, mut queues: WorkerQueues) {
+    queues.arrive(rt, Some(&[1, 2]));
+    queues.arrive(rt, Some(&[]));
+    queues.arrive(rt, None);
+    queues.arrive(rt, Some(&[3, 4, 5, 6]));
+}
+
+// What each receive answers, and the buffer behind it.
+const RECEIVES: [(Result<Option<usize>, Failed>, [u8; 3]); 6] = [
+    (Ok(Some(2)), [1, 2, 0]),
+    (Ok(Some(0)), [1, 2, 0]),
+    (Err(Failed), [1, 2, 0]),
+    (Ok(Some(3)), [3, 4, 5]),
+    (Ok(None), [3, 4, 5]),
+    (Ok(None), [3, 4, 5]),
+];
+
+fn come_in_order<R: Abort + Wait>(rt: &R, source: &mut ChannelSource<'_, R>) {
     let mut buf = [0; 3];
-    assert_eq!(rt; source.next(&mut buf), Ok(Some(2)));
-    assert_eq!(rt; buf, [1, 2, 0]);
-    assert_eq!(rt; source.next(&mut buf), Ok(Some(0)));
-    assert_eq!(rt; source.next(&mut buf), Err(Failed));
-    assert_eq!(rt; buf, [1, 2, 0]);
-    assert_eq!(rt; source.next(&mut buf), Ok(Some(3)));
-    assert_eq!(rt; buf, [3, 4, 5]);
-    assert_eq!(rt; source.next(&mut buf), Ok(None));
-    assert_eq!(rt; source.next(&mut buf), Ok(None));
-    Ok(())
+    for (place, wanted) in RECEIVES.iter().enumerate() {
+        let answer = source.next(&mut buf);
+        let found = (answer, buf);
+        assert!(rt; found == *wanted, "receive {place}: {found:?}");
+    }
+}
+
+#[test]
+fn receives_come_in_order_and_cut(rt: HostRuntime) {
+    let (mut source, queues) = one_queue(&rt, rt.alloc());
+    put_bytes(&rt, queues);
+    come_in_order(&rt, &mut source);
+}
+
+fn received(rt: &impl Abort, alloc: Global, datagram: &[u8]) -> Received {
+    let mut received = Received::new(alloc);
+    received.fill(datagram).expect(rt, "memory");
+    received
+}
+
+fn both_are_received<R: Abort + Wait>(
+    rt: &R,
+    alloc: Global,
+    arriving: &mut ChannelSender<Received>,
+    source: &mut ChannelSource<'_, R>,
+) {
+    let mut buf = [0; 3];
+    for datagram in &[[1, 2, 3], [4, 5, 6]] {
+        assert!(rt; arriving.put(rt, received(rt, alloc, datagram)));
+        let found = source.next(&mut buf);
+        assert!(rt; found == Ok(Some(3)), "{found:?} for {datagram:?}");
+        assert!(rt; buf == *datagram, "{buf:?} for {datagram:?}");
+    }
+}
+
+fn is_used_again(rt: &impl Abort, again: &mut Received) {
+    let mut buf = [0; 3];
+    let size = again.open(&mut buf);
+    assert_eq!(rt; (size, buf), (Ok(3), [1, 2, 3]));
+    again.fill(&[7]).expect(rt, "memory");
+    let size = again.open(&mut buf);
+    assert_eq!(rt; (size, buf), (Ok(1), [7, 2, 3]));
+    again.fail();
+    assert_eq!(rt; again.open(&mut buf), Err(Failed));
+}
+
+fn first_comes_back<R: Abort + Wait>(rt: &R, opened: &mut ChannelReceiver<Received>) {
+    let mut again = opened.poll(rt).expect(rt, "one came back");
+    assert!(rt; opened.poll(rt).is_none());
+    is_used_again(rt, &mut again);
 }
 
 // The way back has one place: the second receive finds none.
 #[test]
-fn opened_receives_come_back(rt: HostRuntime) -> Result<(), Fail> {
-    let (mut arriving, at_worker) = open_channel(rt.alloc(), 2)?;
-    let (from_worker, mut opened) = open_channel(rt.alloc(), 1)?;
+fn opened_receives_come_back(rt: HostRuntime) {
+    let (mut arriving, at_worker) = open_channel(rt.alloc(), 2).expect(&rt, "a channel");
+    let (from_worker, mut opened) = open_channel(rt.alloc(), 1).expect(&rt, "a channel");
     let mut source = ChannelSource::new(&rt, at_worker, from_worker);
+    both_are_received(&rt, rt.alloc(), &mut arriving, &mut source);
+    first_comes_back(&rt, &mut opened);
+}
+
+// The queues of two workers, and their sources.
+fn two_queues<R: Abort + Wait>(
+    rt: &R,
+    alloc: Global,
+) -> (ChannelSource<'_, R>, ChannelSource<'_, R>, WorkerQueues) {
+    let (first, one) = open_queue(rt, alloc).expect(rt, "a queue");
+    let (second, other) = open_queue(rt, alloc).expect(rt, "a queue");
+    let mut queues = Vec::new(alloc);
+    queues.push(one).expect(rt, "memory");
+    queues.push(other).expect(rt, "memory");
+    (first, second, WorkerQueues::new(alloc, queues))
+}
+
+fn other_is_served<R: Abort + Wait>(
+    rt: &R,
+    queues: &mut WorkerQueues,
+    source: &mut ChannelSource<'_, R>,
+) {
     let mut buf = [0; 3];
-    for datagram in [[1, 2, 3], [4, 5, 6]] {
-        let mut received = Received::new(rt.alloc());
-        received.fill(&datagram)?;
-        assert!(rt; arriving.put(&rt, received));
-        assert_eq!(rt; source.next(&mut buf), Ok(Some(3)));
-        assert_eq!(rt; buf, datagram);
+    for i in 1..=QUEUE_PLACES as u8 {
+        queues.arrive(rt, Some(&[0]));
+        queues.arrive(rt, Some(&[i, i]));
+        let size = if i == 1 { 1 } else { 2 };
+        let found = source.next(&mut buf);
+        assert!(rt; found == Ok(Some(size)), "receive {i}: {found:?}");
     }
-    let mut again = opened.poll(&rt).ok_or("one came back")?;
-    assert!(rt; opened.poll(&rt).is_none());
-    assert_eq!(rt; again.open(&mut buf), Ok(3));
-    assert_eq!(rt; buf, [1, 2, 3]);
-    again.fill(&[7])?;
-    assert_eq!(rt; again.open(&mut buf), Ok(1));
-    assert_eq!(rt; buf, [7, 2, 3]);
-    again.fail();
-    assert_eq!(rt; again.open(&mut buf), Err(Failed));
-    Ok(())
 }
 
 // More come for the worker that ended than its queue has places.
 #[test]
-fn worker_that_ended_is_not_waited_for(rt: HostRuntime) -> Result<(), Fail> {
-    let (ended, first) = open_queue(&rt, rt.alloc())?;
-    let (mut source, second) = open_queue(&rt, rt.alloc())?;
-    let mut queues = Vec::new(rt.alloc());
-    queues.push(first)?;
-    queues.push(second)?;
-    let mut queues = WorkerQueues::new(rt.alloc(), queues);
+fn worker_that_ended_is_not_waited_for(rt: HostRuntime) {
+    let (ended, mut source, mut queues) = two_queues(&rt, rt.alloc());
     queues.arrive(&rt, Some(&[0]));
     queues.arrive(&rt, Some(&[1]));
     drop(ended);
-    let mut buf = [0; 3];
-    for i in 1..=QUEUE_PLACES as u8 {
-        queues.arrive(&rt, Some(&[0]));
-        queues.arrive(&rt, Some(&[i, i]));
-        let size = if i == 1 { 1 } else { 2 };
-        assert_eq!(rt; source.next(&mut buf), Ok(Some(size)));
-    }
-    Ok(())
+    other_is_served(&rt, &mut queues, &mut source);
 }
 
 struct Open;
@@ -207,74 +268,118 @@ fn receive_all<R: Wait>(rt: &R, mut queues: WorkerQueues) {
     }
 }
 
-fn new_job<'a, R: Wait>(
-    rt: &'a R,
+fn new_job<R: Abort + Wait>(
+    rt: &R,
     alloc: Global,
     worker: Worker,
     counter: Counter,
-) -> Result<(Job<ChannelSource<'a, R>, Sends>, WorkerQueue), Fail> {
-    let (source, queue) = open_queue(rt, alloc)?;
+) -> (Job<ChannelSource<'_, R>, Sends>, WorkerQueue) {
+    let (source, queue) = open_queue(rt, alloc).expect(rt, "a queue");
     let job = Job {
         worker,
         counter,
         source,
-        outbox: Sends::with_room(alloc, 100, 2900)?,
-        buffer: vec![in alloc; 0; 64]?,
+        outbox: Sends::with_room(alloc, 100, 2900).expect(rt, "memory"),
+        buffer: vec![in alloc; 0; 64].expect(rt, "memory"),
         limit: 7,
     };
-    Ok((job, queue))
+    (job, queue)
+}
+
+// The jobs of two workers, and their queues.
+fn two_jobs<'a, R: Abort + Wait>(
+    rt: &'a R,
+    alloc: Global,
+    counters: &mut Vec<Counter>,
+) -> (Vec<Job<ChannelSource<'a, R>, Sends>>, WorkerQueues) {
+    let mut workers = new_workers(rt, alloc);
+    let mut jobs = Vec::new(alloc);
+    let mut queues = Vec::new(alloc);
+    for _ in 0..2usize {
+        let worker = workers.pop().expect(rt, "a worker");
+        let counter = counters.pop().expect(rt, "a counter");
+        let (job, queue) = new_job(rt, alloc, worker, counter);
+        jobs.push(job).expect(rt, "memory");
+        queues.push(queue).expect(rt, "memory");
+    }
+    assert!(rt; queues.len() == 2);
+    (jobs, WorkerQueues::new(alloc, queues))
+}
+
+// A hundred packets, of every other number.
+fn every_other_is_sent(rt: &impl Abort, outbox: &Sends, first: u8) {
+    assert_eq!(rt; outbox.count(), 100);
+    let mut number = first;
+    for sent in outbox.bytes().chunks(29) {
+        assert!(rt; sent == packet(number).as_slice(), "{number}: {sent:?}");
+        number = number.wrapping_add(2);
+    }
+}
+
+fn turns_were_taken<R: Abort + Wait>(
+    rt: &R,
+    tally: &mut Tally,
+    dones: &[Done<ChannelSource<'_, R>, Sends>],
+) {
+    assert_eq!(rt; totals(tally), [0, 0, 0, 0, 200, 0, 400]);
+    assert!(rt; dones.len() == 2);
+    for (done, first) in dones.iter().zip([0, 1]) {
+        every_other_is_sent(rt, &done.outbox, first);
+    }
 }
 
 #[test]
-fn two_workers_take_turns(rt: HostRuntime) -> Result<(), Fail> {
-    let mut workers = new_workers(rt.alloc())?;
-    let (mut tally, mut counters) = Tally::open(rt.alloc())?;
-    let mut jobs = Vec::new(rt.alloc());
-    let mut queues = Vec::new(rt.alloc());
-    for _ in 0..2usize {
-        let worker = workers.pop().ok_or("no worker")?;
-        let counter = counters.pop().ok_or("no counter")?;
-        let (job, queue) = new_job(&rt, rt.alloc(), worker, counter)?;
-        jobs.push(job)?;
-        queues.push(queue)?;
-    }
-    assert_eq!(rt; queues.len(), 2);
-    let queues = WorkerQueues::new(rt.alloc(), queues);
+fn two_workers_take_turns(rt: HostRuntime) {
+    let (mut tally, mut counters) = Tally::open(rt.alloc()).expect(&rt, "a tally");
+    let (jobs, queues) = two_jobs(&rt, rt.alloc(), &mut counters);
     let runtime = &rt;
-    let Ok(dones) = run_workers(&rt, rt.alloc(), jobs, &Open, move || {
+    let dones = run_workers(&rt, rt.alloc(), jobs, &Open, move || {
         receive_all(runtime, queues)
-    }) else {
-        return Err(Fail::from("both jobs run"));
-    };
-    assert_eq!(rt; totals(&mut tally), [0, 0, 0, 0, 200, 0, 400]);
-    for (done, first) in dones.iter().zip([0, 1]) {
-        assert_eq!(rt; done.outbox.count(), 100);
-        let mut number = first;
-        for sent in done.outbox.bytes().chunks(29) {
-            assert_eq!(rt; sent, packet(number).as_slice());
-            number = number.wrapping_add(2);
-        }
+    })
+    .expect(&rt, "both jobs run");
+    turns_were_taken(&rt, &mut tally, &dones);
+}
+
+fn is_sent_whole(
+    member: &UdpSocket,
+    outbox: &mut SocketOutbox,
+    to: Endpoint,
+    datagram: &[u8],
+    buf: &mut [u8],
+) -> io::Result<bool> {
+    if outbox.send(to, datagram).is_err() {
+        return Ok(false);
     }
-    Ok(())
+    let size = member.recv(buf)?;
+    Ok(&buf[..size] == datagram)
 }
 
 // 65,507 bytes are the most that UDP over IPv4 takes. Nothing is sent to port 0.
+fn datagrams_are_sent(
+    rt: &impl Abort,
+    member: &UdpSocket,
+    outbox: &mut SocketOutbox,
+    longest: &[u8],
+    too_long: &[u8],
+    buf: &mut [u8],
+) -> Result<(), Fail> {
+    let to = at_port(member.local_addr()?.port());
+    assert!(rt; is_sent_whole(member, outbox, to, &[7; 29], buf)?);
+    assert!(rt; is_sent_whole(member, outbox, to, &[], buf)?);
+    assert!(rt; is_sent_whole(member, outbox, to, longest, buf)?);
+    assert!(rt; outbox.send(to, too_long) == Err(Failed));
+    assert!(rt; outbox.send(at_port(0), &[1]) == Err(Failed));
+    assert!(rt; is_sent_whole(member, outbox, to, &[1], buf)?);
+    Ok(())
+}
+
 #[test]
 fn outbox_sends_whole_datagrams(rt: HostRuntime) -> Result<(), Fail> {
     let member = UdpSocket::bind(&rt, "127.0.0.1:0")?;
     member.set_read_timeout(Some(Duration::from_secs(5)))?;
-    let to = at_port(member.local_addr()?.port());
     let mut outbox = SocketOutbox::new(UdpSocket::bind(&rt, "127.0.0.1:0")?);
-    let bytes = vec![in rt.alloc(); 7; 65_508]?;
-    let mut buf = vec![in rt.alloc(); 0; 65_535]?;
-    for datagram in [&bytes[..29], &bytes[..0], &bytes[..65_507]] {
-        assert_eq!(rt; outbox.send(to, datagram), Ok(()));
-        let size = member.recv(&mut buf)?;
-        assert_eq!(rt; &buf[..size], datagram);
-    }
-    assert_eq!(rt; outbox.send(to, &bytes), Err(Failed));
-    assert_eq!(rt; outbox.send(at_port(0), &[1]), Err(Failed));
-    assert_eq!(rt; outbox.send(to, &[1]), Ok(()));
-    assert_eq!(rt; member.recv(&mut buf)?, 1);
-    Ok(())
+    let longest = vec![in rt.alloc(); 7; 65_507].expect(&rt, "memory");
+    let too_long = vec![in rt.alloc(); 7; 65_508].expect(&rt, "memory");
+    let mut buf = vec![in rt.alloc(); 0; 65_535].expect(&rt, "memory");
+    datagrams_are_sent(&rt, &member, &mut outbox, &longest, &too_long, &mut buf)
 }

@@ -4,8 +4,8 @@ use super::client::{Case, Client, Open, PACKET, Ports, TURNS, at, new_client, ne
 use dispatch::Gate;
 use std::alloc::Global;
 use std::net::{Net, SocketAddr, UdpSocket};
+use std::process::Abort;
 use std::sync::atomic::{AtomicU64, Ordering};
-use std::test::Fail;
 use std::time::Duration;
 use std::{io, thread};
 use udp_service::serve;
@@ -73,8 +73,7 @@ fn receive(member: &UdpSocket) -> io::Result<(bool, SocketAddr)> {
     Ok((&buf[..size] == PACKET.as_slice(), from))
 }
 
-fn find<N: Net>(net: &N, ports: &Ports, member: &UdpSocket, gate: &Meeting) -> io::Result<Found> {
-    let client = new_client(net, ports)?;
+fn found_by(client: &Client, member: &UdpSocket, gate: &Meeting) -> io::Result<Found> {
     let wrong_rule = client.first_wrong(&RULES)?;
     gate.come(100);
     let mut other_port = PACKET;
@@ -97,73 +96,76 @@ fn find<N: Net>(net: &N, ports: &Ports, member: &UdpSocket, gate: &Meeting) -> i
     })
 }
 
+const WANTED: Found = Found {
+    wrong_rule: None,
+    packets: (true, true),
+    two_ports: true,
+    all_counted: true,
+    wrong_stop: None,
+};
+
+const WRITTEN: &str = "ready 127.0.0.1:47001 127.0.0.1:47002\n\
+    malformed 1 nogroup 1 nomembers 0 dropped 0 delivered 2 sendfailed 0 receivefailed 0\n";
+
+fn find<N: Net>(net: &N, ports: &Ports, member: &UdpSocket, gate: &Meeting) -> io::Result<Found> {
+    let client = new_client(net, ports)?;
+    found_by(&client, member, gate)
+}
+
+// A socket of a member, where a receive waits for 5 seconds at most.
+fn new_member<N: Net>(net: &N, address: &str) -> io::Result<UdpSocket> {
+    let member = UdpSocket::bind(net, address)?;
+    member.set_read_timeout(Some(Duration::from_secs(5)))?;
+    Ok(member)
+}
+
 // Both workers and the client wait for each other, so all run at once.
 #[test]
-fn serve_over_loopback(rt: HostRuntime) -> Result<(), Fail> {
-    let member = UdpSocket::bind(&rt, "127.0.0.1:9003")?;
-    member.set_read_timeout(Some(Duration::from_secs(5)))?;
+fn serve_over_loopback(rt: HostRuntime) {
+    let member = new_member(&rt, "127.0.0.1:9003").expect(&rt, "a member");
     let gate = Meeting {
         came: AtomicU64::new(0),
         failures: AtomicU64::new(0),
     };
-    let (mut out, ports) = new_output(rt.alloc())?;
+    let (mut out, ports) = new_output(&rt, rt.alloc());
     let (served, found) = thread::join(
         &rt,
         || serve(&rt, rt.alloc(), at(47001), at(47002), 2, &gate, &mut out),
         || find(&rt, &ports, &member, &gate),
     );
-    assert_eq!(rt; served, Ok(()));
-    assert_eq!(rt;
-        found?,
-        Found {
-            wrong_rule: None,
-            packets: (true, true),
-            two_ports: true,
-            all_counted: true,
-            wrong_stop: None,
-        }
-    );
-    assert_eq!(rt;
-        str::from_utf8(&out.bytes),
-        Ok(
-            "ready 127.0.0.1:47001 127.0.0.1:47002\n\
-            malformed 1 nogroup 1 nomembers 0 dropped 0 delivered 2 sendfailed 0 receivefailed 0\n"
-        )
-    );
-    assert_eq!(rt; gate.failures.into_inner(), 0);
-    Ok(())
+    assert!(rt; served == Ok(()), "{served:?}");
+    assert_eq!(rt; found.expect(&rt, "a client"), WANTED);
+    assert_eq!(rt; str::from_utf8(&out.bytes), Ok(WRITTEN));
+    assert!(rt; gate.failures.load(Ordering::SeqCst) == 0);
 }
 
 #[test]
-fn serve_on_one_address(rt: HostRuntime) -> Result<(), Fail> {
+fn serve_on_one_address(rt: HostRuntime) {
     let mut out = Vec::new(rt.alloc());
     let served = serve(&rt, rt.alloc(), at(47003), at(47003), 1, &Open, &mut out);
     assert_eq!(rt; served, Err(ServeFault::BindFailed));
-    assert_eq!(rt; out.len(), 0);
-    Ok(())
+    assert!(rt; out.is_empty());
 }
 
 // A group whose first member gets the packets, until its selector picks the second, which has no port.
-fn rules(alloc: Global, client: &Client, member: &UdpSocket) -> Result<bool, Fail> {
+fn rules(rt: &impl Abort, alloc: Global, client: &Client, member: &UdpSocket) -> io::Result<bool> {
     let port = member.local_addr()?.port();
-    let first = format!(in alloc; "join 10.0.0.2:53 1 127.0.0.1:{port}")?;
+    let first = format!(in alloc; "join 10.0.0.2:53 1 127.0.0.1:{port}").expect(rt, "memory");
+    are_ruled(client, first.as_bytes())
+}
+
+fn are_ruled(client: &Client, first: &[u8]) -> io::Result<bool> {
     Ok(
-        client.is_answered(b"add 10.0.0.2:53".as_slice(), b"ok version 1".as_slice())?
-            && client.is_answered(first.as_bytes(), b"ok version 2".as_slice())?
-            && client.is_answered(
-                b"join 10.0.0.2:53 2 127.0.0.1:0".as_slice(),
-                b"ok version 3".as_slice(),
-            )?
-            && client.is_answered(
-                b"selector 10.0.0.2:53 asm ret #0".as_slice(),
-                b"ok version 4".as_slice(),
-            )?,
+        client.is_answered(b"add 10.0.0.2:53", b"ok version 1")?
+            && client.is_answered(first, b"ok version 2")?
+            && client.is_answered(b"join 10.0.0.2:53 2 127.0.0.1:0", b"ok version 3")?
+            && client.is_answered(b"selector 10.0.0.2:53 asm ret #0", b"ok version 4")?,
     )
 }
 
 // The longest packet that a datagram carries, with an IPv4 header of 20 bytes, and a UDP header.
-fn longest_packet(alloc: Global) -> Result<Vec<u8>, Fail> {
-    let mut packet = vec![in alloc; 0x61u8; 65_507]?;
+fn longest_packet(rt: &impl Abort, alloc: Global) -> Vec<u8> {
+    let mut packet = vec![in alloc; 0x61u8; 65_507].expect(rt, "memory");
     let mut head = PACKET;
     head[2] = 0xff;
     head[3] = 0xe3;
@@ -174,53 +176,88 @@ fn longest_packet(alloc: Global) -> Result<Vec<u8>, Fail> {
             *there = *byte;
         }
     }
-    Ok(packet)
+    packet
 }
 
-fn unusual<N: Net>(
-    net: &N,
+// What the longest datagrams carry, and a buffer that holds each.
+#[derive(Drop)]
+struct Longest {
+    packet: Vec<u8>,
+    no_line: Vec<u8>,
+    buf: Vec<u8>,
+}
+
+fn new_longest(rt: &impl Abort, alloc: Global) -> Longest {
+    Longest {
+        packet: longest_packet(rt, alloc),
+        no_line: vec![in alloc; b'z'; 65_507].expect(rt, "memory"),
+        buf: vec![in alloc; 0u8; 65_535].expect(rt, "memory"),
+    }
+}
+
+fn is_counted(client: &Client, datagram: &[u8], totals: &[u8]) -> io::Result<bool> {
+    client.socket.send_to(datagram, client.front)?;
+    client.comes_to(totals)
+}
+
+fn comes_whole(
+    client: &Client,
+    member: &UdpSocket,
+    packet: &[u8],
+    buf: &mut [u8],
+) -> io::Result<bool> {
+    client.socket.send_to(packet, client.front)?;
+    let size = member.recv(buf)?;
+    Ok(&buf[..size] == packet)
+}
+
+fn unusual_of(
+    rt: &impl Abort,
+    alloc: Global,
+    client: &Client,
+    member: &UdpSocket,
+    longest: &mut Longest,
+) -> io::Result<[bool; 7]> {
+    let ruled = rules(rt, alloc, client, member)?;
+    let empty = is_counted(
+        client,
+        b"",
+        b"malformed 1 nogroup 0 nomembers 0 dropped 0 delivered 0 sendfailed 0 receivefailed 0",
+    )?;
+    let whole = comes_whole(client, member, &longest.packet, &mut longest.buf)?;
+    let selected = client.is_answered(b"selector 10.0.0.2:53 asm ret #1", b"ok version 5")?;
+    let failed_send = is_counted(
+        client,
+        &PACKET,
+        b"malformed 1 nogroup 0 nomembers 0 dropped 0 delivered 2 sendfailed 1 receivefailed 0",
+    )?;
+    let refused = client.is_answered(&longest.no_line, b"refused C1")?;
+    let stopped = client.is_answered(b"stop", b"ok stop")?;
+    Ok([ruled, empty, whole, selected, failed_send, refused, stopped])
+}
+
+fn unusual<R: Abort + Net>(
+    rt: &R,
     alloc: Global,
     ports: &Ports,
     member: &UdpSocket,
-) -> Result<[bool; 7], Fail> {
-    let client = new_client(net, ports)?;
-    let client = &client;
-    let ruled = rules(alloc, client, member)?;
-    client.socket.send_to(b"".as_slice(), client.front)?;
-    let empty = client.comes_to(
-        b"malformed 1 nogroup 0 nomembers 0 dropped 0 delivered 0 sendfailed 0 receivefailed 0",
-    )?;
-    let longest = longest_packet(alloc)?;
-    client.socket.send_to(&longest, client.front)?;
-    let mut buf = vec![in alloc; 0u8; 65_535]?;
-    let size = member.recv(&mut buf)?;
-    let whole = &buf[..size] == longest.as_slice();
-    let selected = client.is_answered(
-        b"selector 10.0.0.2:53 asm ret #1".as_slice(),
-        b"ok version 5".as_slice(),
-    )?;
-    client.socket.send_to(&PACKET, client.front)?;
-    let failed_send = client.comes_to(
-        b"malformed 1 nogroup 0 nomembers 0 dropped 0 delivered 2 sendfailed 1 receivefailed 0",
-    )?;
-    let no_line = vec![in alloc; b'z'; 65_507]?;
-    let refused = client.is_answered(&no_line, b"refused C1".as_slice())?;
-    let stopped = client.is_answered(b"stop".as_slice(), b"ok stop".as_slice())?;
-    Ok([ruled, empty, whole, selected, failed_send, refused, stopped])
+    longest: &mut Longest,
+) -> io::Result<[bool; 7]> {
+    let client = new_client(rt, ports)?;
+    unusual_of(rt, alloc, &client, member, longest)
 }
 
 // Sixty-four workers, on ports that the system picks.
 #[test]
-fn unusual_datagrams(rt: HostRuntime) -> Result<(), Fail> {
-    let member = UdpSocket::bind(&rt, "127.0.0.1:0")?;
-    member.set_read_timeout(Some(Duration::from_secs(5)))?;
-    let (mut out, ports) = new_output(rt.alloc())?;
+fn unusual_datagrams(rt: HostRuntime) {
+    let member = new_member(&rt, "127.0.0.1:0").expect(&rt, "a member");
+    let mut longest = new_longest(&rt, rt.alloc());
+    let (mut out, ports) = new_output(&rt, rt.alloc());
     let (served, found) = thread::join(
         &rt,
         || serve(&rt, rt.alloc(), at(0), at(0), 64, &Open, &mut out),
-        || unusual(&rt, rt.alloc(), &ports, &member),
+        || unusual(&rt, rt.alloc(), &ports, &member, &mut longest),
     );
-    assert_eq!(rt; served, Ok(()));
-    assert_eq!(rt; found?, [true; 7]);
-    Ok(())
+    assert!(rt; served == Ok(()), "{served:?}");
+    assert_eq!(rt; found.expect(&rt, "a client"), [true; 7]);
 }

@@ -4,7 +4,7 @@ ghost use Rattle.std.specs.Prelude.{◌<◌};
 
 use member_group::Config;
 use read_section::{Operator, WORKERS, Worker, open};
-use std::test::Fail;
+use std::process::Abort;
 use worker_threads::spread;
 
 // Which worker it is: the one whose read word tells that it is inside a section.
@@ -35,16 +35,18 @@ fn taken(turn: usize) -> usize
     }
 }
 
-#[test]
-fn workers_are_taken_eight_apart(rt: HostRuntime) -> Result<(), Fail> {
-    let (mut operator, mut workers) = open(Config::new(rt.alloc()))?;
-    spread(&mut workers);
+fn taken_eight_apart(rt: &impl Abort, operator: &mut Operator, workers: &mut Vec<Worker>) {
     for turn in 0..64usize {
-        let Some(mut worker) = workers.pop() else {
-            return Err(Fail::from("a worker is left"));
-        };
-        assert_eq!(rt; number_of(&mut operator, &mut worker), Some(taken(turn)));
+        let mut worker = workers.pop().expect(rt, "a worker is left");
+        let number = number_of(operator, &mut worker);
+        assert!(rt; number == Some(taken(turn)), "turn {turn}: {number:?}");
     }
-    assert_eq!(rt; workers.len(), 0);
-    Ok(())
+    assert!(rt; workers.is_empty());
+}
+
+#[test]
+fn workers_are_taken_eight_apart(rt: HostRuntime) {
+    let (mut operator, mut workers) = open(Config::new(rt.alloc())).expect(&rt, "a table");
+    spread(&mut workers);
+    taken_eight_apart(&rt, &mut operator, &mut workers);
 }
