@@ -4,26 +4,36 @@ mod random_scripts;
 mod replacing;
 mod scripts_at_limits;
 
-use std::alloc::Global;
+use std::alloc::{AllocError, Global};
 use std::process::Abort;
+use std::slice;
 use std::test::Fail;
 use text_commands::tool;
 
-/// The replies to a script that the command `replay` runs to its end.
-fn replayed(rt: &impl Abort, alloc: Global, script: &str) -> Result<String, Fail> {
-    let mut words = Vec::new(alloc);
-    words.push(String::from_str(alloc, "replay")?)?;
-    let mut out = Vec::new(alloc);
+// Runs the command `replay` on a script, to its end.
+fn replay(
+    rt: &impl Abort,
+    alloc: Global,
+    script: &str,
+    out: &mut Vec<u8>,
+) -> Result<(), AllocError> {
+    let word = String::from_str(alloc, "replay")?;
     let mut errs = Vec::new(alloc);
     let status = tool(
         alloc,
-        words.as_slice(),
+        slice::from_ref(&word),
         script.as_bytes(),
-        &mut out,
+        out,
         &mut errs,
     );
-    assert_eq!(rt; errs.len(), 0, "{script:?}");
-    assert_eq!(rt; status, Some(0), "{script:?}");
+    assert_eq!(rt; (status, errs.len()), (Some(0), 0), "{script:?}");
+    Ok(())
+}
+
+/// The replies to a script that the command `replay` runs to its end.
+fn replayed(rt: &impl Abort, alloc: Global, script: &str) -> Result<String, Fail> {
+    let mut out = Vec::new(alloc);
+    replay(rt, alloc, script, &mut out)?;
     match String::from_utf8(out) {
         Ok(text) => Ok(text),
         Err(_) => Err(Fail::from("the replies are no text")),

@@ -9,7 +9,7 @@ mod programs;
 use super::replayed;
 use numbers::Numbers;
 use plain_switch::Switch;
-use std::alloc::Global;
+use std::alloc::{AllocError, Global};
 use std::process::Abort;
 use std::test::Fail;
 
@@ -77,20 +77,36 @@ fn number_at(reply: &str, place: usize) -> Option<u64> {
     reply.split_whitespace().nth(place)?.parse::<u64>().ok()
 }
 
+// So many lines of a script, and the switch's replies.
+fn put_drawn(
+    alloc: Global,
+    mut numbers: Numbers,
+    switch: &mut Switch,
+    lines: usize,
+    script: &mut String,
+    replies: &mut String,
+) -> Result<(), AllocError> {
+    for _ in 0..lines {
+        let line = numbers.line(switch.charge());
+        line.write(alloc, script)?;
+        switch.reply(&line, replies)?;
+    }
+    Ok(())
+}
+
 // A script, and the plain switch's replies.
-fn drawn(alloc: Global, seed: u64, lines: usize, long_in: u64) -> Result<(String, String), Fail> {
-    let mut numbers = Numbers {
-        state: seed,
-        long_in,
-    };
+fn drawn(alloc: Global, numbers: Numbers, lines: usize) -> Result<(String, String), AllocError> {
     let mut switch = Switch::new(alloc);
     let mut script = String::new(alloc);
     let mut replies = String::new(alloc);
-    for _ in 0..lines {
-        let line = numbers.line(switch.charge());
-        line.write(alloc, &mut script)?;
-        switch.reply(&line, &mut replies)?;
-    }
+    put_drawn(
+        alloc,
+        numbers,
+        &mut switch,
+        lines,
+        &mut script,
+        &mut replies,
+    )?;
     Ok((script, replies))
 }
 
@@ -110,15 +126,27 @@ fn assert_in_a_row(rt: &impl Abort, seed: u64, text: &str, lines: usize) {
         match reply.split_whitespace().next() {
             Some("ok") => {
                 version = version.saturating_add(1);
-                assert_eq!(rt; number_at(reply, 2), Some(version), "seed {seed}: {reply}");
+                assert!(rt;
+                    number_at(reply, 2) == Some(version),
+                    "seed {seed}: {reply}, not {version}"
+                );
             }
             Some("version") => {
-                assert_eq!(rt; number_at(reply, 1), Some(version), "seed {seed}: {reply}");
+                assert!(rt;
+                    number_at(reply, 1) == Some(version),
+                    "seed {seed}: {reply}, not {version}"
+                );
             }
             Some("reclaimed") => {
-                assert_eq!(rt; number_at(reply, 1), Some(reported), "seed {seed}: {reply}");
+                assert!(rt;
+                    number_at(reply, 1) == Some(reported),
+                    "seed {seed}: {reply}, not {reported}"
+                );
                 reported = reported.saturating_add(number_at(reply, 2).unwrap_or(0));
-                assert_eq!(rt; reported, version, "seed {seed}: {reply}");
+                assert!(rt;
+                    reported == version,
+                    "seed {seed}: {reply}, not to {version}"
+                );
             }
             _ => {}
         }
@@ -126,20 +154,40 @@ fn assert_in_a_row(rt: &impl Abort, seed: u64, text: &str, lines: usize) {
     assert_eq!(rt; text.lines().count(), lines, "seed {seed}");
 }
 
-#[test]
-fn replay_replies_as_a_plain_switch(rt: HostRuntime) -> Result<(), Fail> {
-    let alloc = rt.alloc();
-    let mut all = String::new(alloc);
-    for (seed, lines, long_in) in SCRIPTS {
-        let (script, replies) = drawn(alloc, seed, lines, long_in)?;
-        let text = replayed(&rt, alloc, script.as_str())?;
-        assert_same_lines(&rt, seed, text.as_str(), replies.as_str());
-        assert_in_a_row(&rt, seed, text.as_str(), lines);
-        all.push_str(text.as_str())?;
-    }
-    for kind in KINDS {
-        let comes = all.as_str().lines().any(|reply| kind_of(reply) == kind);
+// `replay` replies as the plain switch to a script that is drawn; its replies are added to those of the others.
+fn assert_replies(
+    rt: &impl Abort,
+    alloc: Global,
+    numbers: Numbers,
+    lines: usize,
+    all: &mut String,
+) -> Result<(), Fail> {
+    let seed = numbers.state;
+    let (script, replies) = drawn(alloc, numbers, lines)?;
+    let text = replayed(rt, alloc, script.as_str())?;
+    assert_same_lines(rt, seed, text.as_str(), replies.as_str());
+    assert_in_a_row(rt, seed, text.as_str(), lines);
+    all.push_str(text.as_str())?;
+    Ok(())
+}
+
+fn assert_each_kind(rt: &impl Abort, text: &str) {
+    for kind in &KINDS {
+        let comes = text.lines().any(|reply| kind_of(reply) == *kind);
         assert!(rt; comes, "{kind}");
     }
+}
+
+#[test]
+fn replay_replies_as_a_plain_switch(rt: HostRuntime) -> Result<(), Fail> {
+    let mut all = String::new(rt.alloc());
+    for (seed, lines, long_in) in &SCRIPTS {
+        let numbers = Numbers {
+            state: *seed,
+            long_in: *long_in,
+        };
+        assert_replies(&rt, rt.alloc(), numbers, *lines, &mut all)?;
+    }
+    assert_each_kind(&rt, all.as_str());
     Ok(())
 }

@@ -7,6 +7,7 @@ use member_group::{Command, Config};
 use read_section::{Operator, Worker, open};
 use retire::Retire;
 use std::alloc::Global;
+use std::process::Abort;
 use std::test::Fail;
 
 // 29 bytes of UDP over IPv4 from 10.0.0.1:5000 to 10.0.0.2:53, with the payload `a`.
@@ -29,31 +30,50 @@ fn socket(member: u16) -> Endpoint {
     }
 }
 
-fn applied(config: &Config, command: Command) -> Result<Config, Fail> {
-    match config.apply(&command) {
-        Ok(next) => Ok(next),
+fn apply(config: &mut Config, command: &Command) -> Result<(), Fail> {
+    match config.apply(command) {
+        Ok(next) => {
+            *config = next;
+            Ok(())
+        }
         Err(_) => Err(Fail::from("the command is applied")),
     }
 }
 
+// Adds a group of members 1, 2 and 3.
+fn add_group(config: &mut Config) -> Result<(), Fail> {
+    apply(config, &Command::AddGroup { key: KEY })?;
+    for member in 1..4u16 {
+        let join = Command::Join {
+            key: KEY,
+            member: u32::from(member),
+            to: socket(member),
+        };
+        apply(config, &join)?;
+    }
+    Ok(())
+}
+
+// The program that answers a number.
+fn answering(alloc: Global, number: u32) -> Result<Program<Global>, Fail> {
+    let words = vec![in alloc; 0x0006_0000_0000_0000 | u64::from(number); 1]?;
+    match Program::new(words) {
+        Ok(program) => Ok(program),
+        Err(_) => Err(Fail::from("a return is a program")),
+    }
+}
+
+fn select(config: &mut Config, number: u32) -> Result<(), Fail> {
+    let program = answering(*config.allocator(), number)?;
+    apply(config, &Command::SetSelector { key: KEY, program })
+}
+
 // A group of members 1, 2 and 3, whose selector answers a number.
 fn selecting(alloc: Global, number: u32) -> Result<Config, Fail> {
-    let mut config = applied(&Config::new(alloc), Command::AddGroup { key: KEY })?;
-    for member in 1..4u16 {
-        config = applied(
-            &config,
-            Command::Join {
-                key: KEY,
-                member: u32::from(member),
-                to: socket(member),
-            },
-        )?;
-    }
-    let words = vec![in alloc; 0x0006_0000_0000_0000 | u64::from(number); 1]?;
-    let Ok(program) = Program::new(words) else {
-        return Err(Fail::from("a return is a program"));
-    };
-    applied(&config, Command::SetSelector { key: KEY, program })
+    let mut config = Config::new(alloc);
+    add_group(&mut config)?;
+    select(&mut config, number)?;
+    Ok(config)
 }
 
 fn published(operator: &mut Operator, config: Config) -> Result<u64, Fail> {
@@ -80,22 +100,38 @@ fn delivered(member: u16) -> Verdict {
     }
 }
 
+// A configuration is published while the worker is inside: its number, the section's number, and the section's verdict.
+fn published_inside(
+    operator: &mut Operator,
+    worker: &mut Worker,
+    config: Config,
+) -> Result<(u64, u64, Verdict), Fail> {
+    let mut section = worker.enter();
+    let number = published(operator, config);
+    let verdict = judge(&mut section, &PACKET);
+    let held = section.number();
+    section.leave();
+    Ok((number?, held, verdict))
+}
+
+fn keeps_its_version(
+    rt: &impl Abort,
+    alloc: Global,
+    operator: &mut Operator,
+    worker: &mut Worker,
+) -> Result<(), Fail> {
+    assert_eq!(rt; judged(worker), (0, Verdict::NoGroup));
+    let first = published(operator, selecting(alloc, 0)?)?;
+    let inside = published_inside(operator, worker, selecting(alloc, 1)?)?;
+    assert_eq!(rt; (first, inside), (1, (2, 1, delivered(1))));
+    assert_eq!(rt; judged(worker), (2, delivered(2)));
+    Ok(())
+}
+
 // A worker that entered at version 1 judges by it while version 2 is current; once it has left, by version 2.
 #[test]
 fn section_keeps_its_version(rt: HostRuntime) -> Result<(), Fail> {
     let (mut operator, mut workers) = open(Config::new(rt.alloc()))?;
-    let mut worker = workers.pop().ok_or("no worker")?;
-    assert_eq!(rt; judged(&mut worker), (0, Verdict::NoGroup));
-    assert_eq!(rt; published(&mut operator, selecting(rt.alloc(), 0)?)?, 1);
-    let second = selecting(rt.alloc(), 1)?;
-
-    let mut section = worker.enter();
-    let number = published(&mut operator, second);
-    let verdict = judge(&mut section, &PACKET);
-    let held = section.number();
-    section.leave();
-    assert_eq!(rt; (number?, held, verdict), (2, 1, delivered(1)));
-
-    assert_eq!(rt; judged(&mut worker), (2, delivered(2)));
-    Ok(())
+    let worker = workers.first_mut().expect(&rt, "a worker");
+    keeps_its_version(&rt, rt.alloc(), &mut operator, worker)
 }

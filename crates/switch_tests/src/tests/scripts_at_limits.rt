@@ -24,13 +24,10 @@ fn put_sixty_five(
     writeln!(replies, "refused {code}")
 }
 
-#[test]
-fn one_more_group_and_member(rt: HostRuntime) -> Result<(), Fail> {
-    let mut script = String::new(rt.alloc());
-    let mut replies = String::new(rt.alloc());
-    put_sixty_five(&mut script, &mut replies, "add 10.0.0.2:", "", 0, "G5")?;
+fn put_groups_and_members(script: &mut String, replies: &mut String) -> Result<(), AllocError> {
+    put_sixty_five(script, replies, "add 10.0.0.2:", "", 0, "G5")?;
     let (begin, end) = ("join 10.0.0.2:64 ", " 127.0.0.1:9001");
-    put_sixty_five(&mut script, &mut replies, begin, end, 64, "G6")?;
+    put_sixty_five(script, replies, begin, end, 64, "G6")?;
     // The table of commands has G2 before G5, and G4 before G6.
     script.push_str("add 10.0.0.2:1\njoin 10.0.0.2:64 64 127.0.0.1:9001\nshow\n")?;
     replies.push_str("refused G2\nrefused G4\nversion 128 groups 64 members 64 charge 514\n")?;
@@ -40,7 +37,14 @@ fn one_more_group_and_member(rt: HostRuntime) -> Result<(), Fail> {
     script.push_str("leave 10.0.0.2:64 1\njoin 10.0.0.2:64 65 127.0.0.1:9001\n")?;
     replies.push_str("ok version 131\nok version 132\n")?;
     script.push_str("join 10.0.0.2:64 1 127.0.0.1:9001\nshow\nsweep\n")?;
-    replies.push_str("refused G6\nversion 132 groups 64 members 64 charge 514\nreclaimed 0 132\n")?;
+    replies.push_str("refused G6\nversion 132 groups 64 members 64 charge 514\nreclaimed 0 132\n")
+}
+
+#[test]
+fn one_more_group_and_member(rt: HostRuntime) -> Result<(), Fail> {
+    let mut script = String::new(rt.alloc());
+    let mut replies = String::new(rt.alloc());
+    put_groups_and_members(&mut script, &mut replies)?;
     let text = replayed(&rt, rt.alloc(), script.as_str())?;
     assert_eq!(rt; text.as_str(), replies.as_str());
     Ok(())
@@ -77,26 +81,30 @@ const FULL_REPLIES: &str = "ok version 1\n\
     ok version 7\n\
     version 7 groups 2 members 2 charge 8192\n";
 
-#[test]
-fn charge_above_the_largest(rt: HostRuntime) -> Result<(), Fail> {
-    let mut script = String::new(rt.alloc());
+fn put_programs(script: &mut String) -> Result<(), AllocError> {
     script.push_str("add 10.0.0.2:53\njoin 10.0.0.2:53 1 127.0.0.1:9001\n")?;
     script.push_str("join 10.0.0.2:53 2 127.0.0.1:9002\n")?;
-    put_program(&mut script, "filter 10.0.0.2:53 1 asm ", 4096)?;
+    put_program(script, "filter 10.0.0.2:53 1 asm ", 4096)?;
     let second = "filter 10.0.0.2:53 2 asm ";
-    put_program(&mut script, second, 4097)?;
-    put_program(&mut script, second, 4083)?;
+    put_program(script, second, 4097)?;
+    put_program(script, second, 4083)?;
     script.push_str("show\n")?;
-    put_program(&mut script, second, 4082)?;
+    put_program(script, second, 4082)?;
     script.push_str("show\nadd 10.0.0.2:54\njoin 10.0.0.2:53 3 127.0.0.1:9003\n")?;
     script.push_str("selector 10.0.0.2:53 asm ret #0\n")?;
     script.push_str("join 10.0.0.2:53 2 127.0.0.1:9002\n")?;
-    put_program(&mut script, second, 4083)?;
+    put_program(script, second, 4083)?;
     script.push_str("show\n")?;
     script.push_str("packet 4500001d00000000401100000a0000010a000002138800350009000061\n")?;
     script.push_str("sweep\n")?;
-    put_program(&mut script, second, 4078)?;
-    script.push_str("add 10.0.0.2:54\nshow\n")?;
+    put_program(script, second, 4078)?;
+    script.push_str("add 10.0.0.2:54\nshow\n")
+}
+
+#[test]
+fn charge_above_the_largest(rt: HostRuntime) -> Result<(), Fail> {
+    let mut script = String::new(rt.alloc());
+    put_programs(&mut script)?;
     let text = replayed(&rt, rt.alloc(), script.as_str())?;
     assert_eq!(rt; text.as_str(), FULL_REPLIES);
     Ok(())

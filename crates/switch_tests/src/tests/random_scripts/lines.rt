@@ -45,14 +45,12 @@ impl Datagram {
             .saturating_add(28)
     }
 
-    fn bytes(&self, alloc: Global) -> Result<Vec<u8>, AllocError> {
-        let mut bytes = Vec::new(alloc);
-        bytes.push(
-            self.version
-                .wrapping_mul(16)
-                .wrapping_add(self.header_words),
-        )?;
-        bytes.push(0xb8)?;
+    fn put_bytes(&self, bytes: &mut Vec<u8>) -> Result<(), AllocError> {
+        let first = self
+            .version
+            .wrapping_mul(16)
+            .wrapping_add(self.header_words);
+        bytes.extend_from_slice(&[first, 0xb8])?;
         bytes.extend_from_slice(&self.size().to_be_bytes())?;
         bytes.extend_from_slice(&[0x12, 0x34])?;
         bytes.extend_from_slice(&self.fragment.to_be_bytes())?;
@@ -69,16 +67,22 @@ impl Datagram {
         for _ in 0..self.payload {
             bytes.push(self.byte)?;
         }
-        Ok(bytes)
+        Ok(())
     }
 
-    fn write(&self, alloc: Global, text: &mut String) -> Result<(), AllocError> {
-        let bytes = self.bytes(alloc)?;
+    // The digits of its bytes that are kept.
+    fn put_digits(&self, bytes: &[u8], text: &mut String) -> Result<(), AllocError> {
         for place in 0..usize::from(self.kept) {
             let byte = bytes.get(place).copied().unwrap_or(0);
             write!(text, "{byte:02x}")?;
         }
         Ok(())
+    }
+
+    fn write(&self, alloc: Global, text: &mut String) -> Result<(), AllocError> {
+        let mut bytes = Vec::new(alloc);
+        self.put_bytes(&mut bytes)?;
+        self.put_digits(bytes.as_slice(), text)
     }
 }
 
@@ -101,6 +105,18 @@ pub enum Setting {
     },
 }
 
+fn put_program(text: &mut String, language: &str, program: &str) -> Result<(), AllocError> {
+    write!(text, "{language} {program}")
+}
+
+fn put_returns(text: &mut String, count: u64) -> Result<(), AllocError> {
+    text.push_str("asm ")?;
+    for place in 0..count {
+        text.push_str(if place == 0 { "ret #0" } else { ";ret #0" })?;
+    }
+    Ok(())
+}
+
 impl Setting {
     fn write(&self, text: &mut String) -> Result<(), AllocError> {
         match *self {
@@ -109,19 +125,13 @@ impl Setting {
                 language,
                 text: program,
                 program: _,
-            } => write!(text, "{language} {program}"),
+            } => put_program(text, language, program),
             Setting::Fault {
                 language,
                 text: program,
                 code: _,
-            } => write!(text, "{language} {program}"),
-            Setting::Returns { count } => {
-                text.push_str("asm ")?;
-                for place in 0..count {
-                    text.push_str(if place == 0 { "ret #0" } else { ";ret #0" })?;
-                }
-                Ok(())
-            }
+            } => put_program(text, language, program),
+            Setting::Returns { count } => put_returns(text, count),
         }
     }
 }
