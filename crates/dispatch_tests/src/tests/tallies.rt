@@ -39,9 +39,14 @@ fn counts_are_summed(rt: HostRuntime) -> Result<(), Fail> {
     assert_eq!(rt; counters.len(), COUNTERS);
     assert_eq!(rt; tally.read(Kind::Malformed), 0);
     let counters = count_each(rt.alloc(), counters)?;
-    assert_eq!(rt; tally.read(Kind::Malformed), 2);
-    assert_eq!(rt; tally.read(Kind::Delivered), 126);
-    assert_eq!(rt; tally.read(Kind::SendFailed), 0);
+    assert_eq!(rt;
+        (
+            tally.read(Kind::Malformed),
+            tally.read(Kind::Delivered),
+            tally.read(Kind::SendFailed)
+        ),
+        (2, 126, 0)
+    );
     let totals = gather(tally, counters);
     let expected = Totals {
         malformed: 2,

@@ -31,8 +31,8 @@ pub fn socket(member: u16) -> Endpoint {
     }
 }
 
-fn applied(rt: &impl Abort, config: &Config, command: Command) -> Config {
-    config.apply(&command).expect(rt, "the command is applied")
+fn applied(rt: &impl Abort, config: &Config, command: &Command) -> Config {
+    config.apply(command).expect(rt, "the command is applied")
 }
 
 // The program `ret #number`.
@@ -42,12 +42,12 @@ fn returning(rt: &impl Abort, alloc: Global, number: u32) -> Program<Global> {
 }
 
 fn with_members(rt: &impl Abort, alloc: Global, members: &[u16]) -> Config {
-    let mut config = applied(rt, &Config::new(alloc), Command::AddGroup { key: KEY });
+    let mut config = applied(rt, &Config::new(alloc), &Command::AddGroup { key: KEY });
     for member in members {
         config = applied(
             rt,
             &config,
-            Command::Join {
+            &Command::Join {
                 key: KEY,
                 member: u32::from(*member),
                 to: socket(*member),
@@ -63,12 +63,18 @@ pub fn three_members(rt: &impl Abort, alloc: Global) -> Config {
 
 fn with_selector(rt: &impl Abort, alloc: Global, config: &Config, number: u32) -> Config {
     let program = returning(rt, alloc, number);
-    applied(rt, config, Command::SetSelector { key: KEY, program })
+    applied(rt, config, &Command::SetSelector { key: KEY, program })
 }
 
-// The last worker of a table with the configuration.
+// The workers of a table with the configuration.
+pub fn workers_of(rt: &impl Abort, config: Config) -> Vec<Worker> {
+    let (_operator, workers) = open(config).expect(rt, "a table opens");
+    workers
+}
+
+// The last of them.
 pub fn worker_of(rt: &impl Abort, config: Config) -> Worker {
-    let (_operator, mut workers) = open(config).expect(rt, "a table opens");
+    let mut workers = workers_of(rt, config);
     workers.pop().expect(rt, "a table has workers")
 }
 
@@ -103,7 +109,7 @@ fn first_left(rt: &impl Abort, alloc: Global) -> Config {
         key: KEY,
         member: 1,
     };
-    applied(rt, &three_members(rt, alloc), leave)
+    applied(rt, &three_members(rt, alloc), &leave)
 }
 
 #[test]
@@ -172,7 +178,7 @@ fn filtered(rt: &impl Abort, alloc: Global, number: u32) -> Config {
         member: 7,
         program: returning(rt, alloc, number),
     };
-    applied(rt, &with_members(rt, alloc, &[7]), filter)
+    applied(rt, &with_members(rt, alloc, &[7]), &filter)
 }
 
 #[test]

@@ -3,9 +3,9 @@
 ghost use Rattle.std.specs.Prelude.{◌≡◌, ◌≤◌};
 
 use super::batches::{four_datagrams, totals, two_sends};
-use super::verdicts::three_members;
+use super::verdicts::{three_members, workers_of};
 use dispatch::{Counter, Datagrams, Done, Gate, Job, Sends, Tally, run_workers};
-use read_section::{Worker, open};
+use read_section::Worker;
 use std::alloc::Global;
 use std::process::Abort;
 use std::sync::atomic::{AtomicU64, Ordering};
@@ -36,7 +36,7 @@ fn job(
 fn two_jobs(rt: &impl Abort, alloc: Global, limit: u64) -> (Tally, Vec<Job<Datagrams, Sends>>)
     requires { 1 ≤ limit }
 {
-    let (_operator, mut workers) = open(three_members(rt, alloc)).expect(rt, "a table opens");
+    let mut workers = workers_of(rt, three_members(rt, alloc));
     let (tally, mut counters) = Tally::open(alloc).expect(rt, "a tally opens");
     let mut jobs = Vec::new(alloc);
     for _ in 0..2usize {
