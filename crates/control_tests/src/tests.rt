@@ -13,7 +13,6 @@ use member_group::Config;
 use read_section::{Operator, Worker, open};
 use std::alloc::Global;
 use std::process::Abort;
-use std::test::Fail;
 
 // A line, and its reply.
 type Case = (&'static [u8], &'static str);
@@ -35,31 +34,26 @@ enum Asked {
     },
 }
 
-fn opened(alloc: Global) -> Result<(Operator, Vec<Worker>), Fail> {
-    Ok(open(Config::new(alloc))?)
+fn opened(rt: &impl Abort, alloc: Global) -> (Operator, Vec<Worker>) {
+    open(Config::new(alloc)).expect(rt, "a table opens")
 }
 
-fn expect(
-    rt: &impl Abort,
-    alloc: Global,
-    operator: &mut Operator,
-    text: &[u8],
-    expected: &str,
-) -> Result<(), Fail> {
-    let reply = line(alloc, text, operator)?;
+fn expect(rt: &impl Abort, alloc: Global, operator: &mut Operator, text: &[u8], expected: &str) {
+    let reply = line(alloc, text, operator).expect(rt, "the line is answered");
     assert_eq!(rt; reply.bytes(), expected.as_bytes());
-    Ok(())
 }
 
 // A text of pieces, each so many times.
-fn in_pieces(alloc: Global, pieces: &[(&str, usize)]) -> Result<Vec<u8>, Fail> {
+fn in_pieces(rt: &impl Abort, alloc: Global, pieces: &[(&str, usize)]) -> Vec<u8> {
     let mut whole = Vec::new(alloc);
     for (text, count) in pieces {
         for _ in 0..*count {
-            whole.extend_from_slice(text.as_bytes())?;
+            whole
+                .extend_from_slice(text.as_bytes())
+                .expect(rt, "one piece more");
         }
     }
-    Ok(whole)
+    whole
 }
 
 fn expect_numbered(
@@ -68,32 +62,27 @@ fn expect_numbered(
     operator: &mut Operator,
     (begin, end): (&str, &str),
     (number, version): (u32, u32),
-) -> Result<(), Fail> {
-    let text = format!(in alloc; "{begin}{number}{end}")?;
-    let expected = format!(in alloc; "ok version {version}")?;
-    expect(rt, alloc, operator, text.as_bytes(), expected.as_str())
+) {
+    let text = format!(in alloc; "{begin}{number}{end}").expect(rt, "the line");
+    let expected = format!(in alloc; "ok version {version}").expect(rt, "its reply");
+    expect(rt, alloc, operator, text.as_bytes(), expected.as_str());
 }
 
-fn expect_asked(
-    rt: &impl Abort,
-    alloc: Global,
-    operator: &mut Operator,
-    asked: &Asked,
-) -> Result<(), Fail> {
+fn expect_asked(rt: &impl Abort, alloc: Global, operator: &mut Operator, asked: &Asked) {
     match asked {
         Asked::Lines(cases) => {
             for (text, expected) in *cases {
-                expect(rt, alloc, operator, text, expected)?;
+                expect(rt, alloc, operator, text, expected);
             }
         }
         Asked::Each(texts, expected) => {
             for text in *texts {
-                expect(rt, alloc, operator, text, expected)?;
+                expect(rt, alloc, operator, text, expected);
             }
         }
         Asked::Pieces(pieces, expected) => {
-            let text = in_pieces(alloc, pieces)?;
-            expect(rt, alloc, operator, &text, expected)?;
+            let text = in_pieces(rt, alloc, pieces);
+            expect(rt, alloc, operator, &text, expected);
         }
         Asked::Numbered {
             begin,
@@ -103,29 +92,22 @@ fn expect_asked(
         } => {
             for number in 0..*last {
                 let of_line = (number.wrapping_add(1), version.wrapping_add(number));
-                expect_numbered(rt, alloc, operator, (begin, end), of_line)?;
+                expect_numbered(rt, alloc, operator, (begin, end), of_line);
             }
         }
     }
-    Ok(())
 }
 
-fn expect_each(
-    rt: &impl Abort,
-    alloc: Global,
-    operator: &mut Operator,
-    session: &[Asked],
-) -> Result<(), Fail> {
+fn expect_each(rt: &impl Abort, alloc: Global, operator: &mut Operator, session: &[Asked]) {
     for asked in session {
-        expect_asked(rt, alloc, operator, asked)?;
+        expect_asked(rt, alloc, operator, asked);
     }
-    Ok(())
 }
 
 // A session from the configuration without groups on. No worker ever enters, so each read word is 0.
-fn expect_session(rt: &impl Abort, alloc: Global, session: &[Asked]) -> Result<(), Fail> {
-    let (mut operator, _workers) = opened(alloc)?;
-    expect_each(rt, alloc, &mut operator, session)
+fn expect_session(rt: &impl Abort, alloc: Global, session: &[Asked]) {
+    let (mut operator, _workers) = opened(rt, alloc);
+    expect_each(rt, alloc, &mut operator, session);
 }
 
 const SCRIPT: [Case; 12] = [
@@ -144,8 +126,8 @@ const SCRIPT: [Case; 12] = [
 ];
 
 #[test]
-fn lines_are_answered_in_turn(rt: HostRuntime) -> Result<(), Fail> {
-    expect_session(&rt, rt.alloc(), &[Asked::Lines(&SCRIPT)])
+fn lines_are_answered_in_turn(rt: HostRuntime) {
+    expect_session(&rt, rt.alloc(), &[Asked::Lines(&SCRIPT)]);
 }
 
 // What is no line of the table, for its words, its spaces, its fields or its bytes.
@@ -216,8 +198,8 @@ const BESIDE_A_GROUP: [Asked; 3] = [
 ];
 
 #[test]
-fn other_texts_are_no_lines(rt: HostRuntime) -> Result<(), Fail> {
-    expect_session(&rt, rt.alloc(), &BESIDE_A_GROUP)
+fn other_texts_are_no_lines(rt: HostRuntime) {
+    expect_session(&rt, rt.alloc(), &BESIDE_A_GROUP);
 }
 
 // The least and the greatest of each field.
@@ -233,8 +215,8 @@ const FIELDS_AT_THEIR_ENDS: [Case; 8] = [
 ];
 
 #[test]
-fn fields_reach_their_ends(rt: HostRuntime) -> Result<(), Fail> {
-    expect_session(&rt, rt.alloc(), &[Asked::Lines(&FIELDS_AT_THEIR_ENDS)])
+fn fields_reach_their_ends(rt: HostRuntime) {
+    expect_session(&rt, rt.alloc(), &[Asked::Lines(&FIELDS_AT_THEIR_ENDS)]);
 }
 
 // LF and any other bytes in a text are the text's.
@@ -249,8 +231,8 @@ const TEXTS_OF_ANY_BYTES: [Case; 7] = [
 ];
 
 #[test]
-fn texts_of_any_bytes(rt: HostRuntime) -> Result<(), Fail> {
-    expect_session(&rt, rt.alloc(), &[Asked::Lines(&TEXTS_OF_ANY_BYTES)])
+fn texts_of_any_bytes(rt: HostRuntime) {
+    expect_session(&rt, rt.alloc(), &[Asked::Lines(&TEXTS_OF_ANY_BYTES)]);
 }
 
 // A text that begins a line of blanks.
@@ -264,14 +246,14 @@ const AT_THE_LIMIT: [Asked; 4] = [
 ];
 
 #[test]
-fn lines_at_the_limit(rt: HostRuntime) -> Result<(), Fail> {
+fn lines_at_the_limit(rt: HostRuntime) {
     assert_eq!(rt; LINE_LIMIT, 262_144);
     let lengths: [usize; 4] = [262_144, 262_145, 262_144, 262_145];
     for (asked, length) in AT_THE_LIMIT.iter().zip(lengths) {
         let Asked::Pieces(pieces, _) = asked else {
-            return Err(Fail::from("each line is of pieces"));
+            panic!(rt; "each line is of pieces");
         };
-        assert_eq!(rt; in_pieces(rt.alloc(), pieces)?.len(), length);
+        assert_eq!(rt; in_pieces(&rt, rt.alloc(), pieces).len(), length);
     }
-    expect_session(&rt, rt.alloc(), &AT_THE_LIMIT)
+    expect_session(&rt, rt.alloc(), &AT_THE_LIMIT);
 }

@@ -1,7 +1,9 @@
 //! Each refusal, and those that it comes before.
 
 use super::{Asked, Case, expect_each, expect_session, opened};
-use std::test::Fail;
+use read_section::{Operator, Worker};
+use std::alloc::Global;
+use std::process::Abort;
 
 // A text's fault comes before the command's: there is no group 10.0.0.9:1. Of each kind a fault with its number.
 const TEXTS_BEFORE_COMMANDS: [Case; 18] = [
@@ -55,8 +57,8 @@ const TEXTS_REFUSED: [Asked; 3] = [
 ];
 
 #[test]
-fn texts_are_refused_first(rt: HostRuntime) -> Result<(), Fail> {
-    expect_session(&rt, rt.alloc(), &TEXTS_REFUSED)
+fn texts_are_refused_first(rt: HostRuntime) {
+    expect_session(&rt, rt.alloc(), &TEXTS_REFUSED);
 }
 
 const COMMANDS_REFUSED: [Case; 12] = [
@@ -75,8 +77,8 @@ const COMMANDS_REFUSED: [Case; 12] = [
 ];
 
 #[test]
-fn commands_are_refused_by_code(rt: HostRuntime) -> Result<(), Fail> {
-    expect_session(&rt, rt.alloc(), &[Asked::Lines(&COMMANDS_REFUSED)])
+fn commands_are_refused_by_code(rt: HostRuntime) {
+    expect_session(&rt, rt.alloc(), &[Asked::Lines(&COMMANDS_REFUSED)]);
 }
 
 // 64 groups and 64 members of the first, and one more of each.
@@ -102,8 +104,8 @@ const ONE_TOO_MANY: [Asked; 4] = [
 ];
 
 #[test]
-fn sixty_fifth_group_and_member(rt: HostRuntime) -> Result<(), Fail> {
-    expect_session(&rt, rt.alloc(), &ONE_TOO_MANY)
+fn sixty_fifth_group_and_member(rt: HostRuntime) {
+    expect_session(&rt, rt.alloc(), &ONE_TOO_MANY);
 }
 
 // One group and two members, and filters of 4096 instructions and of 4082. With one more it is too much for a row.
@@ -135,8 +137,8 @@ const LARGEST_CHARGE: [Asked; 6] = [
 ];
 
 #[test]
-fn largest_charge_is_published(rt: HostRuntime) -> Result<(), Fail> {
-    expect_session(&rt, rt.alloc(), &LARGEST_CHARGE)
+fn largest_charge_is_published(rt: HostRuntime) {
+    expect_session(&rt, rt.alloc(), &LARGEST_CHARGE);
 }
 
 // A worker inside its section at version 0 holds back fifteen versions. A command's refusal comes before the operator's.
@@ -160,13 +162,21 @@ const AFTER_IT_LEFT: [Asked; 1] = [Asked::Lines(&[
     (b"sweep", "reclaimed 0 16"),
 ])];
 
-#[test]
-fn busy_while_a_worker_stays(rt: HostRuntime) -> Result<(), Fail> {
-    let (mut operator, mut workers) = opened(rt.alloc())?;
-    let mut worker = workers.pop().ok_or("no worker")?;
+fn is_busy_until_it_leaves(
+    rt: &impl Abort,
+    alloc: Global,
+    operator: &mut Operator,
+    worker: &mut Worker,
+) {
     let section = worker.enter();
-    let filled = expect_each(&rt, rt.alloc(), &mut operator, &WHILE_IT_STAYS);
+    expect_each(rt, alloc, operator, &WHILE_IT_STAYS);
     section.leave();
-    filled?;
-    expect_each(&rt, rt.alloc(), &mut operator, &AFTER_IT_LEFT)
+    expect_each(rt, alloc, operator, &AFTER_IT_LEFT);
+}
+
+#[test]
+fn busy_while_a_worker_stays(rt: HostRuntime) {
+    let (mut operator, mut workers) = opened(&rt, rt.alloc());
+    let mut worker = workers.pop().expect(&rt, "a table has workers");
+    is_busy_until_it_leaves(&rt, rt.alloc(), &mut operator, &mut worker);
 }

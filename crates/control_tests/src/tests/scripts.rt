@@ -261,14 +261,16 @@ const LONG_LINES: [(&str, &str, usize, &str); 6] = [
 ];
 
 #[test]
-fn too_long_packet_and_line(rt: HostRuntime) -> Result<(), Fail> {
+fn too_long_packet_and_line(rt: HostRuntime) {
     let alloc = rt.alloc();
     for (begin, text, count, reply) in LONG_LINES {
-        let mut script = super::in_pieces(alloc, &[(begin, 1), (text, count)])?;
+        let mut script = super::in_pieces(&rt, alloc, &[(begin, 1), (text, count)]);
         let (alone, answer) = replayed(alloc, in_pieces(&script, usize::MAX));
         assert_eq!(rt; answer, Ok(()));
         assert_eq!(rt; alone.as_slice(), reply.as_bytes());
-        script.extend_from_slice(b"\nsweep\n")?;
+        script
+            .extend_from_slice(b"\nsweep\n")
+            .expect(&rt, "one line more");
         let (followed, answer) = replayed(alloc, in_pieces(&script, 1000));
         assert_eq!(rt; answer, Ok(()));
         assert_eq!(rt;
@@ -277,14 +279,13 @@ fn too_long_packet_and_line(rt: HostRuntime) -> Result<(), Fail> {
         );
         assert!(rt; followed.as_slice().ends_with(b"\nreclaimed 0 0\n"));
     }
-    Ok(())
 }
 
 // More versions than rows, each free as soon as it is replaced.
 #[test]
-fn no_publication_is_busy(rt: HostRuntime) -> Result<(), Fail> {
+fn no_publication_is_busy(rt: HostRuntime) {
     let alloc = rt.alloc();
-    let script = super::in_pieces(alloc, &[("add 10.0.0.2:53\nremove 10.0.0.2:53\n", 20)])?;
+    let script = super::in_pieces(&rt, alloc, &[("add 10.0.0.2:53\nremove 10.0.0.2:53\n", 20)]);
     let (written, answer) = replayed(alloc, in_pieces(&script, usize::MAX));
     assert_eq!(rt; answer, Ok(()));
     assert!(rt;
@@ -292,7 +293,6 @@ fn no_publication_is_busy(rt: HostRuntime) -> Result<(), Fail> {
             .as_slice()
             .ends_with(b"ok version 39\nok version 40\n")
     );
-    Ok(())
 }
 
 // The replies of the first so many lines.
