@@ -16,42 +16,121 @@ mod streams;
 mod tell;
 mod words;
 
-use std::alloc::Global;
+use std::alloc::{AllocError, Global};
+use std::fmt::Debug;
 use std::io::Read;
+use std::net::Net;
 use std::process::Abort;
+use std::sync::Wait;
 use std::test::Fail;
-use streams::Sink;
+use std::thread::Threads;
+use std::time::Clock;
+use streams::{Sink, Source};
 use text_commands::tool;
+use worker_commands::run_waiting;
 
 /// The sample packet: 29 bytes of UDP over IPv4 from 10.0.0.1:5000 to 10.0.0.2:53, with the payload `a`.
 const SAMPLE_PACKET: &str = "4500001d00000000401100000a0000010a000002138800350009000061";
 
 const FIRST: &str = "version 0 value 65535 steps 3 kept 29\nversion 1 value 0 steps 1 kept 0\n";
 
-fn owned(alloc: Global, words: &[&str]) -> Result<Vec<String>, Fail> {
-    let mut owned = Vec::new(alloc);
+/// What a command ended with, and what it wrote.
+#[derive(Drop)]
+struct Outcome {
+    status: Option<u8>,
+    out: Sink,
+    errs: Sink,
+}
+
+impl Outcome {
+    fn open(alloc: Global) -> Outcome {
+        Outcome {
+            status: None,
+            out: Sink::open(alloc),
+            errs: Sink::open(alloc),
+        }
+    }
+}
+
+fn put_words(owned: &mut Vec<String>, alloc: Global, words: &[&str]) -> Result<(), AllocError> {
     for word in words {
         owned.push(String::from_str(alloc, word)?)?;
     }
+    Ok(())
+}
+
+fn owned(alloc: Global, words: &[&str]) -> Result<Vec<String>, AllocError> {
+    let mut owned = Vec::new(alloc);
+    put_words(&mut owned, alloc, words)?;
     Ok(owned)
 }
 
-/// Runs the words on an input and these outputs, and gives the outputs back.
-fn run_on<R: Read + Drop>(
+/// Runs the words on an input and these outputs, with the status.
+fn run_into<R: Read + Drop>(
     alloc: Global,
     words: &[&str],
     input: R,
-    mut out: Sink,
-    mut errs: Sink,
-) -> Result<(Option<u8>, Sink, Sink), Fail> {
+    out: &mut Sink,
+    errs: &mut Sink,
+) -> Result<Option<u8>, AllocError> {
     let words = owned(alloc, words)?;
-    let status = tool(alloc, words.as_slice(), input, &mut out, &mut errs);
-    Ok((status, out, errs))
+    Ok(tool(alloc, words.as_slice(), input, out, errs))
 }
 
 /// Runs the words on an input, with what the command wrote.
-fn told(alloc: Global, words: &[&str], input: &[u8]) -> Result<(Option<u8>, Sink, Sink), Fail> {
-    run_on(alloc, words, input, Sink::open(alloc), Sink::open(alloc))
+fn run_on<R: Read + Drop>(alloc: Global, words: &[&str], input: R) -> Result<Outcome, AllocError> {
+    let mut told = Outcome::open(alloc);
+    told.status = run_into(alloc, words, input, &mut told.out, &mut told.errs)?;
+    Ok(told)
+}
+
+/// Runs the words on an input of bytes, with what the command wrote.
+fn told(alloc: Global, words: &[&str], input: &[u8]) -> Result<Outcome, AllocError> {
+    run_on(alloc, words, input)
+}
+
+fn wait_for<R: Threads + Wait + Net + Clock + Sync + Abort>(
+    rt: &R,
+    alloc: Global,
+    words: &[String],
+    input: Source<'_>,
+    told: &mut Outcome,
+) {
+    let answered = tool(alloc, words, b"".as_slice(), &mut told.out, &mut told.errs);
+    let writes = (told.out.writes, told.errs.writes);
+    assert!(rt; answered.is_none(), "{words:?}: {answered:?}");
+    assert!(rt; writes == (0, 0), "{words:?}: {writes:?}");
+    let ended = run_waiting(rt, alloc, words, input, &mut told.out, &mut told.errs);
+    told.status = Some(ended as u8);
+}
+
+/// Runs words that are left to `main`, as it does, with what the command wrote. Before they are left nothing is written.
+fn run_as_main<R: Threads + Wait + Net + Clock + Sync + Abort>(
+    rt: &R,
+    alloc: Global,
+    words: &[&str],
+    input: Source<'_>,
+) -> Result<Outcome, AllocError> {
+    let words = owned(alloc, words)?;
+    let mut told = Outcome::open(alloc);
+    wait_for(rt, alloc, words.as_slice(), input, &mut told);
+    Ok(told)
+}
+
+/// The command ended with this status, and wrote this text and these errors.
+fn assert_wrote<C: Debug>(
+    rt: &impl Abort,
+    told: &Outcome,
+    status: u8,
+    text: &str,
+    errs: &str,
+    case: &C,
+) {
+    assert_eq!(rt;
+        (told.status, told.out.text(), told.errs.text()),
+        (Some(status), Some(text), Some(errs)),
+        "{case:?}"
+    );
 }
 
 /// Runs the words on an input, which give this status and this text, and nothing on standard error.
@@ -63,9 +142,37 @@ fn assert_told(
     status: u8,
     text: &str,
 ) -> Result<(), Fail> {
-    let (ended, out, errs) = told(alloc, words, input.as_bytes())?;
-    assert_eq!(rt; out.text(), Some(text), "{words:?} on {input:?}");
-    assert_eq!(rt; errs.text(), Some(""), "{words:?} on {input:?}");
-    assert_eq!(rt; ended, Some(status), "{words:?} on {input:?}");
+    let told = told(alloc, words, input.as_bytes())?;
+    assert_wrote(rt, &told, status, text, "", &(words, input));
+    Ok(())
+}
+
+/// The words have a fault, of which standard error tells, and nothing is written.
+fn assert_misused(
+    rt: &impl Abort,
+    alloc: Global,
+    words: &[&str],
+    input: &[u8],
+) -> Result<(), Fail> {
+    let told = told(alloc, words, input)?;
+    let out = &told.out;
+    assert_eq!(rt;
+        (told.status, out.text(), out.writes),
+        (Some(2), Some(""), 0),
+        "{words:?}"
+    );
+    let fault = told.errs.text().unwrap_or("");
+    assert!(rt;
+        fault.starts_with("error: ") && fault.ends_with('\n'),
+        "{words:?}: {fault}"
+    );
+    Ok(())
+}
+
+/// The words are left to `main`, and nothing is written.
+fn assert_left(rt: &impl Abort, alloc: Global, words: &[&str], input: &[u8]) -> Result<(), Fail> {
+    let told = told(alloc, words, input)?;
+    let writes = (told.out.writes, told.errs.writes);
+    assert_eq!(rt; (told.status, writes), (None, (0, 0)), "{words:?}");
     Ok(())
 }

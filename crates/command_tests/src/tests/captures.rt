@@ -1,6 +1,7 @@
 //! `packets`: the packets of a capture file as lines, its counts, and refusals.
 
-use super::told;
+use super::{assert_wrote, told};
+use std::alloc::{AllocError, Global};
 use std::test::Fail;
 
 // The file header of a capture of raw IP, with the least byte first: version 2.4, 65535 bytes of a packet at most.
@@ -26,16 +27,19 @@ const CUT: [(usize, u8, &str, &str); 5] = [
     (44, 1, "refused L5 24\n", "packets 0 cut 0 other 0\n"),
 ];
 
+// The file header, and so many bytes of the records.
+fn cut_file(alloc: Global, size: usize) -> Result<Vec<u8>, AllocError> {
+    let mut file = Vec::from_slice(alloc, HEADER)?;
+    file.extend_from_slice(RECORDS.get(..size).unwrap_or(&[]))?;
+    Ok(file)
+}
+
 #[test]
 fn packets_of_captures(rt: HostRuntime) -> Result<(), Fail> {
-    let alloc = rt.alloc();
     for (size, status, lines, counts) in &CUT {
-        let mut file = Vec::from_slice(alloc, HEADER)?;
-        file.extend_from_slice(RECORDS.get(..*size).unwrap_or(&[]))?;
-        let (ended, out, errs) = told(alloc, &["packets"], &file)?;
-        assert_eq!(rt; out.text(), Some(*lines), "{size} bytes");
-        assert_eq!(rt; errs.text(), Some(*counts), "{size} bytes");
-        assert_eq!(rt; ended, Some(*status), "{size} bytes");
+        let file = cut_file(rt.alloc(), *size)?;
+        let told = told(rt.alloc(), &["packets"], &file)?;
+        assert_wrote(&rt, &told, *status, lines, counts, size);
     }
     Ok(())
 }
@@ -51,10 +55,8 @@ const REFUSED: [(&[u8], &str); 4] = [
 #[test]
 fn other_files_are_no_captures(rt: HostRuntime) -> Result<(), Fail> {
     for (file, refusal) in &REFUSED {
-        let (ended, out, errs) = told(rt.alloc(), &["packets"], file)?;
-        assert_eq!(rt; out.text(), Some(*refusal), "{file:?}");
-        assert_eq!(rt; errs.text(), Some(""), "{file:?}");
-        assert_eq!(rt; ended, Some(1), "{file:?}");
+        let told = told(rt.alloc(), &["packets"], file)?;
+        assert_wrote(&rt, &told, 1, refusal, "", file);
     }
     Ok(())
 }

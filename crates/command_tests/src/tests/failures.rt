@@ -1,8 +1,8 @@
 //! Streams that fail: each read and each write in turn, and the flush.
 
 use super::streams::{Sink, Source};
-use super::{FIRST, SAMPLE_PACKET, run_on, told};
-use std::alloc::Global;
+use super::{FIRST, SAMPLE_PACKET, run_into, run_on, told};
+use std::alloc::{AllocError, Global};
 use std::io::{ErrorKind, Read};
 use std::process::Abort;
 use std::test::Fail;
@@ -32,65 +32,113 @@ const COMMANDS: [(&[&str], &[u8]); 13] = [
     (&["replay"], b"add 10.0.0.2:53\nshow\n"),
 ];
 
-// The command fails and tells this line. Gives its output.
+// The command fails and tells this line.
 fn expect_failure<R: Read + Drop>(
     rt: &impl Abort,
     alloc: Global,
     words: &[&str],
     input: R,
-    out: Sink,
+    out: &mut Sink,
     line: &str,
-) -> Result<Sink, Fail> {
-    let (status, out, errs) = run_on(alloc, words, input, out, Sink::open(alloc))?;
-    assert_eq!(rt; status, Some(3), "{words:?} after {} writes", out.writes);
+) -> Result<(), Fail> {
+    let mut errs = Sink::open(alloc);
+    let status = run_into(alloc, words, input, out, &mut errs)?;
+    let told = errs.text();
     assert_eq!(rt;
-        errs.text(),
-        Some(line),
+        (status, told),
+        (Some(3), Some(line)),
         "{words:?} after {} writes",
         out.writes
     );
-    Ok(out)
+    Ok(())
+}
+
+// The write after so many fails.
+fn expect_failed_write(
+    rt: &impl Abort,
+    alloc: Global,
+    words: &[&str],
+    input: &[u8],
+    limit: usize,
+) -> Result<(), Fail> {
+    let mut out = Sink::new(alloc, limit, true);
+    expect_failure(rt, alloc, words, input, &mut out, "failed E2\n")
+}
+
+// All is written, and the flush fails.
+fn expect_failed_flush(
+    rt: &impl Abort,
+    alloc: Global,
+    words: &[&str],
+    input: &[u8],
+    whole: &Sink,
+) -> Result<(), Fail> {
+    let mut out = Sink::new(alloc, whole.writes, false);
+    expect_failure(rt, alloc, words, input, &mut out, "failed E2\n")?;
+    assert_eq!(rt; out.text(), whole.text(), "{words:?} at the flush");
+    Ok(())
+}
+
+fn expect_failed_writes(
+    rt: &impl Abort,
+    alloc: Global,
+    words: &[&str],
+    input: &[u8],
+    whole: &Sink,
+) -> Result<(), Fail> {
+    assert!(rt; whole.writes > 0, "{words:?}");
+    for limit in 0..whole.writes {
+        expect_failed_write(rt, alloc, words, input, limit)?;
+    }
+    expect_failed_flush(rt, alloc, words, input, whole)
 }
 
 #[test]
 fn failed_write_is_e2(rt: HostRuntime) -> Result<(), Fail> {
-    let alloc = rt.alloc();
-    for (words, input) in COMMANDS {
-        let (_, whole, _) = told(alloc, words, input)?;
-        assert!(rt; whole.writes > 0, "{words:?}");
-        for limit in 0..whole.writes {
-            let out = Sink::new(alloc, limit, true);
-            expect_failure(&rt, alloc, words, input, out, "failed E2\n")?;
-        }
-        let out = Sink::new(alloc, whole.writes, false);
-        let out = expect_failure(&rt, alloc, words, input, out, "failed E2\n")?;
-        assert_eq!(rt; out.text(), whole.text(), "{words:?} at the flush");
+    for (words, input) in &COMMANDS {
+        let whole = told(rt.alloc(), words, input)?;
+        expect_failed_writes(&rt, rt.alloc(), words, input, &whole.out)?;
     }
     Ok(())
 }
 
-// The command reads the whole program in several reads; a read that fails in place of any of these is told, and nothing else.
+// The command reads the whole program and prints this text. Gives how many reads it made.
+fn whole_reads(rt: &impl Abort, alloc: Global, words: &[&str], text: &str) -> Result<usize, Fail> {
+    let mut input = Source::open(PROGRAM, 7);
+    let told = run_on(alloc, words, &mut input)?;
+    assert_eq!(rt;
+        (told.status, told.out.text()),
+        (Some(0), Some(text)),
+        "{words:?}"
+    );
+    Ok(input.reads)
+}
+
+// The read after so many fails, which is told, and nothing else.
+fn expect_failed_read(
+    rt: &impl Abort,
+    alloc: Global,
+    words: &[&str],
+    limit: usize,
+) -> Result<(), Fail> {
+    let input = Source::new(PROGRAM, 7, limit, ErrorKind::BrokenPipe);
+    let mut out = Sink::open(alloc);
+    expect_failure(rt, alloc, words, input, &mut out, "failed E1\n")?;
+    assert_eq!(rt; out.text(), Some(""), "{words:?} after {limit} reads");
+    Ok(())
+}
+
+// The command reads the whole program in several reads, any of which may fail.
 fn expect_failed_reads(
     rt: &impl Abort,
     alloc: Global,
     words: &[&str],
     text: &str,
 ) -> Result<(), Fail> {
-    let mut whole = Source::open(PROGRAM, 7);
-    let (status, out, _) = run_on(
-        alloc,
-        words,
-        &mut whole,
-        Sink::open(alloc),
-        Sink::open(alloc),
-    )?;
-    assert_eq!(rt; status, Some(0), "{words:?}");
-    assert_eq!(rt; out.text(), Some(text), "{words:?}");
-    assert!(rt; whole.reads > 5, "{words:?}");
-    for limit in 0..whole.reads {
-        let input = Source::new(PROGRAM, 7, limit, ErrorKind::BrokenPipe);
-        let out = expect_failure(rt, alloc, words, input, Sink::open(alloc), "failed E1\n")?;
-        assert_eq!(rt; out.text(), Some(""), "{words:?} after {limit} reads");
+    let reads = whole_reads(rt, alloc, words, text)?;
+    assert!(rt; reads > 5, "{words:?}");
+    for limit in 0..reads {
+        expect_failed_read(rt, alloc, words, limit)?;
     }
     Ok(())
 }
@@ -107,9 +155,8 @@ fn failed_read_is_e1(rt: HostRuntime) -> Result<(), Fail> {
 #[test]
 fn read_without_memory_is_e3(rt: HostRuntime) -> Result<(), Fail> {
     let input = Source::new(PROGRAM, 7, 1, ErrorKind::OutOfMemory);
-    let out = Sink::open(rt.alloc());
-    expect_failure(&rt, rt.alloc(), &["check"], input, out, "failed E3\n")?;
-    Ok(())
+    let mut out = Sink::open(rt.alloc());
+    expect_failure(&rt, rt.alloc(), &["check"], input, &mut out, "failed E3\n")
 }
 
 // What commands that read no input print.
@@ -121,20 +168,22 @@ const UNREAD: [(&[&str], &str); 5] = [
     (&["explain", "G8"], G8),
 ];
 
+// The command prints this text and reads nothing.
+fn assert_unread(rt: &impl Abort, alloc: Global, words: &[&str], text: &str) -> Result<(), Fail> {
+    let mut input = Source::open(PROGRAM, 7);
+    let told = run_on(alloc, words, &mut input)?;
+    assert_eq!(rt;
+        (told.out.text(), input.reads),
+        (Some(text), 0),
+        "{words:?}"
+    );
+    Ok(())
+}
+
 #[test]
 fn other_commands_read_nothing(rt: HostRuntime) -> Result<(), Fail> {
-    let alloc = rt.alloc();
-    for (words, text) in UNREAD {
-        let mut input = Source::open(PROGRAM, 7);
-        let (_, out, _) = run_on(
-            alloc,
-            words,
-            &mut input,
-            Sink::open(alloc),
-            Sink::open(alloc),
-        )?;
-        assert_eq!(rt; out.text(), Some(text), "{words:?}");
-        assert_eq!(rt; input.reads, 0, "{words:?}");
+    for (words, text) in &UNREAD {
+        assert_unread(&rt, rt.alloc(), words, text)?;
     }
     Ok(())
 }
@@ -149,15 +198,28 @@ const STATUSES: [(&[&str], usize, u8); 6] = [
     (&["check"], 0, 3),
 ];
 
+// The status where so many writes of results are taken, and so many of errors.
+fn limited_status(
+    alloc: Global,
+    words: &[&str],
+    limit: usize,
+    taken: usize,
+) -> Result<Option<u8>, AllocError> {
+    let mut out = Sink::new(alloc, limit, true);
+    let mut errs = Sink::new(alloc, taken, false);
+    run_into(alloc, words, PROGRAM, &mut out, &mut errs)
+}
+
 #[test]
 fn failing_errors_change_no_status(rt: HostRuntime) -> Result<(), Fail> {
-    let alloc = rt.alloc();
-    for (words, limit, wanted) in STATUSES {
+    for (words, limit, wanted) in &STATUSES {
         for taken in 0..2 {
-            let out = Sink::new(alloc, limit, true);
-            let errs = Sink::new(alloc, taken, false);
-            let (status, _, _) = run_on(alloc, words, PROGRAM, out, errs)?;
-            assert_eq!(rt; status, Some(wanted), "{words:?}, {taken} writes of errors");
+            let status = limited_status(rt.alloc(), words, *limit, taken)?;
+            assert_eq!(rt;
+                status,
+                Some(*wanted),
+                "{words:?}, {taken} writes of errors"
+            );
         }
     }
     Ok(())

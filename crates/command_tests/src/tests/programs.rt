@@ -1,7 +1,7 @@
 //! The commands `check` and `run`, of programs in assembly text.
 
-use super::{FIRST, SAMPLE_PACKET, assert_told, told};
-use std::alloc::Global;
+use super::{FIRST, SAMPLE_PACKET, assert_told, assert_wrote, told};
+use std::alloc::{AllocError, Global};
 use std::process::Abort;
 use std::test::Fail;
 
@@ -59,23 +59,29 @@ fn division_by_zero_ends_with_zero(rt: HostRuntime) -> Result<(), Fail> {
     )
 }
 
-#[test]
-fn longest_program_runs_once_through(rt: HostRuntime) -> Result<(), Fail> {
-    let mut text = String::with_capacity(rt.alloc(), 40_000)?;
-    for _ in 0..4095 {
+fn put_loads(text: &mut String, count: usize) -> Result<(), AllocError> {
+    for _ in 0..count {
         text.push_str("ld #1\n")?;
     }
-    let mut longer = String::from_str(rt.alloc(), text.as_str())?;
+    Ok(())
+}
+
+fn assert_longest(rt: &impl Abort, alloc: Global, text: &mut String) -> Result<(), Fail> {
+    put_loads(text, 4095)?;
     text.push_str("ret a\n")?;
-    longer.push_str("ld #1\nret a\n")?;
-    assert_runs(
-        &rt,
-        rt.alloc(),
-        text.as_str(),
-        "accepted 4096\n",
-        "value 1 steps 4096 kept 1\n",
-    )?;
-    assert_refused(&rt, rt.alloc(), longer.as_str(), "refused V2\n")
+    let value = "value 1 steps 4096 kept 1\n";
+    assert_runs(rt, alloc, text.as_str(), "accepted 4096\n", value)?;
+
+    text.clear();
+    put_loads(text, 4096)?;
+    text.push_str("ret a\n")?;
+    assert_refused(rt, alloc, text.as_str(), "refused V2\n")
+}
+
+#[test]
+fn longest_program_runs_once_through(rt: HostRuntime) -> Result<(), Fail> {
+    let mut text = String::new(rt.alloc());
+    assert_longest(&rt, rt.alloc(), &mut text)
 }
 
 #[test]
@@ -140,6 +146,15 @@ fn indexed_place_does_not_wrap(rt: HostRuntime) -> Result<(), Fail> {
     )
 }
 
+const LABEL_FAULTS: [(&str, &str); 6] = [
+    ("top: ja top; ret #0", "refused A4 1\n"),
+    ("jeq #1,256,0; ret #0", "refused A5 1\n"),
+    ("ja x; ret #0", "refused A2 1\n"),
+    ("l: ret #0; l: ret #0", "refused A3 2\n"),
+    ("foo", "refused A1 1\n"),
+    ("ret #0\n\nfoo\n", "refused A1 3\n"),
+];
+
 #[test]
 fn labels_and_their_faults(rt: HostRuntime) -> Result<(), Fail> {
     let text = "ja end; ret #0; end: ret #1";
@@ -150,15 +165,7 @@ fn labels_and_their_faults(rt: HostRuntime) -> Result<(), Fail> {
         "accepted 3\n",
         "value 1 steps 2 kept 1\n",
     )?;
-    let cases = [
-        ("top: ja top; ret #0", "refused A4 1\n"),
-        ("jeq #1,256,0; ret #0", "refused A5 1\n"),
-        ("ja x; ret #0", "refused A2 1\n"),
-        ("l: ret #0; l: ret #0", "refused A3 2\n"),
-        ("foo", "refused A1 1\n"),
-        ("ret #0\n\nfoo\n", "refused A1 3\n"),
-    ];
-    for (text, line) in cases {
+    for (text, line) in &LABEL_FAULTS {
         assert_refused(&rt, rt.alloc(), text, line)?;
     }
     Ok(())
@@ -187,32 +194,32 @@ other:  ret #0
     )
 }
 
+const INSTRUCTION_FAULTS: [(&str, &str); 3] = [
+    ("ret #0; div #0; ret a", "refused V5 1\n"),
+    ("st M[16]; ret a", "refused V7 0\n"),
+    ("ld #0; ld [2147483648]; ret a", "refused V9 1\n"),
+];
+
 #[test]
 fn faults_of_one_instruction(rt: HostRuntime) -> Result<(), Fail> {
-    let cases = [
-        ("ret #0; div #0; ret a", "refused V5 1\n"),
-        ("st M[16]; ret a", "refused V7 0\n"),
-        ("ld #0; ld [2147483648]; ret a", "refused V9 1\n"),
-    ];
-    for (text, line) in cases {
+    for (text, line) in &INSTRUCTION_FAULTS {
         assert_refused(&rt, rt.alloc(), text, line)?;
     }
     Ok(())
 }
 
+const NO_TEXTS: [(&[u8], &str); 4] = [
+    (b"\xff", "refused A1 1\n"),
+    (b"ret #0\n\xc3\x28", "refused A1 2\n"),
+    (b"ret #0\r\n", "refused A1 1\n"),
+    (b"\x00", "refused A1 1\n"),
+];
+
 #[test]
 fn bytes_that_are_no_text(rt: HostRuntime) -> Result<(), Fail> {
-    let cases: [(&[u8], &str); 4] = [
-        (b"\xff", "refused A1 1\n"),
-        (b"ret #0\n\xc3\x28", "refused A1 2\n"),
-        (b"ret #0\r\n", "refused A1 1\n"),
-        (b"\x00", "refused A1 1\n"),
-    ];
-    for (text, line) in cases {
-        let (status, out, errs) = told(rt.alloc(), &["check"], text)?;
-        assert_eq!(rt; out.text(), Some(line), "{text:?}");
-        assert_eq!(rt; errs.text(), Some(""), "{text:?}");
-        assert_eq!(rt; status, Some(1), "{text:?}");
+    for (text, line) in &NO_TEXTS {
+        let told = told(rt.alloc(), &["check"], text)?;
+        assert_wrote(&rt, &told, 1, line, "", text);
     }
     Ok(())
 }

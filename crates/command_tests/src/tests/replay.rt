@@ -2,9 +2,10 @@
 
 use super::example_scripts::SCRIPTS;
 use super::streams::{Sink, Source};
-use super::{assert_told, run_on, told};
+use super::{assert_told, assert_wrote, run_into, run_on, told};
 use std::alloc::{AllocError, Global};
 use std::io::ErrorKind;
+use std::process::Abort;
 use std::test::Fail;
 
 const SCRIPT: &str = "add 10.0.0.2:53\n\
@@ -37,28 +38,36 @@ const REPLIES: &str = "ok version 1\n\
     reclaimed 7 0\n\
     refused C1\n";
 
+// The second script's last line ends only with the input.
+const READS: [(&str, usize); 2] = [("show\nsweep\nshow\n", 1), ("show\nsweep\nshow", 2)];
+
 #[test]
 fn replies_of_one_read_are_one_write(rt: HostRuntime) -> Result<(), Fail> {
-    let (_, out, _) = told(rt.alloc(), &["replay"], b"show\nsweep\nshow\n")?;
-    assert_eq!(rt; out.writes, 1);
-    // The last line ends only with the input.
-    let (_, out, _) = told(rt.alloc(), &["replay"], b"show\nsweep\nshow")?;
-    assert_eq!(rt; out.writes, 2);
+    for (script, writes) in &READS {
+        let told = told(rt.alloc(), &["replay"], script.as_bytes())?;
+        assert_eq!(rt; told.out.writes, *writes, "{script:?}");
+    }
+    Ok(())
+}
+
+fn put_shows(script: &mut String, count: usize) -> Result<(), AllocError> {
+    for _ in 0..count {
+        script.push_str("show\n")?;
+    }
     Ok(())
 }
 
 // Of these replies, of 38 bytes each, 107 fit a write.
 #[test]
 fn writes_have_whole_lines(rt: HostRuntime) -> Result<(), Fail> {
-    let alloc = rt.alloc();
-    let mut script = String::new(alloc);
-    for _ in 0..300 {
-        script.push_str("show\n")?;
-    }
-    let (_, out, _) = told(alloc, &["replay"], script.as_bytes())?;
-    assert_eq!(rt; out.writes, 3);
-    assert_eq!(rt; out.longest, 107 * 38);
-    assert!(rt; out.whole_lines);
+    let mut script = String::new(rt.alloc());
+    put_shows(&mut script, 300)?;
+    let told = told(rt.alloc(), &["replay"], script.as_bytes())?;
+    let out = &told.out;
+    assert_eq!(rt;
+        (out.writes, out.longest, out.whole_lines),
+        (3, 107 * 38, true)
+    );
     Ok(())
 }
 
@@ -76,29 +85,24 @@ fn script_through_the_command(rt: HostRuntime) -> Result<(), Fail> {
     )
 }
 
+const SHORT_SCRIPT: &[u8] = b"add 10.0.0.2:53\nshow\nsweep";
+
+// How many reads of six bytes are made, and the replies.
+const FAILED_READS: [(usize, &str); 5] = [
+    (0, ""),
+    (1, ""),
+    (3, "ok version 1\n"),
+    (4, "ok version 1\nversion 1 groups 1 members 0 charge 6\n"),
+    (5, "ok version 1\nversion 1 groups 1 members 0 charge 6\n"),
+];
+
 // Each line that was read whole is answered before the read that fails.
 #[test]
 fn script_that_cannot_be_read_on(rt: HostRuntime) -> Result<(), Fail> {
-    let alloc = rt.alloc();
-    let script = b"add 10.0.0.2:53\nshow\nsweep";
-    for (reads, replies) in [
-        (0, ""),
-        (1, ""),
-        (3, "ok version 1\n"),
-        (4, "ok version 1\nversion 1 groups 1 members 0 charge 6\n"),
-        (5, "ok version 1\nversion 1 groups 1 members 0 charge 6\n"),
-    ] {
-        let input = Source::new(script, 6, reads, ErrorKind::BrokenPipe);
-        let (status, out, errs) = run_on(
-            alloc,
-            &["replay"],
-            input,
-            Sink::open(alloc),
-            Sink::open(alloc),
-        )?;
-        assert_eq!(rt; status, Some(3), "after {reads} reads");
-        assert_eq!(rt; out.text(), Some(replies), "after {reads} reads");
-        assert_eq!(rt; errs.text(), Some("failed E1\n"), "after {reads} reads");
+    for (reads, replies) in &FAILED_READS {
+        let input = Source::new(SHORT_SCRIPT, 6, *reads, ErrorKind::BrokenPipe);
+        let told = run_on(rt.alloc(), &["replay"], input)?;
+        assert_wrote(&rt, &told, 3, replies, "failed E1\n", reads);
     }
     Ok(())
 }
@@ -114,15 +118,18 @@ fn both(alloc: Global) -> Result<String, AllocError> {
     Ok(text)
 }
 
+fn assert_summaries(rt: &impl Abort, alloc: Global, all: &str) -> Result<(), Fail> {
+    assert_told(rt, alloc, &["replay", "--summary"], SCRIPT, 0, all)?;
+    let words = ["replay", "--summary", "--quiet"];
+    assert_told(rt, alloc, &words, SCRIPT, 0, SUMMARY)?;
+    assert_told(rt, alloc, &words, "show\nsweep", 0, "")?;
+    assert_told(rt, alloc, &["replay", "--quiet"], SCRIPT, 0, "")
+}
+
 #[test]
 fn summary_is_asked_for(rt: HostRuntime) -> Result<(), Fail> {
-    let alloc = rt.alloc();
-    let all = both(alloc)?;
-    assert_told(&rt, alloc, &["replay", "--summary"], SCRIPT, 0, &all)?;
-    let words = ["replay", "--summary", "--quiet"];
-    assert_told(&rt, alloc, &words, SCRIPT, 0, SUMMARY)?;
-    assert_told(&rt, alloc, &words, "show\nsweep", 0, "")?;
-    assert_told(&rt, alloc, &["replay", "--quiet"], SCRIPT, 0, "")
+    let all = both(rt.alloc())?;
+    assert_summaries(&rt, rt.alloc(), &all)
 }
 
 // Verdicts without a member, and packets that are no good digits. The last line has no LF.
@@ -145,61 +152,60 @@ fn summary_has_each_verdict(rt: HostRuntime) -> Result<(), Fail> {
     )
 }
 
+// So many writes are taken, of the two that give all.
+fn assert_limited(rt: &impl Abort, alloc: Global, limit: usize, all: &str) -> Result<(), Fail> {
+    let mut out = Sink::new(alloc, limit, true);
+    let mut errs = Sink::open(alloc);
+    let words = ["replay", "--summary"];
+    let status = run_into(alloc, &words, SCRIPT.as_bytes(), &mut out, &mut errs)?;
+    let written = out.text().unwrap_or("no text");
+    assert!(rt; all.starts_with(written), "{limit}: {written}");
+    let is_whole = limit == 2;
+    let ended = if is_whole {
+        (0, "")
+    } else {
+        (3, "failed E2\n")
+    };
+    assert_eq!(rt; written.len() == all.len(), is_whole, "{limit}");
+    assert_eq!(rt;
+        (status, errs.text()),
+        (Some(ended.0), Some(ended.1)),
+        "{limit}"
+    );
+    Ok(())
+}
+
 // Of the replies and the summary what was taken before the write that fails stands there. Each of the two is one write.
 #[test]
 fn summary_that_cannot_be_written(rt: HostRuntime) -> Result<(), Fail> {
-    let alloc = rt.alloc();
-    let all = both(alloc)?;
+    let all = both(rt.alloc())?;
     for limit in 0..3usize {
-        let (status, out, errs) = run_on(
-            alloc,
-            &["replay", "--summary"],
-            SCRIPT.as_bytes(),
-            Sink::new(alloc, limit, true),
-            Sink::open(alloc),
-        )?;
-        let written = out.text().unwrap_or("no text");
-        assert!(rt; all.starts_with(written), "{limit}");
-        let is_whole = limit == 2;
-        assert_eq!(rt; written.len() == all.len(), is_whole, "{limit}");
-        assert_eq!(rt; status, Some(if is_whole { 0 } else { 3 }), "{limit}");
-        assert_eq!(rt;
-            errs.text(),
-            Some(if is_whole { "" } else { "failed E2\n" }),
-            "{limit}"
-        );
+        assert_limited(&rt, rt.alloc(), limit, &all)?;
     }
     Ok(())
 }
 
+// Words, and the replies before a read that fails.
+const UNSUMMED: [(&[&str], &str); 3] = [
+    (&["replay", "--summary"], "version 0 malformed\n"),
+    (&["replay", "--summary", "--quiet"], ""),
+    (&["replay", "--quiet"], ""),
+];
+
 // Behind a failed read there is no summary, and with `--quiet` nothing.
 #[test]
 fn failed_read_has_no_summary(rt: HostRuntime) -> Result<(), Fail> {
-    let alloc = rt.alloc();
-    let script = b"packet 45\nshow\n";
-    for (words, replies) in [
-        (["replay", "--summary"].as_slice(), "version 0 malformed\n"),
-        (["replay", "--summary", "--quiet"].as_slice(), ""),
-        (["replay", "--quiet"].as_slice(), ""),
-    ] {
-        let input = Source::new(script, 10, 1, ErrorKind::BrokenPipe);
-        let (status, out, errs) = run_on(
-            alloc,
-            words,
-            input,
-            Sink::open(alloc),
-            Sink::open(alloc),
-        )?;
-        assert_eq!(rt; out.text(), Some(replies), "{words:?}");
-        assert_eq!(rt; errs.text(), Some("failed E1\n"), "{words:?}");
-        assert_eq!(rt; status, Some(3), "{words:?}");
+    for (words, replies) in &UNSUMMED {
+        let input = Source::new(b"packet 45\nshow\n", 10, 1, ErrorKind::BrokenPipe);
+        let told = run_on(rt.alloc(), words, input)?;
+        assert_wrote(&rt, &told, 3, replies, "failed E1\n", words);
     }
     Ok(())
 }
 
 #[test]
 fn scripts_of_the_examples(rt: HostRuntime) -> Result<(), Fail> {
-    for (script, replies) in SCRIPTS {
+    for (script, replies) in &SCRIPTS {
         assert_told(&rt, rt.alloc(), &["replay"], script, 0, replies)?;
     }
     Ok(())

@@ -1,12 +1,10 @@
 //! `tell` where no switch answers: nothing is sent, or no answer comes.
 
-use super::owned;
-use super::streams::{Sink, Source};
+use super::streams::Source;
+use super::{assert_wrote, run_as_main};
 use command_line::Status;
 use std::io::ErrorKind;
 use std::test::Fail;
-use text_commands::tool;
-use worker_commands::run_waiting;
 
 // Words, an input and how many reads of it succeed; then the status, and what is printed and told.
 struct Row {
@@ -65,34 +63,10 @@ const ROWS: [Row; 5] = [
 #[test]
 fn tell_without_a_switch(rt: HostRuntime) -> Result<(), Fail> {
     for row in &ROWS {
-        let words = owned(rt.alloc(), row.words)?;
-        let mut out = Sink::open(rt.alloc());
-        let mut errs = Sink::open(rt.alloc());
-        // As `main` runs it.
-        let answered = tool(
-            rt.alloc(),
-            words.as_slice(),
-            b"".as_slice(),
-            &mut out,
-            &mut errs,
-        );
-        match answered {
-            Some(status) => assert!(rt; false, "{words:?}: {status}"),
-            None => {
-                let input = Source::new(row.input.as_bytes(), 9, row.reads, ErrorKind::BrokenPipe);
-                let ended = run_waiting(
-                    &rt,
-                    rt.alloc(),
-                    words.as_slice(),
-                    input,
-                    &mut out,
-                    &mut errs,
-                );
-                assert_eq!(rt; ended, row.status, "{words:?}");
-                assert_eq!(rt; out.text(), Some(row.printed), "{words:?}");
-                assert_eq!(rt; errs.text(), Some(row.told), "{words:?}");
-            }
-        }
+        let input = Source::new(row.input.as_bytes(), 9, row.reads, ErrorKind::BrokenPipe);
+        let told = run_as_main(&rt, rt.alloc(), row.words, input)?;
+        let status = row.status as u8;
+        assert_wrote(&rt, &told, status, row.printed, row.told, &row.words);
     }
     Ok(())
 }
