@@ -22,13 +22,14 @@ no_line [] lacks = refl
 no_line (byte ∷ rest) lacks =
     in_line byte rest (lacks 0 (omega arith)) ∙ ap (λ (lines : List (List ℕ)). grow_line byte lines) (no_line rest (λ k inside. lacks (suc k) (omega arith)))
 
-first_line : (line rest : List ℕ) → Lacks 10 line → lines_of (line ++ 10 ∷ rest) ≡ line ∷ lines_of rest
+-- the first line of a text, and those behind it
+pub first_line : (line rest : List ℕ) → Lacks 10 line → lines_of (line ++ 10 ∷ rest) ≡ line ∷ lines_of rest
 unfolding lines_of
 first_line [] rest lacks = refl
 first_line (byte ∷ line) rest lacks =
     in_line byte (line ++ 10 ∷ rest) (lacks 0 (omega arith)) ∙ ap (λ (lines : List (List ℕ)). grow_line byte lines) (first_line line rest (λ k inside. lacks (suc k) (omega arith)))
 
-no_lines : lines_of [] ≡ []
+pub no_lines : lines_of [] ≡ []
 unfolding lines_of
 no_lines = refl
 

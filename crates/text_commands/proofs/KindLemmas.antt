@@ -1,6 +1,6 @@
 -- The kinds of the replies of a script.
-use Rattle.std.proofs.Common.{◌≡◌, ◌∙◌, ◌==◌, ◌/◌, ◌%◌, ◌^◌, ◌<◌, ◌∷◌, ◌++◌, List, None, Option, Some, [], ap, append-nil, append_assoc, arith, codes, decimal, inl, not, refl, true, ℕ}
-use Rattle.std.proofs.lemmas.Bool.{and_parts, eq-eqb, false≢true}
+use Rattle.std.proofs.Common.{◌≡◌, ◌∙◌, ◌==◌, ◌/◌, ◌%◌, ◌^◌, ◌<◌, ◌∷◌, ◌++◌, Bool, List, None, Option, Some, [], ap, append-nil, append_assoc, arith, codes, decimal, inl, nat_lt, not, refl, true, ℕ}
+use Rattle.std.proofs.lemmas.Bool.{and_parts, eq-eqb, false≢true, ltb-true}
 use Rattle.std.specs.List.{list_all}
 use Rattle.std.specs.Option.{option_or}
 use Rattle.ipv4_fields.specs.Cut.{Lacks}
@@ -37,6 +37,17 @@ lacks-test [] all = λ k inside. absurd (omega arith)
 lacks-test (x ∷ text) all =
     let both = and_parts (not (x == 32)) (list_all (λ b. not (b == 32)) text) all in
     lacks-cons 32 x text (λ same. false≢true (rw (eq-eqb x 32 same) at both.0)) (lacks-test text both.1)
+
+-- each byte is above the space
+abbrev pub is_above_space : List ℕ → Bool
+is_above_space text = list_all (λ b. nat_lt 32 b) text
+
+pub lacks-above : (s : ℕ) (text : List ℕ) → s < 33 → is_above_space text ≡ true → Lacks s text
+lacks-above s [] low all = λ k inside. absurd (omega arith)
+lacks-above s (x ∷ text) low all =
+    let both = and_parts (nat_lt 32 x) (list_all (λ b. nat_lt 32 b) text) all in
+    let above = ltb-true 32 x both.0 in
+    lacks-cons s x text (λ same. absurd (omega (arith, above, same))) (lacks-above s text low both.1)
 
 lacks-number : (n : ℕ) → n < 2 ^ 64 → Lacks 32 (decimal n)
 lacks-number n small = lacks-decimal 32 n (inl (omega arith)) small
@@ -131,66 +142,66 @@ verdicts_are_counted version (Deliver group id to bytes) small member = delivere
 
 -- ---- refusals
 
-lacks-asm : (fault : AsmFault) → Lacks 32 (asm_code fault).name
-lacks-asm (asm.Syntax line) = lacks-test (codes "A1") refl
-lacks-asm (asm.UnknownLabel line) = lacks-test (codes "A2") refl
-lacks-asm (asm.DoubleLabel line) = lacks-test (codes "A3") refl
-lacks-asm (asm.BackwardJump line) = lacks-test (codes "A4") refl
-lacks-asm (asm.TooFar line) = lacks-test (codes "A5") refl
-lacks-asm asm.OutOfMemory = lacks-test (codes "A6") refl
+above-asm : (fault : AsmFault) → is_above_space (asm_code fault).name ≡ true
+above-asm (asm.Syntax line) = refl
+above-asm (asm.UnknownLabel line) = refl
+above-asm (asm.DoubleLabel line) = refl
+above-asm (asm.BackwardJump line) = refl
+above-asm (asm.TooFar line) = refl
+above-asm asm.OutOfMemory = refl
 
-lacks-verify : (fault : Fault) → Lacks 32 (verify_code fault).name
-lacks-verify verify.Empty = lacks-test (codes "V1") refl
-lacks-verify verify.TooLong = lacks-test (codes "V2") refl
-lacks-verify (verify.BadOpcode pc) = lacks-test (codes "V3") refl
-lacks-verify (verify.StrayField pc) = lacks-test (codes "V4") refl
-lacks-verify (verify.ZeroDivisor pc) = lacks-test (codes "V5") refl
-lacks-verify (verify.BadShift pc) = lacks-test (codes "V6") refl
-lacks-verify (verify.BadCell pc) = lacks-test (codes "V7") refl
-lacks-verify (verify.JumpOutside pc) = lacks-test (codes "V8") refl
-lacks-verify (verify.Ancillary pc) = lacks-test (codes "V9") refl
-lacks-verify verify.NoReturn = lacks-test (codes "V10") refl
-lacks-verify (verify.UnstoredCell pc) = lacks-test (codes "V11") refl
+above-verify : (fault : Fault) → is_above_space (verify_code fault).name ≡ true
+above-verify verify.Empty = refl
+above-verify verify.TooLong = refl
+above-verify (verify.BadOpcode pc) = refl
+above-verify (verify.StrayField pc) = refl
+above-verify (verify.ZeroDivisor pc) = refl
+above-verify (verify.BadShift pc) = refl
+above-verify (verify.BadCell pc) = refl
+above-verify (verify.JumpOutside pc) = refl
+above-verify (verify.Ancillary pc) = refl
+above-verify verify.NoReturn = refl
+above-verify (verify.UnstoredCell pc) = refl
 
-lacks-parse : (fault : ParseFault) → Lacks 32 (parse_code fault).name
-lacks-parse (parse.Syntax place) = lacks-test (codes "P1") refl
-lacks-parse (parse.NumberTooBig place) = lacks-test (codes "P2") refl
-lacks-parse (parse.BadAddress place) = lacks-test (codes "P3") refl
-lacks-parse (parse.BadPrefix place) = lacks-test (codes "P4") refl
-lacks-parse (parse.TooDeep place) = lacks-test (codes "P5") refl
-lacks-parse parse.OutOfMemory = lacks-test (codes "P6") refl
+above-parse : (fault : ParseFault) → is_above_space (parse_code fault).name ≡ true
+above-parse (parse.Syntax place) = refl
+above-parse (parse.NumberTooBig place) = refl
+above-parse (parse.BadAddress place) = refl
+above-parse (parse.BadPrefix place) = refl
+above-parse (parse.TooDeep place) = refl
+above-parse parse.OutOfMemory = refl
 
-lacks-compile : (fault : CompileFault) → Lacks 32 (compile_code fault).name
-lacks-compile compile.CellsExceeded = lacks-test (codes "F1") refl
-lacks-compile compile.TooLong = lacks-test (codes "F2") refl
-lacks-compile compile.OutOfMemory = lacks-test (codes "F3") refl
+above-compile : (fault : CompileFault) → is_above_space (compile_code fault).name ≡ true
+above-compile compile.CellsExceeded = refl
+above-compile compile.TooLong = refl
+above-compile compile.OutOfMemory = refl
 
-lacks-refusal : (fault : Refusal) → Lacks 32 (command_code fault).name
-lacks-refusal refusal.NoGroup = lacks-test (codes "G1") refl
-lacks-refusal refusal.GroupExists = lacks-test (codes "G2") refl
-lacks-refusal refusal.NoMember = lacks-test (codes "G3") refl
-lacks-refusal refusal.MemberExists = lacks-test (codes "G4") refl
-lacks-refusal refusal.TooManyGroups = lacks-test (codes "G5") refl
-lacks-refusal refusal.GroupFull = lacks-test (codes "G6") refl
-lacks-refusal refusal.NoProgram = lacks-test (codes "G7") refl
-lacks-refusal refusal.OutOfMemory = lacks-test (codes "G8") refl
-lacks-refusal refusal.Locked = lacks-test (codes "G9") refl
+above-refusal : (fault : Refusal) → is_above_space (command_code fault).name ≡ true
+above-refusal refusal.NoGroup = refl
+above-refusal refusal.GroupExists = refl
+above-refusal refusal.NoMember = refl
+above-refusal refusal.MemberExists = refl
+above-refusal refusal.TooManyGroups = refl
+above-refusal refusal.GroupFull = refl
+above-refusal refusal.NoProgram = refl
+above-refusal refusal.OutOfMemory = refl
+above-refusal refusal.Locked = refl
 
-lacks-publish : (fault : PublishFault) → Lacks 32 (publish_code fault).name
-lacks-publish publish.TooBig = lacks-test (codes "B1") refl
-lacks-publish publish.Busy = lacks-test (codes "B2") refl
-lacks-publish publish.Exhausted = lacks-test (codes "B3") refl
+above-publish : (fault : PublishFault) → is_above_space (publish_code fault).name ≡ true
+above-publish publish.TooBig = refl
+above-publish publish.Busy = refl
+above-publish publish.Exhausted = refl
 
-lacks-reason : (reason : Reason) → Lacks 32 (reason_code reason).name
-lacks-reason BadForm = lacks-test (codes "C1") refl
-lacks-reason LineTooLong = lacks-test (codes "C2") refl
-lacks-reason PacketTooLong = lacks-test (codes "C3") refl
-lacks-reason (Assembly fault) = lacks-asm fault
-lacks-reason (Words fault) = lacks-verify fault
-lacks-reason (Expression fault) = lacks-parse fault
-lacks-reason (Compiling fault) = lacks-compile fault
-lacks-reason (Command why) = lacks-refusal why
-lacks-reason (Publishing fault) = lacks-publish fault
+pub above-reason : (reason : Reason) → is_above_space (reason_code reason).name ≡ true
+above-reason BadForm = refl
+above-reason LineTooLong = refl
+above-reason PacketTooLong = refl
+above-reason (Assembly fault) = above-asm fault
+above-reason (Words fault) = above-verify fault
+above-reason (Expression fault) = above-parse fault
+above-reason (Compiling fault) = above-compile fault
+above-reason (Command why) = above-refusal why
+above-reason (Publishing fault) = above-publish fault
 
 refused_at : (name : List ℕ) (behind : List (List ℕ)) → option_or (verdict_in (codes "refused" ∷ (name ∷ behind))) (refusal_in (codes "refused" ∷ (name ∷ behind))) ≡ Some (codes "refused " ++ name)
 unfolding verdict_in refusal_in
@@ -211,7 +222,7 @@ refused_kind name (Some number) lacks =
     ∙ refused_at name (words_of (decimal number))
 
 pub refusals_are_counted : RefusalsAreCounted
-refusals_are_counted reason = refused_kind (reason_code reason).name (reason_code reason).number (lacks-reason reason)
+refusals_are_counted reason = refused_kind (reason_code reason).name (reason_code reason).number (lacks-above 32 (reason_code reason).name (omega arith) (above-reason reason))
 
 -- ---- other replies
 

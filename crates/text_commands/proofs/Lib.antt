@@ -3,6 +3,7 @@ mod RequestLemmas
 mod RepliesLemmas
 mod SummaryLemmas
 mod KindLemmas
+mod LinesLemmas
 mod StopLemmas
 mod WriteLemmas
 pub mod FirstLemmas

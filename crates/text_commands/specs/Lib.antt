@@ -4,5 +4,6 @@ pub mod FirstPath
 pub mod Input
 pub mod Replaying
 pub mod Counted
+pub mod Lines
 pub mod Request
 pub mod body

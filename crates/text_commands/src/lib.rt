@@ -9,6 +9,7 @@ ghost use Rattle.clap.specs.Words.{kind_of};
 ghost use Rattle.command_line.specs.CommandLine.{AskToWait, AsksForText, HasMisuse, MayWait, faults_in, packets, request_in, request_of};
 ghost use Rattle.command_line.specs.Ending.{IsStatus, code_of};
 ghost use Rattle.text_commands.specs.Counted.{ChangesAreNotCounted, RefusalsAreCounted, ShowsAreNotCounted, SweepsAreNotCounted, VerdictsAreCounted};
+ghost use Rattle.text_commands.specs.Lines.{LinesAreReplies};
 ghost use Rattle.text_commands.specs.Request.{EndsInFailure, MayFail, MayFailBy, TellsCountsOf, Writes, WritesAnswerTo, WritesBefore, WritesBeforeBy};
 
 mod capturing;
@@ -78,14 +79,16 @@ pub fn tool<R: Read + Drop, W: Write, E: Write>(
     }
 }
 
-/// Law of single replies: the kind of the reply to a packet is its verdict, the kind of the reply that refuses a line is its code, and
-/// other replies have no kind. A summary counts the lines of a text by their kinds. It runs nothing.
+/// Law: the kind of the reply to a packet is its verdict, the kind of the reply that refuses a line is its code, and other replies have
+/// no kind; and the lines of a script's text, which a summary counts by their kinds, are the replies to the script's lines, one to each,
+/// in their order. It runs nothing.
 pub fn replies_are_counted()
     ensures verdicts { VerdictsAreCounted }
     ensures refusals { RefusalsAreCounted }
     ensures changes { ChangesAreNotCounted }
     ensures shows { ShowsAreNotCounted }
     ensures sweeps { SweepsAreNotCounted }
+    ensures lines { LinesAreReplies }
 {}
 
 // `None` where the words ask for a command that may wait.

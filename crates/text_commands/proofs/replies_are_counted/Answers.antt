@@ -1,3 +1,4 @@
+use Rattle.text_commands.proofs.LinesLemmas.{lines_are_replies}
 use Rattle.text_commands.proofs.KindLemmas.{changes_are_not_counted, refusals_are_counted, shows_are_not_counted, sweeps_are_not_counted, verdicts_are_counted}
 use Rattle.text_commands.proofs.replies_are_counted.Goals as goal
 
@@ -15,3 +16,6 @@ returns-clause-shows c = shows_are_not_counted
 
 pub returns-clause-sweeps : goal.returns-clause-sweeps
 returns-clause-sweeps c = sweeps_are_not_counted
+
+pub returns-clause-lines : goal.returns-clause-lines
+returns-clause-lines c = lines_are_replies
