@@ -96,12 +96,15 @@ fn wait_for<R: Threads + Wait + Net + Clock + Sync + Abort>(
     input: Source<'_>,
     told: &mut Outcome,
 ) {
-    let answered = tool(alloc, words, b"".as_slice(), &mut told.out, &mut told.errs);
-    let writes = (told.out.writes, told.errs.writes);
-    assert!(rt; answered.is_none(), "{words:?}: {answered:?}");
-    assert!(rt; writes == (0, 0), "{words:?}: {writes:?}");
-    let ended = run_waiting(rt, alloc, words, input, &mut told.out, &mut told.errs);
-    told.status = Some(ended as u8);
+    match tool(alloc, words, b"".as_slice(), &mut told.out, &mut told.errs) {
+        Some(status) => assert!(rt; false, "{words:?}: {status}"),
+        None => {
+            let writes = (told.out.writes, told.errs.writes);
+            assert!(rt; writes == (0, 0), "{words:?}: {writes:?}");
+            let ended = run_waiting(rt, alloc, words, input, &mut told.out, &mut told.errs);
+            told.status = Some(ended as u8);
+        }
+    }
 }
 
 /// Runs words that are left to `main`, as it does, with what the command wrote. Before they are left nothing is written.

@@ -161,17 +161,10 @@ fn assert_limited(rt: &impl Abort, alloc: Global, limit: usize, all: &str) -> Re
     let written = out.text().unwrap_or("no text");
     assert!(rt; all.starts_with(written), "{limit}: {written}");
     let is_whole = limit == 2;
-    let ended = if is_whole {
-        (0, "")
-    } else {
-        (3, "failed E2\n")
-    };
     assert_eq!(rt; written.len() == all.len(), is_whole, "{limit}");
-    assert_eq!(rt;
-        (status, errs.text()),
-        (Some(ended.0), Some(ended.1)),
-        "{limit}"
-    );
+    assert_eq!(rt; status, Some(if is_whole { 0 } else { 3 }), "{limit}");
+    let wanted = if is_whole { "" } else { "failed E2\n" };
+    assert_eq!(rt; errs.text(), Some(wanted), "{limit}");
     Ok(())
 }
 
