@@ -1,8 +1,7 @@
 -- Guards: a test that is left out, and one that falls through where it is true.
 use Rattle.std.proofs.Common.{◌≡◌, ◌+◌, ◌≤◌, Bool, List, Option, Some, [], arith, false, refl, subst, sym, true, ℕ}
 use Rattle.backpatch.specs.Holes.{IsLanded, Open}
-use Rattle.backpatch.specs.Pieces.{Writes}
-use Rattle.backpatch.specs.Runs.{GoesToYes}
+use Rattle.backpatch.specs.Pieces.{Meaning, Writes}
 use Rattle.backpatch.specs.body.Guards.{Guards}
 use Rattle.backpatch.proofs.GuardLemmas.{Guards-guards, Guards-landed, Guards-none, Guards-weight, Guards-writes}
 use Rattle.backpatch.proofs.WritesLemmas.{Writes-means, Writes-not, Writes-weight}
@@ -13,7 +12,8 @@ use Rattle.filter_tree.specs.Outcome.{◌and_then◌, where_so}
 use Rattle.packet_facts.specs.declared.known.Known.{Known}
 use Rattle.packet_facts.specs.Known.{Holds}
 use Rattle.filter_compile.specs.body.Piece.{Decides, Tests}
-use Rattle.filter_compile.specs.body.Sides.{HoldsWhere}
+use Rattle.filter_compile.specs.declared.sides.Sides.{Sides}
+use Rattle.filter_compile.specs.body.Sides.{HoldsWhere, Leaves}
 use Rattle.filter_compile.proofs.TestLemmas.{Tests-and, Tests-decided, Tests-no, Tests-none, Tests-yes}
 
 pub yes_where : (used : Bool) (truth : Truth) → truth ≡ Yes → where_so used truth ≡ Yes
@@ -48,16 +48,16 @@ module _ (known on if_no : Known) (truth : List ℕ → Truth) (weight : ℕ) {c
 -- ---- pieces
 
 -- what is known to be true goes there at once
-pub Writes-yes : (known on if_no : Known) (truth : List ℕ → Truth) (weight : ℕ) {c0 c1 : List ℕ} {y y' : Open} (n : Open) → 1 ≤ weight → on ≡ known → ((packet : List ℕ) (x : ℕ) → Holds known packet x → truth packet ≡ Yes)
-    → ((other : Open) → Writes GoesToYes 1 c0 c1 y y' other other) → Writes (Tests (Holds known) (Holds on) (Holds if_no) truth) weight c0 c1 y y' n n
-Writes-yes known on if_no truth weight n few same if_yes leaves = Writes-weight weight few
-    (Writes-means (λ at_yes at_no words h. Tests-yes (Holds known) (Holds on) (Holds if_no) truth at_yes at_no words (λ packet x g. subst (λ k. Holds k packet x) (sym same) g) if_yes h) (leaves n))
+pub Writes-yes : (known : Known) (sides : Sides) (truth : List ℕ → Truth) (weight : ℕ) {c0 c1 : List ℕ} {y y' : Open} (n : Open) → 1 ≤ weight → ((packet : List ℕ) (x : ℕ) → Holds known packet x → truth packet ≡ Yes)
+    → Leaves known sides c0 c1 y y' → Writes (Tests (Holds known) (Holds sides.yes) (Holds sides.no) truth) weight c0 c1 y y' n n
+Writes-yes known sides truth weight n few if_yes leaves = Writes-weight weight few
+    (Writes-means (λ at_yes at_no words h. Tests-yes (Holds known) (Holds sides.yes) (Holds sides.no) truth at_yes at_no words (λ packet x g. subst (λ k. Holds k packet x) (sym leaves.yes) g) if_yes h) (leaves.writes n))
 
-pub Writes-no : (known if_yes if_no : Known) (truth : List ℕ → Truth) (weight : ℕ) {c0 c1 : List ℕ} {n n' : Open} (y : Open) → 1 ≤ weight → if_no ≡ known → ((packet : List ℕ) (x : ℕ) → Holds known packet x → truth packet ≡ No)
-    → ((other : Open) → Writes GoesToYes 1 c0 c1 n n' other other) → Writes (Tests (Holds known) (Holds if_yes) (Holds if_no) truth) weight c0 c1 y y n n'
-Writes-no known if_yes if_no truth weight y few same is_no leaves = Writes-weight weight few
-    (Writes-not {other = Tests (Holds known) (Holds if_yes) (Holds if_no) truth}
-    (λ at_yes at_no words h. Tests-no (Holds known) (Holds if_yes) (Holds if_no) truth at_yes at_no words (λ packet x g. subst (λ k. Holds k packet x) (sym same) g) is_no h) (leaves y))
+pub Writes-no : (known : Known) (sides : Sides) (truth : List ℕ → Truth) (weight : ℕ) {c0 c1 : List ℕ} {n n' : Open} (y : Open) → 1 ≤ weight → ((packet : List ℕ) (x : ℕ) → Holds known packet x → truth packet ≡ No)
+    → Leaves known sides c0 c1 n n' → Writes (Tests (Holds known) (Holds sides.yes) (Holds sides.no) truth) weight c0 c1 y y n n'
+Writes-no known sides truth weight y few is_no leaves = Writes-weight weight few
+    (Writes-not {other = Tests (Holds known) (Holds sides.yes) (Holds sides.no) truth}
+    (λ at_yes at_no words h. Tests-no (Holds known) (Holds sides.yes) (Holds sides.no) truth at_yes at_no words (λ packet x g. subst (λ k. Holds k packet x) (sym leaves.no) g) is_no h) (leaves.writes y))
 
 -- a decision, and what it tells
 pub Writes-decided : (known if_yes if_no : Known) (truth : List ℕ → Truth) {weight : ℕ} {c0 c1 : List ℕ} {y y' n n' : Open} → ((packet : List ℕ) (x : ℕ) → Holds known packet x → truth packet ≡ Yes → Holds if_yes packet x)
@@ -72,6 +72,14 @@ pub Writes-guarded : (known on if_yes second_no if_no : Known) (missed : Option 
     → Writes (Tests (Holds known) (Holds if_yes) (Holds if_no) (λ packet. first packet and_then second packet)) weight c0 c2 y y' n n''
 Writes-guarded known on if_yes second_no if_no missed first second weight few of_self of_no guards writes = Writes-weight weight few
     (Guards-writes (λ at_yes at_no mid words h k. Tests-and (Holds known) (Holds on) (Holds if_yes) (HoldsWhere missed) (Holds second_no) (Holds if_no) first second of_self of_no at_yes at_no mid words k h) guards writes)
+
+-- a piece behind one that goes to yes, or falls through where it does not hold
+pub Guards-writes_no : {one two both : Meaning} {v w : ℕ} {c0 c1 c2 : List ℕ} {y y' y'' n n' : Open} → ((at_yes at_no mid words : List ℕ) → one at_yes mid words → two at_yes at_no mid → both at_yes at_no words)
+    → Guards (λ at_no at_yes words. one at_yes at_no words) v c0 c1 y y' → Writes two w c1 c2 y' y'' n n' → Writes both (v + w) c0 c2 y y'' n n'
+Guards-writes_no {one = one} {two = two} {both = both} or guards writes =
+    let turned : Writes (λ at_no at_yes words. both at_yes at_no words) _ _ _ _ _ _ _ = Guards-writes {one = λ at_no at_yes words. one at_yes at_no words} {two = λ at_no at_yes words. two at_yes at_no words} (λ at_no at_yes mid words h k. or at_yes at_no mid words h k)
+    guards (Writes-not (λ at_no at_yes words m. m) writes) in
+    Writes-not (λ at_yes at_no words m. m) turned
 
 -- a guard in front of a guard
 pub Guards-both : (known on on' last : Known) (one two if_no : Option Known) (first second : List ℕ → Truth) {v w : ℕ} {c0 c1 c2 : List ℕ} {n n' n'' : Open} → last ≡ on' → ((packet : List ℕ) (x : ℕ) → HoldsWhere one packet x → HoldsWhere if_no packet x)

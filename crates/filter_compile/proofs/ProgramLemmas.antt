@@ -1,12 +1,10 @@
 -- The whole program: the tests of an expression in front of the two instructions that return.
-use Rattle.std.proofs.Common.{◌≡◌, ◌∙◌, ◌-◌, ◌<◌, ◌≤◌, List, [], arith, length, subst, ℕ, ⊎_elim}
+use Rattle.std.proofs.Common.{◌≡◌, ◌∙◌, ◌-◌, ◌<◌, ◌≤◌, List, arith, length, ℕ, ⊎_elim}
 use Rattle.bpf_insn.specs.declared.instruction.Insn.TheVariants.{ReturnConstant}
 use Rattle.bpf_verify.specs.declared.TheConstants.{MAX_INSTRUCTIONS}
 use Rattle.bpf_verify.specs.Accepted.{IsAccepted}
 use Rattle.bpf_machine.specs.Meaning.{Ret, mean, no_cells}
-use Rattle.backpatch.specs.Holes.{IsAppended, IsLanded, Open}
-use Rattle.backpatch.specs.Pieces.{Meaning, Writes}
-use Rattle.backpatch.proofs.FinishLemmas.{IsFinished, finished}
+use Rattle.backpatch.proofs.FinishLemmas.{IsFinished}
 use Rattle.backpatch.proofs.PushedLemmas.{mean_pushed, return_loads}
 use Rattle.filter_tree.specs.declared.truth.Truth.{Truth}
 use Rattle.filter_tree.specs.declared.truth.Truth.TheVariants.{Fails, No, Yes}
@@ -18,12 +16,13 @@ use Rattle.packet_facts.specs.Known.{Holds}
 use Rattle.filter_compile.specs.declared.TheConstants.{ACCEPTED, SHORT}
 use Rattle.filter_compile.specs.Answer.{AnswersFor, HasFarJumpsOnly, HasNoFarJump, answer_of}
 use Rattle.filter_compile.specs.body.Piece.{GoesBy, Tests}
+use Rattle.filter_compile.specs.body.Program.{IsProgramOf}
 
 module _ (tree : Tree) (known if_yes if_no : Known) (yes_by no_by : ℕ) (program : List ℕ) (whole : IsFinished (Tests (Holds known) (Holds if_yes) (Holds if_no) (truth_of tree)) (weight_of tree) ACCEPTED 0 yes_by no_by program) where
-  pub program_within : length program ≤ size_of tree
+  program_within : length program ≤ size_of tree
   program_within = let few = whole.within in omega arith
 
-  pub program_accepted : size_of tree ≤ MAX_INSTRUCTIONS → IsAccepted program
+  program_accepted : size_of tree ≤ MAX_INSTRUCTIONS → IsAccepted program
   program_accepted fits =
       let few = whole.within in
       let loads = whole.meant.loads_stored (return_loads ACCEPTED whole.at_no whole.at_yes whole.accepts 0) (return_loads 0 _ whole.at_no whole.rejects 0) in record {
@@ -39,19 +38,21 @@ module _ (tree : Tree) (known if_yes if_no : Known) (yes_by no_by : ℕ) (progra
   answered No packet h = h.4 ∙ mean_pushed (ReturnConstant 0) _ whole.at_no whole.rejects h.0 h.1 h.2 packet
   answered Fails packet h = h
 
-  pub program_answers : ((packet : List ℕ) (x : ℕ) → Holds known packet x) → AnswersFor tree program
+  program_answers : ((packet : List ℕ) (x : ℕ) → Holds known packet x) → AnswersFor tree program
   program_answers nothing packet ok = answered (truth_of tree packet) packet (whole.meant.goes packet ok 0 0 no_cells (nothing packet 0))
 
   -- a JA has room for 255 instructions behind it
-  pub program_far_jumps : yes_by ≡ size_of tree - 2 → no_by ≡ size_of tree - 1 → HasFarJumpsOnly (size_of tree) program
+  program_far_jumps : yes_by ≡ size_of tree - 2 → no_by ≡ size_of tree - 1 → HasFarJumpsOnly (size_of tree) program
   program_far_jumps yes_is no_is pc k at = let f = whole.far_jumps (size_of tree - 1) (omega arith) (omega arith) pc k at in let beside = f.beside in let far = f.far in omega arith
 
-  pub program_jumpless : yes_by ≡ size_of tree - 2 → no_by ≡ size_of tree - 1 → size_of tree ≤ SHORT → HasNoFarJump program
+  program_jumpless : yes_by ≡ size_of tree - 2 → no_by ≡ size_of tree - 1 → size_of tree ≤ SHORT → HasNoFarJump program
   program_jumpless yes_is no_is short pc k at = let far = (whole.far_jumps (size_of tree - 1) (omega arith) (omega arith) pc k at).far in omega arith
 
--- the code of an expression, its two exits landed before the two returns
-pub program_finished : {means : Meaning} {w accept reject : ℕ} {c0 c1 c2 c3 c4 c5 : List ℕ} {yes_old yes_new no_old no_new : Open} → c0 ≡ [] → yes_old.holes ≡ [] → no_old.holes ≡ []
-    → Writes means w c0 c1 yes_old yes_new no_old no_new → IsLanded yes_new.holes c1 c2 → IsAppended (ReturnConstant accept) c2 c3 → IsLanded no_new.holes c3 c4 → IsAppended (ReturnConstant reject) c4 c5
-    → IsFinished means w accept reject yes_old.by no_old.by c5
-program_finished {means = means} {w = w} {c1 = c1} {yes_old = yes_old} {yes_new = yes_new} {no_old = no_old} {no_new = no_new} begins yes_empty no_empty writes =
-    finished yes_empty no_empty (subst (λ (l : List ℕ). Writes means w l c1 yes_old yes_new no_old no_new) begins writes)
+  pub is_program : size_of tree ≤ MAX_INSTRUCTIONS → yes_by ≡ size_of tree - 2 → no_by ≡ size_of tree - 1 → ((packet : List ℕ) (x : ℕ) → Holds known packet x) → IsProgramOf tree program
+  is_program fits yes_is no_is nothing = record {
+    answer = program_answers nothing;
+    within_size = program_within;
+    far_jumps = program_far_jumps yes_is no_is;
+    no_far_jump = program_jumpless yes_is no_is;
+    accepted = program_accepted fits;
+  }

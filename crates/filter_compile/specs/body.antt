@@ -3,3 +3,4 @@ pub mod Piece
 pub mod Header
 pub mod Sides
 pub mod Arithmetic
+pub mod Program

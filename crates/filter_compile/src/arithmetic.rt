@@ -5,10 +5,10 @@ ghost use Rattle.bpf_verify.specs.declared.TheConstants.{CELLS};
 ghost use Rattle.backpatch.specs.body.Guards.{Extends};
 ghost use Rattle.filter_tree.specs.Arithmetic.{value_of_arith};
 ghost use Rattle.filter_tree.specs.Measure.{cells_of_arith, weight_of_arith};
-ghost use Rattle.filter_tree.specs.Tree.{number};
+ghost use Rattle.filter_tree.specs.Tree.{accessor as accessor_tree, number};
 ghost use Rattle.filter_tree.specs.View.{arith_tree_of};
 ghost use Rattle.filter_compile.specs.body.Arithmetic.{Applies, DoesAs, IsDirect, IsTaken, Loads, LoadsAt, LoadsDirectly, ReadsAs, Restores, simple_value, weight_of_access};
-ghost use Rattle.filter_compile.specs.body.Piece.{Computes};
+ghost use Rattle.filter_compile.specs.body.Piece.{Computes, Pairs};
 
 use crate::guard::load_header;
 use backpatch::Code;
@@ -178,8 +178,8 @@ fn load<'a, A: Allocator>(
     }
 }
 
-/// Brings the value in A to X, and the one that waits in the cell to A.
-pub(crate) fn restore<'a, A: Allocator>(code: &mut Code<'a, A>, cell: u32) -> Result<(), AllocError>
+// Brings the value in A to X, and the one that waits in the cell to A.
+fn restore<'a, A: Allocator>(code: &mut Code<'a, A>, cell: u32) -> Result<(), AllocError>
     requires cell { cell < CELLS }
     ensures restores { OnOk result (Extends (Restores cell) 2 code.old code.new) }
 {
@@ -189,6 +189,7 @@ pub(crate) fn restore<'a, A: Allocator>(code: &mut Code<'a, A>, cell: u32) -> Re
 
 /// Writes the code of an arithmetic expression, which uses scratch cells from `level` on: where its right side has code of
 /// its own, an operation puts its left value into the cell of its level, and goes on with its right side one level up.
+#[cycle(arithmetic)]
 pub(crate) fn arithmetic<'a, A: Allocator, B: Allocator>(
     code: &mut Code<'a, A>,
     arith: &Arith<B>,
@@ -207,26 +208,58 @@ pub(crate) fn arithmetic<'a, A: Allocator, B: Allocator>(
             code.push(Insn::LoadLength)?;
             Ok(held)
         }
-        Arith::Accessor(protocol, index, bytes) => match direct_index(*protocol, index) {
-            Some(k) => load_directly(code, *protocol, k, *bytes, held),
-            None => {
-                let held = arithmetic(code, index, level, held)?;
-                load(code, *protocol, *bytes, held)?;
-                Ok(false)
-            }
-        },
+        Arith::Accessor(protocol, index, bytes) => {
+            accessor(code, *protocol, index, *bytes, level, held)
+        }
         Arith::Operation(left, operator, right) => {
             let held = arithmetic(code, left, level, held)?;
             match simple_of(right) {
                 Some(right) => apply(code, *operator, right, held),
                 None => {
-                    code.push(Insn::Store(level))?;
-                    arithmetic(code, right, level + 1, held)?;
-                    restore(code, level)?;
+                    pair(code, right, level, held)?;
                     code.push(Insn::Alu(operation(*operator), Operand::X))?;
                     Ok(false)
                 }
             }
         }
     }
+}
+
+#[cycle(arithmetic)]
+fn accessor<'a, A: Allocator, B: Allocator>(
+    code: &mut Code<'a, A>,
+    protocol: Protocol,
+    index: &Arith<B>,
+    bytes: Size,
+    level: u32,
+    held: bool,
+) -> Result<bool, AllocError>
+    requires cells { level + cells_of_arith (arith_tree_of index.now) ≤ CELLS }
+    ensures computes { IfOk result (λ after. Extends (Computes (λ packet a. value_of_arith (accessor_tree protocol (arith_tree_of index.now) bytes) packet) held after level) (weight_of_arith (accessor_tree protocol (arith_tree_of index.now) bytes)) code.old code.new) }
+{
+    match direct_index(protocol, index) {
+        Some(k) => load_directly(code, protocol, k, bytes, held),
+        None => {
+            let held = arithmetic(code, index, level, held)?;
+            load(code, protocol, bytes, held)?;
+            Ok(false)
+        }
+    }
+}
+
+/// Writes the code of a right side whose left value, in A, waits in the cell of the level: it leaves the left value in A and
+/// the right one in X.
+#[cycle(arithmetic)]
+pub(crate) fn pair<'a, A: Allocator, B: Allocator>(
+    code: &mut Code<'a, A>,
+    right: &Arith<B>,
+    level: u32,
+    held: bool,
+) -> Result<(), AllocError>
+    requires cells { level + 1 + cells_of_arith (arith_tree_of right.now) ≤ CELLS }
+    ensures pairs { OnOk result (Extends (Pairs (value_of_arith (arith_tree_of right.now)) held level) (weight_of_arith (arith_tree_of right.now) + 3) code.old code.new) }
+{
+    code.push(Insn::Store(level))?;
+    arithmetic(code, right, level + 1, held)?;
+    restore(code, level)
 }

@@ -14,7 +14,7 @@ use filter_tree::Prefix;
 use std::alloc::{AllocError, Allocator};
 
 /// A question to a number.
-#[derive(Drop)]
+#[derive(Clone, Copy)]
 pub(crate) enum Check {
     /// It is this number.
     Equal(u32),

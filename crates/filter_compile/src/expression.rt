@@ -4,7 +4,9 @@
 ghost use Rattle.std.specs.Prelude.{◌+◌, ◌≤◌, IfOk, length};
 ghost use Rattle.bpf_verify.specs.declared.TheConstants.{CELLS, MAX_INSTRUCTIONS};
 ghost use Rattle.backpatch.specs.Pieces.{Writes};
+ghost use Rattle.backpatch.specs.body.Guards.{Guards};
 ghost use Rattle.filter_tree.specs.Measure.{cells_of, weight_of};
+ghost use Rattle.filter_tree.specs.Tree.{conjunction as conjunction_tree, disjunction as disjunction_tree};
 ghost use Rattle.filter_tree.specs.Truth.{truth_of};
 ghost use Rattle.filter_tree.specs.View.{tree_of};
 ghost use Rattle.packet_facts.specs.Known.{Holds};
@@ -33,6 +35,7 @@ fn first_end<B: Allocator>(end: u32, right: &Expr<B>) -> u32
 }
 
 /// Writes the code of an expression, which ends at the place `end` at last.
+#[cycle(expression)]
 pub(crate) fn expression<'a, A: Allocator, B: Allocator>(
     code: &mut Code<'a, A>,
     expr: &Expr<B>,
@@ -60,27 +63,99 @@ pub(crate) fn expression<'a, A: Allocator, B: Allocator>(
                 no: sides.yes,
             })
         }
-        Expr::And(left, right) => {
-            let first_end = first_end(end, right);
-            let mut on = code.exit(first_end);
-            let first = expression(code, left, known, first_end, &mut on, no)?;
-            code.land(&on);
-            let second = expression(code, right, first.yes, end, yes, no)?;
-            Ok(Sides {
-                yes: second.yes,
-                no: first.no.join(second.no),
-            })
-        }
-        Expr::Or(left, right) => {
-            let first_end = first_end(end, right);
-            let mut on = code.exit(first_end);
-            let first = expression(code, left, known, first_end, yes, &mut on)?;
-            code.land(&on);
-            let second = expression(code, right, first.no, end, yes, no)?;
-            Ok(Sides {
-                yes: first.yes.join(second.yes),
-                no: second.no,
-            })
-        }
+        Expr::And(left, right) => conjunction(code, left, right, known, end, yes, no),
+        Expr::Or(left, right) => disjunction(code, left, right, known, end, yes, no),
     }
+}
+
+#[cycle(expression)]
+fn conjunction<'a, A: Allocator, B: Allocator>(
+    code: &mut Code<'a, A>,
+    left: &Expr<B>,
+    right: &Expr<B>,
+    known: Known,
+    end: u32,
+    yes: &mut Exit<'a, A>,
+    no: &mut Exit<'a, A>,
+) -> Result<Sides, AllocError>
+    requires cells { cells_of (conjunction_tree (tree_of left.now) (tree_of right.now)) ≤ CELLS }
+    requires room { length code.old + weight_of (conjunction_tree (tree_of left.now) (tree_of right.now)) ≤ end }
+    requires limit { end ≤ MAX_INSTRUCTIONS }
+    requires yes_behind { end ≤ yes.old.by }
+    requires no_behind { end ≤ no.old.by }
+    ensures writes { IfOk result (λ sides. Writes (Tests (Holds known) (Holds sides.yes) (Holds sides.no) (truth_of (conjunction_tree (tree_of left.now) (tree_of right.now)))) (weight_of (conjunction_tree (tree_of left.now) (tree_of right.now))) code.old code.new yes.old yes.new no.old no.new) }
+{
+    let first = left_of_and(code, left, known, first_end(end, right), no)?;
+    let second = expression(code, right, first.yes, end, yes, no)?;
+    Ok(Sides {
+        yes: second.yes,
+        no: first.no.join(second.no),
+    })
+}
+
+#[cycle(expression)]
+fn disjunction<'a, A: Allocator, B: Allocator>(
+    code: &mut Code<'a, A>,
+    left: &Expr<B>,
+    right: &Expr<B>,
+    known: Known,
+    end: u32,
+    yes: &mut Exit<'a, A>,
+    no: &mut Exit<'a, A>,
+) -> Result<Sides, AllocError>
+    requires cells { cells_of (disjunction_tree (tree_of left.now) (tree_of right.now)) ≤ CELLS }
+    requires room { length code.old + weight_of (disjunction_tree (tree_of left.now) (tree_of right.now)) ≤ end }
+    requires limit { end ≤ MAX_INSTRUCTIONS }
+    requires yes_behind { end ≤ yes.old.by }
+    requires no_behind { end ≤ no.old.by }
+    ensures writes { IfOk result (λ sides. Writes (Tests (Holds known) (Holds sides.yes) (Holds sides.no) (truth_of (disjunction_tree (tree_of left.now) (tree_of right.now)))) (weight_of (disjunction_tree (tree_of left.now) (tree_of right.now))) code.old code.new yes.old yes.new no.old no.new) }
+{
+    let first = left_of_or(code, left, known, first_end(end, right), yes)?;
+    let second = expression(code, right, first.no, end, yes, no)?;
+    Ok(Sides {
+        yes: first.yes.join(second.yes),
+        no: second.no,
+    })
+}
+
+// Falls through where it is true.
+#[cycle(expression)]
+fn left_of_and<'a, A: Allocator, B: Allocator>(
+    code: &mut Code<'a, A>,
+    left: &Expr<B>,
+    known: Known,
+    end: u32,
+    no: &mut Exit<'a, A>,
+) -> Result<Sides, AllocError>
+    requires cells { cells_of (tree_of left.now) ≤ CELLS }
+    requires room { length code.old + weight_of (tree_of left.now) ≤ end }
+    requires limit { end ≤ MAX_INSTRUCTIONS }
+    requires behind { end ≤ no.old.by }
+    ensures guards { IfOk result (λ sides. Guards (Tests (Holds known) (Holds sides.yes) (Holds sides.no) (truth_of (tree_of left.now))) (weight_of (tree_of left.now)) code.old code.new no.old no.new) }
+{
+    let mut on = code.exit(end);
+    let sides = expression(code, left, known, end, &mut on, no)?;
+    code.land(&on);
+    Ok(sides)
+}
+
+// Falls through where it is false.
+#[cycle(expression)]
+fn left_of_or<'a, A: Allocator, B: Allocator>(
+    code: &mut Code<'a, A>,
+    left: &Expr<B>,
+    known: Known,
+    end: u32,
+    yes: &mut Exit<'a, A>,
+) -> Result<Sides, AllocError>
+    requires cells { cells_of (tree_of left.now) ≤ CELLS }
+    requires room { length code.old + weight_of (tree_of left.now) ≤ end }
+    requires limit { end ≤ MAX_INSTRUCTIONS }
+    requires behind { end ≤ yes.old.by }
+    ensures guards { IfOk result (λ sides. Guards (λ at_no at_yes words. Tests (Holds known) (Holds sides.yes) (Holds sides.no) (truth_of (tree_of left.now)) at_yes at_no words) (weight_of (tree_of left.now)) code.old code.new yes.old yes.new) }
+{
+    let mut on = code.exit(end);
+    let sides = expression(code, left, known, end, yes, &mut on)?;
+    code.land(&on);
+    Ok(sides)
 }

@@ -1,10 +1,12 @@
 //! Tests of the IPv4 header: its version, its protocol, whether it is the first fragment's (RFC 791, section 3.1).
 
-ghost use Rattle.std.specs.Prelude.{◌+◌, ◌≤◌, OnOk, false, length};
+ghost use Rattle.std.specs.Prelude.{◌==◌, ◌+◌, ◌≤◌, OnOk, false, length};
 ghost use Rattle.ipv4_fields.specs.declared.header.Field.TheVariants.{Protocol};
 ghost use Rattle.ipv4_fields.specs.Field.{field_of};
 ghost use Rattle.bpf_verify.specs.declared.TheConstants.{MAX_INSTRUCTIONS};
+ghost use Rattle.backpatch.specs.Checks.{Checks};
 ghost use Rattle.backpatch.specs.Pieces.{Writes};
+ghost use Rattle.backpatch.specs.body.Guards.{Guards};
 ghost use Rattle.filter_tree.specs.declared.primitive.Transport.TheVariants.{Unnamed};
 ghost use Rattle.filter_tree.specs.Outcome.{tested};
 ghost use Rattle.filter_tree.specs.Primitive.{has_ports, is_first_fragment, is_ip, is_protocol};
@@ -44,6 +46,22 @@ pub(crate) fn is_protocol<'a, A: Allocator>(
     code.branch(Test::Equal, Operand::K(n as u32), yes, no)
 }
 
+// Goes to `yes` where A is the number, and falls through where it is not.
+fn leave_where_equal<'a, A: Allocator>(
+    code: &mut Code<'a, A>,
+    n: u32,
+    yes: &mut Exit<'a, A>,
+) -> Result<(), AllocError>
+    requires room { length code.old + 3 ≤ MAX_INSTRUCTIONS }
+    requires behind { length code.old + 3 ≤ yes.old.by }
+    ensures guards { OnOk result (Guards (λ at_no at_yes words. Checks (λ a. a) (λ a x. a == n) at_yes at_no words) 3 code.old code.new yes.old yes.new) }
+{
+    let mut on = code.exit(code.len() + 3);
+    code.branch(Test::Equal, Operand::K(n), yes, &mut on)?;
+    code.land(&on);
+    Ok(())
+}
+
 // Writes the test that the protocol is TCP, UDP or SCTP.
 fn is_any_transport<'a, A: Allocator>(
     code: &mut Code<'a, A>,
@@ -55,12 +73,8 @@ fn is_any_transport<'a, A: Allocator>(
     ensures writes { OnOk result (Writes (Decides false (λ packet. tested (has_ports Unnamed) (field_of Protocol packet))) 10 code.old code.new yes.old yes.new no.old no.new) }
 {
     code.push(Insn::LoadAbsolute(Size::Byte, 9))?;
-    let mut udp = code.exit(code.len() + 3);
-    code.branch(Test::Equal, Operand::K(6), yes, &mut udp)?;
-    code.land(&udp);
-    let mut sctp = code.exit(code.len() + 3);
-    code.branch(Test::Equal, Operand::K(17), yes, &mut sctp)?;
-    code.land(&sctp);
+    leave_where_equal(code, 6, yes)?;
+    leave_where_equal(code, 17, yes)?;
     code.branch(Test::Equal, Operand::K(132), yes, no)
 }
 

@@ -2,12 +2,13 @@
 //! accept exactly the packets that the expressions mean.
 #![tactic(auto)]
 
-ghost use Rattle.std.specs.Prelude.{◌≡◌, ◌<◌, ◌≤◌, Err, IfOk, false, length, min, true, ◌↔◌};
+ghost use Rattle.std.specs.Prelude.{◌≡◌, ◌-◌, ◌<◌, ◌≤◌, Err, IfOk, OnOk, [], false, length, min, true, ◌↔◌};
 ghost use Rattle.bpf_verify.specs.Accepted.{IsAccepted};
 ghost use Rattle.bpf_verify.specs.declared.TheConstants.{CELLS, MAX_INSTRUCTIONS};
 ghost use Rattle.filter_tree.specs.Measure.{cells_of, size_of};
 ghost use Rattle.filter_tree.specs.View.{tree_of};
 ghost use Rattle.filter_compile.specs.Answer.{AnswersFor, HasFarJumpsOnly, HasNoFarJump};
+ghost use Rattle.filter_compile.specs.body.Program.{IsProgramOf};
 ghost use Rattle.filter_compile.specs.declared.fault.CompileFault.TheVariants.{CellsExceeded, TooLong};
 
 mod arithmetic;
@@ -22,13 +23,13 @@ mod relation;
 mod sides;
 
 use crate::expression::expression;
-use backpatch::Code;
+use backpatch::{Code, Exit};
 use bpf_insn::Insn;
 use bpf_verify::{CELLS, MAX_INSTRUCTIONS, Program};
 pub use fault::CompileFault;
 use filter_tree::Expr;
 use packet_facts::Known;
-use std::alloc::Allocator;
+use std::alloc::{AllocError, Allocator};
 
 /// What a program answers where it accepts a packet: the whole of it is kept.
 pub const ACCEPTED: u32 = 65_535;
@@ -64,29 +65,23 @@ pub fn compile<A: Allocator, B: Allocator + Clone>(
     ensures accepted { IfOk result (λ program. IsAccepted program.words) }
 {
     let size = expr.size();
+    within_limits(expr, size)?;
+    Ok(program_of(alloc, expr, size)?)
+}
+
+fn within_limits<A: Allocator>(expr: &Expr<A>, size: u32) -> Result<(), CompileFault>
+    requires size { size ≡ min (size_of (tree_of expr.now)) u32.MAX }
+    ensures cells_exceeded { (result ≡ Err CellsExceeded) ↔ (CELLS < cells_of (tree_of expr.now)) }
+    ensures too_long { (result ≡ Err TooLong) ↔ ((cells_of (tree_of expr.now) ≤ CELLS) × (MAX_INSTRUCTIONS < size_of (tree_of expr.now))) }
+    ensures within { OnOk result ((cells_of (tree_of expr.now) ≤ CELLS) × (size_of (tree_of expr.now) ≤ MAX_INSTRUCTIONS)) }
+{
     if exceeds_cells(expr, size) {
         return Err(CompileFault::CellsExceeded);
     }
     if size > MAX_INSTRUCTIONS as u32 {
         return Err(CompileFault::TooLong);
     }
-    let lists = alloc.clone()?;
-    let mut code = Code::with_room(alloc, &lists, size as usize)?;
-    let mut yes = code.exit(size - 2);
-    let mut no = code.exit(size - 1);
-    expression(
-        &mut code,
-        expr,
-        Known::nothing(),
-        size - 2,
-        &mut yes,
-        &mut no,
-    )?;
-    code.land(&yes);
-    code.push(Insn::ReturnConstant(ACCEPTED))?;
-    code.land(&no);
-    code.push(Insn::ReturnConstant(0))?;
-    Ok(Program::charged(code.into_words(), size))
+    Ok(())
 }
 
 // Up to this size an expression has fewer cells than there are.
@@ -98,4 +93,62 @@ fn exceeds_cells<A: Allocator>(expr: &Expr<A>, size: u32) -> bool
     ensures within { result ≡ false → cells_of (tree_of expr.now) ≤ CELLS }
 {
     size > FEW && expr.cells() > CELLS
+}
+
+fn program_of<A: Allocator, B: Allocator + Clone>(
+    alloc: B,
+    expr: &Expr<A>,
+    size: u32,
+) -> Result<Program<B>, AllocError>
+    requires size { size ≡ size_of (tree_of expr.now) }
+    requires cells { cells_of (tree_of expr.now) ≤ CELLS }
+    requires limit { size ≤ MAX_INSTRUCTIONS }
+    ensures program { IfOk result (λ program. IsProgramOf (tree_of expr.now) program.words) }
+    ensures charge { IfOk result (λ program. program.charge ≡ size) }
+{
+    let lists = alloc.clone()?;
+    let mut code = Code::with_room(alloc, &lists, size as usize)?;
+    write_words(&mut code, expr, size)?;
+    Ok(Program::charged(code.into_words(), size))
+}
+
+fn write_words<'a, A: Allocator, B: Allocator>(
+    code: &mut Code<'a, A>,
+    expr: &Expr<B>,
+    size: u32,
+) -> Result<(), AllocError>
+    requires empty { code.old ≡ [] }
+    requires size { size ≡ size_of (tree_of expr.now) }
+    requires cells { cells_of (tree_of expr.now) ≤ CELLS }
+    requires limit { size ≤ MAX_INSTRUCTIONS }
+    ensures program { OnOk result (IsProgramOf (tree_of expr.now) code.new) }
+{
+    let mut yes = code.exit(size - 2);
+    let mut no = code.exit(size - 1);
+    write_to_exits(code, expr, size, &mut yes, &mut no)
+}
+
+// Writes the code in front of the two exits, and the returns behind them.
+fn write_to_exits<'a, A: Allocator, B: Allocator>(
+    code: &mut Code<'a, A>,
+    expr: &Expr<B>,
+    size: u32,
+    yes: &mut Exit<'a, A>,
+    no: &mut Exit<'a, A>,
+) -> Result<(), AllocError>
+    requires empty { code.old ≡ [] }
+    requires size { size ≡ size_of (tree_of expr.now) }
+    requires cells { cells_of (tree_of expr.now) ≤ CELLS }
+    requires limit { size ≤ MAX_INSTRUCTIONS }
+    requires yes_empty { yes.old.holes ≡ [] }
+    requires no_empty { no.old.holes ≡ [] }
+    requires yes_by { yes.old.by ≡ size - 2 }
+    requires no_by { no.old.by ≡ size - 1 }
+    ensures program { OnOk result (IsProgramOf (tree_of expr.now) code.new) }
+{
+    expression(code, expr, Known::nothing(), size - 2, yes, no)?;
+    code.land(yes);
+    code.push(Insn::ReturnConstant(ACCEPTED))?;
+    code.land(no);
+    code.push(Insn::ReturnConstant(0))
 }

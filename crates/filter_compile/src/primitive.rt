@@ -19,7 +19,7 @@ use crate::check::Check;
 use crate::ends::{Part, ends};
 use crate::guard::{guard_first_fragment, guard_ip, guard_transport, load_header, must_ask};
 use crate::header::{is_ip, is_protocol};
-use crate::sides::{Passed, Sides};
+use crate::sides::{Passed, Sides, settled};
 use backpatch::{Code, Exit};
 use bpf_insn::{Insn, Operand, Test};
 use filter_tree::{Direction, Primitive, Transport};
@@ -36,8 +36,7 @@ fn version<'a, A: Allocator>(
     ensures writes { IfOk result (λ sides. Writes (Tests (Holds known) (Holds sides.yes) (Holds sides.no) is_ip) 5 code.old code.new yes.old yes.new no.old no.new) }
 {
     if !must_ask(true, known.ip()) {
-        code.leave(yes)?;
-        return Ok(Sides::both(known));
+        return settled(code, known, yes);
     }
     is_ip(code, yes, no)?;
     Ok(Sides {
@@ -57,8 +56,7 @@ fn protocol<'a, A: Allocator>(
     ensures writes { IfOk result (λ sides. Writes (Tests (Holds known) (Holds sides.yes) (Holds sides.no) (is_protocol n)) 4 code.old code.new yes.old yes.new no.old no.new) }
 {
     if !must_ask(true, known.protocol(n)) {
-        code.leave(yes)?;
-        return Ok(Sides::both(known));
+        return settled(code, known, yes);
     }
     is_protocol(code, n, yes, no)?;
     Ok(Sides {
@@ -160,8 +158,7 @@ pub(crate) fn primitive<'a, A: Allocator>(
     ensures writes { IfOk result (λ sides. Writes (Tests (Holds known) (Holds sides.yes) (Holds sides.no) (truth_of_primitive primitive)) (weight_of_primitive primitive) code.old code.new yes.old yes.new no.old no.new) }
 {
     if known.excludes(&primitive) {
-        code.leave(no)?;
-        return Ok(Sides::both(known));
+        return settled(code, known, no);
     }
     match primitive {
         Primitive::Ip => version(code, known, yes, no),

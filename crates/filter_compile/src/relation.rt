@@ -15,9 +15,9 @@ ghost use Rattle.packet_facts.specs.Known.{Holds};
 ghost use Rattle.filter_compile.specs.body.Piece.{Compares, Tests, compared_with};
 ghost use Rattle.filter_compile.specs.body.Sides.{HoldsWhere};
 
-use crate::arithmetic::{Simple, arithmetic, restore, simple_of};
+use crate::arithmetic::{Simple, arithmetic, pair, simple_of};
 use crate::guard::{guard_first_fragment, guard_ip, guard_protocol};
-use crate::sides::{Passed, Sides};
+use crate::sides::{Passed, Sides, settled};
 use backpatch::{Code, Exit};
 use bpf_insn::{Insn, Operand, Test};
 use filter_tree::{Accesses, Arith, Relation};
@@ -93,9 +93,7 @@ fn compare_with<'a, A: Allocator, B: Allocator>(
             Ok(false)
         }
         None => {
-            code.push(Insn::Store(0))?;
-            arithmetic(code, right, 1, held)?;
-            restore(code, 0)?;
+            pair(code, right, 0, held)?;
             compare(code, relation, Operand::X, yes, no)?;
             Ok(false)
         }
@@ -121,8 +119,7 @@ pub(crate) fn relation<'a, A: Allocator, B: Allocator>(
 {
     let used = Accesses::of_both(left, right);
     if known.excludes_guards(used) {
-        code.leave(no)?;
-        return Ok(Sides::both(known));
+        return settled(code, known, no);
     }
     let before = guards(code, used, known, no)?;
     let held = arithmetic(code, left, 0, before.on.header_in_x())?;

@@ -1,10 +1,13 @@
 //! What is known behind a part of a program.
 
-ghost use Rattle.std.specs.Prelude.{◌≡◌, List, None, Option, ℕ};
+ghost use Rattle.std.specs.Prelude.{◌≡◌, ◌+◌, ◌≤◌, IfOk, List, None, Option, length, ℕ};
+ghost use Rattle.bpf_verify.specs.declared.TheConstants.{MAX_INSTRUCTIONS};
 ghost use Rattle.packet_facts.specs.Known.{Holds};
-ghost use Rattle.filter_compile.specs.body.Sides.{HoldsWhere};
+ghost use Rattle.filter_compile.specs.body.Sides.{HoldsWhere, Leaves};
 
+use backpatch::{Code, Exit};
 use packet_facts::Known;
+use std::alloc::{AllocError, Allocator};
 
 /// What is known where a test is true, and where it is false.
 #[derive(Clone, Copy)]
@@ -24,6 +27,19 @@ impl Sides {
             no: known,
         }
     }
+}
+
+/// Writes the code of a test whose truth is known: it goes to one exit always.
+pub(crate) fn settled<'a, A: Allocator>(
+    code: &mut Code<'a, A>,
+    known: Known,
+    exit: &mut Exit<'a, A>,
+) -> Result<Sides, AllocError>
+    requires room { length code.old + 1 ≤ MAX_INSTRUCTIONS }
+    ensures leaves { IfOk result (λ sides. Leaves known sides code.old code.new exit.old exit.new) }
+{
+    code.leave(exit)?;
+    Ok(Sides::both(known))
 }
 
 /// What is known behind a guard, and where it goes to no, `None` where it never does.

@@ -16,7 +16,8 @@ use Rattle.filter_compile.proofs.primitive.primitive.Goals as goal
 
 pub returns-then-excludes : goal.returns-then-excludes
 returns-then-excludes g c = record {
-  writes = Writes-no c.args.known c.both.result.yes c.both.result.no (truth_of_primitive c.args.primitive) (weight_of_primitive c.args.primitive) c.args.yes.now (primitive_weight c.args.primitive) c.both.ensures.no (c.if-excludes.ensures.excluded refl) c.in_ok-leave.ensures.writes;
+  writes = IfOk-weaker c.settled.result _ _
+      (λ sides leaves. Writes-no c.args.known sides (truth_of_primitive c.args.primitive) (weight_of_primitive c.args.primitive) c.args.yes.now (primitive_weight c.args.primitive) (c.if-excludes.ensures.excluded refl) leaves) c.settled.ensures.leaves;
 }
 
 pub returns-in-Ip : goal.returns-in-Ip
@@ -53,7 +54,7 @@ returns-in-PortRange g c =
 
 pub returns-in_ok-bytes-in-AtMost : goal.returns-in_ok-bytes-in-AtMost
 returns-in_ok-bytes-in-AtMost g c =
-    let n = c.in-AtMost.n in let both = c.both-in-AtMost in record {
+    let n = c.in-AtMost.n in let both = c.both in record {
       writes = rw c.in-AtMost.is (Writes-decided c.args.known both.result.yes both.result.no (truth_of_primitive (AtMost n)) (λ packet x h is. subst (λ k. Holds k packet x) (sym both.ensures.yes) h) (λ packet x h is. subst (λ k. Holds k packet x) (sym both.ensures.no) h)
           (Writes-not {other = Decides false (truth_of_primitive (AtMost n))}
           (λ at_yes at_no words h. Decides-same false (λ packet. opposite (answer (holds test_is.Greater (length packet) n))) (truth_of_primitive (AtMost n)) at_yes at_no words (λ packet ok. at_most (length packet) n)

@@ -1,12 +1,13 @@
 use Rattle.std.proofs.Common.{arith}
+use Rattle.std.proofs.lemmas.Result.{IfOk-weaker}
 use Rattle.filter_tree.specs.Primitive.{is_protocol}
 use Rattle.filter_compile.proofs.GuardLemmas.{Writes-decided, Writes-yes}
 use Rattle.filter_compile.proofs.primitive.protocol.Goals as goal
 
 pub returns-then-not-must_ask : goal.returns-then-not-must_ask
 returns-then-not-must_ask g c = record {
-  writes = Writes-yes c.args.known c.both.result.yes c.both.result.no (is_protocol c.args.n) 4 c.args.no.now (omega arith) c.both.ensures.yes
-      (λ packet x h. c.must_ask.ensures.left_out c.if-not-must_ask.true (is_protocol c.args.n packet) (c.protocol.ensures.known packet x h)) c.in_ok-leave.ensures.writes;
+  writes = IfOk-weaker c.settled.result _ _
+      (λ sides leaves. Writes-yes c.args.known sides (is_protocol c.args.n) 4 c.args.no.now (omega arith) (λ packet x h. c.must_ask.ensures.left_out c.if-not-must_ask.true (is_protocol c.args.n packet) (c.protocol.ensures.known packet x h)) leaves) c.settled.ensures.leaves;
 }
 
 pub returns : goal.returns

@@ -1,9 +1,7 @@
-use Rattle.std.proofs.Common.{◌∙◌, ap, arith}
-use Rattle.filter_tree.specs.Arithmetic.{value_of_arith}
+use Rattle.std.proofs.Common.{◌∙◌, ap}
 use Rattle.filter_tree.specs.View.{arith_tree_of}
 use Rattle.filter_compile.specs.body.Arithmetic.{simple_value}
 use Rattle.filter_compile.proofs.RelationLemmas.{Writes-compared_length, Writes-compared_number, Writes-compared_pair}
-use Rattle.filter_compile.proofs.StepLemmas.{Extends-pairs}
 use Rattle.filter_compile.proofs.relation.compare_with.Goals as goal
 
 pub returns-in_ok-compare-in-Some-Number : goal.returns-in_ok-compare-in-Some-Number
@@ -18,8 +16,4 @@ returns-in_ok-compare-in-Some-Length g c = record {
 }
 
 pub returns-in_ok-compare-in-None : goal.returns-in_ok-compare-in-None
-returns-in_ok-compare-in-None g c =
-    let right = arith_tree_of c.args.right.now in record {
-      writes = Writes-compared_pair c.args.relation right c.args.held
-          (Extends-pairs (value_of_arith right) c.args.held c.in_ok-arithmetic-in-None.field-0 0 (omega arith) c.in_ok-push-in-None.ensures.appended c.in_ok-arithmetic-in-None.ensures.computes c.in_ok-restore-in-None.ensures.restores) c.in_ok-compare-in-None.ensures.writes;
-    }
+returns-in_ok-compare-in-None g c = record { writes = Writes-compared_pair c.args.relation (arith_tree_of c.args.right.now) c.args.held c.in_ok-pair-in-None.ensures.pairs c.in_ok-compare-in-None.ensures.writes }

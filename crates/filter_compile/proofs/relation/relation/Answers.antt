@@ -1,4 +1,5 @@
 use Rattle.std.proofs.Common.{refl, subst, sym}
+use Rattle.std.proofs.lemmas.Result.{IfOk-weaker}
 use Rattle.filter_tree.specs.Measure.{weight_of}
 use Rattle.filter_tree.specs.Tree.{relation}
 use Rattle.filter_tree.specs.Truth.{accesses_of_both, truth_of}
@@ -13,8 +14,9 @@ pub returns-then-excludes_guards : goal.returns-then-excludes_guards
 returns-then-excludes_guards g c =
     let left = arith_tree_of c.args.left.now in let right = arith_tree_of c.args.right.now in let tree = relation left c.args.relation right in let used = c.of_both-used.result in let told = c.of_both-used.ensures in
     let same = guards-used_by used (accesses_of_both left right) told.ip told.tcp told.udp told.icmp in let weight = weight-used_by used (accesses_of_both left right) told.ip told.tcp told.udp told.icmp in record {
-      writes = Writes-no c.args.known c.both.result.yes c.both.result.no (truth_of tree) (weight_of tree) c.args.yes.now (relation_weight c.args.relation left right used same weight) c.both.ensures.no
-          (λ packet x h. excluded_relation c.args.relation left right used same weight packet (c.if-excludes_guards.ensures.excluded refl packet x h)) c.in_ok-leave.ensures.writes;
+      writes = IfOk-weaker c.settled.result _ _
+          (λ sides leaves. Writes-no c.args.known sides (truth_of tree) (weight_of tree) c.args.yes.now (relation_weight c.args.relation left right used same weight)
+          (λ packet x h. excluded_relation c.args.relation left right used same weight packet (c.if-excludes_guards.ensures.excluded refl packet x h)) leaves) c.settled.ensures.leaves;
     }
 
 pub returns : goal.returns
