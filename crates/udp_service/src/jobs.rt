@@ -6,6 +6,7 @@ ghost use Rattle.atomic_table.specs.Seated.{TableId};
 ghost use Rattle.worker_devices.specs.Devices.{silent_outbox};
 ghost use Rattle.worker_threads.specs.Counted.{IsNew, IsNewWorker};
 ghost use Rattle.udp_service.specs.Service.{HasNewDevices, HasRoom};
+ghost use Rattle.udp_service.specs.declared.jobs.TheConstants.{LIMIT};
 
 use crate::sockets::LONGEST_DATAGRAM;
 use dispatch::{Counter, Job};
@@ -35,6 +36,34 @@ fn outbox_at<N: Net>(net: &N, address: u32) -> Result<SocketOutbox, ServeFault>
     }
 }
 
+// What a job has beside its worker and its counter, and the end of its queue that is told.
+struct Devices<'a, R: Wait + Net> {
+    source: ChannelSource<'a, R>,
+    queue: WorkerQueue,
+    outbox: SocketOutbox,
+    buffer: Vec<u8>,
+}
+
+fn open_devices<'a, R: Wait + Net>(
+    rt: &'a R,
+    alloc: Global,
+    address: u32,
+) -> Result<Devices<'a, R>, ServeFault>
+    ensures new { IfOk result (λ devices. HasNewDevices devices.source devices.outbox) }
+    ensures room { IfOk result (λ devices. HasRoom (length devices.buffer.items) LIMIT) }
+    ensures faults { IfErr result (λ fault. (fault ≡ ServeFault.BindFailed) ⊎ (fault ≡ ServeFault.OutOfMemory)) }
+{
+    let (source, queue) = open_queue(rt, alloc)?;
+    let buffer = vec![in alloc; 0; LONGEST_DATAGRAM]?;
+    let outbox = outbox_at(rt, address)?;
+    Ok(Devices {
+        source,
+        queue,
+        outbox,
+        buffer,
+    })
+}
+
 fn job<'a, R: Wait + Net>(
     rt: &'a R,
     alloc: Global,
@@ -48,13 +77,17 @@ fn job<'a, R: Wait + Net>(
     ensures room { IfOk result (λ parts. HasRoom (length parts.0.buffer.items) parts.0.limit) }
     ensures faults { IfErr result (λ fault. (fault ≡ ServeFault.BindFailed) ⊎ (fault ≡ ServeFault.OutOfMemory)) }
 {
-    let (source, queue) = open_queue(rt, alloc)?;
-    let buffer = vec![in alloc; 0; LONGEST_DATAGRAM]?;
+    let Devices {
+        source,
+        queue,
+        outbox,
+        buffer,
+    } = open_devices(rt, alloc, address)?;
     let job = Job {
         worker,
         counter,
         source,
-        outbox: outbox_at(rt, address)?,
+        outbox,
         buffer,
         limit: LIMIT,
     };
