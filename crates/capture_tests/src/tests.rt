@@ -113,6 +113,19 @@ fn is_read(alloc: Global, file: &[u8], kind: Kind) -> Result<bool, AllocError> {
     Ok(counts(file) == Ok(counts_of(kind)) && packets(alloc, file)?.as_slice() == packet)
 }
 
+// Whether a file of one record, whose parts these are, is read so.
+fn reads(
+    alloc: Global,
+    order: Order,
+    (magic, link): (u32, u32),
+    (first, second): (&[u8], &[u8]),
+    kind: Kind,
+) -> Result<bool, AllocError> {
+    let mut file = open_file(alloc, order, magic, link)?;
+    push_record(&mut file, order, first, second)?;
+    is_read(alloc, &file, kind)
+}
+
 // The number of a link type, and a link header that names IPv4 in it.
 fn link_headers<'a>(order: Order) -> [(u32, &'a [u8]); 10] {
     let family: &[u8] = match order {
@@ -141,33 +154,37 @@ fn link_headers<'a>(order: Order) -> [(u32, &'a [u8]); 10] {
     ]
 }
 
+// Whether the packet is found behind the link header: as it is, with padding and a frame check sequence behind its end, and cut.
+fn is_found(
+    alloc: Global,
+    order: Order,
+    magic: u32,
+    (number, header): (u32, &[u8]),
+) -> Result<bool, AllocError> {
+    let padded = [&PACKET as &[u8], &[0, 0, 0, 0, 1]].concat(alloc)?;
+    let (file, checked) = ((magic, number), (magic, number | 0x5400_0000));
+    Ok(
+        reads(alloc, order, file, (header, &PACKET), Kind::Packet)?
+            && reads(alloc, order, checked, (header, &padded), Kind::Packet)?
+            && reads(alloc, order, file, (header, &PACKET[..20]), Kind::Cut)?,
+    )
+}
+
+// Whether it is found so behind each link header.
+fn are_found(alloc: Global, order: Order, magic: u32) -> Result<bool, AllocError> {
+    for link in link_headers(order) {
+        if !is_found(alloc, order, magic, link)? {
+            return Ok(false);
+        }
+    }
+    Ok(true)
+}
+
 #[test]
 fn each_link_type_in_each_form(rt: HostRuntime) -> Result<(), Fail> {
     for order in [Order::Big, Order::Little] {
         for magic in [0xa1b2_c3d4, 0xa1b2_3c4d] {
-            for (number, header) in link_headers(order) {
-                let mut file = open_file(rt.alloc(), order, magic, number)?;
-                push_record(&mut file, order, header, &PACKET)?;
-                assert!(rt;
-                    is_read(rt.alloc(), &file, Kind::Packet)?,
-                    "{order:?} {number}"
-                );
-                // Padding, and a frame check sequence, stand behind the packet's end.
-                let mut file = open_file(rt.alloc(), order, magic, number | 0x5400_0000)?;
-                let padded = [&PACKET as &[u8], &[0, 0, 0, 0, 1]].concat(rt.alloc())?;
-                push_record(&mut file, order, header, &padded)?;
-                assert!(rt;
-                    is_read(rt.alloc(), &file, Kind::Packet)?,
-                    "{order:?} {number}"
-                );
-                // Cut in the packet.
-                let mut file = open_file(rt.alloc(), order, magic, number)?;
-                push_record(&mut file, order, header, &PACKET[..20])?;
-                assert!(rt;
-                    is_read(rt.alloc(), &file, Kind::Cut)?,
-                    "{order:?} {number}"
-                );
-            }
+            assert!(rt; are_found(rt.alloc(), order, magic)?, "{order:?} {magic:x}");
         }
     }
     Ok(())
@@ -218,12 +235,9 @@ const RECORDS: [(u32, &[u8], &[u8], Kind); 24] = [
 #[test]
 fn records_and_what_they_hold(rt: HostRuntime) -> Result<(), Fail> {
     for (number, first, second, kind) in &RECORDS {
-        let mut file = open_file(rt.alloc(), Order::Little, 0xa1b2_c3d4, *number)?;
-        push_record(&mut file, Order::Little, first, second)?;
-        assert!(rt;
-            is_read(rt.alloc(), &file, *kind)?,
-            "{number} {first:?} {second:?}"
-        );
+        let file = (0xa1b2_c3d4, *number);
+        let read = reads(rt.alloc(), Order::Little, file, (first, second), *kind)?;
+        assert!(rt; read, "{number} {first:?} {second:?}");
     }
     Ok(())
 }

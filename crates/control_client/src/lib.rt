@@ -12,8 +12,6 @@ mod device;
 mod fault;
 mod given_lines;
 mod printing;
-#[cfg(test)]
-mod tests;
 mod udp_device;
 
 pub use asking::{FOREIGN_LIMIT, LONGEST_LINE};

@@ -10,8 +10,6 @@ mod counts;
 mod kind;
 mod put_text;
 mod row;
-#[cfg(test)]
-mod tests;
 mod verdict;
 
 pub use counts::ReplyCounts;

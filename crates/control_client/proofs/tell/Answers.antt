@@ -1,4 +1,4 @@
-use Rattle.std.proofs.Common.{Bool, List, ap, inl, refl, subst, sym, ◌≡◌, ◌||◌, ◌∙◌, ℕ}
+use Rattle.std.proofs.Common.{Bool, List, ap, inl, refl, subst, sym, ◌≡◌, ◌||◌, ◌∙◌, ℕ, rules}
 use Rattle.std.proofs.lemmas.Bool.{or_right}
 use Rattle.control_client.specs.Lines.{GivesNext, LosesLine}
 use Rattle.control_client.specs.declared.fault.TellFault.{TellFault}
@@ -69,3 +69,9 @@ returns-clause-first_told g c =
     let log = g.D.Wire.log c.args.wire.now in let log' = g.D.Wire.log c.loop-line.wire in
     let out = g.W.Write.contents c.args.out.now in let out' = g.W.Write.contents c.loop-line.out in
     stops_between c.args.switch coming mid mid log log' log' out out' out' c.loop-line.refused c.loop-line.invariant ReadFailed (inl refl)
+
+pub returns-clause-all_told : goal.returns-clause-all_told
+returns-clause-all_told g c = search rules
+
+pub returns-then-not-branch-clause-first_told : goal.returns-then-not-branch-clause-first_told
+returns-then-not-branch-clause-first_told g c = search rules

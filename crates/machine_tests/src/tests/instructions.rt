@@ -22,21 +22,18 @@ const REFUSED: [(u64, WordFault); 5] = [
 
 #[test]
 fn words_and_bytes(rt: HostRuntime) {
-    for (insn, word) in WORDS {
-        assert_eq!(rt; insn.to_word(), word);
-        assert_eq!(rt; Insn::from_word(word), Ok(insn));
-        assert_eq!(rt; Insn::from_bytes(insn.to_bytes()), Ok(insn));
+    for (insn, word) in &WORDS {
+        assert!(rt; insn.to_word() == *word);
+        assert!(rt; Insn::from_word(*word) == Ok(*insn));
+        assert!(rt; Insn::from_bytes(insn.to_bytes()) == Ok(*insn));
     }
-    assert_eq!(rt;
-        UDP.to_bytes(),
-        [0x00, 0x15, 0x00, 0x01, 0x00, 0x00, 0x00, 0x11]
-    );
+    assert!(rt; UDP.to_bytes() == [0x00, 0x15, 0x00, 0x01, 0x00, 0x00, 0x00, 0x11]);
 }
 
 #[test]
 fn words_of_no_instruction(rt: HostRuntime) {
-    for (word, fault) in REFUSED {
-        assert_eq!(rt; Insn::from_word(word), Err(fault), "{word:x}");
+    for (word, fault) in &REFUSED {
+        assert!(rt; Insn::from_word(*word) == Err(*fault), "{word:x}");
     }
 }
 
@@ -48,5 +45,5 @@ fn last_word<W: Words>(words: &mut W) -> u64 {
 #[test]
 fn words_of_a_slice(rt: HostRuntime) {
     let mut words: &[u64] = &[7, 8, 9];
-    assert_eq!(rt; last_word(&mut words), 9);
+    assert!(rt; last_word(&mut words) == 9);
 }

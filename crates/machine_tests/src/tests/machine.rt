@@ -31,12 +31,12 @@ fn outcome(rt: &impl Abort, program: &[u64], packet: &[u8]) -> (u32, u32) {
 
 #[test]
 fn first_program_keeps_k(rt: HostRuntime) {
-    assert_eq!(rt; outcome(&rt, &FIRST_PROGRAM, &SAMPLE_PACKET), (65535, 3));
+    assert!(rt; outcome(&rt, &FIRST_PROGRAM, &SAMPLE_PACKET) == (65535, 3));
 }
 
 #[test]
 fn first_program_on_the_empty_packet(rt: HostRuntime) {
-    assert_eq!(rt; outcome(&rt, &FIRST_PROGRAM, &[]), (0, 1));
+    assert!(rt; outcome(&rt, &FIRST_PROGRAM, &[]) == (0, 1));
 }
 
 // ld #A; ldx #OPERAND; OPERATION x; ret a, and the same with the constant as operand.
@@ -61,21 +61,19 @@ const OPERATIONS: [(u64, u64, u64, u32); 16] = [
 
 #[test]
 fn operations(rt: HostRuntime) {
-    for (code, a, operand, value) in OPERATIONS {
+    for &(code, a, operand, value) in &OPERATIONS {
         // A row's numbers are below 2^32, and its code below 2^8.
         let load_a = a & 0xffff_ffff;
         let load_x = (1 << 48) | (operand & 0xffff_ffff);
         let with_x = ((code & 0xff) | 8) << 48;
         let with_k = ((code & 0xff) << 48) | (operand & 0xffff_ffff);
         let return_a = 0x16 << 48;
-        assert_eq!(rt;
-            outcome(&rt, &[load_a, load_x, with_x, return_a], &[]),
-            (value, 4),
+        assert!(rt;
+            outcome(&rt, &[load_a, load_x, with_x, return_a], &[]) == (value, 4),
             "{code:x}"
         );
-        assert_eq!(rt;
-            outcome(&rt, &[load_a, with_k, return_a], &[]),
-            (value, 3),
+        assert!(rt;
+            outcome(&rt, &[load_a, with_k, return_a], &[]) == (value, 3),
             "{code:x}"
         );
     }
@@ -96,20 +94,18 @@ const TESTS: [(u64, u64, u64, u32); 9] = [
 
 #[test]
 fn tests_of_jumps(rt: HostRuntime) {
-    for (code, a, operand, value) in TESTS {
+    for &(code, a, operand, value) in &TESTS {
         let load_a = a & 0xffff_ffff;
         let load_x = (1 << 48) | (operand & 0xffff_ffff);
         let with_x = (((code & 0xff) | 8) << 48) | (1 << 32);
         let with_k = ((code & 0xff) << 48) | (1 << 32) | (operand & 0xffff_ffff);
         let returns = [0x0006_0000_0000_0001, 0x0006_0000_0000_0000];
-        assert_eq!(rt;
-            outcome(&rt, &[load_a, load_x, with_x, returns[0], returns[1]], &[]),
-            (value, 4),
+        assert!(rt;
+            outcome(&rt, &[load_a, load_x, with_x, returns[0], returns[1]], &[]) == (value, 4),
             "{code:x}"
         );
-        assert_eq!(rt;
-            outcome(&rt, &[load_a, with_k, returns[0], returns[1]], &[]),
-            (value, 3),
+        assert!(rt;
+            outcome(&rt, &[load_a, with_k, returns[0], returns[1]], &[]) == (value, 3),
             "{code:x}"
         );
     }
@@ -212,8 +208,8 @@ const RUNS: [(&[u64], u32, u32); 14] = [
 
 #[test]
 fn loads_and_moves(rt: HostRuntime) {
-    for (program, value, steps) in RUNS {
-        assert_eq!(rt; outcome(&rt, program, &SAMPLE_PACKET), (value, steps));
+    for (program, value, steps) in &RUNS {
+        assert!(rt; outcome(&rt, program, &SAMPLE_PACKET) == (*value, *steps));
     }
 }
 
@@ -226,14 +222,14 @@ fn division_by_zero_ends_with_zero(rt: HostRuntime) {
         0x003c_0000_0000_0000,
         0x0016_0000_0000_0000,
     ];
-    assert_eq!(rt; outcome(&rt, &div, &SAMPLE_PACKET), (0, 3));
+    assert!(rt; outcome(&rt, &div, &SAMPLE_PACKET) == (0, 3));
     let rem = [
         0x0001_0000_0000_0000,
         7,
         0x009c_0000_0000_0000,
         0x0016_0000_0000_0000,
     ];
-    assert_eq!(rt; outcome(&rt, &rem, &SAMPLE_PACKET), (0, 3));
+    assert!(rt; outcome(&rt, &rem, &SAMPLE_PACKET) == (0, 3));
 }
 
 #[test]
@@ -245,14 +241,14 @@ fn shift_by_thirty_two(rt: HostRuntime) {
         0x006c_0000_0000_0000,
         0x0016_0000_0000_0000,
     ];
-    assert_eq!(rt; outcome(&rt, &left, &[]), (0, 4));
+    assert!(rt; outcome(&rt, &left, &[]) == (0, 4));
     let right = [
         0xffff_ffff,
         0x0001_0000_0000_0020,
         0x007c_0000_0000_0000,
         0x0016_0000_0000_0000,
     ];
-    assert_eq!(rt; outcome(&rt, &right, &[]), (0, 4));
+    assert!(rt; outcome(&rt, &right, &[]) == (0, 4));
 }
 
 #[test]
@@ -263,10 +259,10 @@ fn indexed_place_does_not_wrap(rt: HostRuntime) {
         0x0050_0000_0000_000a,
         0x0006_0000_0000_0001,
     ];
-    assert_eq!(rt; outcome(&rt, &program, &SAMPLE_PACKET), (0, 2));
+    assert!(rt; outcome(&rt, &program, &SAMPLE_PACKET) == (0, 2));
     // ldx 4*([0x80000000]&0xf); ret a
     let header = [0x00b1_0000_8000_0000, 0x0016_0000_0000_0000];
-    assert_eq!(rt; outcome(&rt, &header, &SAMPLE_PACKET), (0, 1));
+    assert!(rt; outcome(&rt, &header, &SAMPLE_PACKET) == (0, 1));
 }
 
 #[test]
@@ -274,6 +270,6 @@ fn longest_program_runs_once_through(rt: HostRuntime) -> Result<(), Fail> {
     // 4095 times ld #1, and then ret a
     let mut words = vec![in rt.alloc(); 1u64; 4095]?;
     words.push(0x0016_0000_0000_0000)?;
-    assert_eq!(rt; outcome(&rt, words.as_slice(), &SAMPLE_PACKET), (1, 4096));
+    assert!(rt; outcome(&rt, words.as_slice(), &SAMPLE_PACKET) == (1, 4096));
     Ok(())
 }

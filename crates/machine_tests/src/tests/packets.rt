@@ -40,9 +40,8 @@ fn fields_of_prefixes(rt: HostRuntime) {
     for (name, value, least) in FIELDS {
         for len in 0..=29 {
             let wanted = if len < least { None } else { Some(value) };
-            assert_eq!(rt;
-                field(name, &SAMPLE_PACKET[..len]),
-                wanted,
+            assert!(rt;
+                field(name, &SAMPLE_PACKET[..len]) == wanted,
                 "{name:?} of {len} bytes"
             );
         }
@@ -52,9 +51,9 @@ fn fields_of_prefixes(rt: HostRuntime) {
 #[test]
 fn prefixes_are_not_dispatched(rt: HostRuntime) {
     for len in 0..=28 {
-        assert_eq!(rt; dispatchable(&SAMPLE_PACKET[..len]), None, "{len} bytes");
+        assert!(rt; dispatchable(&SAMPLE_PACKET[..len]) == None, "{len} bytes");
     }
-    assert_eq!(rt; dispatchable(&SAMPLE_PACKET), Some(SAMPLE_FLOW));
+    assert!(rt; dispatchable(&SAMPLE_PACKET) == Some(SAMPLE_FLOW));
 }
 
 // A place of the sample packet, the two bytes that it has there instead, and whether it is then still dispatched.
@@ -87,7 +86,7 @@ fn changed_headers(rt: HostRuntime) {
         } else {
             None
         };
-        assert_eq!(rt; dispatchable(&packet), wanted, "{bytes:?} at {place}");
+        assert!(rt; dispatchable(&packet) == wanted, "{bytes:?} at {place}");
     }
 }
 
@@ -95,11 +94,11 @@ fn changed_headers(rt: HostRuntime) {
 fn longest_datagram(rt: HostRuntime) -> Result<(), Fail> {
     let mut packet = SAMPLE_PACKET.to_vec(rt.alloc())?;
     packet.resize(65_535, 0)?;
-    assert_eq!(rt; packet.len(), 65_535);
-    assert_eq!(rt; dispatchable(&packet), None);
+    assert!(rt; packet.len() == 65_535);
+    assert!(rt; dispatchable(&packet) == None);
     packet[2] = 0xff;
     packet[3] = 0xff;
-    assert_eq!(rt; dispatchable(&packet), Some(SAMPLE_FLOW));
+    assert!(rt; dispatchable(&packet) == Some(SAMPLE_FLOW));
     Ok(())
 }
 
@@ -113,24 +112,18 @@ const WITH_OPTIONS: [u8; 33] = [
 
 #[test]
 fn options_are_skipped(rt: HostRuntime) {
-    assert_eq!(rt; field(Field::SourcePort, &WITH_OPTIONS), Some(5000));
-    assert_eq!(rt; field(Field::UdpLength, &WITH_OPTIONS), Some(9));
-    assert_eq!(rt; dispatchable(&WITH_OPTIONS), Some(SAMPLE_FLOW));
+    assert!(rt; field(Field::SourcePort, &WITH_OPTIONS) == Some(5000));
+    assert!(rt; field(Field::UdpLength, &WITH_OPTIONS) == Some(9));
+    assert!(rt; dispatchable(&WITH_OPTIONS) == Some(SAMPLE_FLOW));
 }
 
 #[test]
 fn ports_stand_where_the_ihl_says(rt: HostRuntime) {
     // An IHL of 0, which no datagram has: the ports begin at byte 0.
-    assert_eq!(rt;
-        field(Field::SourcePort, &[0x40, 0x01, 0x02, 0x03]),
-        Some(0x4001)
-    );
-    assert_eq!(rt;
-        field(Field::DestinationPort, &[0x40, 0x01, 0x02, 0x03]),
-        Some(0x0203)
-    );
-    assert_eq!(rt; field(Field::UdpLength, &[0x40, 0x01, 0x02, 0x03]), None);
-    assert_eq!(rt; field(Field::SourcePort, &[0x4f, 0x01, 0x02, 0x03]), None);
+    assert!(rt; field(Field::SourcePort, &[0x40, 0x01, 0x02, 0x03]) == Some(0x4001));
+    assert!(rt; field(Field::DestinationPort, &[0x40, 0x01, 0x02, 0x03]) == Some(0x0203));
+    assert!(rt; field(Field::UdpLength, &[0x40, 0x01, 0x02, 0x03]) == None);
+    assert!(rt; field(Field::SourcePort, &[0x4f, 0x01, 0x02, 0x03]) == None);
 }
 
 // RFC 791, appendix A, example 2: the second words of a datagram and of its two fragments, with flags and offset.
@@ -144,9 +137,9 @@ fn fragments(rt: HostRuntime) {
         (first, 276, 1, 0),
         (second, 216, 0, 32),
     ] {
-        assert_eq!(rt; field(Field::TotalLength, &packet), Some(length));
-        assert_eq!(rt; field(Field::MoreFragments, &packet), Some(more));
-        assert_eq!(rt; field(Field::FragmentOffset, &packet), Some(offset));
+        assert!(rt; field(Field::TotalLength, &packet) == Some(length));
+        assert!(rt; field(Field::MoreFragments, &packet) == Some(more));
+        assert!(rt; field(Field::FragmentOffset, &packet) == Some(offset));
     }
 }
 

@@ -2,7 +2,7 @@
 
 use bpf_verify::{Fault, MAX_INSTRUCTIONS, Program, verify};
 use linked_list_allocator::LocalHeap;
-use std::alloc::Global;
+use std::alloc::{Allocator, Global};
 use std::test::Fail;
 
 const RETURN: u64 = 0x0006_0000_0000_0000;
@@ -181,56 +181,53 @@ fn verdict(program: &[u64]) -> Result<(), Fault> {
 
 #[test]
 fn accepted_and_refused(rt: HostRuntime) {
-    for program in ACCEPTED {
-        assert_eq!(rt; verdict(program), Ok(()));
+    for program in &ACCEPTED {
+        assert!(rt; verdict(program) == Ok(()), "{program:?}");
     }
-    for (program, fault) in REFUSED {
-        assert_eq!(rt; verdict(program), Err(fault));
+    for (program, fault) in &REFUSED {
+        assert!(rt; verdict(program) == Err(*fault), "{fault:?}");
     }
 }
 
 #[test]
 fn faults_at_the_least_place(rt: HostRuntime) {
     let opcode = verdict(&[0x0008_0000_0000_0000, 0x0006_0000_0000_0000]);
-    assert_eq!(rt; opcode, Err(Fault::BadOpcode { pc: 0 }));
+    assert!(rt; opcode == Err(Fault::BadOpcode { pc: 0 }));
     let field = verdict(&[0x0087_0000_0000_0001, 0x0006_0000_0000_0000]);
-    assert_eq!(rt; field, Err(Fault::StrayField { pc: 0 }));
+    assert!(rt; field == Err(Fault::StrayField { pc: 0 }));
     let load = verdict(&[0x0020_0000_8000_0000, 0x0016_0000_0000_0000]);
-    assert_eq!(rt; load, Err(Fault::Ancillary { pc: 0 }));
+    assert!(rt; load == Err(Fault::Ancillary { pc: 0 }));
     let jump = verdict(&[
         0x0005_0000_0000_0005,
         0x0064_0000_0000_0028,
         0x0000_0000_0000_0001,
     ]);
-    assert_eq!(rt; jump, Err(Fault::JumpOutside { pc: 0 }));
-    assert_eq!(rt;
-        verdict(&[0x00b1_0000_8000_0000, 0x0016_0000_0000_0000]),
-        Ok(())
-    );
+    assert!(rt; jump == Err(Fault::JumpOutside { pc: 0 }));
+    assert!(rt; verdict(&[0x00b1_0000_8000_0000, 0x0016_0000_0000_0000]) == Ok(()));
 }
 
 #[test]
 fn jump_places_are_exact(rt: HostRuntime) {
     const ONE: u64 = 0x0006_0000_0000_0001;
     let outside = Err(Fault::JumpOutside { pc: 0 });
-    assert_eq!(rt; verdict(&[0x0005_0000_0000_0000, ONE]), Ok(()));
-    assert_eq!(rt; verdict(&[0x0005_0000_0000_0001, ONE]), outside);
-    assert_eq!(rt; verdict(&[0x0005_0000_ffff_ffff, ONE]), outside);
+    assert!(rt; verdict(&[0x0005_0000_0000_0000, ONE]) == Ok(()));
+    assert!(rt; verdict(&[0x0005_0000_0000_0001, ONE]) == outside);
+    assert!(rt; verdict(&[0x0005_0000_ffff_ffff, ONE]) == outside);
 }
 
 #[test]
 fn cell_is_stored_on_every_path(rt: HostRuntime) {
     // jeq #0,0,1; st M[0]; ld M[0]; ret a
     let branch = verdict(&[0x0015_0001_0000_0000, STORE, LOAD_CELL, RETURN_A]);
-    assert_eq!(rt; branch, Err(Fault::UnstoredCell { pc: 2 }));
+    assert!(rt; branch == Err(Fault::UnstoredCell { pc: 2 }));
     // ret #0; ld M[0]; ret a
-    assert_eq!(rt; verdict(&[RETURN, LOAD_CELL, RETURN_A]), Ok(()));
+    assert!(rt; verdict(&[RETURN, LOAD_CELL, RETURN_A]) == Ok(()));
 }
 
 #[test]
 fn empty_and_unended_programs(rt: HostRuntime) {
-    assert_eq!(rt; verdict(&[0x0000_0000_0000_0001]), Err(Fault::NoReturn));
-    assert_eq!(rt; verdict(&[]), Err(Fault::Empty));
+    assert!(rt; verdict(&[0x0000_0000_0000_0001]) == Err(Fault::NoReturn));
+    assert!(rt; verdict(&[]) == Err(Fault::Empty));
 }
 
 #[test]
@@ -241,9 +238,9 @@ fn inside_a_longer_list(rt: HostRuntime) {
         RETURN,
         0x0008_0000_0000_0000,
     ];
-    assert_eq!(rt; verify(&mut words, 1, 2), Ok(()));
-    assert_eq!(rt; verify(&mut words, 1, 3), Err(Fault::BadOpcode { pc: 2 }));
-    assert_eq!(rt; verify(&mut words, 4, 0), Err(Fault::Empty));
+    assert!(rt; verify(&mut words, 1, 2) == Ok(()));
+    assert!(rt; verify(&mut words, 1, 3) == Err(Fault::BadOpcode { pc: 2 }));
+    assert!(rt; verify(&mut words, 4, 0) == Err(Fault::Empty));
 }
 
 // The first word; st M[0]; as many ld #0; ld M[0]; ret a
@@ -261,9 +258,9 @@ fn short_and_long_programs(rt: HostRuntime) -> Result<(), Fail> {
     // Programs of 64, 65, 512, 513 and 4096 instructions.
     for (between, load) in [(60, 62), (61, 63), (508, 510), (509, 511), (4092, 4094)] {
         let stored = store_and_load(rt.alloc(), 0, between)?;
-        assert_eq!(rt; verdict(&stored), Ok(()));
+        assert!(rt; verdict(&stored) == Ok(()));
         let around = store_and_load(rt.alloc(), 0x0015_0001_0000_0000, between)?;
-        assert_eq!(rt; verdict(&around), Err(Fault::UnstoredCell { pc: load }));
+        assert!(rt; verdict(&around) == Err(Fault::UnstoredCell { pc: load }));
     }
     Ok(())
 }
@@ -272,18 +269,20 @@ fn returns(alloc: Global, count: usize) -> Result<Vec<u64>, Fail> {
     Ok(vec![in alloc; RETURN; count]?)
 }
 
+// The charge and the length of the words' program, or their fault and their number.
+fn measured(words: Vec<u64>) -> Result<(u32, usize), (Fault, usize)> {
+    match Program::new(words) {
+        Ok(program) => Ok((program.charge(), program.words().len())),
+        Err((fault, words)) => Err((fault, words.len())),
+    }
+}
+
 #[test]
 fn longest_program(rt: HostRuntime) -> Result<(), Fail> {
-    let Ok(program) = Program::new(returns(rt.alloc(), MAX_INSTRUCTIONS)?) else {
-        return Err(Fail::from("4096 instructions are accepted"));
-    };
-    assert_eq!(rt; program.charge(), 4096);
-    assert_eq!(rt; program.words().len(), 4096);
-    let Err((fault, words)) = Program::new(returns(rt.alloc(), MAX_INSTRUCTIONS + 1)?) else {
-        return Err(Fail::from("4097 instructions are refused"));
-    };
-    assert_eq!(rt; fault, Fault::TooLong);
-    assert_eq!(rt; words.len(), 4097);
+    let longest = measured(returns(rt.alloc(), MAX_INSTRUCTIONS)?);
+    assert!(rt; longest == Ok((4096, 4096)));
+    let one_more = measured(returns(rt.alloc(), MAX_INSTRUCTIONS + 1)?);
+    assert!(rt; one_more == Err((Fault::TooLong, 4097)));
     Ok(())
 }
 
@@ -299,31 +298,37 @@ fn charged(alloc: Global) -> Result<Program<Global>, Fail> {
     Ok(Program::charged(words, 100))
 }
 
+// Whether a clone has the charge of 100 and the program's words.
+fn is_clone<A: Allocator>(clone: &Program<A>, program: &Program<Global>) -> bool {
+    clone.charge() == 100 && clone.words() == program.words()
+}
+
 #[test]
 fn clone_keeps_words_and_charge(rt: HostRuntime) -> Result<(), Fail> {
     let program = charged(rt.alloc())?;
-    assert_eq!(rt; program.charge(), 100);
+    assert!(rt; program.charge() == 100);
     let clone = program.clone_in(rt.alloc())?;
-    assert_eq!(rt; clone.charge(), 100);
-    assert_eq!(rt; clone.words(), program.words());
+    assert!(rt; is_clone(&clone, &program));
     Ok(())
+}
+
+// Whether a clone in a heap of so many bytes is one; none where it has no room.
+fn clones_in(alloc: Global, program: &Program<Global>, size: usize) -> Result<Option<bool>, Fail> {
+    let heap = LocalHeap::new(alloc, size)?;
+    match program.clone_in(&heap) {
+        Ok(clone) => Ok(Some(is_clone(&clone, program))),
+        Err(_) => Ok(None),
+    }
 }
 
 #[test]
 fn clone_under_each_refused_growth(rt: HostRuntime) -> Result<(), Fail> {
     let program = charged(rt.alloc())?;
     // A clone takes memory once, 792 bytes of it.
-    for (size, fits) in [(64, false), (784, false), (1024, true)] {
-        let heap = LocalHeap::new(rt.alloc(), size)?;
-        match program.clone_in(&heap) {
-            Ok(clone) => {
-                assert!(rt; fits, "a heap of {size} bytes");
-                assert_eq!(rt; clone.charge(), 100);
-                assert_eq!(rt; clone.words(), program.words());
-            }
-            Err(_) => assert!(rt; !fits, "a heap of {size} bytes"),
-        }
+    for (size, clone) in [(64, None), (784, None), (1024, Some(true))] {
+        let made = clones_in(rt.alloc(), &program, size)?;
+        assert!(rt; made == clone, "a heap of {size} bytes");
     }
-    assert_eq!(rt; program.charge(), 100);
+    assert!(rt; program.charge() == 100);
     Ok(())
 }

@@ -68,17 +68,18 @@ pub(super) fn with_selector(alloc: Global) -> Result<Config, Fail> {
     )
 }
 
+// The image has these words.
+fn has_image(alloc: Global, config: Result<Config, Fail>, words: &[u64]) -> Result<bool, Fail> {
+    let config = config?;
+    Ok(words_of(alloc, &config)?.as_slice() == words)
+}
+
 #[test]
 fn two_images(rt: HostRuntime) -> Result<(), Fail> {
     let alloc = rt.alloc();
-    assert_eq!(rt;
-        words_of(alloc, &Config::new(alloc))?.as_slice(),
-        [2, 0].as_slice()
-    );
-    assert_eq!(rt;
-        words_of(alloc, &with_selector(alloc)?)?.as_slice(),
-        [7, 1, 0x0a00_0002_0035, 6, 0, 0x6_0001, RET_ZERO].as_slice()
-    );
+    assert!(rt; has_image(alloc, Ok(Config::new(alloc)), &[2, 0])?);
+    let words = [7, 1, 0x0a00_0002_0035, 6, 0, 0x6_0001, RET_ZERO];
+    assert!(rt; has_image(alloc, with_selector(alloc), &words)?);
     Ok(())
 }
 
@@ -129,34 +130,31 @@ pub(super) fn two_groups(alloc: Global) -> Result<Config, Fail> {
 #[test]
 fn image_of_two_groups(rt: HostRuntime) -> Result<(), Fail> {
     let alloc = rt.alloc();
-    assert_eq!(rt;
-        words_of(alloc, &two_groups(alloc)?)?.as_slice(),
-        [
-            22,
-            2,
-            0x0a00_0002_0035,
-            10,
-            0,
-            0x12_0001,
-            0x0a00_0002_0036,
-            10,
-            2,
-            0x13_0002,
-            7,
-            0x7f00_0001_2329,
-            0,
-            0,
-            8,
-            0x7f00_0001_2329,
-            0x15_0001,
-            1,
-            RET_ZERO,
-            RET_ZERO,
-            RET_ONE,
-            RET_ONE,
-        ]
-        .as_slice()
-    );
+    let words = [
+        22,
+        2,
+        0x0a00_0002_0035,
+        10,
+        0,
+        0x12_0001,
+        0x0a00_0002_0036,
+        10,
+        2,
+        0x13_0002,
+        7,
+        0x7f00_0001_2329,
+        0,
+        0,
+        8,
+        0x7f00_0001_2329,
+        0x15_0001,
+        1,
+        RET_ZERO,
+        RET_ZERO,
+        RET_ONE,
+        RET_ONE,
+    ];
+    assert!(rt; has_image(alloc, two_groups(alloc), &words)?);
     Ok(())
 }
 
@@ -186,14 +184,10 @@ fn with_locked_member(alloc: Global) -> Result<Config, Fail> {
 #[test]
 fn locked_image(rt: HostRuntime) -> Result<(), Fail> {
     let alloc = rt.alloc();
-    assert_eq!(rt;
-        words_of(alloc, &with_member(alloc)?)?.as_slice(),
-        [10, 1, 0x0a00_0002_0035, 6, 1, 0, 1, 0x7f00_0001_2329, 0, 0].as_slice()
-    );
-    assert_eq!(rt;
-        words_of(alloc, &with_locked_member(alloc)?)?.as_slice(),
-        [10, 1, 0x0a00_0002_0035, 6, 1, 0, 1, 0x7f00_0001_2329, 0, 1].as_slice()
-    );
+    let words = [10, 1, 0x0a00_0002_0035, 6, 1, 0, 1, 0x7f00_0001_2329, 0, 0];
+    assert!(rt; has_image(alloc, with_member(alloc), &words)?);
+    let words = [10, 1, 0x0a00_0002_0035, 6, 1, 0, 1, 0x7f00_0001_2329, 0, 1];
+    assert!(rt; has_image(alloc, with_locked_member(alloc), &words)?);
     Ok(())
 }
 

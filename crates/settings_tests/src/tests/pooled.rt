@@ -63,39 +63,51 @@ fn lends(config: &Config, programs: &[&[u64]]) -> bool {
     walk.next().is_none()
 }
 
+// The row has these words from place `from` on.
+fn has_words(alloc: Global, config: &Config, from: usize, words: &[u64]) -> Result<bool, Fail>
+    requires from { from < ROW_WORDS }
+    requires count { length words.now ≤ ROW_WORDS - from }
+{
+    Ok(row_words(alloc, config, from, words.len())?.as_slice() == words)
+}
+
+// A row from its beginning, its pages and its programs.
+fn is_row(
+    alloc: Global,
+    config: &Config,
+    pages: u32,
+    words: &[u64; 8],
+    programs: &[&[u64]],
+) -> Result<bool, Fail> {
+    Ok(
+        page_count(config) == pages
+            && has_words(alloc, config, 0, words.as_slice())?
+            && lends(config, programs),
+    )
+}
+
 #[test]
 fn pooled_empty_row(rt: HostRuntime) -> Result<(), Fail> {
-    let alloc = rt.alloc();
-    let config = Config::new(alloc);
-    assert_eq!(rt; page_count(&config), 0);
-    assert_eq!(rt;
-        row_words(alloc, &config, 0, 3)?.as_slice(),
-        [0x2_0002_0000, 0, 0].as_slice()
-    );
-    assert!(rt; lends(&config, &[]));
+    let config = Config::new(rt.alloc());
+    let words = [0x2_0002_0000, 0, 0, 0, 0, 0, 0, 0];
+    assert!(rt; is_row(rt.alloc(), &config, 0, &words, &[])?);
     Ok(())
 }
 
 #[test]
 fn pooled_selector_row(rt: HostRuntime) -> Result<(), Fail> {
-    let alloc = rt.alloc();
-    let config = with_selector(alloc)?;
-    assert_eq!(rt; page_count(&config), 1);
-    assert_eq!(rt;
-        row_words(alloc, &config, 0, 8)?.as_slice(),
-        [
-            0x7_0006_0001,
-            1,
-            0x0a00_0002_0035,
-            6,
-            0,
-            0x6_0001,
-            0x6_0000,
-            0
-        ]
-        .as_slice()
-    );
-    assert!(rt; lends(&config, &[&[RET_ZERO]]));
+    let config = with_selector(rt.alloc())?;
+    let words = [
+        0x7_0006_0001,
+        1,
+        0x0a00_0002_0035,
+        6,
+        0,
+        0x6_0001,
+        0x6_0000,
+        0,
+    ];
+    assert!(rt; is_row(rt.alloc(), &config, 1, &words, &[&[RET_ZERO]])?);
     Ok(())
 }
 
@@ -135,33 +147,30 @@ fn with_second_member(alloc: Global) -> Result<Config, Fail> {
     )
 }
 
+// The names of 256 pages from place 10 on, and nothing behind them.
+fn is_long_row(alloc: Global, config: &Config) -> Result<bool, Fail> {
+    Ok(
+        page_count(config) == 256
+            && has_words(alloc, config, 0, &[0x100a_000a_0100])?
+            && has_words(alloc, config, 10, &[0xa_0000])?
+            && has_words(alloc, config, 265, &[0xffa_00ff, 0])?,
+    )
+}
+
+// With a second member they begin four places later.
+fn is_long_row_of_two(alloc: Global, config: &Config) -> Result<bool, Fail> {
+    Ok(
+        page_count(config) == 256
+            && has_words(alloc, config, 0, &[0x100e_000e_0100])?
+            && has_words(alloc, config, 14, &[0xe_0000])?,
+    )
+}
+
 #[test]
 fn pooled_long_filter(rt: HostRuntime) -> Result<(), Fail> {
     let alloc = rt.alloc();
-    let config = with_long_filter(alloc)?;
-    assert_eq!(rt; page_count(&config), 256);
-    assert_eq!(rt;
-        row_words(alloc, &config, 0, 1)?.as_slice(),
-        [0x100a_000a_0100].as_slice()
-    );
-    assert_eq!(rt;
-        row_words(alloc, &config, 10, 1)?.as_slice(),
-        [0xa_0000].as_slice()
-    );
-    assert_eq!(rt;
-        row_words(alloc, &config, 265, 2)?.as_slice(),
-        [0xffa_00ff, 0].as_slice()
-    );
-    let joined = with_second_member(alloc)?;
-    assert_eq!(rt; page_count(&joined), 256);
-    assert_eq!(rt;
-        row_words(alloc, &joined, 0, 1)?.as_slice(),
-        [0x100e_000e_0100].as_slice()
-    );
-    assert_eq!(rt;
-        row_words(alloc, &joined, 14, 1)?.as_slice(),
-        [0xe_0000].as_slice()
-    );
+    assert!(rt; is_long_row(alloc, &with_long_filter(alloc)?)?);
+    assert!(rt; is_long_row_of_two(alloc, &with_second_member(alloc)?)?);
     Ok(())
 }
 

@@ -6,11 +6,10 @@ mod memory;
 mod plain;
 mod printing;
 
-use bpf_asm::{AsmFault, assemble, print};
-use bpf_verify::Program;
-use std::alloc::Global;
+use super::{assert_bytes, assert_row};
+use bpf_asm::{AsmFault, assemble};
+use std::alloc::{Allocator, Global};
 use std::process::Abort;
-use std::test::Fail;
 
 // The codes of networking/filter.rst, one line for each line of docs/MACHINE.md's instruction table.
 const INSTRUCTIONS: [(&str, u64); 49] = [
@@ -65,6 +64,10 @@ const INSTRUCTIONS: [(&str, u64); 49] = [
     ("ret a", 0x0016_0000_0000_0000),
 ];
 
+fn instructions() -> &'static [(&'static str, u64)] {
+    &INSTRUCTIONS
+}
+
 const RET_0: u64 = 0x0006_0000_0000_0000;
 
 const ASSEMBLED: [(&[u8], &[u64]); 22] = [
@@ -108,6 +111,10 @@ const ASSEMBLED: [(&[u8], &[u64]); 22] = [
     // No limit but that of offsets: the number of instructions is the verifier's matter.
     (b"ld #1", &[1]),
 ];
+
+fn assembled() -> &'static [(&'static [u8], &'static [u64])] {
+    &ASSEMBLED
+}
 
 const SYNTAX: [&[u8]; 45] = [
     b"foo",
@@ -173,59 +180,43 @@ const MISSPELT: [&[u8]; 12] = [
     b"ja +4294967296",
 ];
 
-fn words(alloc: Global, text: &[u8]) -> Result<Vec<u64>, Fail> {
-    match assemble(alloc, text) {
-        Ok(words) => Ok(words),
-        Err(_) => Err(Fail::from("the text is assembled")),
-    }
-}
-
-fn fault(alloc: Global, text: &[u8]) -> Option<AsmFault> {
-    assemble(alloc, text).err()
-}
-
-fn program(alloc: Global, text: &[u8]) -> Result<Program<Global>, Fail> {
-    match Program::new(words(alloc, text)?) {
-        Ok(program) => Ok(program),
-        Err(_) => Err(Fail::from("the words are accepted")),
-    }
-}
-
 // Whether the text is assembled to these words.
-fn is_assembled(alloc: Global, text: &[u8], expected: &[u64]) -> Result<bool, Fail> {
-    Ok(words(alloc, text)?.as_slice() == expected)
+fn is_assembled(alloc: Global, text: &[u8], expected: &[u64]) -> bool {
+    match assemble(alloc, text) {
+        Ok(words) => words.as_slice() == expected,
+        Err(_) => false,
+    }
 }
 
-// Whether the program is printed so.
-fn is_printed(alloc: Global, program: &Program<Global>, text: &str) -> Result<bool, Fail> {
-    Ok(print(alloc, program)?.as_str() == text)
+fn is_refused<A: Allocator + Clone>(alloc: A, text: &[u8], expected: AsmFault) -> bool {
+    match assemble(alloc, text) {
+        Ok(_) => false,
+        Err(fault) => fault == expected,
+    }
 }
 
 #[test]
-fn texts_and_their_words(rt: HostRuntime) -> Result<(), Fail> {
-    for (text, expected) in &ASSEMBLED {
-        assert!(rt; is_assembled(rt.alloc(), text, expected)?, "{text:?}");
+fn texts_and_their_words(rt: HostRuntime) {
+    for row in assembled() {
+        assert_bytes(&rt, is_assembled(rt.alloc(), row.0, row.1), row.0);
     }
-    Ok(())
+}
+
+fn is_instruction(alloc: Global, row: &(&str, u64)) -> bool {
+    is_assembled(alloc, row.0.as_bytes(), &[row.1])
 }
 
 #[test]
-fn every_instruction_by_its_code(rt: HostRuntime) -> Result<(), Fail> {
-    for (text, word) in &INSTRUCTIONS {
-        assert!(rt;
-            is_assembled(rt.alloc(), text.as_bytes(), &[*word])?,
-            "{text}"
-        );
+fn every_instruction_by_its_code(rt: HostRuntime) {
+    for row in instructions() {
+        assert_row(&rt, is_instruction(rt.alloc(), row), row.0);
     }
-    Ok(())
 }
 
 fn have_no_form(rt: &impl Abort, alloc: Global, texts: &[&[u8]]) {
     for text in texts {
-        assert!(rt;
-            fault(alloc, text) == Some(AsmFault::Syntax { line: 1 }),
-            "{text:?}"
-        );
+        let is_right = is_refused(alloc, text, AsmFault::Syntax { line: 1 });
+        assert_bytes(rt, is_right, text);
     }
 }
 

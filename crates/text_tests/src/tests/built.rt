@@ -1,12 +1,16 @@
 //! What the tests of trees and of the compiler build: trees by hand, the sample packet, and arenas of few bytes.
 
+ghost use Rattle.std.specs.Prelude.{◌≤◌, length};
+ghost use Rattle.bpf_verify.specs.Program.{IsProgram};
+
+use bpf_machine::{MAX_PACKET, Outcome, run};
+use bpf_verify::Program;
 use bumpalo::Bump;
 use filter_tree::{
     Arith, Direction, Expr, Operator, OutOfMemory, Prefix, Primitive, Protocol, Relation, Size,
     Transport,
 };
-use std::alloc::Global;
-use std::test::Fail;
+use std::alloc::{AllocError, Allocator, Global};
 
 /// 29 bytes of UDP over IPv4 from 10.0.0.1:5000 to 10.0.0.2:53, with one byte of payload.
 pub const SAMPLE_PACKET: [u8; 29] = [
@@ -88,21 +92,92 @@ pub fn load_or_ip(alloc: Global) -> Tree {
     or(alloc, byte_is(alloc, Protocol::Udp, 9, 0)?, Primitive::Ip)
 }
 
-pub fn net(direction: Direction, address: u32, length: u32) -> Result<Primitive, Fail> {
-    match Prefix::new(address, length) {
-        Some(prefix) => Ok(Primitive::Net(direction, prefix)),
-        None => Err(Fail::from("no bit is set past the prefix")),
+pub fn net(direction: Direction, address: u32, length: u32) -> Option<Primitive> {
+    Some(Primitive::Net(direction, Prefix::new(address, length)?))
+}
+
+/// Whether the tree is printed so in an allocator's memory; none where memory is refused.
+pub fn is_printed<A: Allocator, B: Allocator>(
+    tree: &Expr<A>,
+    alloc: B,
+    text: &str,
+) -> Option<bool> {
+    match tree.print(alloc) {
+        Ok(printed) => Some(printed.as_str() == text),
+        Err(_) => None,
+    }
+}
+
+/// Whether a copy by an allocator is printed so; none where memory is refused.
+pub fn is_copied<B: Allocator + Clone>(
+    tree: &Expr<Global>,
+    alloc: Global,
+    copies: B,
+    text: &str,
+) -> Option<bool> {
+    match tree.clone_in(copies) {
+        Ok(copy) => is_printed(&copy, alloc, text),
+        Err(_) => None,
+    }
+}
+
+fn has_text(alloc: Global, arena: &Bump<Global>, tree: &Expr<Global>, text: &str) -> bool {
+    is_printed(tree, alloc, text).unwrap_or(false)
+        && is_printed(tree, arena, text).unwrap_or(false)
+        && is_copied(tree, alloc, alloc, text).unwrap_or(false)
+        && is_copied(tree, alloc, arena, text).unwrap_or(false)
+}
+
+/// Whether the tree has this text and these measures, and its copies the text, one of them by another kind of allocator.
+pub fn is_tree_of(
+    alloc: Global,
+    tree: &Expr<Global>,
+    text: &str,
+    measures: &(u32, u32, u32),
+) -> bool {
+    (tree.depth(), tree.cells(), tree.size()) == *measures
+        && has_text(alloc, &Bump::new(alloc), tree, text)
+}
+
+/// How the program ends on a packet; none where the packet is too long for one.
+pub fn outcome<A: Allocator>(program: &Program<A>, packet: &[u8]) -> Option<Outcome> {
+    if packet.len() > MAX_PACKET {
+        return None;
+    }
+    let mut words = program.words();
+    let count = words.len();
+    Some(run(&mut words, 0, count, packet))
+}
+
+/// Whether the program ends with this value on a packet.
+pub fn answers<A: Allocator>(program: &Program<A>, packet: &[u8], value: u32) -> bool {
+    match outcome(program, packet) {
+        Some(outcome) => outcome.value == value,
+        None => false,
+    }
+}
+
+/// Whether an answer may come with more memory than the one before: it is not wrong, and not refused where that one was not.
+pub fn follows(before: Option<bool>, now: Option<bool>) -> bool {
+    match now {
+        Some(is_right) => is_right,
+        None => before.is_none(),
     }
 }
 
 pub const ARENA: usize = 1024;
 
-/// An arena that has so many bytes left, and gets no more.
-pub fn arena_with(alloc: Global, room: usize) -> Result<Bump<Global>, Fail> {
-    let arena = Bump::try_with_capacity(alloc, ARENA)?;
+fn fill(arena: &Bump<Global>, room: usize) -> Result<(), AllocError> {
     arena.set_allocation_limit(Some(arena.allocated_bytes()));
     for _ in 0..arena.chunk_capacity().saturating_sub(room) {
         arena.try_alloc(0u8)?;
     }
+    Ok(())
+}
+
+/// An arena that has so many bytes left, and gets no more.
+pub fn arena_with(alloc: Global, room: usize) -> Result<Bump<Global>, AllocError> {
+    let arena = Bump::try_with_capacity(alloc, ARENA)?;
+    fill(&arena, room)?;
     Ok(arena)
 }

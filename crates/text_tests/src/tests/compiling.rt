@@ -1,55 +1,31 @@
 //! Expressions built by hand, compiled and run: what they answer, their charges and refusals, beside the plain evaluator.
 
-ghost use Rattle.std.specs.Prelude.{◌≤◌, length};
-ghost use Rattle.bpf_verify.specs.Program.{IsProgram};
-
+use super::assert_numbered;
 use super::built::{
-    ARENA, PORT_53, SAMPLE_PACKET, Tree, UDP, accessor, arena_with, byte_is, compared, load_or_ip,
-    net, not, not_a_load, operation, or, packet_with, udp_or_ip_and_port_53,
+    ARENA, PORT_53, SAMPLE_PACKET, Tree, UDP, accessor, answers, arena_with, byte_is, compared,
+    follows, load_or_ip, net, not, not_a_load, operation, or, packet_with, udp_or_ip_and_port_53,
 };
 use Direction::{Both, Destination, Either, Source};
 use Transport::{Tcp, Udp, Unnamed};
-use bpf_machine::{MAX_PACKET, run};
 use bpf_verify::Program;
+use bumpalo::Bump;
 use filter_compile::{ACCEPTED, CompileFault, compile};
 use filter_tree::{
-    Arith, Direction, Expr, Operator, OutOfMemory, Primitive, Protocol, Relation, Size, Transport,
+    Arith, Direction, Expr, Operator, Primitive, Protocol, Relation, Size, Transport,
 };
-use std::alloc::{Allocator, Global};
+use std::alloc::Global;
 use std::process::Abort;
-use std::test::Fail;
 
-// What the program answers; none where there is no program or the packet is too long for one.
-fn answer<A: Allocator>(compiled: &Result<Program<A>, CompileFault>, packet: &[u8]) -> Option<u32> {
-    let Ok(program) = compiled else {
-        return None;
-    };
-    if packet.len() > MAX_PACKET {
-        return None;
-    }
-    let mut words = program.words();
-    let count = words.len();
-    Some(run(&mut words, 0, count, packet).value)
-}
-
-// What the tree's program answers.
-fn answer_of(alloc: Global, tree: Tree, packet: &[u8]) -> Result<Option<u32>, OutOfMemory> {
-    let tree = tree?;
-    Ok(answer(&compile(alloc, &tree), packet))
-}
-
-// The charge of the tree's program.
-fn charge_of(alloc: Global, tree: Tree) -> Result<Option<u32>, OutOfMemory> {
-    let tree = tree?;
-    Ok(match compile(alloc, &tree) {
-        Ok(program) => Some(program.charge()),
-        Err(_) => None,
-    })
-}
-
-fn fault_of(alloc: Global, tree: Tree) -> Result<Option<CompileFault>, OutOfMemory> {
-    let tree = tree?;
-    Ok(compile(alloc, &tree).err())
+// What is asked of a tree's program, with the answer.
+#[derive(Clone, Copy)]
+enum Asked {
+    // What it answers on the sample packet with this byte at a place.
+    Value(usize, u8, u32),
+    Charge(u32),
+    // There is none.
+    Fault(CompileFault),
+    // Whether it answers as the evaluator on many packets.
+    Alike,
 }
 
 // Places of the sample packet and a byte at each: as it is; version and length, protocol, fragment, ports.
@@ -67,60 +43,89 @@ const BYTES: [(usize, u8); 10] = [
 ];
 
 // Whether the program and the evaluator agree on the beginnings of a packet.
-fn is_alike_on(
-    program: &Result<Program<Global>, CompileFault>,
-    tree: &Expr<Global>,
-    packet: &[u8; 29],
-) -> bool {
+fn is_alike_on(program: &Program<Global>, tree: &Expr<Global>, packet: &[u8; 29]) -> bool {
     for len in 0..30 {
         let cut = &packet[..len];
         let wanted = if tree.accepts(cut) { ACCEPTED } else { 0 };
-        if answer(program, cut) != Some(wanted) {
+        if !answers(program, cut, wanted) {
             return false;
         }
     }
     true
 }
 
-// Compiles the tree and compares the program with the evaluator on the sample packet as it is and with single bytes changed.
-fn agrees(rt: &impl Abort, alloc: Global, tree: &Expr<Global>) {
-    let program = compile(alloc, tree);
-    for (place, byte) in BYTES {
-        let is_alike = is_alike_on(&program, tree, &packet_with(place, byte));
-        assert!(rt; is_alike, "byte {place} is {byte}");
+// The same on the sample packet as it is and with single bytes changed.
+fn is_alike(program: &Program<Global>, tree: &Expr<Global>) -> bool {
+    for row in &BYTES {
+        if !is_alike_on(program, tree, &packet_with(row.0, row.1)) {
+            return false;
+        }
+    }
+    true
+}
+
+fn is_answered(program: &Program<Global>, tree: &Expr<Global>, asked: Asked) -> bool {
+    match asked {
+        Asked::Value(place, byte, value) => answers(program, &packet_with(place, byte), value),
+        Asked::Charge(charge) => program.charge() == charge,
+        Asked::Fault(_) => false,
+        Asked::Alike => is_alike(program, tree),
+    }
+}
+
+fn is_fault(fault: CompileFault, asked: Asked) -> bool {
+    match asked {
+        Asked::Fault(expected) => fault == expected,
+        _ => false,
+    }
+}
+
+fn is_compiled(alloc: Global, tree: &Expr<Global>, asked: Asked) -> bool {
+    match compile(alloc, tree) {
+        Ok(program) => is_answered(&program, tree, asked),
+        Err(fault) => is_fault(fault, asked),
+    }
+}
+
+fn is_so(alloc: Global, tree: Tree, asked: Asked) -> bool {
+    match tree {
+        Ok(tree) => is_compiled(alloc, &tree, asked),
+        Err(_) => false,
     }
 }
 
 #[test]
-fn not_keeps_a_failed_load(rt: HostRuntime) -> Result<(), Fail> {
+fn not_keeps_a_failed_load(rt: HostRuntime) {
     let alloc = rt.alloc();
-    assert!(rt; answer_of(alloc, not_a_load(alloc), &SAMPLE_PACKET)? == Some(0));
-    let packet = packet_with(9, 6);
-    assert!(rt; answer_of(alloc, not_a_load(alloc), &packet)? == Some(65_535));
-    Ok(())
+    assert!(rt; is_so(alloc, not_a_load(alloc), Asked::Value(0, 0x45, 0)));
+    assert!(rt; is_so(alloc, not_a_load(alloc), Asked::Value(9, 6, 65_535)));
 }
 
 #[test]
-fn and_and_or_bind_alike(rt: HostRuntime) -> Result<(), Fail> {
+fn and_and_or_bind_alike(rt: HostRuntime) {
     let alloc = rt.alloc();
-    let tree = udp_or_ip_and_port_53(alloc);
-    assert!(rt; answer_of(alloc, tree, &SAMPLE_PACKET)? == Some(65_535));
-    let tree = udp_or_ip_and_port_53(alloc);
-    assert!(rt; answer_of(alloc, tree, &packet_with(23, 99))? == Some(0));
-    Ok(())
+    assert!(rt;
+        is_so(
+            alloc,
+            udp_or_ip_and_port_53(alloc),
+            Asked::Value(0, 0x45, 65_535)
+        )
+    );
+    assert!(rt; is_so(alloc, udp_or_ip_and_port_53(alloc), Asked::Value(23, 99, 0)));
+}
+
+fn primitive_is_so(alloc: Global, primitive: Primitive, asked: Asked) -> bool {
+    is_so(alloc, Ok(Expr::Primitive(primitive)), asked)
 }
 
 #[test]
-fn length_bounds_and_payload_byte(rt: HostRuntime) -> Result<(), Fail> {
+fn length_bounds_and_payload_byte(rt: HostRuntime) {
     let alloc = rt.alloc();
-    for bound in [Primitive::AtMost(29), Primitive::AtLeast(29)] {
-        let tree = Ok(Expr::Primitive(bound));
-        assert!(rt; answer_of(alloc, tree, &SAMPLE_PACKET)? == Some(65_535));
-    }
-    let payload = byte_is(alloc, Protocol::Udp, 8, 0x61);
-    assert!(rt; answer_of(alloc, payload, &SAMPLE_PACKET)? == Some(65_535));
-    assert!(rt; answer_of(alloc, load_or_ip(alloc), &SAMPLE_PACKET)? == Some(0));
-    Ok(())
+    let accepted = Asked::Value(0, 0x45, 65_535);
+    assert!(rt; primitive_is_so(alloc, Primitive::AtMost(29), accepted));
+    assert!(rt; primitive_is_so(alloc, Primitive::AtLeast(29), accepted));
+    assert!(rt; is_so(alloc, byte_is(alloc, Protocol::Udp, 8, 0x61), accepted));
+    assert!(rt; is_so(alloc, load_or_ip(alloc), Asked::Value(0, 0x45, 0)));
 }
 
 // `1+(1+( .. (1+1) .. )) = value` with so many sums.
@@ -133,32 +138,30 @@ fn nested_sums(alloc: Global, count: u32, value: u32) -> Tree {
 }
 
 #[test]
-fn sixteen_cells_and_no_more(rt: HostRuntime) -> Result<(), Fail> {
+fn sixteen_cells_and_no_more(rt: HostRuntime) {
     let alloc = rt.alloc();
-    let sixteen = answer_of(alloc, nested_sums(alloc, 16, 17), &SAMPLE_PACKET)?;
-    assert!(rt; sixteen == Some(65_535));
-    assert!(rt; charge_of(alloc, nested_sums(alloc, 16, 17))? == Some(90));
-    let seventeen = fault_of(alloc, nested_sums(alloc, 17, 18))?;
-    assert!(rt; seventeen == Some(CompileFault::CellsExceeded));
-    Ok(())
+    assert!(rt;
+        is_so(
+            alloc,
+            nested_sums(alloc, 16, 17),
+            Asked::Value(0, 0x45, 65_535)
+        )
+    );
+    assert!(rt; is_so(alloc, nested_sums(alloc, 16, 17), Asked::Charge(90)));
+    let fault = Asked::Fault(CompileFault::CellsExceeded);
+    assert!(rt; is_so(alloc, nested_sums(alloc, 17, 18), fault));
 }
 
-// The weights of docs/EXPRESSIONS.md, "Measures", and 2.
-const CHARGES: [(Primitive, u32); 5] = [
-    (Primitive::Ip, 7),
-    (PORT_53, 30),
-    (UDP, 11),
-    (Primitive::Host(Both, 1), 15),
-    (Primitive::PortRange(Tcp, Source, 2, 1), 23),
-];
-
+// The charges are the weights of docs/EXPRESSIONS.md, "Measures", and 2.
 #[test]
-fn ip_has_charge_seven(rt: HostRuntime) -> Result<(), Fail> {
-    for (primitive, size) in CHARGES {
-        let charge = charge_of(rt.alloc(), Ok(Expr::Primitive(primitive)))?;
-        assert!(rt; charge == Some(size), "{size}");
-    }
-    Ok(())
+fn ip_has_charge_seven(rt: HostRuntime) {
+    let alloc = rt.alloc();
+    assert!(rt; primitive_is_so(alloc, Primitive::Ip, Asked::Charge(7)));
+    assert!(rt; primitive_is_so(alloc, PORT_53, Asked::Charge(30)));
+    assert!(rt; primitive_is_so(alloc, UDP, Asked::Charge(11)));
+    assert!(rt; primitive_is_so(alloc, Primitive::Host(Both, 1), Asked::Charge(15)));
+    let range = Primitive::PortRange(Tcp, Source, 2, 1);
+    assert!(rt; primitive_is_so(alloc, range, Asked::Charge(23)));
 }
 
 // So many port ranges, joined by `or`.
@@ -171,55 +174,61 @@ fn port_ranges(alloc: Global, count: u16) -> Tree {
 }
 
 #[test]
-fn hundred_and_twenty_port_ranges(rt: HostRuntime) -> Result<(), Fail> {
+fn hundred_and_twenty_port_ranges(rt: HostRuntime) {
     let alloc = rt.alloc();
-    assert!(rt; charge_of(alloc, port_ranges(alloc, 120))? == Some(4082));
-    let answer = answer_of(alloc, port_ranges(alloc, 120), &SAMPLE_PACKET)?;
-    assert!(rt; answer == Some(65_535));
+    assert!(rt; is_so(alloc, port_ranges(alloc, 120), Asked::Charge(4082)));
+    assert!(rt;
+        is_so(
+            alloc,
+            port_ranges(alloc, 120),
+            Asked::Value(0, 0x45, 65_535)
+        )
+    );
     // A size of 4116.
-    let one_more = fault_of(alloc, port_ranges(alloc, 121))?;
-    assert!(rt; one_more == Some(CompileFault::TooLong));
-    Ok(())
+    let fault = Asked::Fault(CompileFault::TooLong);
+    assert!(rt; is_so(alloc, port_ranges(alloc, 121), fault));
 }
 
-const PRIMITIVES: [Primitive; 12] = [
-    Primitive::Ip,
-    UDP,
-    Primitive::Host(Source, 0x0a00_0001),
-    Primitive::Host(Either, 0x0a00_0002),
-    Primitive::Host(Both, 0x0a00_0001),
-    PORT_53,
-    Primitive::Port(Tcp, Source, 5000),
-    Primitive::Port(Udp, Both, 53),
-    Primitive::PortRange(Unnamed, Destination, 99, 53),
-    Primitive::PortRange(Udp, Both, 50, 5000),
-    Primitive::AtMost(28),
-    Primitive::AtLeast(29),
-];
-
-const NETS: [(Direction, u32, u32); 4] = [
-    (Destination, 0x0a00_0000, 8),
-    (Both, 0, 0),
-    (Either, 0x0a00_0002, 32),
-    (Source, 0x8000_0000, 1),
-];
+fn primitive_at(place: u64) -> Option<Primitive> {
+    Some(match place {
+        0 => Primitive::Ip,
+        1 => UDP,
+        2 => Primitive::Host(Source, 0x0a00_0001),
+        3 => Primitive::Host(Either, 0x0a00_0002),
+        4 => Primitive::Host(Both, 0x0a00_0001),
+        5 => PORT_53,
+        6 => Primitive::Port(Tcp, Source, 5000),
+        7 => Primitive::Port(Udp, Both, 53),
+        8 => Primitive::PortRange(Unnamed, Destination, 99, 53),
+        9 => Primitive::PortRange(Udp, Both, 50, 5000),
+        10 => Primitive::AtMost(28),
+        11 => Primitive::AtLeast(29),
+        12 => return net(Destination, 0x0a00_0000, 8),
+        13 => return net(Both, 0, 0),
+        14 => return net(Either, 0x0a00_0002, 32),
+        15 => return net(Source, 0x8000_0000, 1),
+        _ => return None,
+    })
+}
 
 // The same for a primitive, and for `not` of it.
-fn primitive_agrees(rt: &impl Abort, alloc: Global, primitive: Primitive) -> Result<(), Fail> {
-    agrees(rt, alloc, &Expr::Primitive(primitive));
-    agrees(rt, alloc, &not(alloc, Expr::Primitive(primitive))?);
-    Ok(())
+fn primitive_agrees(alloc: Global, primitive: &Primitive) -> bool {
+    is_so(alloc, Ok(Expr::Primitive(*primitive)), Asked::Alike)
+        && is_so(alloc, not(alloc, Expr::Primitive(*primitive)), Asked::Alike)
+}
+
+fn agrees_at(alloc: Global, place: u64) -> bool {
+    match primitive_at(place) {
+        Some(primitive) => primitive_agrees(alloc, &primitive),
+        None => false,
+    }
 }
 
 #[test]
-fn primitives_beside_the_evaluator(rt: HostRuntime) -> Result<(), Fail> {
-    for primitive in PRIMITIVES {
-        primitive_agrees(&rt, rt.alloc(), primitive)?;
+fn primitives_beside_the_evaluator(rt: HostRuntime) {
+    for place in 0..16 {
+        assert_numbered(&rt, agrees_at(rt.alloc(), place), place);
     }
-    for (direction, address, length) in NETS {
-        primitive_agrees(&rt, rt.alloc(), net(direction, address, length)?)?;
-    }
-    Ok(())
 }
 
 const OPERATORS: [Operator; 10] = [
@@ -266,78 +275,86 @@ fn half_at(alloc: Global, protocol: Protocol, relation: Relation) -> Tree {
     Ok(compared(half, relation, 0x0a00))
 }
 
-fn operator_agrees(rt: &impl Abort, alloc: Global, operator: Operator) -> Result<(), Fail> {
-    for constant in [0, 1, 29, 40] {
-        let right = Arith::Number(constant);
-        agrees(
-            rt,
-            alloc,
-            &operated(alloc, 1000, operator, right, Relation::GreaterOrEqual, 1000)?,
-        );
-    }
+fn is_alike_with(alloc: Global, operator: Operator, constant: u32) -> bool {
+    let right = Arith::Number(constant);
+    let tree = operated(alloc, 1000, operator, right, Relation::GreaterOrEqual, 1000);
+    is_so(alloc, tree, Asked::Alike)
+}
+
+fn operator_agrees(alloc: Global, operator: Operator) -> bool {
+    let most = 0xffff_ffff;
     let tree = operated(
         alloc,
-        0xffff_ffff,
+        most,
         operator,
         Arith::Length,
         Relation::Less,
         0x8000_0000,
-    )?;
-    agrees(rt, alloc, &tree);
-    Ok(())
+    );
+    is_so(alloc, tree, Asked::Alike)
+        && is_alike_with(alloc, operator, 0)
+        && is_alike_with(alloc, operator, 1)
+        && is_alike_with(alloc, operator, 29)
+        && is_alike_with(alloc, operator, 40)
+}
+
+fn relation_agrees(alloc: Global, relation: Relation) -> bool {
+    for protocol in &PROTOCOLS {
+        if !is_so(alloc, half_at(alloc, *protocol, relation), Asked::Alike) {
+            return false;
+        }
+    }
+    true
 }
 
 #[test]
-fn relations_beside_the_evaluator(rt: HostRuntime) -> Result<(), Fail> {
-    let alloc = rt.alloc();
-    for operator in OPERATORS {
-        operator_agrees(&rt, alloc, operator)?;
+fn relations_beside_the_evaluator(rt: HostRuntime) {
+    for (place, operator) in OPERATORS.iter().enumerate() {
+        assert_numbered(&rt, operator_agrees(rt.alloc(), *operator), place as u64);
     }
-    for relation in RELATIONS {
-        for protocol in PROTOCOLS {
-            agrees(&rt, alloc, &half_at(alloc, protocol, relation)?);
-        }
-    }
-    Ok(())
-}
-
-// Whether memory was found; the program's answer is then right.
-fn is_found<A: Allocator>(rt: &impl Abort, compiled: &Result<Program<A>, CompileFault>) -> bool {
-    match compiled {
-        Ok(_) => {
-            assert!(rt; answer(compiled, &SAMPLE_PACKET) == Some(65_535));
-            true
-        }
-        Err(fault) => {
-            assert!(rt; *fault == CompileFault::OutOfMemory);
-            false
-        }
+    for (place, relation) in RELATIONS.iter().enumerate() {
+        assert_numbered(&rt, relation_agrees(rt.alloc(), *relation), place as u64);
     }
 }
 
-// Whether the tree's program finds room in an arena with so many bytes left.
-fn program_fits(
-    rt: &impl Abort,
-    alloc: Global,
-    tree: &Expr<Global>,
-    room: usize,
-) -> Result<bool, Fail> {
-    // The tree's memory and the program's are of unlike allocators.
-    let arena = arena_with(alloc, room)?;
-    Ok(is_found(rt, &compile(&arena, tree)))
+// Whether the tree's program, in the arena's memory, is right; none where memory is refused.
+fn is_compiled_in(arena: &Bump<Global>, tree: &Expr<Global>) -> Option<bool> {
+    match compile(arena, tree) {
+        Ok(program) => Some(answers(&program, &SAMPLE_PACKET, 65_535)),
+        Err(CompileFault::OutOfMemory) => None,
+        Err(_) => Some(false),
+    }
+}
+
+// The same in an arena with so many bytes left. The tree's memory and the program's are of unlike allocators.
+fn is_compiled_within(alloc: Global, tree: &Expr<Global>, room: usize) -> Option<bool> {
+    match arena_with(alloc, room) {
+        Ok(arena) => is_compiled_in(&arena, tree),
+        Err(_) => Some(false),
+    }
 }
 
 // The fewest bytes in which the tree's program finds room; it finds it in each greater number too.
-fn least_room(rt: &impl Abort, alloc: Global, tree: &Expr<Global>) -> Result<Option<usize>, Fail> {
-    let mut least = None;
+fn least_room(rt: &impl Abort, alloc: Global, tree: &Expr<Global>) -> usize {
+    let mut least = ARENA;
+    let mut before = None;
     for room in 0..ARENA {
-        let fits = program_fits(rt, alloc, tree, room)?;
-        assert!(rt; fits || least.is_none(), "{room} bytes");
-        if fits && least.is_none() {
-            least = Some(room);
+        let compiled = is_compiled_within(alloc, tree, room);
+        assert_numbered(rt, follows(before, compiled), room as u64);
+        if before.is_none() && compiled.is_some() {
+            least = room;
         }
+        before = compiled;
     }
-    Ok(least)
+    assert!(rt; before.is_some());
+    least
+}
+
+fn least_room_of(rt: &impl Abort, alloc: Global, tree: Tree) -> usize {
+    match tree {
+        Ok(tree) => least_room(rt, alloc, &tree),
+        Err(_) => ARENA,
+    }
 }
 
 // `greater 30 or greater 30 or .. or greater 29` with so many parts: a jump of each leads to yes.
@@ -350,19 +367,15 @@ fn alternatives(alloc: Global, count: u32) -> Tree {
 }
 
 #[test]
-fn each_allocation_refused_in_turn(rt: HostRuntime) -> Result<(), Fail> {
-    let tree: Expr<Global> = Expr::Primitive(PORT_53);
+fn each_allocation_refused_in_turn(rt: HostRuntime) {
     // 30 words, and the lists of jumps stay within the frame.
-    let room = least_room(&rt, rt.alloc(), &tree)?.unwrap_or(0);
-    assert!(rt; 240 <= room && room < 304, "{room} bytes");
-    Ok(())
+    let room = least_room_of(&rt, rt.alloc(), Ok(Expr::Primitive(PORT_53)));
+    assert_numbered(&rt, 240 <= room && room < 304, room as u64);
 }
 
 #[test]
-fn growing_list_of_jumps_refused_in_turn(rt: HostRuntime) -> Result<(), Fail> {
-    let tree = alternatives(rt.alloc(), 9)?;
+fn growing_list_of_jumps_refused_in_turn(rt: HostRuntime) {
     // 38 words, and a list of nine jumps of eight bytes each, one more than the frame holds.
-    let room = least_room(&rt, rt.alloc(), &tree)?.unwrap_or(0);
-    assert!(rt; 376 <= room, "{room} bytes");
-    Ok(())
+    let room = least_room_of(&rt, rt.alloc(), alternatives(rt.alloc(), 9));
+    assert_numbered(&rt, 376 <= room && room < ARENA, room as u64);
 }

@@ -4,12 +4,12 @@ mod alike;
 mod plain;
 mod scanner;
 
+use super::built::{follows, is_printed, is_tree_of};
+use super::{assert_numbered, assert_row};
 use filter_parse::{ParseFault, parse};
-use filter_tree::{Expr, OutOfMemory};
 use linked_list_allocator::LocalHeap;
 use std::alloc::{AllocError, Global};
 use std::process::Abort;
-use std::test::Fail;
 
 // Each text, how it is printed, and its depth, cells and size: docs/EXPRESSIONS.md, and worked by hand.
 const ACCEPTED: [(&str, &str, (u32, u32, u32)); 28] = [
@@ -71,6 +71,10 @@ const ACCEPTED: [(&str, &str, (u32, u32, u32)); 28] = [
     ("tcp[tcp[12]:4]\t<1", "tcp[tcp[12:1]:4] < 1", (4, 1, 31)),
 ];
 
+fn accepted() -> &'static [(&'static str, &'static str, (u32, u32, u32))] {
+    &ACCEPTED
+}
+
 // Worked by hand from docs/EXPRESSIONS.md.
 const REFUSED: [(&str, ParseFault); 48] = [
     ("", ParseFault::Syntax { at: 0 }),
@@ -129,6 +133,10 @@ const REFUSED: [(&str, ParseFault); 48] = [
     ("port 65536 port", ParseFault::NumberTooBig { at: 5 }),
 ];
 
+fn refused() -> &'static [(&'static str, ParseFault)] {
+    &REFUSED
+}
+
 fn fault_of(alloc: Global, text: &[u8]) -> Option<ParseFault> {
     match parse(alloc, text) {
         Ok(_) => None,
@@ -136,75 +144,32 @@ fn fault_of(alloc: Global, text: &[u8]) -> Option<ParseFault> {
     }
 }
 
-// Whether the tree of a text is printed so.
-fn is_printed(alloc: Global, text: &str, printed: &str) -> Result<bool, OutOfMemory> {
+// Whether the text's tree, and a copy of it, are printed so, and the tree has these measures.
+fn is_tree(alloc: Global, text: &str, printed: &str, measures: &(u32, u32, u32)) -> bool {
     match parse(alloc, text.as_bytes()) {
-        Ok(tree) => Ok(tree.print(alloc)?.as_str() == printed),
-        Err(_) => Ok(false),
+        Ok(tree) => is_tree_of(alloc, &tree, printed, measures),
+        Err(_) => false,
     }
-}
-
-// A text that begins with one part so many times over, and ends with another.
-fn repeated(alloc: Global, part: &str, times: usize, end: &str) -> Result<Vec<u8>, AllocError> {
-    let mut text = Vec::new(alloc);
-    for _ in 0..times {
-        text.extend_from_slice(part.as_bytes())?;
-    }
-    text.extend_from_slice(end.as_bytes())?;
-    Ok(text)
-}
-
-fn has_measures(tree: &Expr<Global>, depth: u32, cells: u32, size: u32) -> bool {
-    tree.depth() == depth && tree.cells() == cells && tree.size() == size
-}
-
-// Whether the tree and a copy of it are printed so.
-fn is_printed_twice(
-    alloc: Global,
-    tree: &Expr<Global>,
-    printed: &str,
-) -> Result<bool, OutOfMemory> {
-    if tree.print(alloc)?.as_str() != printed {
-        return Ok(false);
-    }
-    let copy = tree.clone_in(alloc)?;
-    Ok(copy.print(alloc)?.as_str() == printed)
-}
-
-fn is_row(
-    alloc: Global,
-    text: &str,
-    printed: &str,
-    measures: (u32, u32, u32),
-) -> Result<bool, OutOfMemory> {
-    let Ok(tree) = parse(alloc, text.as_bytes()) else {
-        return Ok(false);
-    };
-    Ok(
-        has_measures(&tree, measures.0, measures.1, measures.2)
-            && is_printed_twice(alloc, &tree, printed)?,
-    )
 }
 
 #[test]
-fn printed_trees_and_their_measures(rt: HostRuntime) -> Result<(), Fail> {
-    for (text, printed, measures) in &ACCEPTED {
-        assert!(rt; is_row(rt.alloc(), text, printed, *measures)?, "{text}");
-        assert!(rt; is_printed(rt.alloc(), printed, printed)?, "{printed}");
+fn printed_trees_and_their_measures(rt: HostRuntime) {
+    for row in accepted() {
+        assert_row(&rt, is_tree(rt.alloc(), row.0, row.1, &row.2), row.0);
+        assert_row(&rt, is_tree(rt.alloc(), row.1, row.1, &row.2), row.1);
     }
-    Ok(())
+}
+
+fn is_refused(alloc: Global, text: &[u8], expected: ParseFault) -> bool {
+    fault_of(alloc, text) == Some(expected)
 }
 
 #[test]
 fn parse_faults_by_place(rt: HostRuntime) {
-    for (text, fault) in &REFUSED {
-        assert!(rt;
-            fault_of(rt.alloc(), text.as_bytes()) == Some(*fault),
-            "{text}"
-        );
+    for row in refused() {
+        assert_row(&rt, is_refused(rt.alloc(), row.0.as_bytes(), row.1), row.0);
     }
-    let found = fault_of(rt.alloc(), b"ip \xff ip");
-    assert!(rt; found == Some(ParseFault::Syntax { at: 3 }));
+    assert!(rt; is_refused(rt.alloc(), b"ip \xff ip", ParseFault::Syntax { at: 3 }));
 }
 
 // A part that is repeated, how often, what ends the text, and its fault.
@@ -234,28 +199,32 @@ const DEEP: [Repeated; 16] = [
     ("1+", 63, "1", Some(ParseFault::Syntax { at: 127 })),
 ];
 
-fn fault_of_repeated(
-    alloc: Global,
-    part: &str,
-    times: usize,
-    end: &str,
-) -> Result<Option<ParseFault>, AllocError> {
-    let text = repeated(alloc, part, times, end)?;
-    Ok(fault_of(alloc, &text))
+// A text that begins with one part so many times over, and ends with another.
+fn repeated(alloc: Global, part: &str, times: usize, end: &str) -> Result<Vec<u8>, AllocError> {
+    let mut text = Vec::new(alloc);
+    for _ in 0..times {
+        text.extend_from_slice(part.as_bytes())?;
+    }
+    text.extend_from_slice(end.as_bytes())?;
+    Ok(text)
 }
 
-fn have_faults(rt: &impl Abort, alloc: Global, rows: &[Repeated]) -> Result<(), AllocError> {
-    for (part, times, end, fault) in rows {
-        let found = fault_of_repeated(alloc, part, *times, end)?;
-        assert!(rt; found == *fault, "{times} times {part} and {end}");
+fn has_fault(alloc: Global, row: &Repeated) -> bool {
+    match repeated(alloc, row.0, row.1, row.2) {
+        Ok(text) => fault_of(alloc, &text) == row.3,
+        Err(_) => false,
     }
-    Ok(())
+}
+
+fn have_faults(rt: &impl Abort, alloc: Global, rows: &[Repeated]) {
+    for (place, row) in rows.iter().enumerate() {
+        assert_numbered(rt, has_fault(alloc, row), place as u64);
+    }
 }
 
 #[test]
-fn depth_within_the_limit(rt: HostRuntime) -> Result<(), Fail> {
-    have_faults(&rt, rt.alloc(), &DEEP)?;
-    Ok(())
+fn depth_within_the_limit(rt: HostRuntime) {
+    have_faults(&rt, rt.alloc(), &DEEP);
 }
 
 // The same for texts of 262,144 bytes and more.
@@ -293,54 +262,64 @@ const LONG: [Repeated; 11] = [
     ("\u{fffd}", 87382, "", Some(ParseFault::Syntax { at: 0 })),
 ];
 
-fn fault_of_no_text(alloc: Global) -> Result<Option<ParseFault>, AllocError> {
-    let no_text = vec![in alloc; 0xff; 262144]?;
-    Ok(fault_of(alloc, &no_text))
+fn is_no_text_refused(alloc: Global) -> bool {
+    match vec![in alloc; 0xff; 262144] {
+        Ok(no_text) => is_refused(alloc, &no_text, ParseFault::Syntax { at: 0 }),
+        Err(_) => false,
+    }
 }
 
 #[test]
-fn longest_texts(rt: HostRuntime) -> Result<(), Fail> {
-    have_faults(&rt, rt.alloc(), &LONG)?;
-    assert!(rt; fault_of_no_text(rt.alloc())? == Some(ParseFault::Syntax { at: 0 }));
-    Ok(())
+fn longest_texts(rt: HostRuntime) {
+    have_faults(&rt, rt.alloc(), &LONG);
+    assert!(rt; is_no_text_refused(rt.alloc()));
 }
 
-// Whether a heap has memory for the text's tree, which is then right.
-fn is_read(rt: &impl Abort, alloc: Global, heap: &LocalHeap) -> Result<bool, OutOfMemory> {
-    let text = b"not (udp[1 + 2] = 3 or net 10.0.0.0/8) and port 53";
-    match parse(heap, text) {
-        Ok(tree) => {
-            let printed = "( not ( udp[(1+2):1] = 3 or net 10.0.0.0/8 ) and port 53 )";
-            let is_same = tree.print(alloc)?.as_str() == printed;
-            assert!(rt; is_same);
-            Ok(true)
-        }
-        Err(fault) => {
-            assert!(rt; fault == ParseFault::OutOfMemory);
-            Ok(false)
-        }
+const TEXT: &[u8] = b"not (udp[1 + 2] = 3 or net 10.0.0.0/8) and port 53";
+
+const PRINTED: &str = "( not ( udp[(1+2):1] = 3 or net 10.0.0.0/8 ) and port 53 )";
+
+fn is_wrong_fault(fault: ParseFault) -> Option<bool> {
+    if fault == ParseFault::OutOfMemory {
+        None
+    } else {
+        Some(false)
+    }
+}
+
+// Whether the text's tree is right; none where the heap has no memory for it.
+fn is_read(alloc: Global, heap: &LocalHeap) -> Option<bool> {
+    match parse(heap, TEXT) {
+        Ok(tree) => is_printed(&tree, alloc, PRINTED),
+        Err(fault) => is_wrong_fault(fault),
     }
 }
 
 // The same for a heap of so many bytes, which has all of them again behind it.
-fn is_read_within(rt: &impl Abort, alloc: Global, size: usize) -> Result<bool, Fail> {
-    let heap = LocalHeap::new(alloc, size)?;
-    let is_read = is_read(rt, alloc, &heap)?;
-    assert!(rt; heap.used() == 0);
-    Ok(is_read)
+fn is_read_within(alloc: Global, size: usize) -> Option<bool> {
+    match LocalHeap::new(alloc, size) {
+        Ok(heap) => {
+            let is_read = is_read(alloc, &heap);
+            if heap.used() == 0 {
+                is_read
+            } else {
+                Some(false)
+            }
+        }
+        Err(_) => Some(false),
+    }
 }
 
 #[test]
-fn each_allocation_refused_in_turn(rt: HostRuntime) -> Result<(), Fail> {
+fn each_allocation_refused_in_turn(rt: HostRuntime) {
     let mut size = 64;
-    let mut read = false;
+    let mut read = None;
     // A block more from heap to heap, so that each growth is once the first that is refused.
     for _ in 0..200 {
-        let is_read = is_read_within(&rt, rt.alloc(), size)?;
-        assert!(rt; is_read || !read, "a heap of {size} bytes");
+        let is_read = is_read_within(rt.alloc(), size);
+        assert_numbered(&rt, follows(read, is_read), size as u64);
         read = is_read;
         size = size.saturating_add(16);
     }
-    assert!(rt; read);
-    Ok(())
+    assert!(rt; read == Some(true));
 }

@@ -1,15 +1,12 @@
 //! Expressions on the beginnings of the sample packet: what the evaluator says of each, and what the compiled program answers.
 
-ghost use Rattle.std.specs.Prelude.{◌≤◌, length};
-
-use super::built::SAMPLE_PACKET;
-use bpf_machine::{MAX_PACKET, run};
+use super::assert_row;
+use super::built::{SAMPLE_PACKET, answers};
 use bpf_verify::Program;
 use filter_compile::{ACCEPTED, compile};
 use filter_parse::parse;
 use filter_tree::Expr;
 use std::alloc::Global;
-use std::test::Fail;
 
 // An expression, and the fewest and the most bytes of the sample packet that it accepts; those between them it accepts too.
 type Row = (&'static str, usize, usize);
@@ -44,35 +41,37 @@ fn is_answered(
     packet: &[u8],
     is_wanted: bool,
 ) -> bool {
-    if packet.len() > MAX_PACKET {
-        return false;
-    }
-    let mut words = program.words();
-    let count = words.len();
-    let value = run(&mut words, 0, count, packet).value;
-    tree.accepts(packet) == is_wanted && value == if is_wanted { ACCEPTED } else { 0 }
+    let value = if is_wanted { ACCEPTED } else { 0 };
+    tree.accepts(packet) == is_wanted && answers(program, packet, value)
 }
 
-fn is_as_told(alloc: Global, row: &Row) -> bool {
-    let Ok(tree) = parse(alloc, row.0.as_bytes()) else {
-        return false;
-    };
-    let Ok(program) = compile(alloc, &tree) else {
-        return false;
-    };
+fn each_is_answered(tree: &Expr<Global>, program: &Program<Global>, row: &Row) -> bool {
     for len in 0..30 {
         let is_wanted = row.1 <= len && len <= row.2;
-        if !is_answered(&tree, &program, &SAMPLE_PACKET[..len], is_wanted) {
+        if !is_answered(tree, program, &SAMPLE_PACKET[..len], is_wanted) {
             return false;
         }
     }
     true
 }
 
-#[test]
-fn prefixes_of_k_by_compiled_programs(rt: HostRuntime) -> Result<(), Fail> {
-    for row in &ROWS {
-        assert!(rt; is_as_told(rt.alloc(), row), "{}", row.0);
+fn is_compiled(alloc: Global, tree: &Expr<Global>, row: &Row) -> bool {
+    match compile(alloc, tree) {
+        Ok(program) => each_is_answered(tree, &program, row),
+        Err(_) => false,
     }
-    Ok(())
+}
+
+fn is_as_told(alloc: Global, row: &Row) -> bool {
+    match parse(alloc, row.0.as_bytes()) {
+        Ok(tree) => is_compiled(alloc, &tree, row),
+        Err(_) => false,
+    }
+}
+
+#[test]
+fn prefixes_of_k_by_compiled_programs(rt: HostRuntime) {
+    for row in &ROWS {
+        assert_row(&rt, is_as_told(rt.alloc(), row), row.0);
+    }
 }

@@ -1,15 +1,13 @@
 //! How short compiled programs are: their charges, their instructions, and how many of these a packet meets that they accept.
 
-ghost use Rattle.std.specs.Prelude.{◌≤◌, length};
-
-use super::built::SAMPLE_PACKET;
+use super::assert_row;
+use super::built::{SAMPLE_PACKET, outcome};
 use bpf_insn::Insn;
-use bpf_machine::{MAX_PACKET, run};
 use bpf_verify::Program;
 use filter_compile::{ACCEPTED, compile};
 use filter_parse::parse;
+use filter_tree::Expr;
 use std::alloc::Global;
-use std::test::Fail;
 
 // 34 bytes of UDP over IPv4 from 10.0.0.1:5000 to 10.0.0.2:53.
 const LONGER_PACKET: [u8; 34] = [
@@ -88,11 +86,6 @@ const ROWS: [Row; 7] = [
     },
 ];
 
-fn compiled(alloc: Global, text: &str) -> Option<Program<Global>> {
-    let tree = parse(alloc, text.as_bytes()).ok()?;
-    compile(alloc, &tree).ok()
-}
-
 fn far_jumps(words: &[u64]) -> usize {
     let mut count = 0usize;
     for word in words {
@@ -103,27 +96,37 @@ fn far_jumps(words: &[u64]) -> usize {
     count
 }
 
-fn is_as_told(program: &Program<Global>, row: &Row) -> bool {
-    if row.packet.len() > MAX_PACKET {
-        return false;
+fn ends_as_told(program: &Program<Global>, row: &Row) -> bool {
+    match outcome(program, row.packet) {
+        Some(outcome) => outcome.value == ACCEPTED && outcome.steps == row.steps,
+        None => false,
     }
-    let mut words = program.words();
-    let count = words.len();
-    let outcome = run(&mut words, 0, count, row.packet);
-    outcome.value == ACCEPTED
-        && outcome.steps == row.steps
-        && count == row.instructions
-        && far_jumps(words) == row.far_jumps
+}
+
+fn is_program_of(program: &Program<Global>, row: &Row) -> bool {
+    program.words().len() == row.instructions
+        && far_jumps(program.words()) == row.far_jumps
         && program.charge() == row.charge
+        && ends_as_told(program, row)
+}
+
+fn is_compiled(alloc: Global, tree: &Expr<Global>, row: &Row) -> bool {
+    match compile(alloc, tree) {
+        Ok(program) => is_program_of(&program, row),
+        Err(_) => false,
+    }
+}
+
+fn is_as_told(alloc: Global, row: &Row) -> bool {
+    match parse(alloc, row.text.as_bytes()) {
+        Ok(tree) => is_compiled(alloc, &tree, row),
+        Err(_) => false,
+    }
 }
 
 #[test]
-fn port_53_has_no_far_jump(rt: HostRuntime) -> Result<(), Fail> {
+fn port_53_has_no_far_jump(rt: HostRuntime) {
     for row in &ROWS {
-        let Some(program) = compiled(rt.alloc(), row.text) else {
-            return Err(Fail::from("an expression with a program"));
-        };
-        assert!(rt; is_as_told(&program, row), "{}", row.text);
+        assert_row(&rt, is_as_told(rt.alloc(), row), row.text);
     }
-    Ok(())
 }

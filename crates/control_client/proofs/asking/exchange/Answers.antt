@@ -1,4 +1,4 @@
-use Rattle.std.proofs.Common.{◌∙◌, [], sym}
+use Rattle.std.proofs.Common.{◌∙◌, [], sym, rules}
 use Rattle.control_client.specs.declared.fault.TellFault.{TellFault}
 use Rattle.control_client.specs.Exchange.{LineEndsBy, too_long}
 use Rattle.control_client.proofs.ExchangeLemmas.{exchanged, line_told, line_unprinted, sent_line, sent_nothing, unheard, unsent}
@@ -47,3 +47,6 @@ returns-clause-stopped g c =
     (sent_line c.send.result c.args.switch c.args.line.now log mid (sym c.is_err.ensures.value ∙ c.if-is_err.false) c.send.ensures.logged) c.in_ok-size.ensures.heard in
     line_unprinted c.args.switch c.args.line.now _ done.0 log after (g.W.Write.contents c.args.out.now) (g.W.Write.contents c.print_reply-2.new.out)
     done.1 done.2 c.print_reply-2.result c.print_reply-2.ensures.beginning c.print_reply-2.ensures.fault
+
+pub returns-then-is_err-clause-told : goal.returns-then-is_err-clause-told
+returns-then-is_err-clause-told g c = search rules

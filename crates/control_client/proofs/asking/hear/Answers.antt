@@ -1,4 +1,4 @@
-use Rattle.std.proofs.Common.{[], append-nil, arith, length, length-append, refl, sym, take, ◌<◌, ◌++◌, ◌∙◌, ◌∷◌, ◌≡◌}
+use Rattle.std.proofs.Common.{[], append-nil, arith, length, length-append, refl, sym, take, ◌<◌, ◌++◌, ◌∙◌, ◌∷◌, ◌≡◌, rules}
 use Rattle.control_client.specs.Wire.{came, none_came}
 use Rattle.control_client.specs.body.Asking.{broken, out_of_time, too_many}
 use Rattle.control_client.proofs.ExchangeLemmas.{gave_none, gave_one, hears, other_endpoint, passes_more, passes_none, same_endpoint}
@@ -51,3 +51,27 @@ returns-clause-not_heard g c =
     let so_far = c.loop-passed.invariant in
     let until : length so_far.0 ≡ 4096 = (let count = so_far.2 in let bound = c.loop-passed-test.false in let end = c.loop-passed.auto._passed-end in omega arith) in
     too_many c.args.switch (g.D.Wire.log c.args.wire.now) (g.D.Wire.log c.loop-passed.wire) so_far.0 so_far.1.are_foreign until so_far.1.logged
+
+pub returns-clause-heard : goal.returns-clause-heard
+returns-clause-heard g c = search rules
+
+pub returns-clause-within : goal.returns-clause-within
+returns-clause-within g c = search rules
+
+pub returns-in-Err-clause-heard : goal.returns-in-Err-clause-heard
+returns-in-Err-clause-heard g c = search rules
+
+pub returns-in-Err-clause-within : goal.returns-in-Err-clause-within
+returns-in-Err-clause-within g c = search rules
+
+pub returns-in-Ok-None-clause-heard : goal.returns-in-Ok-None-clause-heard
+returns-in-Ok-None-clause-heard g c = search rules
+
+pub returns-in-Ok-None-clause-within : goal.returns-in-Ok-None-clause-within
+returns-in-Ok-None-clause-within g c = search rules
+
+pub returns-in-Ok-Some-clause-not_heard : goal.returns-in-Ok-Some-clause-not_heard
+returns-in-Ok-Some-clause-not_heard g c = search rules
+
+pub returns-in-Ok-Some-clause-within : goal.returns-in-Ok-Some-clause-within
+returns-in-Ok-Some-clause-within g c = search rules

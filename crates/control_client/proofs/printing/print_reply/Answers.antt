@@ -1,4 +1,5 @@
-use Rattle.std.proofs.Common.{◌∷◌, []}
+use Rattle.std.proofs.Common.{arith, ◌∷◌, [], rules}
+use Rattle.std.proofs.lemmas.Grind.{common_steps}
 use Rattle.control_client.specs.Exchange.{WritesBeginning, reply_line}
 use Rattle.control_client.proofs.PrintingLemmas.{appends_kept, appends_more, begins_first, begins_then, begins_whole}
 use Rattle.control_client.proofs.ResultLemmas.{on_err}
@@ -21,3 +22,24 @@ returns-in-Err-clause-beginning g c =
     let end = g.W.Write.contents c.write_whole-2.new.out in let last = g.W.Write.contents c.flush.new.self in let reply = c.args.reply.now in
     begins_whole start last (reply_line reply)
     (appends_kept start end last (reply_line reply) (appends_more start mid end reply (10 ∷ []) c.in_ok-write_whole.ensures.written (rw c.as_slice.ensures at c.in_ok-write_whole-2.ensures.written)) c.in-Err.ensures.bytes)
+
+pub returns-in-Err-clause-fault : goal.returns-in-Err-clause-fault
+returns-in-Err-clause-fault g c = search rules
+
+pub returns-in-Err-clause-printed : goal.returns-in-Err-clause-printed
+returns-in-Err-clause-printed g c = search rules
+
+pub returns-in-Err-clause-refused : goal.returns-in-Err-clause-refused
+returns-in-Err-clause-refused g c = search rules
+
+pub returns-in-Ok-clause-beginning : goal.returns-in-Ok-clause-beginning
+returns-in-Ok-clause-beginning g c = search rules
+
+pub returns-in-Ok-clause-fault : goal.returns-in-Ok-clause-fault
+returns-in-Ok-clause-fault g c = search rules
+
+pub returns-in-Ok-clause-printed : goal.returns-in-Ok-clause-printed
+returns-in-Ok-clause-printed g c = grind (arith, common_steps)
+
+pub returns-in-Ok-clause-refused : goal.returns-in-Ok-clause-refused
+returns-in-Ok-clause-refused g c = search rules

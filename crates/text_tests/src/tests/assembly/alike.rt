@@ -1,53 +1,47 @@
 //! The assembler beside a plain one, over all tables of the tests and over mixed texts.
 
-use super::labels::LABELS;
-use super::{ASSEMBLED, INSTRUCTIONS, MISSPELT, SYNTAX, plain};
+use super::labels::refusals;
+use super::{MISSPELT, SYNTAX, assembled, instructions, plain};
+use crate::tests::{assert_bytes, assert_numbered, assert_row};
 use bpf_asm::assemble;
-use std::alloc::Global;
+use std::alloc::{AllocError, Global};
 use std::process::Abort;
-use std::test::Fail;
 
-fn answer_alike(alloc: Global, text: &[u8]) -> Result<bool, Fail> {
-    let expected = plain::assemble(alloc, text)?;
-    Ok(assemble(alloc, text) == expected)
+fn answer_alike(alloc: Global, text: &[u8]) -> bool {
+    assemble(alloc, text) == plain::assemble(alloc, text)
 }
 
-fn all_alike(rt: &impl Abort, alloc: Global, texts: &[&[u8]]) -> Result<(), Fail> {
+fn texts_alike(rt: &impl Abort, alloc: Global, texts: &[&[u8]]) {
     for text in texts {
-        assert!(rt; answer_alike(alloc, text)?, "{text:?}");
+        assert_bytes(rt, answer_alike(alloc, text), text);
     }
-    Ok(())
 }
 
-fn instructions_alike(rt: &impl Abort, alloc: Global) -> Result<(), Fail> {
-    for (text, _) in &INSTRUCTIONS {
-        assert!(rt; answer_alike(alloc, text.as_bytes())?, "{text}");
+fn instructions_alike(rt: &impl Abort, alloc: Global) {
+    for row in instructions() {
+        assert_row(rt, answer_alike(alloc, row.0.as_bytes()), row.0);
     }
-    Ok(())
 }
 
-fn assembled_alike(rt: &impl Abort, alloc: Global) -> Result<(), Fail> {
-    for (text, _) in &ASSEMBLED {
-        assert!(rt; answer_alike(alloc, text)?, "{text:?}");
+fn assembled_alike(rt: &impl Abort, alloc: Global) {
+    for row in assembled() {
+        assert_bytes(rt, answer_alike(alloc, row.0), row.0);
     }
-    Ok(())
 }
 
-fn labels_alike(rt: &impl Abort, alloc: Global) -> Result<(), Fail> {
-    for (text, _) in &LABELS {
-        assert!(rt; answer_alike(alloc, text)?, "{text:?}");
+fn labels_alike(rt: &impl Abort, alloc: Global) {
+    for row in refusals() {
+        assert_bytes(rt, answer_alike(alloc, row.0), row.0);
     }
-    Ok(())
 }
 
 #[test]
-fn plain_assembler_answers_alike(rt: HostRuntime) -> Result<(), Fail> {
-    let alloc = rt.alloc();
-    assembled_alike(&rt, alloc)?;
-    instructions_alike(&rt, alloc)?;
-    all_alike(&rt, alloc, &SYNTAX)?;
-    all_alike(&rt, alloc, &MISSPELT)?;
-    labels_alike(&rt, alloc)
+fn plain_assembler_answers_alike(rt: HostRuntime) {
+    assembled_alike(&rt, rt.alloc());
+    instructions_alike(&rt, rt.alloc());
+    texts_alike(&rt, rt.alloc(), &SYNTAX);
+    texts_alike(&rt, rt.alloc(), &MISSPELT);
+    labels_alike(&rt, rt.alloc());
 }
 
 const LINES: [&str; 24] = [
@@ -82,41 +76,39 @@ const PIECES: [&str; 24] = [
     "#", "+", ",", "7", "0xf", "4", "l", "\t",
 ];
 
-// So many of the parts, one behind the other, as numbers that look like chance choose them.
-fn mixed(
-    alloc: Global,
+// Adds so many of the parts, one behind the other, as numbers that look like chance choose them.
+fn add_mixed(
+    text: &mut String,
     parts: &[&str; 24],
     between: &str,
     seed: u64,
     count: u64,
-) -> Result<String, Fail> {
-    let mut text = String::new(alloc);
+) -> Result<(), AllocError> {
     let mut chance = seed;
     for _ in 0..count {
         chance = chance
             .wrapping_mul(0x5851_f42d_4c95_7f2d)
             .wrapping_add(0x1405_7b7e_f767_814f);
-        text.push_str(parts[((chance >> 33) % 24) as usize])?;
+        if let Some(part) = parts.get(((chance >> 33) % 24) as usize) {
+            text.push_str(part)?;
+        }
         text.push_str(between)?;
     }
-    Ok(text)
+    Ok(())
 }
 
-fn lines_alike(alloc: Global, seed: u64) -> Result<bool, Fail> {
-    let lines = mixed(alloc, &LINES, "\n", seed, seed % 11)?;
-    answer_alike(alloc, lines.as_bytes())
-}
-
-fn pieces_alike(alloc: Global, seed: u64) -> Result<bool, Fail> {
-    let pieces = mixed(alloc, &PIECES, "", seed, seed % 7)?;
-    answer_alike(alloc, pieces.as_bytes())
+// Whether both answer the same to a text of so many of the parts.
+fn mixed_alike(alloc: Global, parts: &[&str; 24], between: &str, seed: u64, count: u64) -> bool {
+    let mut text = String::new(alloc);
+    add_mixed(&mut text, parts, between, seed, count).is_ok()
+        && answer_alike(alloc, text.as_bytes())
 }
 
 #[test]
-fn plain_assembler_answers_alike_on_mixed_texts(rt: HostRuntime) -> Result<(), Fail> {
+fn plain_assembler_answers_alike_on_mixed_texts(rt: HostRuntime) {
     for seed in 0..4000u64 {
-        assert!(rt; lines_alike(rt.alloc(), seed)?, "lines of {seed}");
-        assert!(rt; pieces_alike(rt.alloc(), seed)?, "pieces of {seed}");
+        let lines = mixed_alike(rt.alloc(), &LINES, "\n", seed, seed % 11);
+        let pieces = mixed_alike(rt.alloc(), &PIECES, "", seed, seed % 7);
+        assert_numbered(&rt, lines && pieces, seed);
     }
-    Ok(())
 }

@@ -1,19 +1,17 @@
 //! Labels and the places that they stand for, the order of faults, and texts of many labels.
 
-use super::{RET_0, fault, is_assembled, words};
-use bpf_asm::AsmFault;
-use std::alloc::Global;
-use std::test::Fail;
+use super::{RET_0, is_assembled, is_refused};
+use crate::tests::assert_bytes;
+use bpf_asm::{AsmFault, assemble};
+use std::alloc::{AllocError, Global};
 
 #[test]
-fn two_labels_on_one_line(rt: HostRuntime) -> Result<(), Fail> {
-    let alloc = rt.alloc();
-    assert!(rt; fault(alloc, b"a: b: ret #0") == Some(AsmFault::Syntax { line: 1 }));
-    assert!(rt; is_assembled(alloc, b"a:; b: ret #0", &[RET_0])?);
-    Ok(())
+fn two_labels_on_one_line(rt: HostRuntime) {
+    assert!(rt; is_refused(rt.alloc(), b"a: b: ret #0", AsmFault::Syntax { line: 1 }));
+    assert!(rt; is_assembled(rt.alloc(), b"a:; b: ret #0", &[RET_0]));
 }
 
-pub const LABELS: [(&[u8], AsmFault); 24] = [
+const LABELS: [(&[u8], AsmFault); 24] = [
     (b"top: ja top; ret #0", AsmFault::BackwardJump { line: 1 }),
     (b"jeq #1,256,0; ret #0", AsmFault::TooFar { line: 1 }),
     (b"ja x; ret #0", AsmFault::UnknownLabel { line: 1 }),
@@ -47,20 +45,22 @@ pub const LABELS: [(&[u8], AsmFault); 24] = [
     (b"ret #0\n;foo;", AsmFault::Syntax { line: 3 }),
 ];
 
+pub fn refusals() -> &'static [(&'static [u8], AsmFault)] {
+    &LABELS
+}
+
 const NEXT_BUT_ONE: [u64; 3] = [0x0005_0000_0000_0001, RET_0, 0x0006_0000_0000_0001];
 
 #[test]
-fn labels_and_their_faults(rt: HostRuntime) -> Result<(), Fail> {
-    let alloc = rt.alloc();
-    assert!(rt; is_assembled(alloc, b"ja end; ret #0; end: ret #1", &NEXT_BUT_ONE)?);
-    for (text, expected) in &LABELS {
-        assert!(rt; fault(alloc, text) == Some(*expected), "{text:?}");
+fn labels_and_their_faults(rt: HostRuntime) {
+    assert!(rt; is_assembled(rt.alloc(), b"ja end; ret #0; end: ret #1", &NEXT_BUT_ONE));
+    for row in refusals() {
+        assert_bytes(&rt, is_refused(rt.alloc(), row.0, row.1), row.0);
     }
-    Ok(())
 }
 
 // A jump over 255 instructions reaches its label, one over 256 does not.
-fn far_label(alloc: Global, head: &str, between: usize) -> Result<Vec<u8>, Fail> {
+fn far_label(alloc: Global, head: &str, between: usize) -> Result<Vec<u8>, AllocError> {
     let mut text = Vec::new(alloc);
     text.extend_from_slice(head.as_bytes())?;
     for _ in 0..between {
@@ -70,41 +70,47 @@ fn far_label(alloc: Global, head: &str, between: usize) -> Result<Vec<u8>, Fail>
     Ok(text)
 }
 
-// The first word of such a text.
-fn first_word(alloc: Global, head: &str, between: usize) -> Result<Option<u64>, Fail> {
-    let text = far_label(alloc, head, between)?;
-    Ok(words(alloc, &text)?.first().copied())
+fn first_word(alloc: Global, text: &[u8]) -> Result<u64, AsmFault> {
+    match assemble(alloc, text) {
+        Ok(words) => Ok(words.first().copied().unwrap_or(0)),
+        Err(fault) => Err(fault),
+    }
 }
 
-fn far_fault(alloc: Global, head: &str, between: usize) -> Result<Option<AsmFault>, Fail> {
-    let text = far_label(alloc, head, between)?;
-    Ok(fault(alloc, &text))
+// Whether such a text has this first word, or this fault.
+fn is_far(alloc: Global, head: &str, between: usize, expected: Result<u64, AsmFault>) -> bool {
+    match far_label(alloc, head, between) {
+        Ok(text) => first_word(alloc, &text) == expected,
+        Err(_) => false,
+    }
 }
 
 #[test]
-fn conditional_jumps_reach_255(rt: HostRuntime) -> Result<(), Fail> {
+fn conditional_jumps_reach_255(rt: HostRuntime) {
     let alloc = rt.alloc();
-    let near = first_word(alloc, "jeq #1,end,0", 255)?;
-    assert!(rt; near == Some(0x0015_ff00_0000_0001));
-    let far = far_fault(alloc, "neg\njeq #1,0,end", 256)?;
-    assert!(rt; far == Some(AsmFault::TooFar { line: 2 }));
-    let ja = first_word(alloc, "ja end", 1000)?;
-    assert!(rt; ja == Some(0x0005_0000_0000_03e8));
-    Ok(())
+    assert!(rt; is_far(alloc, "jeq #1,end,0", 255, Ok(0x0015_ff00_0000_0001)));
+    let fault = AsmFault::TooFar { line: 2 };
+    assert!(rt; is_far(alloc, "neg\njeq #1,0,end", 256, Err(fault)));
+    assert!(rt; is_far(alloc, "ja end", 1000, Ok(0x0005_0000_0000_03e8)));
 }
 
-// So many instructions that each jump to the label of the next line.
-fn chain(alloc: Global, count: u32) -> Result<String, Fail> {
-    let mut text = String::new(alloc);
+fn add_line(text: &mut String, line: u32) -> bool {
+    let next = line.saturating_add(1);
+    write!(
+        text,
+        "a_rather_long_label_{line}: ja a_rather_long_label_{next}\n"
+    )
+    .is_ok()
+}
+
+// Adds so many instructions that each jump to the label of the next line; tells whether memory sufficed.
+fn add_chain(text: &mut String, count: u32) -> bool {
     for line in 0..count {
-        let next = line.saturating_add(1);
-        write!(
-            text,
-            "a_rather_long_label_{line}: ja a_rather_long_label_{next}\n"
-        )?;
+        if !add_line(text, line) {
+            return false;
+        }
     }
-    write!(text, "a_rather_long_label_{count}:")?;
-    Ok(text)
+    write!(text, "a_rather_long_label_{count}:").is_ok()
 }
 
 // Whether each of so many words jumps to the next.
@@ -117,11 +123,18 @@ fn is_chain(words: &[u64], count: usize) -> bool {
     words.len() == count
 }
 
+fn is_assembled_to_chain(alloc: Global, text: &str, count: usize) -> bool {
+    match assemble(alloc, text.as_bytes()) {
+        Ok(words) => is_chain(&words, count),
+        Err(_) => false,
+    }
+}
+
 // A scan of the labels for each jump would take minutes here.
 #[test]
-fn megabytes_of_labels(rt: HostRuntime) -> Result<(), Fail> {
-    let text = chain(rt.alloc(), 60000)?;
+fn megabytes_of_labels(rt: HostRuntime) {
+    let mut text = String::new(rt.alloc());
+    assert!(rt; add_chain(&mut text, 60000));
     assert!(rt; text.len() > 3_000_000);
-    assert!(rt; is_chain(&words(rt.alloc(), text.as_bytes())?, 60000));
-    Ok(())
+    assert!(rt; is_assembled_to_chain(rt.alloc(), &text, 60000));
 }

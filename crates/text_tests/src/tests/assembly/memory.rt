@@ -1,29 +1,40 @@
 //! Assembling and printing where memory is refused.
 
+use super::is_refused;
+use crate::tests::assert_numbered;
 use bpf_asm::{AsmFault, assemble, print};
 use bpf_verify::Program;
 use linked_list_allocator::LocalHeap;
 use std::alloc::Global;
-use std::process::Abort;
-use std::test::Fail;
 
-// Assembles a text with labels in a heap's memory, and prints its program there: tells how far memory lasted.
-fn assembled_within(heap: &LocalHeap, text: &[u8], first: u64) -> Result<usize, Fail> {
-    let found = match assemble(heap, text) {
-        Ok(found) => found,
-        Err(AsmFault::OutOfMemory) => return Ok(0),
-        Err(_) => return Err(Fail::from("only memory is refused")),
-    };
-    if found.first() != Some(&first) {
-        return Err(Fail::from("the words are the text's"));
+// How far memory lasts: 0 where it does not suffice for the words, 1 where it does not for the program's text. None where
+// another fault is told, or an answer is wrong.
+type Lasted = Option<usize>;
+
+fn printed_within(heap: &LocalHeap, program: &Program<&LocalHeap>) -> Lasted {
+    match print(heap, program) {
+        Ok(printed) if printed.len() > 60 => Some(2),
+        Ok(_) => None,
+        Err(_) => Some(1),
     }
-    let Ok(program) = Program::new(found) else {
-        return Err(Fail::from("the words are accepted"));
-    };
-    match print(heap, &program) {
-        Ok(printed) if printed.len() > 60 => Ok(2),
-        Ok(_) => Err(Fail::from("the whole program is printed")),
-        Err(_) => Ok(1),
+}
+
+fn accepted_within(heap: &LocalHeap, words: Vec<u64, &LocalHeap>) -> Lasted {
+    match Program::new(words) {
+        Ok(program) => printed_within(heap, &program),
+        Err(_) => None,
+    }
+}
+
+// Assembles a text with labels in a heap's memory, and prints its program there.
+fn assembled_within(heap: &LocalHeap, text: &[u8], first: u64) -> Lasted {
+    match assemble(heap, text) {
+        Ok(words) if words.first() == Some(&first) => accepted_within(heap, words),
+        Ok(_) => None,
+        Err(fault) => match fault {
+            AsmFault::OutOfMemory => Some(0),
+            _ => None,
+        },
     }
 }
 
@@ -31,41 +42,40 @@ const TEXT: &[u8] =
     b"a: ja c; b: neg; c: jeq #1,d,e; d: neg; e: neg; f: jeq x,g,g; g: neg; h: neg; ret #65535; i: ret a";
 
 // The same in a heap of so many bytes, which has all of them again behind it.
-fn steps_within(rt: &impl Abort, alloc: Global, size: usize) -> Result<usize, Fail> {
-    let heap = LocalHeap::new(alloc, size)?;
-    let steps = assembled_within(&heap, TEXT, 0x0005_0000_0000_0001)?;
-    assert!(rt; heap.used() == 0);
-    Ok(steps)
+fn steps_within(alloc: Global, size: usize) -> Lasted {
+    match LocalHeap::new(alloc, size) {
+        Ok(heap) => {
+            let steps = assembled_within(&heap, TEXT, 0x0005_0000_0000_0001);
+            if heap.used() == 0 { steps } else { None }
+        }
+        Err(_) => None,
+    }
 }
 
 #[test]
-fn assembly_under_each_refused_growth(rt: HostRuntime) -> Result<(), Fail> {
+fn assembly_under_each_refused_growth(rt: HostRuntime) {
     let mut size = 64;
     let mut least = 0;
     // A block more from heap to heap, so that each growth is once the first that is refused.
     for _ in 0..300 {
-        let steps = steps_within(&rt, rt.alloc(), size)?;
-        assert!(rt; least <= steps, "a heap of {size} bytes");
+        let steps = steps_within(rt.alloc(), size).expect(&rt, "only memory is refused");
+        assert_numbered(&rt, least <= steps, size as u64);
         least = steps;
         size = size.saturating_add(16);
     }
     assert!(rt; least == 2);
-    Ok(())
 }
 
-// Another fault stays the answer where its cause is found before memory is refused.
-const FAULTS: [(&[u8], AsmFault); 3] = [
-    (b"neg; a: foo", AsmFault::Syntax { line: 2 }),
-    (b"ja x", AsmFault::UnknownLabel { line: 1 }),
-    (b"a: neg", AsmFault::OutOfMemory),
-];
+fn are_told(heap: &LocalHeap) -> bool {
+    // Another fault stays the answer where its cause is found before memory is refused.
+    is_refused(heap, b"neg; a: foo", AsmFault::Syntax { line: 2 })
+        && is_refused(heap, b"ja x", AsmFault::UnknownLabel { line: 1 })
+        && is_refused(heap, b"a: neg", AsmFault::OutOfMemory)
+}
 
 #[test]
-fn faults_without_memory(rt: HostRuntime) -> Result<(), Fail> {
+fn faults_without_memory(rt: HostRuntime) {
     // Room for the lines of these texts, and not for a label.
-    let heap = LocalHeap::new(rt.alloc(), 512)?;
-    for (text, fault) in &FAULTS {
-        assert!(rt; assemble(&heap, text).err() == Some(*fault));
-    }
-    Ok(())
+    let heap = LocalHeap::new(rt.alloc(), 512).expect(&rt, "a heap");
+    assert!(rt; are_told(&heap));
 }

@@ -1,25 +1,26 @@
 //! The parser and a plain recogniser, over the worked texts and over changed ones.
 
 use super::plain::fault_of_text;
-use super::{ACCEPTED, REFUSED, fault_of};
+use super::{accepted, fault_of, refused};
+use crate::tests::{assert_numbered, assert_row};
+use filter_parse::ParseFault;
 use std::alloc::{AllocError, Global};
-use std::test::Fail;
+
+fn has_fault(alloc: Global, text: &str, expected: Option<ParseFault>) -> bool {
+    match fault_of_text(alloc, text.as_bytes()) {
+        Ok(fault) => fault == expected,
+        Err(_) => false,
+    }
+}
 
 #[test]
-fn plain_recogniser_on_the_worked_texts(rt: HostRuntime) -> Result<(), Fail> {
-    for (text, _, _) in &ACCEPTED {
-        assert!(rt;
-            fault_of_text(rt.alloc(), text.as_bytes())? == None,
-            "{text}"
-        );
+fn plain_recogniser_on_the_worked_texts(rt: HostRuntime) {
+    for row in accepted() {
+        assert_row(&rt, has_fault(rt.alloc(), row.0, None), row.0);
     }
-    for (text, fault) in &REFUSED {
-        assert!(rt;
-            fault_of_text(rt.alloc(), text.as_bytes())? == Some(*fault),
-            "{text}"
-        );
+    for row in refused() {
+        assert_row(&rt, has_fault(rt.alloc(), row.0, Some(row.1)), row.0);
     }
-    Ok(())
 }
 
 const TEXTS: [&[&str]; 6] = [
@@ -124,39 +125,48 @@ fn picked<'a>(parts: &'a [&'a str], number: u64) -> &'a str {
     }
 }
 
-// A worked text in which one token, by a number, is left out, exchanged for another or has another before it.
-fn changed(alloc: Global, parts: &[&str], number: u64) -> Result<Vec<u8>, AllocError> {
+fn add_token(text: &mut Vec<u8>, token: &str) -> Result<(), AllocError> {
+    text.extend_from_slice(token.as_bytes())?;
+    text.push(b' ')?;
+    Ok(())
+}
+
+// Adds a worked text in which one token, by a number, is left out, exchanged for another or has another before it.
+fn add_changed(text: &mut Vec<u8>, parts: &[&str], number: u64) -> Result<(), AllocError> {
     let place = (number >> 40) % 17;
-    let part = picked(&PARTS, next_random(number));
-    let mut text = Vec::new(alloc);
+    let kind = (number >> 60) % 4;
     for (index, old) in parts.iter().enumerate() {
         let here = index as u64 == place;
-        if here && (number >> 60) % 4 != 0 {
-            text.extend_from_slice(part.as_bytes())?;
-            text.push(b' ')?;
+        if here && kind != 0 {
+            add_token(text, picked(&PARTS, next_random(number)))?;
         }
-        if !here || (number >> 60) % 4 == 1 {
-            text.extend_from_slice(old.as_bytes())?;
-            text.push(b' ')?;
-        }
-    }
-    Ok(text)
-}
-
-// Whether both answer the same to a changed text.
-fn is_alike(alloc: Global, parts: &[&str], number: u64) -> Result<bool, AllocError> {
-    let text = changed(alloc, parts, number)?;
-    Ok(fault_of_text(alloc, &text)? == fault_of(alloc, &text))
-}
-
-#[test]
-fn parser_and_plain_recogniser_agree(rt: HostRuntime) -> Result<(), Fail> {
-    let mut number = 1;
-    for _ in 0..500 {
-        for parts in TEXTS {
-            number = next_random(number);
-            assert!(rt; is_alike(rt.alloc(), parts, number)?, "number {number}");
+        if !here || kind == 1 {
+            add_token(text, old)?;
         }
     }
     Ok(())
+}
+
+fn is_fault_alike(alloc: Global, text: &[u8]) -> bool {
+    match fault_of_text(alloc, text) {
+        Ok(fault) => fault == fault_of(alloc, text),
+        Err(_) => false,
+    }
+}
+
+// Whether both answer the same to a changed text.
+fn is_alike(alloc: Global, parts: &[&str], number: u64) -> bool {
+    let mut text = Vec::new(alloc);
+    add_changed(&mut text, parts, number).is_ok() && is_fault_alike(alloc, &text)
+}
+
+#[test]
+fn parser_and_plain_recogniser_agree(rt: HostRuntime) {
+    let mut number = 1;
+    for _ in 0..500 {
+        for parts in &TEXTS {
+            number = next_random(number);
+            assert_numbered(&rt, is_alike(rt.alloc(), parts, number), number);
+        }
+    }
 }

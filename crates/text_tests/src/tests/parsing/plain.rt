@@ -40,8 +40,8 @@ const RELATIONS: [&str; 7] = [">", "<", ">=", "<=", "=", "==", "!="];
 
 const CONNECTIVES: [&str; 4] = ["and", "or", "&&", "||"];
 
-// The lines of docs/EXPRESSIONS.md, "Grammar", each with and without what may be left out.
-const RULES: [(Part, &[Symbol]); 36] = [
+// The lines of docs/EXPRESSIONS.md, "Grammar". A direction and a transport may be left out, so each has an empty rule.
+const RULES: [(Part, &[Symbol]); 30] = [
     (Expression, &[Of(Unary)]),
     (Expression, &[Of(Expression), Symbol::Connective, Of(Unary)]),
     (Unary, &[Is("not"), Of(Unary)]),
@@ -51,12 +51,7 @@ const RULES: [(Part, &[Symbol]); 36] = [
     (Unary, &[Of(Arithmetic), Symbol::Relation, Of(Arithmetic)]),
     (Primitive, &[Symbol::Name]),
     (Primitive, &[Is("ip"), Is("proto"), Symbol::Number]),
-    (Primitive, &[Is("host"), Symbol::Address]),
     (Primitive, &[Of(Direction), Is("host"), Symbol::Address]),
-    (
-        Primitive,
-        &[Is("net"), Symbol::Address, Is("/"), Symbol::Number],
-    ),
     (
         Primitive,
         &[
@@ -67,36 +62,9 @@ const RULES: [(Part, &[Symbol]); 36] = [
             Symbol::Number,
         ],
     ),
-    (Primitive, &[Is("port"), Symbol::Number]),
-    (Primitive, &[Of(Direction), Is("port"), Symbol::Number]),
-    (Primitive, &[Of(Transport), Is("port"), Symbol::Number]),
     (
         Primitive,
         &[Of(Transport), Of(Direction), Is("port"), Symbol::Number],
-    ),
-    (
-        Primitive,
-        &[Is("portrange"), Symbol::Number, Is("-"), Symbol::Number],
-    ),
-    (
-        Primitive,
-        &[
-            Of(Direction),
-            Is("portrange"),
-            Symbol::Number,
-            Is("-"),
-            Symbol::Number,
-        ],
-    ),
-    (
-        Primitive,
-        &[
-            Of(Transport),
-            Is("portrange"),
-            Symbol::Number,
-            Is("-"),
-            Symbol::Number,
-        ],
     ),
     (
         Primitive,
@@ -111,10 +79,12 @@ const RULES: [(Part, &[Symbol]); 36] = [
     ),
     (Primitive, &[Is("less"), Symbol::Number]),
     (Primitive, &[Is("greater"), Symbol::Number]),
+    (Direction, &[]),
     (Direction, &[Is("src")]),
     (Direction, &[Is("dst")]),
     (Direction, &[Is("src"), Is("or"), Is("dst")]),
     (Direction, &[Is("src"), Is("and"), Is("dst")]),
+    (Transport, &[]),
     (Transport, &[Is("tcp")]),
     (Transport, &[Is("udp")]),
     (Arithmetic, &[Of(Operand)]),
@@ -139,6 +109,10 @@ const RULES: [(Part, &[Symbol]); 36] = [
     ),
 ];
 
+fn rules() -> &'static [(Part, &'static [Symbol])] {
+    &RULES
+}
+
 /// A rule of which the symbols before a dot are spelt by the tokens from one place to another.
 #[derive(Clone, Copy, PartialEq, Eq, Drop)]
 struct Row {
@@ -149,11 +123,11 @@ struct Row {
 }
 
 fn part_of(row: Row) -> Option<Part> {
-    Some(RULES.get(row.rule)?.0)
+    Some(rules().get(row.rule)?.0)
 }
 
 fn next_symbol(row: Row) -> Option<Symbol> {
-    RULES.get(row.rule)?.1.get(row.dot).copied()
+    rules().get(row.rule)?.1.get(row.dot).copied()
 }
 
 fn awaits(row: Row, part: Part) -> bool {
@@ -203,18 +177,26 @@ fn add(chart: &mut Vec<Row>, row: Row) -> Result<(), AllocError> {
     Ok(())
 }
 
-fn predict(chart: &mut Vec<Row>, row: Row, part: Part) -> Result<(), AllocError> {
-    for (rule, entry) in RULES.iter().enumerate() {
+fn begun(rule: usize, place: usize) -> Row {
+    Row {
+        rule,
+        dot: 0,
+        from: place,
+        to: place,
+    }
+}
+
+fn begin(chart: &mut Vec<Row>, place: usize, part: Part) -> Result<(), AllocError> {
+    for (rule, entry) in rules().iter().enumerate() {
         if entry.0 == part {
-            let begun = Row {
-                rule,
-                dot: 0,
-                from: row.to,
-                to: row.to,
-            };
-            add(chart, begun)?;
+            add(chart, begun(rule, place))?;
         }
     }
+    Ok(())
+}
+
+fn predict(chart: &mut Vec<Row>, row: Row, part: Part) -> Result<(), AllocError> {
+    begin(chart, row.to, part)?;
     for index in 0..chart.len() {
         if let Some(other) = chart.get(index).copied()
             && other.from == row.to
@@ -254,17 +236,7 @@ fn step(chart: &mut Vec<Row>, tokens: &[Found], row: Row) -> Result<(), AllocErr
 const ROWS: usize = 100000;
 
 // How many tokens are viable, and whether all of them are an expression.
-fn viable_tokens(alloc: Global, tokens: &[Found]) -> Result<(usize, bool), AllocError> {
-    let mut chart = Vec::new(alloc);
-    for rule in 0..2 {
-        let begun = Row {
-            rule,
-            dot: 0,
-            from: 0,
-            to: 0,
-        };
-        add(&mut chart, begun)?;
-    }
+fn walk(chart: &mut Vec<Row>, tokens: &[Found]) -> Result<(usize, bool), AllocError> {
     let mut furthest = 0;
     let mut whole = false;
     for index in 0..ROWS {
@@ -275,17 +247,24 @@ fn viable_tokens(alloc: Global, tokens: &[Found]) -> Result<(usize, bool), Alloc
         if row.from == 0 && row.to == tokens.len() && is_whole(row, Expression) {
             whole = true;
         }
-        step(&mut chart, tokens, row)?;
+        step(chart, tokens, row)?;
     }
     Ok((furthest, whole))
 }
 
+fn viable_tokens(alloc: Global, tokens: &[Found]) -> Result<(usize, bool), AllocError> {
+    let mut chart = Vec::new(alloc);
+    begin(&mut chart, 0, Expression)?;
+    walk(&mut chart, tokens)
+}
+
 // Tests whether a word or sign stands so many tokens before.
 fn is_before(tokens: &[Found], index: usize, back: usize, texts: &[&str]) -> bool {
-    match index.checked_sub(back) {
-        Some(index) => tokens
-            .get(index)
-            .is_some_and(|found| found.is_one_of(texts)),
+    let Some(place) = index.checked_sub(back) else {
+        return false;
+    };
+    match tokens.get(place) {
+        Some(found) => found.is_one_of(texts),
         None => false,
     }
 }
@@ -330,18 +309,31 @@ fn own_fault(tokens: &[Found], index: usize) -> Option<ParseFault> {
     }
 }
 
+fn first_fault(tokens: &[Found], viable: usize, whole: bool, end: usize) -> Option<ParseFault> {
+    for index in 0..viable {
+        let fault = own_fault(tokens, index);
+        if fault.is_some() {
+            return fault;
+        }
+    }
+    match tokens.get(viable) {
+        Some(found) => Some(ParseFault::Syntax { at: found.place }),
+        None if whole => None,
+        None => Some(ParseFault::Syntax { at: end }),
+    }
+}
+
+fn fault_of_tokens(
+    alloc: Global,
+    tokens: &[Found],
+    end: usize,
+) -> Result<Option<ParseFault>, AllocError> {
+    let (viable, whole) = viable_tokens(alloc, tokens)?;
+    Ok(first_fault(tokens, viable, whole, end))
+}
+
 /// Tells the fault of a text with few tokens and brackets.
 pub fn fault_of_text(alloc: Global, text: &[u8]) -> Result<Option<ParseFault>, AllocError> {
     let tokens = tokens(alloc, text)?;
-    let (viable, whole) = viable_tokens(alloc, &tokens)?;
-    for index in 0..viable {
-        if let Some(fault) = own_fault(&tokens, index) {
-            return Ok(Some(fault));
-        }
-    }
-    Ok(match tokens.get(viable) {
-        Some(found) => Some(ParseFault::Syntax { at: found.place }),
-        None if whole => None,
-        None => Some(ParseFault::Syntax { at: text.len() }),
-    })
+    fault_of_tokens(alloc, &tokens, text.len())
 }

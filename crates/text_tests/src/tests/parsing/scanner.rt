@@ -47,22 +47,23 @@ pub struct Found<'a> {
     pub place: usize,
 }
 
+fn is_among(text: &[u8], texts: &[&str]) -> bool {
+    for other in texts {
+        if text == other.as_bytes() {
+            return true;
+        }
+    }
+    false
+}
+
 impl<'a> Found<'a> {
     pub fn is_one_of(&self, texts: &[&str]) -> bool {
-        self.kind == Kind::Text && texts.iter().any(|text| self.text == text.as_bytes())
+        self.kind == Kind::Text && is_among(self.text, texts)
     }
 }
 
-fn is_word_part(c: u8) -> bool {
-    c.is_ascii_alphanumeric() || c == b'_'
-}
-
-fn is_number_part(c: u8) -> bool {
-    c.is_ascii_alphanumeric() || c == b'.'
-}
-
 fn sign_len(rest: &[u8]) -> usize {
-    for sign in SIGNS {
+    for sign in &SIGNS {
         if rest.starts_with(sign.as_bytes()) {
             return sign.len();
         }
@@ -70,38 +71,52 @@ fn sign_len(rest: &[u8]) -> usize {
     1
 }
 
+// How many letters, digits and bytes of one more kind stand next.
+fn run_len(rest: &[u8], more: u8) -> usize {
+    let mut len = 0usize;
+    for c in rest {
+        if !c.is_ascii_alphanumeric() && *c != more {
+            return len;
+        }
+        len = len.saturating_add(1);
+    }
+    len
+}
+
 fn token_len(rest: &[u8], first: u8) -> usize {
     if first.is_ascii_digit() {
-        rest.iter().take_while(|c| is_number_part(**c)).count()
-    } else if is_word_part(first) {
-        rest.iter().take_while(|c| is_word_part(**c)).count()
+        run_len(rest, b'.')
+    } else if first.is_ascii_alphabetic() || first == b'_' {
+        run_len(rest, b'_')
     } else {
         sign_len(rest)
     }
 }
 
-fn decimal(text: &str) -> Option<u64> {
-    let digits = text.as_bytes();
-    if digits.len() > 1 && digits.first() == Some(&b'0') {
-        return None;
-    }
-    if digits.is_empty() || !digits.iter().all(|c| c.is_ascii_digit()) {
-        return None;
-    }
-    Some(text.parse::<u64>().unwrap_or(u64::MAX))
+fn digit(c: u8, base: u64) -> Option<u64> {
+    let digit = u64::from((c as char).to_digit(16)?);
+    if digit < base { Some(digit) } else { None }
 }
 
-fn hexadecimal(text: &str) -> Option<u64> {
-    let digits = text.as_bytes();
-    if digits.is_empty() || !digits.iter().all(|c| c.is_ascii_hexdigit()) {
-        return None;
+fn value(digits: &str, base: u64) -> Option<u64> {
+    let mut value = 0u64;
+    for c in digits.as_bytes() {
+        value = value.saturating_mul(base).saturating_add(digit(*c, base)?);
     }
-    Some(u64::from_str_radix(text, 16).unwrap_or(u64::MAX))
+    if digits.is_empty() { None } else { Some(value) }
+}
+
+fn decimal(text: &str) -> Option<u64> {
+    if text.len() > 1 && text.starts_with('0') {
+        None
+    } else {
+        value(text, 10)
+    }
 }
 
 fn number(text: &str) -> Option<u64> {
     match text.strip_prefix("0x") {
-        Some(digits) => hexadecimal(digits),
+        Some(digits) => value(digits, 16),
         None => decimal(text),
     }
 }
@@ -110,8 +125,11 @@ fn address(text: &str) -> Option<u32> {
     let mut address = 0;
     let mut count = 0u32;
     for part in text.split('.') {
-        let octet = u8::try_from(decimal(part)?).ok()?;
-        address = address << 8 | u32::from(octet);
+        let octet = decimal(part)?;
+        if octet > 255 {
+            return None;
+        }
+        address = address << 8 | octet as u32;
         count = count.saturating_add(1);
     }
     if count == 4 { Some(address) } else { None }
@@ -135,23 +153,31 @@ fn kind_of(token: &[u8], first: u8) -> Kind {
     }
 }
 
+fn token_at(text: &[u8], place: usize) -> Option<Found<'_>> {
+    let rest = text.get(place..)?;
+    let first = *rest.first()?;
+    if first == b' ' || first == b'\t' {
+        return None;
+    }
+    let token = rest.get(..token_len(rest, first))?;
+    Some(Found {
+        text: token,
+        kind: kind_of(token, first),
+        place,
+    })
+}
+
 /// The tokens of a text.
 pub fn tokens<'a>(alloc: Global, text: &'a [u8]) -> Result<Vec<Found<'a>>, AllocError> {
     let mut tokens = Vec::new(alloc);
     let mut behind = 0;
     for place in 0..text.len() {
-        let rest = &text[place..];
-        let first = match rest.first() {
-            Some(first) if place >= behind && *first != b' ' && *first != b'\t' => *first,
-            _ => continue,
-        };
-        let token = &rest[..token_len(rest, first).min(rest.len())];
-        tokens.push(Found {
-            text: token,
-            kind: kind_of(token, first),
-            place,
-        })?;
-        behind = place.saturating_add(token.len());
+        if place >= behind
+            && let Some(found) = token_at(text, place)
+        {
+            behind = place.saturating_add(found.text.len());
+            tokens.push(found)?;
+        }
     }
     Ok(tokens)
 }

@@ -1,4 +1,4 @@
-use Rattle.std.proofs.Common.{Bool, Global, IfOk, List, Option, Result, Vec, [], ap, arith, length, subst, sym, ◌+◌, ◌∙◌, ◌≡◌, ℕ}
+use Rattle.std.proofs.Common.{Bool, Global, IfOk, List, Option, Result, Vec, [], ap, arith, length, subst, sym, ◌+◌, ◌∙◌, ◌≡◌, ℕ, rules}
 use Rattle.control_client.specs.declared.fault.TellFault.{TellFault}
 use Rattle.control_client.specs.Lines.{AreAll, GivesNext, LosesLine, lines_known}
 use Rattle.control_client.specs.body.LineEnd.{without_end}
@@ -23,3 +23,6 @@ returns-clause-next_line g c =
           (subst (λ (b : Option (List (List ℕ))). LosesLine b after (without_end read.items)) c.self.view_is lost))
       | in-Err w ↦ subst (λ (r : Result Bool TellFault). IfOk r (GivesNext before after line)) (sym w.result-is) tt
     ]
+
+pub returns-clause-faults : goal.returns-clause-faults
+returns-clause-faults g c = search rules

@@ -1,6 +1,6 @@
 //! Replies and the summaries of their texts.
 
-use crate::{ReplyCounts, reply_kind};
+use reply_counts::{ReplyCounts, reply_kind};
 use std::alloc::Global;
 
 // The replies are those of docs/COMMANDS.md, "replay", "Control lines" and "Refusals"; the last ones are no replies.

@@ -2,7 +2,9 @@
 
 ghost use Rattle.std.specs.Prelude.{◌≤◌, IfSome, length};
 
-use crate::{Came, InputLines, LONGEST_LINE, Lines, TellFault, Wire, WireFailed, WordLines, tell};
+use control_client::{
+    Came, InputLines, LONGEST_LINE, Lines, TellFault, Wire, WireFailed, WordLines, tell,
+};
 use ipv4_fields::Endpoint;
 use std::alloc::Global;
 use std::io::{BufReader, Read};
