@@ -1,11 +1,12 @@
 -- The parts of programs, one behind the other, and the names of the pages in which they stand.
-use Rattle.std.proofs.Common.{◌≡◌, ◌∙◌, ◌∷◌, ◌+◌, ◌++◌, ◌-◌, ◌*◌, ◌/◌, ◌<◌, ◌≤◌, List, [], ap, append_assoc, arith, drop, get_or, length, length-append, refl, subst, suc, sym, take, zero, ℕ}
-use Rattle.std.specs.List.{flat_map, sum_by}
+use Rattle.std.proofs.Common.{◌≡◌, ◌∙◌, ◌∷◌, ◌+◌, ◌++◌, ◌-◌, ◌*◌, ◌<◌, ◌≤◌, Fits, List, [], ap, arith, drop, get_or, length, length-append, refl, subst, suc, sym, take, w64, zero, ℕ}
+use Rattle.std.specs.List.{flat_map}
 use Rattle.std.proofs.Math.Seq.{take-append-add}
 use Rattle.std.proofs.lemmas.List.{at_drop_all, length-drop, length-take-le, take-append-drop, take-append-le}
 use Rattle.std.proofs.lemmas.List.Concat.{flat_map-cons}
 use Rattle.std.proofs.lemmas.List.Sums.{sum_by-append, sum_by-cons, sum_by-take-le}
 use Rattle.config_image.specs.declared.TheConstants.{PAGE_WORDS}
+use Rattle.config_image.specs.declared.word.TheConstants.{PLACE_LIMIT}
 use Rattle.std.proofs.lemmas.Option.{get_or_from_slice_get, slice_get-get_or}
 use Rattle.config_image.specs.Pooled.{page_names, pages_for, parts_from, parts_of}
 use Rattle.config_image.proofs.PartsLemmas.{length-page_names, length-parts_of, name_at, size_of}
@@ -166,6 +167,13 @@ before_part k programs =
     let some = sum_by-take-le (λ (words : List ℕ). length words) (flat_map parts_of programs) k in
     let all = words_of_all_parts programs in omega arith
 
+pub place_fits : (place : ℕ) → place ≤ PLACE_LIMIT → Fits w64 place
+place_fits place fits = omega arith
+
+pub no_part_left : (programs : List (List ℕ)) (left : ℕ) → programs ≡ [] → left < length (flat_map parts_of programs) → ⊥
+no_part_left programs left none inside =
+    let count = ap (λ (some : List (List ℕ)). length (flat_map parts_of some)) none in omega arith
+
 module _ (programs rest : List (List ℕ)) (words : List ℕ) (step : programs ≡ words ∷ rest) where
   count_of_parts : length (flat_map parts_of programs) ≡ pages_for (length words) + length (flat_map parts_of rest)
   count_of_parts = ap (λ (all : List (List ℕ)). length (flat_map parts_of all)) step ∙ length-parts_of_all words rest
@@ -174,6 +182,13 @@ module _ (programs rest : List (List ℕ)) (words : List ℕ) (step : programs �
   size_step place total sum =
       let first = ap size_of step in
       let both = size_of-cons words rest in omega arith
+
+  pub first_fits : (place total limit : ℕ) → place + size_of programs ≡ total → total ≤ limit → (length words ≤ limit) × (place + length words ≤ limit)
+  first_fits place total limit sum fits = let next = size_step place total sum in (omega arith, omega arith)
+
+  pub part_fits : (left n place total limit : ℕ) → n ≡ pages_for (length words) → left < n → place + size_of programs ≡ total → total ≤ limit
+      → (left * PAGE_WORDS ≤ limit) × (place + left * PAGE_WORDS ≤ limit)
+  part_fits left n place total limit counted inside sum fits = let whole = first_fits place total limit sum fits in (omega arith, omega arith)
 
   pub place_in_first : (left n place goal : ℕ) → n ≡ pages_for (length words) → left < n → place + size_of (take left (flat_map parts_of programs)) ≡ goal → place + left * PAGE_WORDS ≡ goal
   place_in_first left n place goal counted inside so_far =

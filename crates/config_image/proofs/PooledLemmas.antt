@@ -103,6 +103,13 @@ length-parts-cons group rest =
 pub pages_from : (config : List Group) (i : ℕ) (group : Group) → i < length config → group ≡ get_or config i group → length (parts (drop i config)) ≡ group_pages group + length (parts (drop (i + 1) config))
 pages_from config i group inside is = from_item (λ (rest : List Group). length (parts rest)) config i group inside is ∙ length-parts-cons group (drop (i + 1) config)
 
+-- the pages of the filters from the member at an index on
+pub filter_pages_from : (members : List (Member ProgramValue)) (i : ℕ) (member : Member ProgramValue) → i < length members → member ≡ get_or members i member
+    → sum_by (λ m. pages_for (length (words_of m.filter))) (drop i members) ≡ pages_for (length (words_of member.filter)) + sum_by (λ m. pages_for (length (words_of m.filter))) (drop (i + 1) members)
+filter_pages_from members i member inside is =
+    let pages = λ (m : Member ProgramValue). pages_for (length (words_of m.filter)) in
+    from_item (sum_by pages) members i member inside is ∙ sum_by-cons pages member (drop (i + 1) members)
+
 pub counted_parts : (programs : List ProgramValue) → length (parts_of_all programs) ≡ sum_by (λ (program : ProgramValue). pages_for (length program.words)) programs
 counted_parts [] = refl
 counted_parts (program ∷ rest) =

@@ -46,16 +46,25 @@ from_item F xs i x inside is = at_drop_more F xs i x inside ∙ ap (λ y. F (y �
 pub item_of_all : {X : Type 0} (P : X → Type 0) (xs : List X) (i : ℕ) (x : X) → i < length xs → x ≡ get_or xs i x → All P xs → P x
 item_of_all P xs i x inside is all = subst P (sym is) (All-get_or P xs i x inside all)
 
+abbrev pub group_record : Group → ℕ → ℕ → List ℕ
+group_record group members place = endpoint_number group.key ∷ members ∷ length group.members ∷ reference place group.selector ∷ []
+
+abbrev pub member_record : Member ProgramValue → ℕ → List ℕ
+member_record member place = member.id ∷ endpoint_number member.to ∷ reference place member.filter ∷ lock_word member.locked ∷ []
+
 module _ (config : List Group) (i : ℕ) (group : Group) (inside : i < length config) (is : group ≡ get_or config i group) where
   abbrev later : List Group
   later = drop (i + 1) config
 
+  pub group_records-split : (members place : ℕ)
+      → group_records members place (drop i config) ≡ group_record group members place ++ group_records (members + MEMBER_WORDS * length group.members) (place + length (group_program_words group)) later
+  group_records-split members place = from_item (group_records members place) config i group inside is
+
   pub group_records_more : (members place left n : ℕ) → GROUP_WORDS ≤ left → n ≡ length (group_program_words group)
       → slice_get (group_records (members + MEMBER_WORDS * length group.members) (place + n) later) (left - GROUP_WORDS) ≡ slice_get (group_records members place (drop i config)) left
   group_records_more members place left n past counted =
-      let first = endpoint_number group.key ∷ members ∷ length group.members ∷ reference place group.selector ∷ [] in
       let rest = group_records (members + MEMBER_WORDS * length group.members) (place + length (group_program_words group)) later in
-      rw counted (later_word (group_records members place (drop i config)) first rest left GROUP_WORDS (from_item (group_records members place) config i group inside is) refl past)
+      rw counted (later_word (group_records members place (drop i config)) (group_record group members place) rest left GROUP_WORDS (group_records-split members place) refl past)
 
   pub all_member_records-split : (place : ℕ) → all_member_records place (drop i config) ≡ member_records (place + length (words_of group.selector)) group.members ++ all_member_records (place + length (group_program_words group)) later
   all_member_records-split place = from_item (all_member_records place) config i group inside is
@@ -81,13 +90,26 @@ module _ (config : List Group) (i : ℕ) (group : Group) (inside : i < length co
   pub program_words-split : program_words (drop i config) ≡ group_program_words group ++ program_words later
   program_words-split = from_item program_words config i group inside is
 
+  pub programs_len-split : length (program_words (drop i config)) ≡ length (group_program_words group) + length (program_words later)
+  programs_len-split = ap length program_words-split ∙ length-append (group_program_words group) (program_words later)
+
 module _ (members : List (Member ProgramValue)) (i : ℕ) (member : Member ProgramValue) (inside : i < length members) (is : member ≡ get_or members i member) where
+  pub member_records-split : (place : ℕ) → member_records place (drop i members) ≡ member_record member place ++ member_records (place + length (words_of member.filter)) (drop (i + 1) members)
+  member_records-split place = from_item (member_records place) members i member inside is
+
+  pub word_of_member : (place left : ℕ) → left < MEMBER_WORDS → slice_get (member_records place (drop i members)) left ≡ slice_get (member_record member place) left
+  word_of_member place left here =
+      let rest = member_records (place + length (words_of member.filter)) (drop (i + 1) members) in
+      first_word (member_records place (drop i members)) (member_record member place) rest left MEMBER_WORDS (member_records-split place) refl here
+
   pub member_records_more : (place left n : ℕ) → MEMBER_WORDS ≤ left → n ≡ length (words_of member.filter)
       → slice_get (member_records (place + n) (drop (i + 1) members)) (left - MEMBER_WORDS) ≡ slice_get (member_records place (drop i members)) left
   member_records_more place left n past counted =
-      let first = member.id ∷ endpoint_number member.to ∷ reference place member.filter ∷ lock_word member.locked ∷ [] in
       let rest = member_records (place + length (words_of member.filter)) (drop (i + 1) members) in
-      rw counted (later_word (member_records place (drop i members)) first rest left MEMBER_WORDS (from_item (member_records place) members i member inside is) refl past)
+      rw counted (later_word (member_records place (drop i members)) (member_record member place) rest left MEMBER_WORDS (member_records-split place) refl past)
 
   pub filter_words-split : filter_words (drop i members) ≡ words_of member.filter ++ filter_words (drop (i + 1) members)
   filter_words-split = from_item filter_words members i member inside is
+
+  pub filters_len-split : length (filter_words (drop i members)) ≡ length (words_of member.filter) + length (filter_words (drop (i + 1) members))
+  filters_len-split = ap length filter_words-split ∙ length-append (words_of member.filter) (filter_words (drop (i + 1) members))

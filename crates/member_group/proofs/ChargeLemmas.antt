@@ -1,10 +1,10 @@
 -- The charge of a configuration, one group more, and of a group, one member more.
-use Rattle.std.proofs.Common.{◌++◌, ◌+◌, ◌<◌, ◌∙◌, ◌∷◌, ◌≡◌, List, None, Some, [], ap, append-nil, append_assoc, arith, get_or, length, refl, sym, take, ℕ}
+use Rattle.std.proofs.Common.{◌++◌, ◌+◌, ◌<◌, ◌∙◌, ◌∷◌, ◌≡◌, ◌≤◌, List, None, Some, [], ap, append-nil, append_assoc, arith, get_or, length, refl, sym, take, ℕ}
 use Rattle.std.specs.Prelude.{Option}
 use Rattle.std.specs.List.{cons_option, filter_map, sum_by}
 use Rattle.std.specs.Option.{option_to_list}
 use Rattle.std.proofs.lemmas.Grind.{flat_map-append}
-use Rattle.std.proofs.lemmas.List.{length-take-le, take_more}
+use Rattle.std.proofs.lemmas.List.{length-take-le, take_all, take_more}
 use Rattle.std.proofs.lemmas.List.Elements.{filter_map-append}
 use Rattle.std.proofs.lemmas.List.Sums.{sum_by-append, sum_by_more}
 use Rattle.bpf_verify.specs.Program.{ProgramValue}
@@ -35,6 +35,10 @@ charge_of_group-more group i d inside =
     ap (λ rest. option_to_list group.selector ++ rest) filters ∙ sym (append_assoc (option_to_list group.selector) (filter_map (λ (m : Member ProgramValue). m.filter) (take i members)) (option_to_list member.filter)) in
     let charges = ap (sum_by (λ (program : ProgramValue). program.charge)) programs ∙ sum_by-append (λ (program : ProgramValue). program.charge) (programs_of_group (first_members i group)) (option_to_list member.filter) in
     omega arith
+
+pub charge_of_group-all : (group : GroupOf ProgramValue) (i : ℕ) → length group.members ≤ i → charge_of_group (first_members i group) ≡ charge_of_group group
+charge_of_group-all group i all =
+    ap (λ (members : List (Member ProgramValue)). charge_of_group (record { key = group.key; selector = group.selector; members = members })) (take_all i group.members all)
 
 pub members_of-more : (config : List (GroupOf ProgramValue)) (i : ℕ) (d : GroupOf ProgramValue) → i < length config → members_of (take (i + 1) config) ≡ members_of (take i config) + length (get_or config i d).members
 members_of-more config i d inside = sum_by_more (λ (group : GroupOf ProgramValue). length group.members) config i d inside

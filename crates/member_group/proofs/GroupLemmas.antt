@@ -1,9 +1,8 @@
 -- What the changes of a group come to where the member stands, and that they keep it a group.
-use Rattle.std.proofs.Common.{◌++◌, ◌+◌, ◌-◌, ◌<◌, ◌∙◌, ◌∷◌, ◌≡◌, ◌≢◌, ◌^◌, Bool, List, None, [], ap, arith, drop, false, get_or, inl, inr, length, length-append, length-set, map, refl, set, suc, sym, take, true, ℕ}
+use Rattle.std.proofs.Common.{◌-◌, ◌<◌, ◌∙◌, ◌∷◌, ◌≡◌, ◌≢◌, ◌^◌, Bool, List, None, [], ap, arith, false, get_or, inl, inr, length, length-append, length-set, map, refl, set, suc, sym, take, true, ℕ}
 use Rattle.std.specs.Prelude.{if◌then◌else◌, IfSome, Option, slice_index_or}
-use Rattle.std.proofs.Math.Seq.{drop-cons}
 use Rattle.std.proofs.lemmas.Bool.{cases_eq, eq-eqb, true≢false}
-use Rattle.std.proofs.lemmas.List.{drop_more, get_or-take, get_or_read, length-take-le, set_split}
+use Rattle.std.proofs.lemmas.List.{get_or-take, get_or_read, length-take-le}
 use Rattle.std.proofs.lemmas.List.Elements.{All-push, All-set, All-take}
 use Rattle.std.proofs.lemmas.List.Quantifiers.{all_pairs_push}
 use Rattle.bpf_verify.specs.Program.{IsProgram, ProgramValue}

@@ -1,10 +1,10 @@
 -- Lists in which one element alone passes a test, and lists in which each pair is related.
-use Rattle.std.proofs.Common.{◌++◌, ◌+◌, ◌-◌, ◌<◌, ◌∙◌, ◌∷◌, ◌≡◌, Bool, List, [], ap, append-nil, append_assoc, arith, drop, false, get_or, inl, inr, length, length-set, map, min, refl, set, suc, sym, take, true, zero, ℕ}
+use Rattle.std.proofs.Common.{◌++◌, ◌+◌, ◌-◌, ◌<◌, ◌≤◌, ◌∙◌, ◌∷◌, ◌≡◌, Bool, List, [], ap, append-nil, append_assoc, arith, drop, false, get_or, inl, inr, length, length-set, map, min, refl, set, suc, sym, take, true, zero, ℕ}
 use Rattle.std.specs.Prelude.{if◌then◌else◌, None, Some, nat_lt, not, slice_range}
 use Rattle.std.specs.List.{All, AllPairs, filter, find, remove}
 use Rattle.std.proofs.Math.Seq.{drop-cons}
 use Rattle.std.proofs.lemmas.Bool.{cases_eq, le-ltb, lt-ltb}
-use Rattle.std.proofs.lemmas.List.{drop-take, drop_all, get_or-set_other, get_or-set_same, get_or-take, length-take, length-take-le, set_split, take-append-drop, take-take}
+use Rattle.std.proofs.lemmas.List.{drop-take, drop_all, get_or-set_other, get_or-set_same, get_or-take, length-take, length-take-le, set_split, take-append-drop, take-take, take_all, take_more}
 use Rattle.std.proofs.lemmas.List.Elements.{All-append, filter-append}
 use Rattle.std.proofs.lemmas.List.Kept.{AllPairs-cons}
 use Rattle.member_group.specs.Place.{IsNowhere, IsOnlyAt, last_in_gap}
@@ -142,3 +142,14 @@ pub appended_pieces : {X : Type 0} (old front back whole : List X) (x : X) (a b 
 appended_pieces old front back whole x a b c first second third pieces =
     let start : b ≡ (old ++ front) ++ x ∷ [] = second ∙ ap (λ list. list ++ x ∷ []) first in
     third ∙ ap (λ list. list ++ back) start ∙ append_assoc (old ++ front) (x ∷ []) back ∙ append_assoc old front (x ∷ back) ∙ ap (λ list. old ++ list) pieces
+
+-- ---- elements that are appended one after the other
+
+pub appended_more : {X : Type 0} (start from before after : List X) (i : ℕ) (x copy : X) → i < length from → x ≡ get_or from i x → copy ≡ x → before ≡ start ++ take i from → after ≡ before ++ copy ∷ []
+    → after ≡ start ++ take (i + 1) from
+appended_more start from before after i x copy inside is same so_far pushed =
+    pushed ∙ ap (λ xs. xs ++ copy ∷ []) so_far ∙ append_assoc start (take i from) (copy ∷ [])
+    ∙ ap (λ xs. start ++ xs) (ap (λ y. take i from ++ y ∷ []) (same ∙ is) ∙ sym (take_more from i x inside))
+
+pub appended_all : {X : Type 0} (start from items : List X) (i : ℕ) → length from ≤ i → items ≡ start ++ take i from → items ≡ start ++ from
+appended_all start from items i all so_far = so_far ∙ ap (λ xs. start ++ xs) (take_all i from all)

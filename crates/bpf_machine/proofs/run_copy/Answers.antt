@@ -1,4 +1,5 @@
 use Rattle.std.proofs.Common.{◌≡◌, ◌∙◌, ◌+◌, ◌-◌, ◌≤◌, ℕ, ap, arith, refl, subst, sym}
+use Rattle.std.proofs.lemmas.Grind.{common_steps}
 use Rattle.bpf_verify.specs.Path.{program_at}
 use Rattle.bpf_verify.proofs.PlaceLemmas.{length-program_at}
 use Rattle.bpf_machine.specs.Meaning.{Run}
@@ -53,3 +54,6 @@ returns-in-End-clause-steps g c =
     let at = rw c.running.invariant.0 at c.fetch-insn.ensures.instruction in let low = c.running.invariant.3 in
     (let g : c.running.place + 1 - c.args.from - c.running.passed_over ≡ c.running.place - c.args.from + 1 - c.running.passed_over = omega arith in g)
     ∙ sym (ap (λ (run : Run). run.1) (running_end _ c.args.packet.now c.requires.accepted (c.running.place - c.args.from) c.running.passed_over _ _ _ c.running.invariant.4 c.running.invariant.2 _ at c.fetch-insn.ensures.cell _ (sym c.in-End.ensures.effect)))
+
+pub returns-in-End-clause-within_length : goal.returns-in-End-clause-within_length
+returns-in-End-clause-within_length g c = grind (arith, common_steps)

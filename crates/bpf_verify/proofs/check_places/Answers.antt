@@ -1,4 +1,5 @@
-use Rattle.std.proofs.Common.{◌∙◌, arith, refl, replicate, ℕ}
+use Rattle.std.proofs.Common.{◌∙◌, arith, refl, replicate, ℕ, rules}
+use Rattle.std.proofs.lemmas.Grind.{common_steps}
 use Rattle.std.proofs.lemmas.List.{get_or-replicate, length-replicate}
 use Rattle.bpf_verify.specs.Path.{program_at}
 use Rattle.bpf_verify.proofs.CellLemmas.{length-joined_at}
@@ -60,3 +61,21 @@ returns-in-None-clause-accepted g c =
     let size = length-program_at (g.W.Words.words c.args.words.now) c.args.from c.args.len c.requires.within in
     let passed = rw c.in-None.is at c.loop-pc.invariant.3 in
     accepted_at_end (program_at (g.W.Words.words c.args.words.now) c.args.from c.args.len) _ _ _ passed (omega arith) (omega arith) (omega arith) c.if-not-returns.false
+
+pub returns_constant-requires : goal.returns_constant-requires
+returns_constant-requires g c = search rules
+
+pub returns-then-not-returns-clause-accepted : goal.returns-then-not-returns-clause-accepted
+returns-then-not-returns-clause-accepted g c = search rules
+
+pub returns-then-not-returns-clause-first_fault : goal.returns-then-not-returns-clause-first_fault
+returns-then-not-returns-clause-first_fault g c = grind (arith, common_steps)
+
+pub returns-in-Some-unstored-clause-accepted : goal.returns-in-Some-unstored-clause-accepted
+returns-in-Some-unstored-clause-accepted g c = search rules
+
+pub returns-in-Some-unstored-clause-first_fault : goal.returns-in-Some-unstored-clause-first_fault
+returns-in-Some-unstored-clause-first_fault g c = grind (arith, common_steps)
+
+pub returns-in-None-clause-first_fault : goal.returns-in-None-clause-first_fault
+returns-in-None-clause-first_fault g c = search rules

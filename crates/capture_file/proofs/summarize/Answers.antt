@@ -1,4 +1,4 @@
-use Rattle.std.proofs.Common.{◌<◌, ◌≡◌, ◌∙◌, arith, drop, length, length-drop, sym}
+use Rattle.std.proofs.Common.{◌<◌, ◌≡◌, ◌∙◌, arith, drop, length, length-drop, sym, rules}
 use Rattle.capture_file.proofs.CaptureLemmas.{AreRecords-shorter, IsCounted-behind, place_of-none, place_of-some, summary_of}
 use Rattle.capture_file.proofs.summarize.Goals as goal
 
@@ -22,3 +22,9 @@ returns-else-not-is_empty-clause-summary c =
     summary_of c.args.file.now rest c.in_ok-header.header c.count_records.result.0 c.count_records.result.0.cut_at c.in_ok-header.ensures.header c.count_records.ensures.header
     (IsCounted-behind c.args.file.now rest c.in_ok-header.header c.count_records.result.0 c.count_records.ensures.counted) c.count_records.ensures.no_more
     (c.count_records.ensures.uncut ∙ sym (place_of-none c.args.file.now rest none))
+
+pub returns-then-not-is_empty-clause-fault : goal.returns-then-not-is_empty-clause-fault
+returns-then-not-is_empty-clause-fault c = search rules
+
+pub returns-else-not-is_empty-clause-fault : goal.returns-else-not-is_empty-clause-fault
+returns-else-not-is_empty-clause-fault c = search rules

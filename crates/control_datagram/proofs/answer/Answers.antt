@@ -1,5 +1,5 @@
 use Rattle.std.proofs.lemmas.Bool.{false≢true}
-use Rattle.std.proofs.Common.{refl}
+use Rattle.std.proofs.Common.{refl, rules}
 use Rattle.control_datagram.specs.Answer.{answers_line, stops, tells_totals}
 use Rattle.control_datagram.proofs.answer.Goals as goal
 
@@ -14,3 +14,12 @@ returns-clause-answered c =
     answers_line c.line_reply.result
     (record { not_stop = λ e. false≢true (c.if-is_word.ensures.1 e); not_totals = λ e. false≢true (c.if-is_word-2.ensures.1 e) })
     c.line_reply.ensures refl
+
+pub returns-clause-table : goal.returns-clause-table
+returns-clause-table c = search rules
+
+pub returns-then-is_word-2-clause-table : goal.returns-then-is_word-2-clause-table
+returns-then-is_word-2-clause-table c = search rules
+
+pub returns-then-is_word-clause-table : goal.returns-then-is_word-clause-table
+returns-then-is_word-clause-table c = search rules

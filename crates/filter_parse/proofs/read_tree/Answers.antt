@@ -1,4 +1,4 @@
-use Rattle.std.proofs.Common.{arith, inl, inr, length}
+use Rattle.std.proofs.Common.{arith, inl, inr, length, rules}
 use Rattle.std.proofs.lemmas.Result.{err_from_is_err_and}
 use Rattle.filter_tree.specs.View.{tree_of}
 use Rattle.filter_parse.specs.declared.fault.ParseFault.TheVariants.{TooDeep}
@@ -35,3 +35,12 @@ pub returns-clause-parses : goal.returns-clause-parses
 returns-clause-parses g c =
     tree-says c.args.text.now c.read.new.self.output.entries.items c.entries.result.now (tree_of c.build.new.to) (from_top c.build.new.parts)
     c.in_ok-read.ensures c.entries.ensures (c.in_ok-is_too_deep.ensures.shallow c.if-branch.false) c.in_ok-build.ensures.taken
+
+pub returns-clause-every_tree : goal.returns-clause-every_tree
+returns-clause-every_tree g c = search rules
+
+pub returns-clause-fault : goal.returns-clause-fault
+returns-clause-fault g c = search rules
+
+pub returns-then-branch-clause-parses : goal.returns-then-branch-clause-parses
+returns-then-branch-clause-parses g c = search rules

@@ -1,4 +1,4 @@
-use Rattle.std.proofs.Common.{Ok, Result, ap, sym}
+use Rattle.std.proofs.Common.{Ok, Result, ap, sym, rules}
 use Rattle.command_line.specs.declared.ending.Failure.{Failure}
 use Rattle.command_line.specs.declared.ending.Failure.TheVariants.{OutOfMemory}
 use Rattle.command_line.specs.declared.ending.Status.{Status}
@@ -26,3 +26,9 @@ returns-clause-written g c =
     told.status
     (λ is. let whole = told.whole (ap ok is) in (whole.0, ap g.W.Write.contents (sym whole.1)))
     (λ is. told.cut (ap ok is))
+
+pub returns-clause-failed : goal.returns-clause-failed
+returns-clause-failed g c = search rules
+
+pub returns-clause-no_memory : goal.returns-clause-no_memory
+returns-clause-no_memory g c = search rules

@@ -1,4 +1,4 @@
-use Rattle.std.proofs.Common.{◌≡◌, ◌<◌, ◌∙◌, Some, ap, option_map, slice_get, subst, sym}
+use Rattle.std.proofs.Common.{◌≡◌, ◌<◌, ◌∙◌, Some, ap, option_map, slice_get, subst, sym, rules}
 use Rattle.packet_verdict.specs.Verdict.{choice, value_of}
 use Rattle.packet_verdict.proofs.VerdictLemmas.{at_member, at_no_member, begins_still, member_there}
 use Rattle.packet_verdict.proofs.judge.Goals as goal
@@ -36,3 +36,9 @@ returns-clause-verdict g c = λ config begins.
     (record { of = is.0; group_at = is.2; member_at = there.1 })
     ∙ sym (at_member config packet c.in-Some.flow is.0 (sym c.in-Some.ensures.flow) is.1 there.0
     (subst (λ i. slice_get is.0.members i ≡ Some there.0) index_is there.1))
+
+pub returns-in_default-clause-verdict : goal.returns-in_default-clause-verdict
+returns-in_default-clause-verdict g c = search rules
+
+pub returns-in_default-find_group-clause-verdict : goal.returns-in_default-find_group-clause-verdict
+returns-in_default-find_group-clause-verdict g c = search rules

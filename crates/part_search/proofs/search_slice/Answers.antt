@@ -1,4 +1,4 @@
-use Rattle.std.proofs.Common.{◌≡◌, arith, sym}
+use Rattle.std.proofs.Common.{◌≡◌, arith, sym, rules}
 use Rattle.std.proofs.lemmas.Option.{slice_get-get_or}
 use Rattle.part_search.specs.Search.{asked}
 use Rattle.part_search.proofs.search_slice.Goals as goal
@@ -17,3 +17,9 @@ loop-index-preserved c =
 
 pub returns-clause-found : goal.returns-clause-found
 returns-clause-found c = c.found.ensures.found _ _ _ c.loop-index.invariant.is_search
+
+pub loop-index-init : goal.loop-index-init
+loop-index-init c = search rules
+
+pub new-search-requires-clause-before_end : goal.new-search-requires-clause-before_end
+new-search-requires-clause-before_end c = search rules

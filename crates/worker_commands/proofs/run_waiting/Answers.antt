@@ -1,4 +1,4 @@
-use Rattle.std.proofs.Common.{Bor, List, Some, ap, inl, inr, map, refl, ℕ, ◌∙◌}
+use Rattle.std.proofs.Common.{Bor, List, Some, ap, inl, inr, map, refl, ℕ, ◌∙◌, rules}
 use Rattle.command_line.specs.declared.command.Subcommand.{Subcommand}
 use Rattle.command_line.specs.CommandLine.{flood, request_of, serve}
 use Rattle.worker_commands.specs.Waiting.{flood_failed, flooded, serve_failed, served, tell_failed, tell_refused, told}
@@ -63,3 +63,45 @@ pub returns-in-Ok-Tell-clause-failed : goal.returns-in-Ok-Tell-clause-failed
 returns-in-Ok-Tell-clause-failed g c = λ ended.
     tell_failed c.in-Ok-Tell.control.now c.in-Ok-Tell.timeout.now (map (λ (line : Bor (List ℕ)). line.now) c.in-Ok-Tell.lines.items) (c.in-Ok-Tell.ensures.named ∙ ap (λ (s : Subcommand). Some (request_of s)) c.in-Ok-Tell.field-0-is)
     (rw c.as_slice.ensures.value at (c.run_tell.ensures.failed ended))
+
+pub returns-in-Err-clause-done : goal.returns-in-Err-clause-done
+returns-in-Err-clause-done g c = search rules
+
+pub returns-in-Err-clause-failed : goal.returns-in-Err-clause-failed
+returns-in-Err-clause-failed g c = search rules
+
+pub returns-in-Err-clause-misused : goal.returns-in-Err-clause-misused
+returns-in-Err-clause-misused g c = search rules
+
+pub returns-in-Err-clause-no_errors : goal.returns-in-Err-clause-no_errors
+returns-in-Err-clause-no_errors g c = search rules
+
+pub returns-in-Err-clause-nothing_written : goal.returns-in-Err-clause-nothing_written
+returns-in-Err-clause-nothing_written g c = search rules
+
+pub returns-in-Err-clause-refused : goal.returns-in-Err-clause-refused
+returns-in-Err-clause-refused g c = search rules
+
+pub returns-in-Ok-Flood-clause-no_errors : goal.returns-in-Ok-Flood-clause-no_errors
+returns-in-Ok-Flood-clause-no_errors g c = search rules
+
+pub returns-in-Ok-Flood-clause-nothing_written : goal.returns-in-Ok-Flood-clause-nothing_written
+returns-in-Ok-Flood-clause-nothing_written g c = search rules
+
+pub returns-in-Ok-Flood-clause-refused : goal.returns-in-Ok-Flood-clause-refused
+returns-in-Ok-Flood-clause-refused g c = search rules
+
+pub returns-in-Ok-Serve-clause-no_errors : goal.returns-in-Ok-Serve-clause-no_errors
+returns-in-Ok-Serve-clause-no_errors g c = search rules
+
+pub returns-in-Ok-Serve-clause-nothing_written : goal.returns-in-Ok-Serve-clause-nothing_written
+returns-in-Ok-Serve-clause-nothing_written g c = search rules
+
+pub returns-in-Ok-Serve-clause-refused : goal.returns-in-Ok-Serve-clause-refused
+returns-in-Ok-Serve-clause-refused g c = search rules
+
+pub returns-in-Ok-Tell-clause-no_errors : goal.returns-in-Ok-Tell-clause-no_errors
+returns-in-Ok-Tell-clause-no_errors g c = search rules
+
+pub returns-in-Ok-Tell-clause-nothing_written : goal.returns-in-Ok-Tell-clause-nothing_written
+returns-in-Ok-Tell-clause-nothing_written g c = search rules

@@ -1,4 +1,5 @@
-use Rattle.std.proofs.Common.{◌+◌, arith, drop, get_or, map}
+use Rattle.std.proofs.Common.{◌+◌, arith, drop, get_or, map, rules}
+use Rattle.std.proofs.lemmas.Grind.{common_steps}
 use Rattle.std.proofs.lemmas.Result.{err_from_is_err_and}
 use Rattle.bpf_asm.specs.body.View.{line_of, place_among}
 use Rattle.bpf_asm.proofs.CodeLemmas.{blank, lines_done, lines_more}
@@ -29,3 +30,9 @@ pub returns-clause-places : goal.returns-clause-places
 returns-clause-places g c =
     let lines = c.args.lines.now in
     tracks_all (place_among c.loop-line.labels.places) (map line_of lines) c.loop-line.number c.loop-line.place (rw (lines_done lines c.loop-line.line-index (omega arith)) at c.loop-line.invariant.0)
+
+pub returns-clause-fault : goal.returns-clause-fault
+returns-clause-fault g c = search rules
+
+pub returns-clause-names_apart : goal.returns-clause-names_apart
+returns-clause-names_apart g c = grind (arith, common_steps)

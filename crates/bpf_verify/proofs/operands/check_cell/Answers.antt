@@ -1,0 +1,14 @@
+use Rattle.std.proofs.Common.{rules}
+use Rattle.bpf_verify.proofs.operands.check_cell.Goals as goal
+
+pub returns-then-k-lt-CELLS-clause-fault : goal.returns-then-k-lt-CELLS-clause-fault
+returns-then-k-lt-CELLS-clause-fault c = search rules
+
+pub returns-then-k-lt-CELLS-clause-fault_place : goal.returns-then-k-lt-CELLS-clause-fault_place
+returns-then-k-lt-CELLS-clause-fault_place c = search rules
+
+pub returns-else-k-lt-CELLS-clause-fault : goal.returns-else-k-lt-CELLS-clause-fault
+returns-else-k-lt-CELLS-clause-fault c = search rules
+
+pub returns-else-k-lt-CELLS-clause-fault_place : goal.returns-else-k-lt-CELLS-clause-fault_place
+returns-else-k-lt-CELLS-clause-fault_place c = search rules

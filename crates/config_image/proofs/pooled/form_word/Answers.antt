@@ -1,4 +1,4 @@
-use Rattle.std.proofs.Common.{arith}
+use Rattle.std.proofs.Common.{arith, rules}
 use Rattle.config_image.proofs.ProgramLemmas.{image_limited, names_fit}
 use Rattle.config_image.proofs.pooled.form_word.Goals as goal
 
@@ -27,3 +27,6 @@ overflow_add-result-2 g c =
     let whole = c.words_in.ensures.length in
     let begin = c.requires.programs in
     let count = c.requires.counted in omega arith
+
+pub returns : goal.returns
+returns g c = search rules

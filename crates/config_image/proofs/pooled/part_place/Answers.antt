@@ -1,6 +1,26 @@
-use Rattle.std.proofs.Common.{◌≡◌, ◌∷◌, List, ℕ}
-use Rattle.config_image.proofs.NameLemmas.{left_behind, place_behind, place_in_first, size_step}
+use Rattle.std.proofs.Common.{◌≡◌, ◌∷◌}
+use Rattle.config_image.proofs.NameLemmas.{first_fits, left_behind, no_part_left, part_fits, place_fits, place_behind, place_in_first, size_step}
 use Rattle.config_image.proofs.pooled.part_place.Goals as goal
+
+pub pages_for-count-requires : goal.pages_for-count-requires
+pages_for-count-requires g c =
+    let step : c.loop-words.words-iterator ≡ c.in-Some.words.now ∷ c.next.new.self = c.in-Some.ensures.steps in
+    (first_fits _ _ _ step c.loop-words.place _ _ c.loop-words.invariant.2 c.requires.limited).0
+
+pub overflow_mul-result : goal.overflow_mul-result
+overflow_mul-result g c =
+    let step : c.loop-words.words-iterator ≡ c.in-Some.words.now ∷ c.next.new.self = c.in-Some.ensures.steps in
+    place_fits _ (part_fits _ _ _ step c.loop-words.left _ c.loop-words.place _ _ c.pages_for-count.ensures c.if-left-count.true c.loop-words.invariant.2 c.requires.limited).0
+
+pub overflow_add-result : goal.overflow_add-result
+overflow_add-result g c =
+    let step : c.loop-words.words-iterator ≡ c.in-Some.words.now ∷ c.next.new.self = c.in-Some.ensures.steps in
+    place_fits _ (part_fits _ _ _ step c.loop-words.left _ c.loop-words.place _ _ c.pages_for-count.ensures c.if-left-count.true c.loop-words.invariant.2 c.requires.limited).1
+
+pub overflow_add-place : goal.overflow_add-place
+overflow_add-place g c =
+    let step : c.loop-words.words-iterator ≡ c.in-Some.words.now ∷ c.next.new.self = c.in-Some.ensures.steps in
+    place_fits _ (first_fits _ _ _ step c.loop-words.place _ _ c.loop-words.invariant.2 c.requires.limited).1
 
 pub returns-then-left-count : goal.returns-then-left-count
 returns-then-left-count g c =
@@ -14,3 +34,6 @@ loop-words-preserved g c =
       left_behind _ _ _ step c.loop-words.left _ c.pages_for-count.ensures c.if-left-count.false c.loop-words.invariant.1,
       size_step _ _ _ step c.loop-words.place _ c.loop-words.invariant.2,
     )
+
+pub unreachable-requires : goal.unreachable-requires
+unreachable-requires g c = no_part_left _ _ c.in-None.ensures.steps.0 c.loop-words.invariant.1

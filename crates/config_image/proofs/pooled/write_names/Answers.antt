@@ -1,8 +1,6 @@
-use Rattle.std.proofs.Common.{◌≡◌, ◌∷◌, ◌+◌, [], List, ap, ℕ, length}
-use Rattle.std.specs.List.{flat_map}
-use Rattle.config_image.specs.Pooled.{parts_of}
+use Rattle.std.proofs.Common.{◌≡◌, ◌∷◌, ◌+◌, [], List, ap, ℕ}
 use Rattle.config_image.proofs.PartsLemmas.{size_of}
-use Rattle.config_image.proofs.NameLemmas.{names_enough, names_first, names_last, names_room, names_step, size_step}
+use Rattle.config_image.proofs.NameLemmas.{first_fits, names_enough, names_first, names_last, names_room, names_step, place_fits, size_step}
 use Rattle.config_image.proofs.pooled.write_names.Goals as goal
 
 pub loop-words-init : goal.loop-words-init
@@ -18,10 +16,20 @@ write_program_names-left-requires-clause-enough g c =
     let step : c.loop-words.words-iterator ≡ c.in-Some.words.now ∷ c.next.new.self = c.in-Some.ensures.steps in
     names_enough _ _ _ step c.loop-words.left.now c.loop-words.invariant.1
 
+pub write_program_names-left-requires-clause-limited : goal.write_program_names-left-requires-clause-limited
+write_program_names-left-requires-clause-limited g c =
+    let step : c.loop-words.words-iterator ≡ c.in-Some.words.now ∷ c.next.new.self = c.in-Some.ensures.steps in
+    (first_fits _ _ _ step c.loop-words.place _ _ c.loop-words.invariant.2 c.requires.limited).1
+
 pub write_program_names-left-requires-clause-room : goal.write_program_names-left-requires-clause-room
 write_program_names-left-requires-clause-room g c =
     let step : c.loop-words.words-iterator ≡ c.in-Some.words.now ∷ c.next.new.self = c.in-Some.ensures.steps in
     names_room _ _ _ step _ _ _ _ _ c.loop-words.left.now _ c.loop-words.invariant.1 c.loop-words.invariant.0
+
+pub overflow_add-place : goal.overflow_add-place
+overflow_add-place g c =
+    let step : c.loop-words.words-iterator ≡ c.in-Some.words.now ∷ c.next.new.self = c.in-Some.ensures.steps in
+    place_fits _ (first_fits _ _ _ step c.loop-words.place _ _ c.loop-words.invariant.2 c.requires.limited).1
 
 pub loop-words-preserved : goal.loop-words-preserved
 loop-words-preserved g c =

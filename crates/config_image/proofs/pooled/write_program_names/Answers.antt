@@ -1,4 +1,4 @@
-use Rattle.std.proofs.Common.{arith}
+use Rattle.std.proofs.Common.{arith, rules}
 use Rattle.config_image.proofs.NameLemmas.{length-names_from, names_written}
 use Rattle.config_image.proofs.WritingLemmas.{writing_first}
 use Rattle.config_image.proofs.pooled.write_program_names.Goals as goal
@@ -18,3 +18,6 @@ returns-clause-taken g c =
 pub returns-clause-room : goal.returns-clause-room
 returns-clause-room g c =
     (names_written _ _ _ _ c.args.words.now c.split_at.result.0.now c.args.pages.now c.args.place _ _ _ c.loop-page.invariant.0 c.loop-page-test.false c.split_at.ensures.front c.pages_for.ensures c.requires.enough).1
+
+pub returns-clause-left : goal.returns-clause-left
+returns-clause-left g c = search rules

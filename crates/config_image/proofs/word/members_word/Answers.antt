@@ -8,6 +8,10 @@ pub programs_len-place-requires : goal.programs_len-place-requires
 programs_len-place-requires g c =
     item_of_all IsGroup c.args.groups.now c.loop-group.group-index c.group-item.result c.loop-group-test.true c.group-item.is c.requires.groups
 
+pub member_word-requires-clause-few : goal.member_word-requires-clause-few
+member_word-requires-clause-few g c =
+    rw c.members-then-left-records.ensures.members (item_of_all IsGroup c.args.groups.now c.loop-group.group-index c.group-item.result c.loop-group-test.true c.group-item.is c.requires.groups).limited
+
 pub returns-then-left-records : goal.returns-then-left-records
 returns-then-left-records g c =
     let selector : length c.words.result.now ≡ length (words_of c.group-item.result.selector) = search rules in

@@ -61,3 +61,21 @@ returns-in_err-take-clause-text_before_no_memory g c = λ is.
     (g.R.Input.state c.read.new.self) (take c.in-Ok.size c.read.new.buf) gave.gives_next.0 gave.device_failed c.take.new.self (g.W.Output.state c.take.new.writer)
     (subst (λ (r : Result (Unit {0}) ReplayFault). Advances (g.W.Output.state c.take.new.writer).failures (take c.in-Ok.size c.read.new.buf) c.loop-size.script c.take.new.self (g.W.Output.state c.loop-size.writer).taken [] (g.W.Output.state c.take.new.writer).taken [] r)
     (sym (err_is c.from_residual-in_err-take.result fault c.from_residual-in_err-take.ensures.1) ∙ is) c.in_err-take.ensures.advances)
+
+pub returns-in-Err-clause-device_failed : goal.returns-in-Err-clause-device_failed
+returns-in-Err-clause-device_failed g c = search rules
+
+pub returns-in-Err-clause-script_text : goal.returns-in-Err-clause-script_text
+returns-in-Err-clause-script_text g c = search rules
+
+pub returns-in-Err-clause-text_before_failed_write : goal.returns-in-Err-clause-text_before_failed_write
+returns-in-Err-clause-text_before_failed_write g c = search rules
+
+pub returns-in-Err-clause-text_before_no_memory : goal.returns-in-Err-clause-text_before_no_memory
+returns-in-Err-clause-text_before_no_memory g c = search rules
+
+pub returns-then-size-eq0-clause-device_failed : goal.returns-then-size-eq0-clause-device_failed
+returns-then-size-eq0-clause-device_failed g c = search rules
+
+pub returns-then-size-eq0-clause-text_before_failed_read : goal.returns-then-size-eq0-clause-text_before_failed_read
+returns-then-size-eq0-clause-text_before_failed_read g c = search rules

@@ -1,4 +1,4 @@
-use Rattle.std.proofs.Common.{◌∙◌, arith, length-set}
+use Rattle.std.proofs.Common.{◌∙◌, arith, length-set, rules}
 use Rattle.control_line.proofs.PacketLemmas.{all_read, pair_added}
 use Rattle.control_line.proofs.packet.read_rest.Goals as goal
 
@@ -12,3 +12,6 @@ loop-i-preserved c = (
 pub returns-clause-packet : goal.returns-clause-packet
 returns-clause-packet c = λ below.
     all_read c.args.digits.now c.loop-i.packet c.loop-i.i c.loop-i.bits c.loop-i.invariant.0 (omega arith) (omega arith) below
+
+pub returns-clause-bad_digit : goal.returns-clause-bad_digit
+returns-clause-bad_digit c = search rules

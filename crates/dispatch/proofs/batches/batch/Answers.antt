@@ -1,4 +1,5 @@
-use Rattle.std.proofs.Common.{arith, length, refl, ◌++◌, ◌∷◌, []}
+use Rattle.std.proofs.Common.{arith, length, refl, ◌++◌, ◌∷◌, [], rules}
+use Rattle.std.proofs.lemmas.Grind.{common_steps}
 use Rattle.std.proofs.lemmas.List.{length-append}
 use Rattle.dispatch.specs.Batch.{Parts}
 use Rattle.dispatch.proofs.BatchLemmas.{run_more, run_of_none}
@@ -44,3 +45,30 @@ returns-in_err-handle-clause-only_own_steps g c =
     let one = c.in_err-handle.ensures.not_counted in
     adds_more c.args.worker.now c.loop-judged.worker c.handle.new.worker c.loop-judged.invariant.own_steps
     (judging_adds c.loop-judged.worker c.handle.new.worker one.judged one.own_section one.after)
+
+pub returns-clause-batch : goal.returns-clause-batch
+returns-clause-batch g c = search rules
+
+pub returns-clause-only_own_steps : goal.returns-clause-only_own_steps
+returns-clause-only_own_steps g c = search rules
+
+pub returns-clause-outside : goal.returns-clause-outside
+returns-clause-outside g c = search rules
+
+pub returns-in-Err-clause-batch : goal.returns-in-Err-clause-batch
+returns-in-Err-clause-batch g c = search rules
+
+pub returns-in-Err-clause-only_own_steps : goal.returns-in-Err-clause-only_own_steps
+returns-in-Err-clause-only_own_steps g c = search rules
+
+pub returns-in-Err-clause-outside : goal.returns-in-Err-clause-outside
+returns-in-Err-clause-outside g c = search rules
+
+pub returns-in-Ok-None-clause-batch : goal.returns-in-Ok-None-clause-batch
+returns-in-Ok-None-clause-batch g c = grind (arith, common_steps)
+
+pub returns-in-Ok-None-clause-only_own_steps : goal.returns-in-Ok-None-clause-only_own_steps
+returns-in-Ok-None-clause-only_own_steps g c = search rules
+
+pub returns-in-Ok-None-clause-outside : goal.returns-in-Ok-None-clause-outside
+returns-in-Ok-None-clause-outside g c = search rules

@@ -1,4 +1,4 @@
-use Rattle.std.proofs.Common.{◌≡◌, ◌<◌, ◌∙◌, ap, arith, length, slice_index, slice_set, subst, sym, ℕ}
+use Rattle.std.proofs.Common.{◌≡◌, ◌<◌, ◌∙◌, ap, arith, length, slice_index, slice_set, subst, sym, ℕ, rules}
 use mathlib.Core.Logic.{dite}
 use native.Mathlib.Decide.{ℕ_discrete}
 use Rattle.std.proofs.lemmas.List.{get_or-set_other, get_or-set_same, length-set}
@@ -35,3 +35,9 @@ loop-place-preserved c =
           (λ apart. subst (λ w. GaveAtMost old.loads place w) (sym (get_or-set_other sums i place word 0 apart)) (h.5 place (omega arith)))),
       record { no_slots = ap (λ (m : Me ℕ CountView). m.1) read.one_load ∙ seat.no_slots; same_table = c.load.ensures.0 ∙ seat.same_table; words = seat.words },
     )
+
+pub returns-clause-no_less : goal.returns-clause-no_less
+returns-clause-no_less c = search rules
+
+pub returns-clause-sums : goal.returns-clause-sums
+returns-clause-sums c = search rules

@@ -1,4 +1,4 @@
-use Rattle.std.proofs.Common.{◌∙◌, ◌+◌, ◌++◌, ◌∷◌, List, Some, [], ap, arith, length, map, subst, sym, ℕ}
+use Rattle.std.proofs.Common.{◌∙◌, ◌+◌, ◌++◌, ◌∷◌, List, Some, [], ap, arith, length, map, subst, sym, ℕ, rules}
 use Rattle.std.proofs.lemmas.List.{map-append}
 use Rattle.std.proofs.lemmas.List.Elements.{All-pop, All-push, All-same}
 use Rattle.dispatch.specs.Device.{SourceValue}
@@ -36,3 +36,24 @@ loop-place-preserved c =
                 (All-push (λ (j : FloodJob). IsNewWorker opening_version versions j.worker) jobs job (before.6 versions new).1 (subst (IsNewWorker opening_version versions) (sym made.worker) popped.1)),
           ),
     )
+
+pub returns-clause-buffers : goal.returns-clause-buffers
+returns-clause-buffers c = search rules
+
+pub returns-clause-counters : goal.returns-clause-counters
+returns-clause-counters c = search rules
+
+pub returns-clause-left : goal.returns-clause-left
+returns-clause-left c = search rules
+
+pub returns-clause-new : goal.returns-clause-new
+returns-clause-new c = search rules
+
+pub returns-clause-one_a_worker : goal.returns-clause-one_a_worker
+returns-clause-one_a_worker c = search rules
+
+pub returns-clause-starts : goal.returns-clause-starts
+returns-clause-starts c = search rules
+
+pub returns-clause-workers : goal.returns-clause-workers
+returns-clause-workers c = search rules

@@ -1,3 +1,4 @@
+use Rattle.std.proofs.Common.{rules}
 use Rattle.sample_group.proofs.AcceptedLemmas.{second_accepted, third_accepted}
 use Rattle.memory_flood.proofs.flood_versions.selector.Goals as goal
 
@@ -6,3 +7,9 @@ returns-then-i-eq0-clause-accepted c = second_accepted
 
 pub returns-else-i-eq0-clause-accepted : goal.returns-else-i-eq0-clause-accepted
 returns-else-i-eq0-clause-accepted c = third_accepted
+
+pub returns-else-i-eq0-clause-in_turn : goal.returns-else-i-eq0-clause-in_turn
+returns-else-i-eq0-clause-in_turn c = search rules
+
+pub returns-then-i-eq0-clause-in_turn : goal.returns-then-i-eq0-clause-in_turn
+returns-then-i-eq0-clause-in_turn c = search rules

@@ -1,4 +1,4 @@
-use Rattle.std.proofs.Common.{arith}
+use Rattle.std.proofs.Common.{arith, rules}
 use Rattle.std.proofs.lemmas.List.Sorted.{All-permutation}
 use Rattle.dispatch.specs.contracts.memory.DatagramsSource.TheImpl.{ghosts as datagrams_source}
 use Rattle.dispatch.specs.contracts.memory.SendsOutbox.TheImpl.{ghosts as sends_outbox}
@@ -27,3 +27,6 @@ returns-clause-totals g c =
     (made.new table opened.each) (made.counters table opened.each) opening_version versions BUFFER LIMIT (AreStarts c.args.workers c.args.datagrams)
     (made.workers versions (All-permutation (IsNewWorker opening_version versions) _ _ c.spread.ensures.same_workers c.in_ok-operator.ensures.opening))
     made.buffers made.starts c.gather.result c.gather.ensures.sum_exact
+
+pub returns-clause-run_fault : goal.returns-clause-run_fault
+returns-clause-run_fault g c = search rules

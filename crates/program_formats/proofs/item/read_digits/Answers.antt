@@ -1,5 +1,5 @@
-use Rattle.std.proofs.Common.{arith, subst, sym}
-use Rattle.std.specs.Str.Parse.{ParsesUnsigned}
+use Rattle.std.proofs.Common.{arith}
+use Rattle.std.proofs.lemmas.Grind.{common_steps}
 use Rattle.program_formats.proofs.DigitLemmas.{parsed, spelled-utf8}
 use Rattle.program_formats.proofs.item.read_digits.Goals as goal
 
@@ -10,3 +10,6 @@ pub returns : goal.returns
 returns c =
     rw c.ok.ensures.value
     (parsed c.args.item.now c.from_str_radix.result (omega arith) c.if-item-eq43.false (rw c.in-Ok.ensures.cases.0 at c.from_str_radix.ensures.value))
+
+pub returns-then-item-ne16 : goal.returns-then-item-ne16
+returns-then-item-ne16 c = grind (arith, common_steps)

@@ -1,4 +1,4 @@
-use Rattle.std.proofs.Common.{arith}
+use Rattle.std.proofs.Common.{arith, rules}
 use Rattle.program_formats.proofs.FieldLemmas.{fourth_stands, second_stands, third_stands}
 use Rattle.program_formats.proofs.item.read_fields.Goals as goal
 
@@ -20,3 +20,6 @@ pub returns-in_err-read_number : goal.returns-in_err-read_number
 returns-in_err-read_number c =
     rw c.from_residual-in_err-read_number.ensures
     (λ it spelled. c.in_err-read_number.ensures _ (omega (arith, spelled.k_fits)) (fourth_stands c.args.item.now it spelled c.in_ok-code.code c.in_ok-jt.jt c.in_ok-jf.jf c.in_ok-code.rest.now c.in_ok-jt.rest.now c.in_ok-jf.k.now c.in_ok-code.ensures.0 c.in_ok-jt.ensures.0 c.in_ok-jf.ensures.0 c.in_ok-code.ensures.1 c.in_ok-jt.ensures.1 c.in_ok-jf.ensures.1))
+
+pub returns : goal.returns
+returns c = search rules

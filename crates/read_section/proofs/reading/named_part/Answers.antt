@@ -1,4 +1,4 @@
-use Rattle.std.proofs.Common.{◌+◌, [], arith, length, slice_index_or, subst, sym, ℕ}
+use Rattle.std.proofs.Common.{◌+◌, [], arith, length, slice_index_or, subst, sym, ℕ, rules}
 use Rattle.config_image.specs.Image.{image}
 use Rattle.part_search.specs.Names.{HoldsPlace}
 use Rattle.read_section.specs.Worker.{WorkerValue}
@@ -44,3 +44,6 @@ returns-clause-few c = let w0 = c.args.worker.now in elim c.if-index-entries_of.
       (_, omega arith, fetched_both (more.0 + few.0) w0 c.if-index-entries_of.worker (subst (λ (m : WorkerValue). Fetched (more.0 + few.0) w0 m) (sym w.worker-is) (fetched_both few.0 w0 w.name_or_end-name.new.worker few.2 more.0 w.name_or_end-behind.new.worker more.2)) rest.0 c.search_part.new.worker rest.2)
   | else-index-entries_of w ↦ let rest = c.search_part.ensures.few in (rest.0, rest.1, subst (λ (m : WorkerValue). Fetched rest.0 m c.search_part.new.worker) w.worker-is rest.2)
 ]
+
+pub returns-clause-found : goal.returns-clause-found
+returns-clause-found c = search rules

@@ -1,4 +1,4 @@
-use Rattle.std.proofs.Common.{Some, ap, arith, inl, sym, ◌∙◌}
+use Rattle.std.proofs.Common.{Some, ap, arith, inl, sym, ◌∙◌, rules}
 use Rattle.read_section.specs.body.Found.{form_alone}
 use Rattle.read_section.proofs.ReadLemmas.{none_fetched, read_last}
 use Rattle.read_section.proofs.RowReadLemmas.{first_held, first_newest, first_word}
@@ -15,3 +15,9 @@ pub returns-then-i-eq0-clause-few_fetches : goal.returns-then-i-eq0-clause-few_f
 returns-then-i-eq0-clause-few_fetches c = let w = c.args.worker.now in
     read_last 0 w w (none_fetched w) c.fetch.new.self _ c.fetch.result c.fetch.ensures.one_fetch (first_held w c.args.row (form_alone 0) c.args.i c.requires.known c.requires.held) 13 c.args.i _ (omega arith)
     (first_newest w c.args.row (form_alone 0) c.args.i c.requires.known c.requires.held c.fetch.result c.fetch.ensures.word _ (inl c.if-i-eq0.true))
+
+pub returns-clause-value : goal.returns-clause-value
+returns-clause-value c = search rules
+
+pub returns-clause-few_fetches : goal.returns-clause-few_fetches
+returns-clause-few_fetches c = search rules

@@ -1,4 +1,4 @@
-use Rattle.std.proofs.Common.{◌≤◌, arith, inr, subst, sym, ℕ}
+use Rattle.std.proofs.Common.{◌≤◌, arith, inr, subst, sym, ℕ, rules}
 use Rattle.read_section.specs.Worker.{WorkerValue}
 use Rattle.read_section.specs.body.Found.{Knows, form_alone}
 use Rattle.read_section.proofs.ReadLemmas.{none_fetched, read_behind, read_last}
@@ -34,3 +34,6 @@ returns-clause-form c = first_some c.args.worker.now c.args.row (form_alone 0) c
 
 pub returns-clause-known : goal.returns-clause-known
 returns-clause-known c = first_knows c.args.worker.now c.args.row (form_alone 0) c.args.i c.requires.known c.requires.held c.fetch-form.result c.fetch-form.ensures.word
+
+pub returns-clause-value : goal.returns-clause-value
+returns-clause-value c = search rules

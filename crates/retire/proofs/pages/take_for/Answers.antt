@@ -1,4 +1,4 @@
-use Rattle.std.proofs.Common.{arith, subst, sym}
+use Rattle.std.proofs.Common.{arith, subst, sym, rules}
 use Rattle.retire.specs.body.Taking.{AreTaken}
 use Rattle.retire.proofs.SharingLemmas.{own_counted}
 use Rattle.retire.proofs.TakingLemmas.{equal_shared, own_held, shared_too}
@@ -13,3 +13,21 @@ returns-in-Some-clause-taken c = let view = c.args.operator.now.view in
 
 pub returns-in-Some-clause-one_more : goal.returns-in-Some-clause-one_more
 returns-in-Some-clause-one_more c = equal_shared c.args.operator.now.view _ _ _ c.args.taken.now c.share.new.self c.in-Some.own.now c.requires.passing.counted c.in-Some.ensures.some c.share.ensures
+
+pub returns-in-None-clause-one_more : goal.returns-in-None-clause-one_more
+returns-in-None-clause-one_more c = search rules
+
+pub returns-in-None-clause-passing : goal.returns-in-None-clause-passing
+returns-in-None-clause-passing c = search rules
+
+pub returns-in-None-clause-same : goal.returns-in-None-clause-same
+returns-in-None-clause-same c = search rules
+
+pub returns-in-None-clause-taken : goal.returns-in-None-clause-taken
+returns-in-None-clause-taken c = search rules
+
+pub returns-in-Some-clause-passing : goal.returns-in-Some-clause-passing
+returns-in-Some-clause-passing c = search rules
+
+pub returns-in-Some-clause-same : goal.returns-in-Some-clause-same
+returns-in-Some-clause-same c = search rules

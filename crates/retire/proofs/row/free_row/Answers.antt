@@ -1,4 +1,4 @@
-use Rattle.std.proofs.Common.{arith, below_more, false, sym, true, ◌≡◌, ◌∙◌}
+use Rattle.std.proofs.Common.{arith, below_more, false, sym, true, ◌≡◌, ◌∙◌, rules}
 use mathlib.Core.Logic.{dite}
 use native.Mathlib.Decide.{dec_le}
 use Rattle.read_section.proofs.FilledLemmas.{row_inside}
@@ -18,3 +18,9 @@ loop-row-preserved c = below_more _ _ c.loop-row.invariant (λ free. true_false 
 
 pub returns-clause-none : goal.returns-clause-none
 returns-clause-none c = λ found. let low = row_inside found.0 found.1.0 in let stop = c.loop-row-test.false in c.loop-row.invariant found.0 (omega arith) found.1
+
+pub returns-clause-some : goal.returns-clause-some
+returns-clause-some c = search rules
+
+pub returns-then-is_free-clause-none : goal.returns-then-is_free-clause-none
+returns-then-is_free-clause-none c = search rules

@@ -1,4 +1,4 @@
-use Rattle.std.proofs.Common.{IfErr, IfOk, ap, subst, sym}
+use Rattle.std.proofs.Common.{IfErr, IfOk, ap, subst, sym, rules}
 use Rattle.std.proofs.lemmas.Result.{IfErr-weaker, IfOk-weaker}
 use Rattle.control.specs.Reason.{IsRefusalOfExpression}
 use Rattle.filter_compile.specs.Answer.{IsPacket}
@@ -72,3 +72,18 @@ returns-in-Explain-clause-stopped g c =
     let known = g.R.Read.remaining c.args.input in
     subst (λ request. IfErr c.explain.result (IsStopOf request known)) (sym (ap query_request c.in-Explain.is))
     (IfErr-weaker c.explain.result _ _ (explain_stops known c.in-Explain.code.now) c.explain.ensures.refused)
+
+pub returns-in-Check-clause-found : goal.returns-in-Check-clause-found
+returns-in-Check-clause-found g c = search rules
+
+pub returns-in-Check-clause-stopped : goal.returns-in-Check-clause-stopped
+returns-in-Check-clause-stopped g c = search rules
+
+pub returns-in-Run-clause-found : goal.returns-in-Run-clause-found
+returns-in-Run-clause-found g c = search rules
+
+pub returns-in-Run-clause-stopped : goal.returns-in-Run-clause-stopped
+returns-in-Run-clause-stopped g c = search rules
+
+pub returns-in_ok-at_first-in-First-clause-stopped : goal.returns-in_ok-at_first-in-First-clause-stopped
+returns-in_ok-at_first-in-First-clause-stopped g c = search rules

@@ -1,4 +1,4 @@
-use Rattle.std.proofs.Common.{IfErr, IfOk, subst, sym}
+use Rattle.std.proofs.Common.{IfErr, IfOk, subst, sym, rules}
 use Rattle.std.proofs.lemmas.Result.{IfErr-weaker, IfOk-weaker}
 use Rattle.command_line.specs.CommandLine.{run}
 use Rattle.text_commands.specs.CommandResult.{IsRunAnswer}
@@ -43,3 +43,6 @@ returns-clause-stopped g c =
     let packet = c.in_ok-packet.packet.items in
     let stopped = subst (λ read. IfErr c.run_program.result (IsStopByProgram format read)) c.deref-2.ensures.value c.run_program.ensures.stopped in
     IfErr-weaker c.run_program.result _ _ (λ stop. run_stops known c.args.digits.now c.args.name.now packet text format stop c.in_ok-packet.ensures.spelt (sym c.in-Some.ensures) c.in_ok-read_whole.ensures.whole) stopped
+
+pub returns-in_default-clause-found : goal.returns-in_default-clause-found
+returns-in_default-clause-found g c = search rules

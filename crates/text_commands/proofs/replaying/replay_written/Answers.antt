@@ -21,3 +21,18 @@ returns-in_err-map_err-in-Ok-clause-failed_written g c =
     stopped_as c.from_residual.result (λ failure. WritesBefore (replay false false) failure (g.R.Read.remaining c.args.input) (g.W.Write.contents c.args.out.now) _) WriteFailed (search rules)
     (failed_flush_told _ _ _ _ _ _ (g.W.Write.contents c.into_inner.result.now) _ _ c.new.ensures.opened (ap (λ v. v.output) c.new-output.ensures.opened) c.into_inner.ensures.contents (search rules)
     told.device_failed.1 told.script_text)
+
+pub returns-in-Err-clause-failed : goal.returns-in-Err-clause-failed
+returns-in-Err-clause-failed g c = search rules
+
+pub returns-in-Err-clause-written : goal.returns-in-Err-clause-written
+returns-in-Err-clause-written g c = search rules
+
+pub returns-in_ok-map_err-in-Ok-clause-failed : goal.returns-in_ok-map_err-in-Ok-clause-failed
+returns-in_ok-map_err-in-Ok-clause-failed g c = search rules
+
+pub returns-in_ok-map_err-in-Ok-clause-failed_written : goal.returns-in_ok-map_err-in-Ok-clause-failed_written
+returns-in_ok-map_err-in-Ok-clause-failed_written g c = search rules
+
+pub returns-in_ok-map_err-in-Ok-clause-written : goal.returns-in_ok-map_err-in-Ok-clause-written
+returns-in_ok-map_err-in-Ok-clause-written g c = search rules

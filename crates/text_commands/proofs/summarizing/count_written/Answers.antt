@@ -25,3 +25,24 @@ returns-in_err-map_err-in-Ok-clause-failed_written g c =
     (counted_flush_told _ _ _ _ _ (g.W.Write.contents c.args.out.now) (g.W.Write.contents c.into_parts-written.result.0.now) _ _ c.into_parts-written.result.1
     c.new.ensures.opened (ap (λ v. v.output) c.new-output.ensures.opened) parts.counts (rw (sym c.requires) parts.contents) (search rules)
     told.device_failed.0 told.device_failed.1 told.script_text)
+
+pub returns-in-Err-clause-failed : goal.returns-in-Err-clause-failed
+returns-in-Err-clause-failed g c = search rules
+
+pub returns-in-Err-clause-replied : goal.returns-in-Err-clause-replied
+returns-in-Err-clause-replied g c = search rules
+
+pub returns-in-Err-clause-written : goal.returns-in-Err-clause-written
+returns-in-Err-clause-written g c = search rules
+
+pub returns-in_ok-map_err-in-Ok-clause-failed : goal.returns-in_ok-map_err-in-Ok-clause-failed
+returns-in_ok-map_err-in-Ok-clause-failed g c = search rules
+
+pub returns-in_ok-map_err-in-Ok-clause-failed_written : goal.returns-in_ok-map_err-in-Ok-clause-failed_written
+returns-in_ok-map_err-in-Ok-clause-failed_written g c = search rules
+
+pub returns-in_ok-map_err-in-Ok-clause-replied : goal.returns-in_ok-map_err-in-Ok-clause-replied
+returns-in_ok-map_err-in-Ok-clause-replied g c = search rules
+
+pub returns-in_ok-map_err-in-Ok-clause-written : goal.returns-in_ok-map_err-in-Ok-clause-written
+returns-in_ok-map_err-in-Ok-clause-written g c = search rules

@@ -1,4 +1,4 @@
-use Rattle.std.proofs.Common.{ap}
+use Rattle.std.proofs.Common.{ap, rules}
 use Rattle.text_commands.proofs.SummaryLemmas.{done_behind, told_behind}
 use Rattle.text_commands.proofs.summarizing.summarize_replies.Goals as goal
 
@@ -15,3 +15,6 @@ returns-clause-written g c =
     let told = c.write_summary.ensures in
     done_behind (g.R.Read.remaining c.args.input) (g.W.Write.contents c.args.out.now) (g.W.Write.contents c.count_written.new.out) c.in_ok-counts.counts counted.replied counted.written
     _ c.write_summary.result told.done told.written
+
+pub returns-clause-failed : goal.returns-clause-failed
+returns-clause-failed g c = search rules

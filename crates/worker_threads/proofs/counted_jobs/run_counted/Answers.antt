@@ -1,4 +1,4 @@
-use Rattle.std.proofs.Common.{◌∙◌, ◌++◌, List, ap, map, sym}
+use Rattle.std.proofs.Common.{◌∙◌, ◌++◌, List, ap, map, sym, rules}
 use Rattle.dispatch.specs.Tally.{CounterValue}
 use Rattle.dispatch.specs.Workers.{parts_of_done}
 use Rattle.worker_threads.proofs.CountedLemmas.{counters_of_ends, ends_of}
@@ -12,3 +12,12 @@ returns-clause-counters_back g c =
       run_to_the_end = ends_of source outbox c.args.jobs.items dones c.in_ok-dones.ensures.done_by_batches;
       counters_back = c.take_back.ensures.counters ∙ (kept ∙ ap (λ (later : List CounterValue). c.args.spare.items ++ later) (sym (counters_of_ends source outbox dones)));
     }
+
+pub returns-clause-run_fault : goal.returns-clause-run_fault
+returns-clause-run_fault g c = search rules
+
+pub returns-clause-side_was_run : goal.returns-clause-side_was_run
+returns-clause-side_was_run g c = search rules
+
+pub returns-clause-spawn_failed : goal.returns-clause-spawn_failed
+returns-clause-spawn_failed g c = search rules

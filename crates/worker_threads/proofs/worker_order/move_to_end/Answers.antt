@@ -1,4 +1,4 @@
-use Rattle.std.proofs.Common.{◌∙◌, ◌<◌, ◌++◌, ◌∷◌, IsPermutation, List, [], ap, arith, length, subst, sym}
+use Rattle.std.proofs.Common.{◌∙◌, ◌<◌, ◌++◌, ◌∷◌, IsPermutation, List, [], ap, arith, length, subst, sym, rules}
 use Rattle.std.proofs.lemmas.List.Sorted.{IsPermutation-remove, IsPermutation-sym, IsPermutation-to_front, IsPermutation-trans}
 use Rattle.std.specs.List.{remove}
 use Rattle.read_section.specs.Worker.{WorkerValue}
@@ -13,3 +13,12 @@ returns-clause-same_workers c =
     subst (λ (all : List WorkerValue). IsPermutation workers all) (sym after)
     (IsPermutation-trans workers (first ∷ rest) (rest ++ first ∷ []) (IsPermutation-remove workers c.args.place first inside c.remove-worker.ensures.value)
     (IsPermutation-sym (rest ++ first ∷ []) (first ∷ rest) (IsPermutation-to_front rest first)))
+
+pub returns-clause-count : goal.returns-clause-count
+returns-clause-count c = search rules
+
+pub returns-then-place-len-clause-count : goal.returns-then-place-len-clause-count
+returns-then-place-len-clause-count c = search rules
+
+pub returns-then-place-len-clause-same_workers : goal.returns-then-place-len-clause-same_workers
+returns-then-place-len-clause-same_workers c = search rules

@@ -1,4 +1,4 @@
-use Rattle.std.proofs.Common.{◌∙◌, IsPermutation}
+use Rattle.std.proofs.Common.{◌∙◌}
 use Rattle.std.proofs.lemmas.List.Sorted.{IsPermutation-trans}
 use Rattle.worker_threads.proofs.worker_order.spread.Goals as goal
 

@@ -1,4 +1,4 @@
-use Rattle.std.proofs.Common.{◌∙◌, ◌++◌, ◌∷◌, List, [], ap, append_assoc, subst, ℕ}
+use Rattle.std.proofs.Common.{◌∙◌, ◌++◌, ◌∷◌, List, [], ap, append_assoc, subst, ℕ, rules}
 use Rattle.control.specs.Script.{RepliesTo}
 use Rattle.control.proofs.script.Script.answer_held.Goals as goal
 
@@ -27,3 +27,15 @@ returns-clause-answers g c = (
     written = c.in-Ok.ensures.added;
   },
 )
+
+pub returns-clause-device_failed : goal.returns-clause-device_failed
+returns-clause-device_failed g c = search rules
+
+pub returns-clause-outside : goal.returns-clause-outside
+returns-clause-outside g c = search rules
+
+pub returns-in_default-clause-device_failed : goal.returns-in_default-clause-device_failed
+returns-in_default-clause-device_failed g c = search rules
+
+pub returns-in_default-clause-outside : goal.returns-in_default-clause-outside
+returns-in_default-clause-outside g c = search rules

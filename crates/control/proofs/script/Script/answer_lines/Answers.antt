@@ -1,4 +1,4 @@
-use Rattle.std.proofs.Common.{◌∙◌, ap, arith, length, refl}
+use Rattle.std.proofs.Common.{◌∙◌, ap, arith, length, refl, rules}
 use Rattle.control.specs.declared.fault.ReplayFault.TheVariants.{OutOfMemory}
 use Rattle.control.proofs.TakeLemmas.{held_no_more, line_failed, taken_all, taken_line, taken_none}
 use Rattle.control.proofs.WritingLemmas.{err_is}
@@ -40,3 +40,12 @@ returns-clause-advances g c =
     let held = c.in_ok-hold-2.ensures in
     taken_all c.args.bytes.now c.loop-front.left.now c.args.self.now c.loop-front.self (g.W.Output.state c.args.writer.now).taken c.args.replies.now (g.W.Output.state c.loop-front.writer).taken c.loop-front.replies c.loop-front.invariant.0
     c.hold-2.new.self c.in_default.ensures held.held held.switch_kept
+
+pub returns-clause-device_failed : goal.returns-clause-device_failed
+returns-clause-device_failed g c = search rules
+
+pub returns-clause-outside : goal.returns-clause-outside
+returns-clause-outside g c = search rules
+
+pub returns-clause-within : goal.returns-clause-within
+returns-clause-within g c = search rules

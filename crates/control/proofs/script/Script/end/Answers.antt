@@ -1,4 +1,4 @@
-use Rattle.std.proofs.Common.{Err, List, subst, ℕ}
+use Rattle.std.proofs.Common.{Err, List, subst, ℕ, rules}
 use Rattle.std.specs.Vec.{vec_len}
 use Rattle.control.specs.Script.{Standing}
 use Rattle.control.specs.body.ScriptSoFar.{AnswersHeld, IsReadyAt, IsReplied}
@@ -33,3 +33,12 @@ returns-clause-ends g c =
     ends_written c.args.self.now c.answer_held.new.self (g.W.Output.state c.args.writer.now).taken c.answer_held.new.replies (g.W.Output.state c.answer_held.new.writer).taken (g.W.Output.state c.write.new.writer).taken
     (some_held (vec_len held) held.items held.ok.0 c.if-is_empty.ensures) (subst (λ (waiting : List ℕ). (now : Standing) → IsReadyAt c.args.self.now now → IsReplied now held.items c.answer_held.new.self (g.W.Output.state c.args.writer.now).taken waiting
     (g.W.Output.state c.answer_held.new.writer).taken c.answer_held.new.replies) c.new-replies.ensures c.in_ok-answer_held.ensures.answers.1) (g.W.Output.state c.write.new.writer).failures c.in-Ok.ensures.written
+
+pub returns-clause-device_failed : goal.returns-clause-device_failed
+returns-clause-device_failed g c = search rules
+
+pub returns-in_default-clause-device_failed : goal.returns-in_default-clause-device_failed
+returns-in_default-clause-device_failed g c = search rules
+
+pub returns-then-is_empty-clause-device_failed : goal.returns-then-is_empty-clause-device_failed
+returns-then-is_empty-clause-device_failed g c = search rules

@@ -1,4 +1,4 @@
-use Rattle.std.proofs.Common.{◌≡◌, ◌∙◌, ◌-◌, ◌++◌, ap, arith, length, min, suc, take}
+use Rattle.std.proofs.Common.{◌≡◌, ◌∙◌, ◌-◌, ◌++◌, ap, arith, length, min, suc, take, rules}
 use Rattle.control_line.specs.declared.TheConstants.{LINE_LIMIT}
 use Rattle.control.proofs.HeldLemmas.{held_more}
 use Rattle.control.proofs.script.Script.hold.Goals as goal
@@ -9,3 +9,6 @@ returns-clause-held c =
     let room : c.min.result ≡ min (length c.args.bytes.now) (suc LINE_LIMIT - length c.args.self.now.held.items) = omega arith in
     c.in_ok-extend_from_slice.ensures.items
     ∙ (ap (λ n. c.args.self.now.held.items ++ take n c.args.bytes.now) room ∙ held_more (suc LINE_LIMIT) c.args.self.now.held.items c.args.bytes.now c.requires.within)
+
+pub returns-clause-within : goal.returns-clause-within
+returns-clause-within c = search rules

@@ -1,4 +1,4 @@
-use Rattle.std.proofs.Common.{List, subst, ℕ}
+use Rattle.std.proofs.Common.{List, subst, ℕ, rules}
 use Rattle.control.specs.body.ScriptSoFar.{Advances}
 use Rattle.control.proofs.TakeLemmas.{all_written}
 use Rattle.control.proofs.script.Script.take.Goals as goal
@@ -10,3 +10,12 @@ returns-clause-advances g c =
     (subst (λ (waiting : List ℕ). Advances (g.W.Output.state c.answer_lines-answered.new.writer).failures c.args.bytes.now c.args.self.now c.answer_lines-answered.new.self (g.W.Output.state c.args.writer.now).taken waiting
     (g.W.Output.state c.answer_lines-answered.new.writer).taken c.answer_lines-answered.new.replies c.answer_lines-answered.result) c.new-replies.ensures c.answer_lines-answered.ensures.advances)
     c.write_waiting.ensures.written
+
+pub returns-clause-device_failed : goal.returns-clause-device_failed
+returns-clause-device_failed g c = search rules
+
+pub returns-clause-outside : goal.returns-clause-outside
+returns-clause-outside g c = search rules
+
+pub returns-clause-within : goal.returns-clause-within
+returns-clause-within g c = search rules

@@ -1,4 +1,4 @@
-use Rattle.std.proofs.Common.{ap, arith, sym, ◌∙◌}
+use Rattle.std.proofs.Common.{ap, arith, sym, ◌∙◌, rules}
 use Rattle.atomic_table.specs.Seated.{TableId}
 use Rattle.dispatch.proofs.TallyLemmas.{allows_count, place_low}
 use Rattle.dispatch.proofs.tally.Counter.count.Goals as goal
@@ -13,3 +13,15 @@ fetch_add-requires c =
       omega arith,
       allows_count shared.table_id.slots c.self.inside.seat.id c.place.result c.self.inside.seat.me (omega arith) (omega arith),
     )
+
+pub returns-clause-count_full : goal.returns-clause-count_full
+returns-clause-count_full c = search rules
+
+pub returns-clause-one_count : goal.returns-clause-one_count
+returns-clause-one_count c = search rules
+
+pub returns-then-self-eq-COUNT_LIMIT-clause-count_full : goal.returns-then-self-eq-COUNT_LIMIT-clause-count_full
+returns-then-self-eq-COUNT_LIMIT-clause-count_full c = search rules
+
+pub returns-then-self-eq-COUNT_LIMIT-clause-one_count : goal.returns-then-self-eq-COUNT_LIMIT-clause-one_count
+returns-then-self-eq-COUNT_LIMIT-clause-one_count c = search rules

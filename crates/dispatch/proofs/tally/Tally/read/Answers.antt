@@ -1,4 +1,4 @@
-use Rattle.std.proofs.Common.{ap, arith, subst, sym, ◌∙◌}
+use Rattle.std.proofs.Common.{ap, arith, subst, sym, ◌∙◌, rules}
 use Rattle.atomic_table.specs.Seated.{TableId}
 use Rattle.dispatch.specs.Tally.{GaveAtMost, TallyValue, place_of}
 use Rattle.dispatch.proofs.TallyLemmas.{allows_read, place_low}
@@ -17,3 +17,6 @@ returns-clause-no_less c =
     let gave = c.load.ensures.2.no_less (omega arith) in
     subst (λ (t : TallyValue). GaveAtMost t.log (place_of c.args.kind) c.load.result) c.self.view_is
     (subst (λ place. GaveAtMost c.self.inside.seat.me.0.loads place c.load.result) is gave)
+
+pub returns-clause-one_load : goal.returns-clause-one_load
+returns-clause-one_load c = search rules

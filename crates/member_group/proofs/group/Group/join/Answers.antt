@@ -1,7 +1,13 @@
-use Rattle.std.proofs.Common.{arith}
+use Rattle.std.proofs.Common.{arith, rules}
 use Rattle.member_group.proofs.AnswerLemmas.{join_full, join_refused, joins, made_answer, memory_answer, refused_answer}
 use Rattle.member_group.proofs.GroupLemmas.{joined_is_group}
 use Rattle.member_group.proofs.group.Group.join.Goals as goal
+
+pub place_of_member-requires : goal.place_of_member-requires
+place_of_member-requires g c = record { distinct = rw c.members.ensures.members c.requires.group.distinct }
+
+pub with_member-requires : goal.with_member-requires
+with_member-requires g c = record { room = rw (← c.members-2.ensures.members) c.if-members-ge-MEMBER_LIMIT.false }
 
 pub returns-in-Some-clause-answer : goal.returns-in-Some-clause-answer
 returns-in-Some-clause-answer g c =
@@ -23,3 +29,9 @@ pub returns-clause-group : goal.returns-clause-group
 returns-clause-group g c =
     rw c.in_ok-with_member.ensures.changed
     (joined_is_group c.args.id c.args.to c.args.self.now (omega arith) (record { address = omega arith; port = omega arith }) c.requires.group (rw (← c.members.ensures.members) c.in_default.ensures.absent) (rw (← c.members-2.ensures.members) c.if-members-ge-MEMBER_LIMIT.false))
+
+pub returns-in-Some-clause-group : goal.returns-in-Some-clause-group
+returns-in-Some-clause-group g c = search rules
+
+pub returns-then-members-ge-MEMBER_LIMIT-clause-group : goal.returns-then-members-ge-MEMBER_LIMIT-clause-group
+returns-then-members-ge-MEMBER_LIMIT-clause-group g c = search rules

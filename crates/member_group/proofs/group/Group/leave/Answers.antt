@@ -3,6 +3,14 @@ use Rattle.member_group.proofs.AnswerLemmas.{has_member, made_answer, memory_ans
 use Rattle.member_group.proofs.GroupLemmas.{left-only_at, left_is_group}
 use Rattle.member_group.proofs.group.Group.leave.Goals as goal
 
+pub place_of_member-requires : goal.place_of_member-requires
+place_of_member-requires g c = record { distinct = rw c.members.ensures.members c.requires.group.distinct }
+
+pub without_member-requires : goal.without_member-requires
+without_member-requires g c =
+    let only = rw c.members.ensures.members at c.in-Some.ensures.found in
+    record { inside = only.inside }
+
 pub returns-in_default-clause-answer : goal.returns-in_default-clause-answer
 returns-in_default-clause-answer g c =
     refused_answer _ _ _ (no_member c.args.id c.args.self.now (rw (← c.members.ensures.members) c.in_default.ensures.absent))

@@ -1,6 +1,26 @@
+use Rattle.std.proofs.Common.{arith, rules}
 use Rattle.member_group.proofs.AnswerLemmas.{made_answer, memory_answer, refused_answer, set_filter_locked, set_filter_refused, sets_filter}
 use Rattle.member_group.proofs.GroupLemmas.{with_filter_is_group}
 use Rattle.member_group.proofs.group.Group.set_filter.Goals as goal
+
+pub place_of_member-requires : goal.place_of_member-requires
+place_of_member-requires g c = record { distinct = rw c.members.ensures.members c.requires.group.distinct }
+
+pub offset_bounds-members-at : goal.offset_bounds-members-at
+offset_bounds-members-at g c =
+    let only = rw c.members.ensures.members at c.in-Some.ensures.found in
+    let inside = only.inside in
+    rw c.members-2.ensures.members (omega arith)
+
+pub bounds-members-at : goal.bounds-members-at
+bounds-members-at g c =
+    let only = rw c.members.ensures.members at c.in-Some.ensures.found in
+    rw c.members-2.ensures.members only.inside
+
+pub with_filter-requires : goal.with_filter-requires
+with_filter-requires g c =
+    let only = rw c.members.ensures.members at c.in-Some.ensures.found in
+    record { inside = only.inside }
 
 pub returns-in_default-clause-answer : goal.returns-in_default-clause-answer
 returns-in_default-clause-answer g c =
@@ -42,3 +62,9 @@ returns-clause-group g c =
     let only = rw c.members.ensures.members at c.in-Some.ensures.found in
     rw (c.in_ok-with_filter.ensures.changed c.args.id only)
     (with_filter_is_group c.args.id _ c.args.self.now c.in-Some.at c.requires.group only (rw c.in_ok-filter.ensures.same_program c.clone_in.ensures.program))
+
+pub returns-in_default-clause-group : goal.returns-in_default-clause-group
+returns-in_default-clause-group g c = search rules
+
+pub returns-then-members-at-clause-group : goal.returns-then-members-at-clause-group
+returns-then-members-at-clause-group g c = search rules

@@ -1,6 +1,12 @@
-use Rattle.std.proofs.Common.{true}
+use Rattle.std.proofs.Common.{arith, true}
 use Rattle.member_group.proofs.GroupLemmas.{with_member-only_at}
 use Rattle.member_group.proofs.group.Group.with_lock.Goals as goal
+
+pub offset_bounds-members-at : goal.offset_bounds-members-at
+offset_bounds-members-at g c = rw c.members.ensures.members (omega arith)
+
+pub bounds-members-at : goal.bounds-members-at
+bounds-members-at g c = rw c.members.ensures.members c.requires.inside
 
 pub returns : goal.returns
 returns g c =

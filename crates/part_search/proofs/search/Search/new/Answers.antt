@@ -1,4 +1,4 @@
-use Rattle.std.proofs.Common.{arith}
+use Rattle.std.proofs.Common.{arith, rules}
 use Rattle.part_search.proofs.SearchLemmas.{reads_at_most, reads_least}
 use Rattle.part_search.proofs.search.Search.new.Goals as goal
 
@@ -7,3 +7,6 @@ returns-clause-few_reads c n below = reads_least _ n (omega arith)
 
 pub returns-clause-at_most : goal.returns-clause-at_most
 returns-clause-at_most c = reads_at_most _
+
+pub returns-clause-all_open : goal.returns-clause-all_open
+returns-clause-all_open c = search rules

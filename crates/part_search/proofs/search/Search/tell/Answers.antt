@@ -1,4 +1,4 @@
-use Rattle.std.proofs.Common.{arith}
+use Rattle.std.proofs.Common.{arith, rules}
 use Rattle.part_search.proofs.SearchLemmas.{reads_fall}
 use Rattle.part_search.proofs.search.Search.tell.Goals as goal
 
@@ -7,3 +7,9 @@ returns-then-name-self-clause-fewer c = reads_fall _ _ c.requires (omega arith)
 
 pub returns-else-name-self-clause-fewer : goal.returns-else-name-self-clause-fewer
 returns-else-name-self-clause-fewer c = reads_fall _ _ c.requires (omega arith)
+
+pub returns-else-name-self-clause-told : goal.returns-else-name-self-clause-told
+returns-else-name-self-clause-told c = search rules
+
+pub returns-then-name-self-clause-told : goal.returns-then-name-self-clause-told
+returns-then-name-self-clause-told c = search rules

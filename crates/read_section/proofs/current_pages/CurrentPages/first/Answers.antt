@@ -1,4 +1,4 @@
-use Rattle.std.proofs.Common.{◌∙◌, ◌++◌, ◌∷◌, [], ap, arith, length}
+use Rattle.std.proofs.Common.{◌∙◌, ◌++◌, ◌∷◌, [], ap, arith, length, rules}
 use Rattle.read_section.proofs.FilledLemmas.{first_pages-more}
 use Rattle.read_section.proofs.current_pages.CurrentPages.first.Goals as goal
 
@@ -10,3 +10,6 @@ loop-page-preserved c = let h = c.loop-page.invariant in let e = c.push_reserved
   e.items ∙ (ap (λ l. l ++ c.loop-page.page ∷ []) h.0 ∙ first_pages-more c.loop-page.page),
   omega arith,
 )
+
+pub returns : goal.returns
+returns c = search rules

@@ -1,6 +1,6 @@
 use Rattle.config_image.specs.declared.TheConstants.{ROW_WORDS}
 use Rattle.versions.specs.declared.layout.TheConstants.{ROWS_BEGIN}
-use Rattle.std.proofs.Common.{◌*◌, ◌+◌, arith, refl, slice_set, subst, sym, ℕ, ◌<◌}
+use Rattle.std.proofs.Common.{◌*◌, ◌+◌, arith, refl, slice_set, subst, sym, ℕ, ◌<◌, rules}
 use Rattle.versions.specs.Free.{IsFreeRow}
 use Rattle.versions.specs.Table.{the_shape}
 use Rattle.versions.proofs.ShapeLemmas.{row_words_is}
@@ -47,3 +47,9 @@ pub invariant_of-self : goal.invariant_of-self
 invariant_of-self c = let zeros = c.zeros_begin.ensures in
     subst (λ o. IsKeptBy o.view c.self.inside.config c.self.inside.book c.self.inside.reported (slice_set c.self.inside.zeros c.args.row c.zeros_begin.result) (slice_set c.self.inside.words.items (ROWS_BEGIN + c.args.row * ROW_WORDS + c.args.place) c.args.word) c.self.inside.pages) (sym c.fill.ensures)
     (IsKeptBy-filled _ _ _ _ _ _ _ c.self.invariant c.args.row c.args.place c.args.word c.zeros_begin.result (ROWS_BEGIN + c.args.row * ROW_WORDS + c.args.place) (subst (λ (o : OperatorValue). IsFreeRow the_shape o.view c.args.row) (sym c.self.view_is) c.requires.free) (row_inside c.args.row c.requires.free.0) c.requires.place zeros.zeros zeros.within refl)
+
+pub returns-clause-one_fill : goal.returns-clause-one_fill
+returns-clause-one_fill c = search rules
+
+pub returns-clause-all_stored : goal.returns-clause-all_stored
+returns-clause-all_stored c = search rules

@@ -1,4 +1,4 @@
-use Rattle.std.proofs.Common.{ap, arith, drop, length, map, refl, set, subst, sym, take, ◌*◌, ◌+◌, ◌-◌, ◌≡◌, ◌≤◌, ◌∙◌, ℕ}
+use Rattle.std.proofs.Common.{ap, arith, drop, length, map, refl, set, subst, sym, take, ◌*◌, ◌+◌, ◌-◌, ◌≡◌, ◌≤◌, ◌∙◌, ℕ, rules}
 use Rattle.std.proofs.lemmas.Grind.{get_or_default_zero}
 use Rattle.std.proofs.lemmas.List.{length-map}
 use Rattle.config_image.specs.declared.TheConstants.{ROW_WORDS}
@@ -90,3 +90,6 @@ returns-clause-named c = λ pages holds. let q = c.requires in
 
 pub returns-clause-pool_kept : goal.returns-clause-pool_kept
 returns-clause-pool_kept c = λ page names free. let replaced = (free.1 _ names).0 in omega arith
+
+pub returns-clause-one_publish : goal.returns-clause-one_publish
+returns-clause-one_publish c = search rules

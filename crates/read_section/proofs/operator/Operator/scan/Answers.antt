@@ -1,4 +1,4 @@
-use Rattle.std.proofs.Common.{subst, sym, ℕ, ◌<◌}
+use Rattle.std.proofs.Common.{subst, sym, ℕ, ◌<◌, rules}
 use Rattle.versions.proofs.ShapeLemmas.{workers_is}
 use Rattle.read_section.specs.body.OperatorKept.{IsKeptBy}
 use Rattle.read_section.proofs.KeeperLemmas.{IsKeptBy-scanned}
@@ -10,3 +10,6 @@ invariant_of-self c = let t = c.scan-word.ensures in subst (λ o. IsKeptBy o.vie
 
 pub scan-word-requires : goal.scan-word-requires
 scan-word-requires c = subst (λ (n : ℕ). c.args.worker < n) (sym workers_is) c.requires
+
+pub returns : goal.returns
+returns c = search rules

@@ -1,4 +1,4 @@
-use Rattle.std.proofs.Common.{ap, refl, subst, sym, Some, ℕ, ◌<◌, ◌≡◌, ◌≤◌, ◌∙◌}
+use Rattle.std.proofs.Common.{ap, refl, subst, sym, Some, ℕ, ◌<◌, ◌≡◌, ◌≤◌, ◌∙◌, rules}
 use mathlib.Core.Option.{none}
 use Rattle.atomic_table.specs.Table.{step}
 use Rattle.atomic_table.specs.Seated.{TableId}
@@ -42,3 +42,6 @@ returns-clause-worker c = let h = c.self.invariant in let j = c.join_seat.ensure
       told_seen c.self.inside.seat.me.0 c.other.inside.seat.me.0 c.other.inside.number seat.me c.split_seat-note.result.me c.load.new.seat.me _ c.other.inside.seat.table_id c.args.other.now t.0 _ c.other.invariant.0 c.other.view_is (ap (λ (m : Seated). m.0) e.4) j.2 t.1.told t.2 refl,
       worker_after _ _ told _ _ (after_peek the_shape.rows c.load.result t.0) _ _ c.args.self.now is c.load.ensures.0 t.2,
     )
+
+pub returns-clause-other : goal.returns-clause-other
+returns-clause-other c = search rules

@@ -1,4 +1,4 @@
-use Rattle.std.proofs.Common.{arith, refl}
+use Rattle.std.proofs.Common.{arith, refl, rules}
 use Rattle.read_section.specs.Section.{borrow_of, worker_of}
 use Rattle.read_section.proofs.AheadLemmas.{fast_held, fast_reads, fast_value, fast_within}
 use Rattle.read_section.proofs.PartReadLemmas.{part_held, part_reads, part_value, part_within}
@@ -54,3 +54,18 @@ returns-clause-rest_kept c = let s = c.args.self.now in let w = worker_of s in l
       borrow = borrow_of s;
       pinned = pinned_kept 13 c.args.i c.fetch-2.result w c.fetch-2.new.self (part_reads w s.kept.row p c.args.i known c.requires there few.0 c.part_with-self.new.worker few.2 c.fetch-2.result c.fetch-2.new.self (omega arith) c.fetch-2.ensures.one_fetch) j;
     }
+
+pub returns-then-past-self-clause-same_worker : goal.returns-then-past-self-clause-same_worker
+returns-then-past-self-clause-same_worker c = search rules
+
+pub returns-then-i-eq0-clause-value : goal.returns-then-i-eq0-clause-value
+returns-then-i-eq0-clause-value c = search rules
+
+pub returns-then-i-eq0-clause-few_fetches : goal.returns-then-i-eq0-clause-few_fetches
+returns-then-i-eq0-clause-few_fetches c = search rules
+
+pub returns-then-i-eq0-clause-same_worker : goal.returns-then-i-eq0-clause-same_worker
+returns-then-i-eq0-clause-same_worker c = search rules
+
+pub returns-clause-same_worker : goal.returns-clause-same_worker
+returns-clause-same_worker c = search rules

@@ -1,4 +1,4 @@
-use Rattle.std.proofs.Common.{Some, ap, arith, inl, refl, subst, sym, ◌∙◌}
+use Rattle.std.proofs.Common.{Some, ap, arith, inl, refl, subst, sym, ◌∙◌, rules}
 use Rattle.read_section.specs.Section.{borrow_of, worker_of}
 use Rattle.read_section.specs.Worker.{WorkerValue}
 use Rattle.read_section.specs.body.Found.{Knows}
@@ -106,3 +106,33 @@ returns-then-i-length_of-clause-rest_kept c = let s = c.args.self.now in let w =
       borrow = borrow_of s;
       pinned = pinned_kept 13 c.args.i c.fetch-then-i-length_of.result w c.fetch-then-i-length_of.new.self (part_reads w s.kept.row p c.args.i known c.requires there few.0 c.part_with-self.new.worker few.2 c.fetch-then-i-length_of.result c.fetch-then-i-length_of.new.self (omega arith) c.fetch-then-i-length_of.ensures.one_fetch) j;
     }
+
+pub returns-then-ahead-self-clause-same_worker : goal.returns-then-ahead-self-clause-same_worker
+returns-then-ahead-self-clause-same_worker c = search rules
+
+pub returns-then-i-eq0-clause-same_worker : goal.returns-then-i-eq0-clause-same_worker
+returns-then-i-eq0-clause-same_worker c = search rules
+
+pub returns-then-i-heads_of-clause-same_worker : goal.returns-then-i-heads_of-clause-same_worker
+returns-then-i-heads_of-clause-same_worker c = search rules
+
+pub returns-then-i-length_of-clause-same_worker : goal.returns-then-i-length_of-clause-same_worker
+returns-then-i-length_of-clause-same_worker c = search rules
+
+pub returns-then-not-self-clause-value : goal.returns-then-not-self-clause-value
+returns-then-not-self-clause-value c = search rules
+
+pub returns-then-not-self-clause-few_fetches : goal.returns-then-not-self-clause-few_fetches
+returns-then-not-self-clause-few_fetches c = search rules
+
+pub returns-then-not-self-clause-same_worker : goal.returns-then-not-self-clause-same_worker
+returns-then-not-self-clause-same_worker c = search rules
+
+pub returns-else-not-self-clause-value : goal.returns-else-not-self-clause-value
+returns-else-not-self-clause-value c = search rules
+
+pub returns-else-not-self-clause-few_fetches : goal.returns-else-not-self-clause-few_fetches
+returns-else-not-self-clause-few_fetches c = search rules
+
+pub returns-else-not-self-clause-same_worker : goal.returns-else-not-self-clause-same_worker
+returns-else-not-self-clause-same_worker c = search rules

@@ -1,4 +1,4 @@
-use Rattle.std.proofs.Common.{ap, subst, sym, ◌%◌, ◌∙◌}
+use Rattle.std.proofs.Common.{ap, subst, sym, ◌%◌, ◌∙◌, rules}
 use Rattle.versions.specs.declared.layout.TheConstants.{ROWS}
 use Rattle.read_section.specs.Section.{HoldsLastSeen, worker_of}
 use Rattle.read_section.specs.Worker.{Enters}
@@ -31,3 +31,9 @@ of-requires-clause-inside c = let may = may_peek_at c.self.inside.held _ c.self.
 
 pub of-requires-clause-last_seen : goal.of-requires-clause-last_seen
 of-requires-clause-last_seen c = let may = may_peek_at c.self.inside.held _ c.self.invariant in let one = c.peek-peeked.ensures in let three = c.pin-pinned.ensures in let out = c.self.view_is ∙ c.leave.ensures.left in HoldsLastSeen-pinned c.args.self.now c.self.inside.seat may out _ c.peek-peeked.result one.0 one.2 _ _ c.pin-pinned.result three.0 three.1 c.announce.ensures three.3 one.1 three.2
+
+pub returns-clause-same_worker : goal.returns-clause-same_worker
+returns-clause-same_worker c = search rules
+
+pub returns-clause-ends_in_fetches : goal.returns-clause-ends_in_fetches
+returns-clause-ends_in_fetches c = search rules

@@ -1,4 +1,4 @@
-use Rattle.std.proofs.Common.{ap, arith, ◌<◌, ◌∙◌, ◌∷◌, ◌++◌, []}
+use Rattle.std.proofs.Common.{ap, arith, ◌<◌, ◌∙◌, ◌∷◌, ◌++◌, [], rules}
 use Rattle.config_image.specs.declared.TheConstants.{ROW_WORDS}
 use Rattle.read_section.proofs.FilledLemmas.{row_inside}
 use Rattle.retire.specs.body.Sink.{SinkValue, taken_of}
@@ -20,3 +20,6 @@ returns-clause-taken g c = let h = c.self.invariant in let s = c.self.inside in 
     let small : s.place < ROW_WORDS = omega arith in
     ap (λ l. s.operator.ghost_name ∷ s.row ∷ l) (front_grows s.operator.now s.operator.now c.fill_other.new.operator s.row s.place c.args.word (row_inside s.row h.fills.fills.still_free.0) small e)
     ∙ ap (λ (v : SinkValue). taken_of v ++ c.args.word ∷ []) c.self.view_is
+
+pub returns-clause-room : goal.returns-clause-room
+returns-clause-room g c = search rules

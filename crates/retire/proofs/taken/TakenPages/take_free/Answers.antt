@@ -1,4 +1,4 @@
-use Rattle.std.proofs.Common.{◌+◌, ap, arith, subst, sym, ℕ}
+use Rattle.std.proofs.Common.{◌+◌, ap, arith, subst, sym, ℕ, rules}
 use Rattle.versions.proofs.ShapeLemmas.{pages_is}
 use Rattle.read_section.specs.Operator.{IsLeastFreePage}
 use Rattle.retire.specs.body.Taking.{AreTaken, TakenValue, TakesFree}
@@ -23,3 +23,9 @@ loop-index-preserved c = let view = c.args.operator.now.view in let h = c.loop-i
       subst (AreTaken view) (sym c.push.ensures) (one_taken_more view c.loop-index.self h.0 c.in-Some.page least),
       subst (λ (v : TakenValue). TakesFree view c.args.self.now v (c.loop-index._index + 1)) (sym c.push.ensures) (one_free_more view c.args.self.now c.loop-index.self c.loop-index._index c.in-Some.page (c.in-Some.page + 1) h.1 least.free),
     )
+
+pub returns-clause-free : goal.returns-clause-free
+returns-clause-free c = search rules
+
+pub returns-clause-taken : goal.returns-clause-taken
+returns-clause-taken c = search rules

@@ -1,4 +1,4 @@
-use Rattle.std.proofs.Common.{arith, inl, inr, subst, sym, ◌-◌, ◌/◌, ⊎_elim}
+use Rattle.std.proofs.Common.{arith, inl, inr, subst, sym, ◌-◌, ◌/◌, ⊎_elim, rules}
 use Rattle.config_image.specs.declared.TheConstants.{PAGE_WORDS, ROW_WORDS}
 use Rattle.versions.specs.declared.layout.TheConstants.{POOL_BEGIN, ROWS_BEGIN}
 use Rattle.versions.specs.Free.{IsFreePage, IsFreeRow}
@@ -21,3 +21,6 @@ returns g c = let up = c.if-place-lt-POOL_BEGIN.false in record {
     ⊎_elim (λ t. let low = row_below_pool t.0 c.args.place t.1.0 t.2 in absurd (omega arith)) (λ t. free.1 (subst (IsFreePage the_shape view) (sym (page_by_division t.0 c.args.place t.2)) t.1)),
   );
 }
+
+pub returns-then-place-lt-ROWS_BEGIN : goal.returns-then-place-lt-ROWS_BEGIN
+returns-then-place-lt-ROWS_BEGIN g c = search rules

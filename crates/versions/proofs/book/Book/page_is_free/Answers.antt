@@ -1,4 +1,4 @@
-use Rattle.std.proofs.Common.{◌<◌, arith}
+use Rattle.std.proofs.Common.{◌<◌, arith, rules}
 use Rattle.std.proofs.lemmas.Bool.{le-leb, leb-true}
 use Rattle.versions.specs.Table.{the_shape}
 use Rattle.versions.proofs.BookLemmas.{free_page_is, page_is_free}
@@ -17,3 +17,9 @@ returns-else-page-lt-PAGES-clause-free_page_exact g c = λ view book. let none =
   (λ e. let low = Rattle.std.proofs.lemmas.Bool.ltb-true _ _ e in absurd (omega arith)),
   λ f. let low = f.0 in absurd (omega (arith, pages_is)),
 )
+
+pub returns-else-page-lt-PAGES-clause-a_page : goal.returns-else-page-lt-PAGES-clause-a_page
+returns-else-page-lt-PAGES-clause-a_page g c = search rules
+
+pub returns-then-page-lt-PAGES-clause-a_page : goal.returns-then-page-lt-PAGES-clause-a_page
+returns-then-page-lt-PAGES-clause-a_page g c = search rules

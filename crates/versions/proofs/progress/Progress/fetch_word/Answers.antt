@@ -3,7 +3,7 @@ use Rattle.versions.specs.declared.step.Step.TheVariants.{Fetch}
 use Rattle.versions.specs.declared.view.Stage.TheVariants.{Inside}
 use Rattle.versions.specs.Table.{the_shape}
 use Rattle.versions.proofs.DecisionLemmas.{fetch_below, fetch_word_of, held_form, word_place}
-use Rattle.versions.proofs.MirrorLemmas.{next_of}
+use Rattle.versions.proofs.MirrorLemmas.{next_of, no_worker}
 use Rattle.versions.proofs.TraceLemmas.{Coheres-reached}
 use Rattle.versions.proofs.progress.Progress.fetch_word.Goals as goal
 use Rattle.versions.proofs.progress.Progress.fetch_word.Goals.{then-row-ge-ROWS-via-then-row-ge-ROWS, then-row-ge-ROWS-via-else-row-ge-ROWS+then-place-ge-TABLE_WORDS, then-row-ge-ROWS-via-else-row-ge-ROWS+else-place-ge-TABLE_WORDS+then-not-is_version_word}
@@ -31,3 +31,7 @@ returns g c = λ s reached room m. let held = c.in-Inside in let at = sym c.stag
           ((c.is_version_word.ensures.word form.kept.config form.kept.pages form.holds form.room).0 c.if-not-is_version_word.false),
       ap (λ l. slice_index l c.args.place) m.words_same,
     )
+
+pub returns-in_err-row : goal.returns-in_err-row
+returns-in_err-row g c = λ s reached room m. rw c.from_residual.ensures (λ x legal.
+    no_worker the_shape s c.args.words.now c.args.self.now m c.args.worker (Fetch c.args.worker c.args.place) x (sym c.stage.ensures ∙ c.in_err-row.was) legal.0)

@@ -10,6 +10,30 @@ use Rattle.versions.specs.Table.{the_shape}
 use Rattle.versions.proofs.FollowLemmas.{fill_below, follows_announce, follows_fetch, follows_fill, follows_leave, follows_peek, follows_pin, follows_publish, follows_scan, publish_below, published_pages, worker_below}
 use Rattle.versions.proofs.progress.Progress.take.Goals as goal
 
+pub move_worker-requires : goal.move_worker-requires
+move_worker-requires g c = let t = c.requires.legal in let a = c.in-Peek in let legal = subst (λ step. IsLegalStep the_shape t.0 step c.args.word) a.is t.3 in
+    worker_below t.0 t.1 c.args.words.now c.args.self.now t.2 a.worker (Peek a.worker) c.args.word legal.0
+
+pub overflow_add-words : goal.overflow_add-words
+overflow_add-words g c = let t = c.requires.legal in let a = c.in-Announce in
+    let low = worker_below t.0 t.1 c.args.words.now c.args.self.now t.2 a.worker (Announce a.worker) c.args.word (subst (λ step. IsLegalStep the_shape t.0 step c.args.word) a.is t.3) in search (rules, low)
+
+pub offset_bounds-words-worker : goal.offset_bounds-words-worker
+offset_bounds-words-worker g c = let t = c.requires.legal in let a = c.in-Announce in
+    let low = worker_below t.0 t.1 c.args.words.now c.args.self.now t.2 a.worker (Announce a.worker) c.args.word (subst (λ step. IsLegalStep the_shape t.0 step c.args.word) a.is t.3) in search (rules, low)
+
+pub bounds-words-worker : goal.bounds-words-worker
+bounds-words-worker g c = let t = c.requires.legal in let a = c.in-Announce in
+    let low = worker_below t.0 t.1 c.args.words.now c.args.self.now t.2 a.worker (Announce a.worker) c.args.word (subst (λ step. IsLegalStep the_shape t.0 step c.args.word) a.is t.3) in omega (arith, c.requires.table)
+
+pub move_worker-requires-in-Announce : goal.move_worker-requires-in-Announce
+move_worker-requires-in-Announce g c = let t = c.requires.legal in let a = c.in-Announce in
+    worker_below t.0 t.1 c.args.words.now c.args.self.now t.2 a.worker (Announce a.worker) c.args.word (subst (λ step. IsLegalStep the_shape t.0 step c.args.word) a.is t.3)
+
+pub move_worker-requires-in-Pin : goal.move_worker-requires-in-Pin
+move_worker-requires-in-Pin g c = let t = c.requires.legal in let a = c.in-Pin in let legal = subst (λ step. IsLegalStep the_shape t.0 step c.args.word) a.is t.3 in
+    worker_below t.0 t.1 c.args.words.now c.args.self.now t.2 a.worker (Pin a.worker) c.args.word legal.0
+
 pub offset_bounds-words-place : goal.offset_bounds-words-place
 offset_bounds-words-place g c = let t = c.requires.legal in let low = fill_below t.0 t.1 c.args.words.now c.args.self.now t.2 c.in-Fill.place c.in-Fill.word c.args.word (subst (λ step. IsLegalStep the_shape t.0 step c.args.word) c.in-Fill.is t.3) in search (rules, low)
 

@@ -1,4 +1,5 @@
-use Rattle.std.proofs.Common.{Some, [], ap, length, subst, sym, ◌++◌, ◌∙◌, ◌∷◌, ◌≡◌}
+use Rattle.std.proofs.Common.{arith, Some, [], ap, length, subst, sym, ◌++◌, ◌∙◌, ◌∷◌, ◌≡◌, rules}
+use Rattle.std.proofs.lemmas.Grind.{common_steps}
 use Rattle.versions.specs.declared.step.Event.TheVariants.{Proposed}
 use Rattle.versions.specs.body.WorldKept.{IsWorld}
 use Rattle.versions.proofs.WorldLemmas.{IsWorld-proposed, has_room, light}
@@ -12,3 +13,21 @@ invariant_of-self-2 g c =
     subst (λ l. IsWorld w.opening l w.words.items w.progress (Some c.len-place.result)) (sym events)
     (subst (λ n. IsWorld w.opening (w.events.items ++ Proposed c.args.config ∷ []) w.words.items w.progress (Some n)) (sym place)
     (IsWorld-proposed w.opening w.events.items w.words.items w.progress w.proposal c.args.config c.self.invariant (light c.args.config c.charge.result c.charge.ensures.charge_exact c.if-charge-gt-CHARGE_LIMIT.false) (has_room c.args.config c.charge.result c.charge.ensures.config c.charge.ensures.charge_exact c.if-charge-gt-CHARGE_LIMIT.false)))
+
+pub returns-clause-cause : goal.returns-clause-cause
+returns-clause-cause g c = search rules
+
+pub returns-clause-proposed : goal.returns-clause-proposed
+returns-clause-proposed g c = grind (arith, common_steps)
+
+pub returns-clause-too_big : goal.returns-clause-too_big
+returns-clause-too_big g c = search rules
+
+pub returns-then-charge-gt-CHARGE_LIMIT-clause-cause : goal.returns-then-charge-gt-CHARGE_LIMIT-clause-cause
+returns-then-charge-gt-CHARGE_LIMIT-clause-cause g c = search rules
+
+pub returns-then-charge-gt-CHARGE_LIMIT-clause-proposed : goal.returns-then-charge-gt-CHARGE_LIMIT-clause-proposed
+returns-then-charge-gt-CHARGE_LIMIT-clause-proposed g c = search rules
+
+pub returns-then-charge-gt-CHARGE_LIMIT-clause-too_big : goal.returns-then-charge-gt-CHARGE_LIMIT-clause-too_big
+returns-then-charge-gt-CHARGE_LIMIT-clause-too_big g c = search rules

@@ -1,4 +1,5 @@
-use Rattle.std.proofs.Common.{[], ap, drop, length, set, subst, sym, take, ◌++◌, ◌∙◌, ◌∷◌, ◌≡◌, List}
+use Rattle.std.proofs.Common.{arith, [], ap, drop, length, set, subst, sym, take, ◌++◌, ◌∙◌, ◌∷◌, ◌≡◌, List, rules}
+use Rattle.std.proofs.lemmas.Grind.{common_steps}
 use Rattle.std.proofs.lemmas.List.{take_at}
 use Rattle.config_image.specs.Image.{Group}
 use Rattle.versions.specs.declared.step.Event.TheVariants.{Stepped}
@@ -41,3 +42,30 @@ returns-clause-one_word g c =
     let events : c.push_reserved.new.self.items ≡ w.events.items ++ Stepped c.args.step c.in-Some.word ∷ [] = c.push_reserved.ensures.items ∙ ap (λ l. l ++ Stepped c.args.step c.in-Some.word ∷ []) c.reserve.ensures.items in
     ap (λ l. (world_after w.opening l).words) events ∙ (ap (λ (t : State (List Group)). t.words) (world_after-pushed w.opening w.events.items (Stepped c.args.step c.in-Some.word))
     ∙ (one_word the_shape s c.args.step c.in-Some.word legal ∙ ap (λ (t : State (List Group)). set t.words (place_of c.args.step) c.in-Some.word) c.self.view_is))
+
+pub returns-clause-cause : goal.returns-clause-cause
+returns-clause-cause g c = search rules
+
+pub returns-clause-state_after : goal.returns-clause-state_after
+returns-clause-state_after g c = grind (arith, common_steps)
+
+pub returns-clause-step_answer : goal.returns-clause-step_answer
+returns-clause-step_answer g c = search rules
+
+pub returns-clause-step_exact : goal.returns-clause-step_exact
+returns-clause-step_exact g c = search rules
+
+pub returns-in_default-clause-cause : goal.returns-in_default-clause-cause
+returns-in_default-clause-cause g c = search rules
+
+pub returns-in_default-clause-one_word : goal.returns-in_default-clause-one_word
+returns-in_default-clause-one_word g c = search rules
+
+pub returns-in_default-clause-state_after : goal.returns-in_default-clause-state_after
+returns-in_default-clause-state_after g c = search rules
+
+pub returns-in_default-clause-step_answer : goal.returns-in_default-clause-step_answer
+returns-in_default-clause-step_answer g c = search rules
+
+pub returns-in_default-clause-step_exact : goal.returns-in_default-clause-step_exact
+returns-in_default-clause-step_exact g c = search rules

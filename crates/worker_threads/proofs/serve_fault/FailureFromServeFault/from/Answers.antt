@@ -1,0 +1,17 @@
+use Rattle.std.proofs.Common.{rules}
+use Rattle.worker_threads.proofs.serve_fault.FailureFromServeFault.from.Goals as goal
+
+pub returns-in-BindFailed : goal.returns-in-BindFailed
+returns-in-BindFailed c = search rules
+
+pub returns-in-OutOfMemory : goal.returns-in-OutOfMemory
+returns-in-OutOfMemory c = search rules
+
+pub returns-in-PollFailed : goal.returns-in-PollFailed
+returns-in-PollFailed c = search rules
+
+pub returns-in-SpawnFailed : goal.returns-in-SpawnFailed
+returns-in-SpawnFailed c = search rules
+
+pub returns-in-WriteFailed : goal.returns-in-WriteFailed
+returns-in-WriteFailed c = search rules

@@ -1,0 +1,5 @@
+use Rattle.std.proofs.Common.{rules}
+use Rattle.filter_parse.proofs.parser.Parser.read.Goals as goal
+
+pub returns : goal.returns
+returns g c = search rules
