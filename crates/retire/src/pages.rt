@@ -1,6 +1,6 @@
 //! Pages of the pool: which are taken for a configuration's programs, and how they are filled.
 
-ghost use Rattle.std.specs.Prelude.{◌≡◌, ◌+◌, ◌<◌, ◌≤◌, ◌↔◌, IsTrue, Some, drop, length, slice_get, take, ℕ};
+ghost use Rattle.std.specs.Prelude.{◌≡◌, ◌+◌, ◌<◌, ◌≤◌, ◌↔◌, IsTrue, Some, [], drop, length, slice_get, take, ℕ};
 ghost use Rattle.std.specs.List.{flat_map};
 ghost use Rattle.config_image.specs.declared.TheConstants.{PAGE_LIMIT};
 ghost use Rattle.config_image.specs.Pooled.{pages_for, parts_of};
@@ -37,18 +37,18 @@ fn take_for(operator: &Operator, current: &mut Current<'_>, taken: &mut TakenPag
     }
 }
 
-// The pages of the next version's programs: those of equal programs of the current version, else the least free ones, in order.
-pub(crate) fn choose_pages(operator: &Operator, config: &Config) -> TakenPages
+// The pages of the next version's programs: those of equal programs of the current version, else the least free ones, in order. They
+// are put where the caller has room for them: as an answer they would be copied.
+pub(crate) fn choose_pages(operator: &Operator, config: &Config, taken: &mut TakenPages)
     requires row { HasFreeRow operator.now.view }
     requires publishable { IsPublishable config.now }
-    ensures { ChoosesPages operator.now.view config.now result.pages }
+    requires none { taken.old ≡ record { pages = []; from = 0 } }
+    ensures { ChoosesPages operator.now.view config.now taken.new.pages }
 {
     let mut current = Current::of(operator);
-    let mut taken = TakenPages::none();
     for words in Programs::of(config) {
-        take_for(operator, &mut current, &mut taken, words);
+        take_for(operator, &mut current, taken, words);
     }
-    taken
 }
 
 // Fills free pages by the words of a program.

@@ -30,6 +30,7 @@ impl Model for TakenPages {
 }
 
 impl TakenPages {
+    #[inline(always)]
     pub(crate) fn none() -> TakenPages
         ensures { result ≡ record { pages = []; from = 0 } }
     {

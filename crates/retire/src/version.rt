@@ -8,6 +8,7 @@ ghost use Rattle.retire.specs.body.Filling.{FillsVersion};
 
 use crate::pages::{choose_pages, fill_pages};
 use crate::row::fill_row;
+use crate::taken::TakenPages;
 use member_group::Config;
 use read_section::Operator;
 
@@ -17,7 +18,8 @@ pub(crate) fn fill_version(operator: &mut Operator, row: usize, config: &Config)
     requires publishable { IsPublishable config.now }
     ensures { (pages : List ℕ) × FillsVersion operator.old operator.new row config.now pages }
 {
-    let taken = choose_pages(operator, config);
+    let mut taken = TakenPages::none();
+    choose_pages(operator, config, &mut taken);
     let pages = taken.as_slice();
     fill_pages(operator, config, pages);
     fill_row(operator, row, config, pages);

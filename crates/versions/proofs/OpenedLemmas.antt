@@ -221,3 +221,9 @@ module _ (config : List Group) (room : HasRoom config) where
       ∙ (append_assoc front (opening_front config) (replicate (TABLE_WORDS - length d) 0)
       ∙ (ap (λ (n : ℕ). front ++ (opening_front config ++ replicate n 0)) (let g : TABLE_WORDS - length d ≡ stored_words the_shape - length (opening_front config) = omega (arith, stored_is) in g)
       ∙ ap (λ (n : ℕ). replicate n 0 ++ opening_stored config) (let g : ROWS_BEGIN ≡ suc the_shape.workers = omega (arith, workers_is) in g))))
+
+  -- the same, where the last length is a number that turns out to be the table's: a body that takes another number is told so at once, and no list of that length is computed
+  pub opened_words_sized : (a b c d e : List ℕ) (b_len d_len n : ℕ) → a ≡ replicate ROWS_BEGIN 0 → b ≡ a ++ own_row config room → b_len ≡ length b → c ≡ take POOL_BEGIN b ++ replicate (POOL_BEGIN - b_len) 0
+      → d ≡ c ++ all_in_pages (words_of_programs config) → d_len ≡ length d → e ≡ take n d ++ replicate (n - d_len) 0 → n ≡ TABLE_WORDS → e ≡ (opened_with config).words
+  opened_words_sized a b c d e b_len d_len n a_is b_is b_long c_is d_is d_long e_is size =
+      opened_words_made a b c d e b_len d_len a_is b_is b_long c_is d_is d_long (e_is ∙ ap (λ (k : ℕ). take k d ++ replicate (k - d_len) 0) size)

@@ -1,4 +1,4 @@
-use Rattle.std.proofs.Common.{◌∙◌, Err, Ok, Result, ap, inl, inr, map, string_bytes, sym, ◌≡◌}
+use Rattle.std.proofs.Common.{rules, ◌∙◌, Err, Ok, Result, ap, inl, inr, map, string_bytes, sym, ◌≡◌}
 use Rattle.clap.specs.Words.{kind_of}
 use Rattle.command_line.specs.declared.ending.Failure.{Failure}
 use Rattle.command_line.specs.declared.ending.Failure.TheVariants.{OutOfMemory}
@@ -43,3 +43,99 @@ pub returns-in-Ok-clause-counted : goal.returns-in-Ok-clause-counted
 returns-in-Ok-clause-counted g c = λ ended none named.
     once_ended _ c.run_subcommand.result (request_of c.in-Ok.command) c.run_subcommand.ensures.counted ended
     (same_request (request_of c.in-Ok.command) packets (sym c.in-Ok.ensures.named ∙ named))
+
+pub returns-in-Ok-clause-done : goal.returns-in-Ok-clause-done
+returns-in-Ok-clause-done g c = search rules
+
+pub returns-in-Ok-clause-done_written : goal.returns-in-Ok-clause-done_written
+returns-in-Ok-clause-done_written g c = search rules
+
+pub returns-in-Ok-clause-failed : goal.returns-in-Ok-clause-failed
+returns-in-Ok-clause-failed g c = search rules
+
+pub returns-in-Ok-clause-failed_written : goal.returns-in-Ok-clause-failed_written
+returns-in-Ok-clause-failed_written g c = search rules
+
+pub returns-in-Ok-clause-misused : goal.returns-in-Ok-clause-misused
+returns-in-Ok-clause-misused g c = search rules
+
+pub returns-in-Ok-clause-never_failed : goal.returns-in-Ok-clause-never_failed
+returns-in-Ok-clause-never_failed g c = search rules
+
+pub returns-in-Ok-clause-no_errors : goal.returns-in-Ok-clause-no_errors
+returns-in-Ok-clause-no_errors g c = search rules
+
+pub returns-in-Ok-clause-nothing_written : goal.returns-in-Ok-clause-nothing_written
+returns-in-Ok-clause-nothing_written g c = search rules
+
+pub returns-in-Ok-clause-refused : goal.returns-in-Ok-clause-refused
+returns-in-Ok-clause-refused g c = search rules
+
+pub returns-in-Ok-clause-refused_written : goal.returns-in-Ok-clause-refused_written
+returns-in-Ok-clause-refused_written g c = search rules
+
+pub returns-in-Ok-clause-waits : goal.returns-in-Ok-clause-waits
+returns-in-Ok-clause-waits g c = search rules
+
+pub returns-in_err-answer-in-Err-clause-counted : goal.returns-in_err-answer-in-Err-clause-counted
+returns-in_err-answer-in-Err-clause-counted g c = search rules
+
+pub returns-in_err-answer-in-Err-clause-done : goal.returns-in_err-answer-in-Err-clause-done
+returns-in_err-answer-in-Err-clause-done g c = search rules
+
+pub returns-in_err-answer-in-Err-clause-done_written : goal.returns-in_err-answer-in-Err-clause-done_written
+returns-in_err-answer-in-Err-clause-done_written g c = search rules
+
+pub returns-in_err-answer-in-Err-clause-misused : goal.returns-in_err-answer-in-Err-clause-misused
+returns-in_err-answer-in-Err-clause-misused g c = search rules
+
+pub returns-in_err-answer-in-Err-clause-never_failed : goal.returns-in_err-answer-in-Err-clause-never_failed
+returns-in_err-answer-in-Err-clause-never_failed g c = search rules
+
+pub returns-in_err-answer-in-Err-clause-no_errors : goal.returns-in_err-answer-in-Err-clause-no_errors
+returns-in_err-answer-in-Err-clause-no_errors g c = search rules
+
+pub returns-in_err-answer-in-Err-clause-nothing_written : goal.returns-in_err-answer-in-Err-clause-nothing_written
+returns-in_err-answer-in-Err-clause-nothing_written g c = search rules
+
+pub returns-in_err-answer-in-Err-clause-refused : goal.returns-in_err-answer-in-Err-clause-refused
+returns-in_err-answer-in-Err-clause-refused g c = search rules
+
+pub returns-in_err-answer-in-Err-clause-refused_written : goal.returns-in_err-answer-in-Err-clause-refused_written
+returns-in_err-answer-in-Err-clause-refused_written g c = search rules
+
+pub returns-in_err-answer-in-Err-clause-waits : goal.returns-in_err-answer-in-Err-clause-waits
+returns-in_err-answer-in-Err-clause-waits g c = search rules
+
+pub returns-in_ok-answer-in-Err-clause-counted : goal.returns-in_ok-answer-in-Err-clause-counted
+returns-in_ok-answer-in-Err-clause-counted g c = search rules
+
+pub returns-in_ok-answer-in-Err-clause-done : goal.returns-in_ok-answer-in-Err-clause-done
+returns-in_ok-answer-in-Err-clause-done g c = search rules
+
+pub returns-in_ok-answer-in-Err-clause-done_written : goal.returns-in_ok-answer-in-Err-clause-done_written
+returns-in_ok-answer-in-Err-clause-done_written g c = search rules
+
+pub returns-in_ok-answer-in-Err-clause-failed : goal.returns-in_ok-answer-in-Err-clause-failed
+returns-in_ok-answer-in-Err-clause-failed g c = search rules
+
+pub returns-in_ok-answer-in-Err-clause-failed_written : goal.returns-in_ok-answer-in-Err-clause-failed_written
+returns-in_ok-answer-in-Err-clause-failed_written g c = search rules
+
+pub returns-in_ok-answer-in-Err-clause-never_failed : goal.returns-in_ok-answer-in-Err-clause-never_failed
+returns-in_ok-answer-in-Err-clause-never_failed g c = search rules
+
+pub returns-in_ok-answer-in-Err-clause-no_errors : goal.returns-in_ok-answer-in-Err-clause-no_errors
+returns-in_ok-answer-in-Err-clause-no_errors g c = search rules
+
+pub returns-in_ok-answer-in-Err-clause-nothing_written : goal.returns-in_ok-answer-in-Err-clause-nothing_written
+returns-in_ok-answer-in-Err-clause-nothing_written g c = search rules
+
+pub returns-in_ok-answer-in-Err-clause-refused : goal.returns-in_ok-answer-in-Err-clause-refused
+returns-in_ok-answer-in-Err-clause-refused g c = search rules
+
+pub returns-in_ok-answer-in-Err-clause-refused_written : goal.returns-in_ok-answer-in-Err-clause-refused_written
+returns-in_ok-answer-in-Err-clause-refused_written g c = search rules
+
+pub returns-in_ok-answer-in-Err-clause-waits : goal.returns-in_ok-answer-in-Err-clause-waits
+returns-in_ok-answer-in-Err-clause-waits g c = search rules

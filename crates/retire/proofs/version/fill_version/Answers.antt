@@ -8,17 +8,17 @@ use Rattle.retire.proofs.version.fill_version.Goals as goal
 
 pub fill_pages-requires-clause-ready : goal.fill_pages-requires-clause-ready
 fill_pages-requires-clause-ready c =
-    chosen_ready c.args.operator.now c.args.config.now c.as_slice-pages.result.now (subst (ChoosesPages c.args.operator.now.view c.args.config.now) (sym c.as_slice-pages.ensures) c.choose_pages-taken.ensures)
+    chosen_ready c.args.operator.now c.args.config.now c.as_slice-pages.result.now (subst (ChoosesPages c.args.operator.now.view c.args.config.now) (sym c.as_slice-pages.ensures) c.choose_pages.ensures)
 
 pub fill_row-requires-clause-free : goal.fill_row-requires-clause-free
 fill_row-requires-clause-free c = c.fill_pages.ensures.fills.steps.free_rows c.args.row c.requires.free
 
 pub fill_row-requires-clause-pages : goal.fill_row-requires-clause-pages
-fill_row-requires-clause-pages c = let pages = c.as_slice-pages.result.now in let chosen = subst (ChoosesPages c.args.operator.now.view c.args.config.now) (sym c.as_slice-pages.ensures) c.choose_pages-taken.ensures in
+fill_row-requires-clause-pages c = let pages = c.as_slice-pages.result.now in let chosen = subst (ChoosesPages c.args.operator.now.view c.args.config.now) (sym c.as_slice-pages.ensures) c.choose_pages.ensures in
     are_pages c.args.config.now pages (chosen_counted c.args.operator.now c.args.config.now pages chosen) (chosen_ready c.args.operator.now c.args.config.now pages chosen).low
 
 pub returns : goal.returns
-returns c = let pages = c.as_slice-pages.result.now in let chosen = subst (ChoosesPages c.args.operator.now.view c.args.config.now) (sym c.as_slice-pages.ensures) c.choose_pages-taken.ensures in
+returns c = let pages = c.as_slice-pages.result.now in let chosen = subst (ChoosesPages c.args.operator.now.view c.args.config.now) (sym c.as_slice-pages.ensures) c.choose_pages.ensures in
     let low = (chosen_ready c.args.operator.now c.args.config.now pages chosen).low in (
       pages,
       record {
