@@ -1,4 +1,4 @@
-use Rattle.std.proofs.Common.{subst}
+use Rattle.std.proofs.Common.{rules, subst}
 use Rattle.control_line.specs.Request.{Spells}
 use Rattle.control_line.specs.body.Reading.{command_over, request_of, source_of}
 use Rattle.control_line.proofs.LineLemmas.{change_answered, is_bad_line, is_shown, is_swept, is_too_long}
@@ -22,5 +22,6 @@ returns-in-Some-Show c =
 
 pub returns-in-Some-Sweep : goal.returns-in-Some-Sweep
 returns-in-Some-Sweep c =
-    is_swept c.args.text.now c.args.operator.now c.if-text-gt-LINE_LIMIT.false
-    (subst (λ request. Spells c.args.text.now (request_of request)) c.in-Some-Sweep.field-0-is c.in-Some-Sweep.ensures) c.sweep.new.self c.sweep.result c.sweep.ensures.sweep_exact
+    let swept = is_swept c.args.text.now c.args.operator.now c.if-text-gt-LINE_LIMIT.false
+    (subst (λ request. Spells c.args.text.now (request_of request)) c.in-Some-Sweep.field-0-is c.in-Some-Sweep.ensures) in
+    search (rules, swept)

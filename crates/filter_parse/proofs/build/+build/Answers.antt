@@ -1,4 +1,4 @@
-use Rattle.std.proofs.Common.{◌*◌, ◌+◌, ◌<◌, ◌∙◌, Some, ap, arith, length, sym}
+use Rattle.std.proofs.Common.{rules, ◌*◌, ◌+◌, ◌<◌, ◌∙◌, Some, ap, arith, length, sym}
 use Rattle.filter_parse.specs.body.Stack.{from_top}
 use Rattle.filter_parse.proofs.TakenLemmas.{fewer-below, has-conjoined, has-conjoined-left, has-disjoined, has-disjoined-left, has-negated, has-relation-left, has-relation-right, truth-top}
 use Rattle.filter_parse.proofs.build.+build.Goals as goal
@@ -71,3 +71,6 @@ build-unreachable-requires-in-Some-Operate g t c = truth-top (from_top c.args.pa
 
 pub build-unreachable-requires-in-None : goal.build-unreachable-requires-in-None
 build-unreachable-requires-in-None g t c = truth-top (from_top c.args.parts.now) _ c.requires (sym c.in-None.is ∙ c.pop.ensures.top)
+
+pub build-returns-in_ok-arithmetic-in-Some-Relate-2-clause-taken : goal.build-returns-in_ok-arithmetic-in-Some-Relate-2-clause-taken
+build-returns-in_ok-arithmetic-in-Some-Relate-2-clause-taken g t c = search rules

@@ -30,3 +30,27 @@ returns-clause-totals g c =
 
 pub returns-clause-run_fault : goal.returns-clause-run_fault
 returns-clause-run_fault g c = search rules
+
+pub returns-in_err-counters-clause-run_fault : goal.returns-in_err-counters-clause-run_fault
+returns-in_err-counters-clause-run_fault g c = search rules
+
+pub returns-in_err-counters-clause-totals : goal.returns-in_err-counters-clause-totals
+returns-in_err-counters-clause-totals g c = search rules
+
+pub returns-in_err-jobs-clause-run_fault : goal.returns-in_err-jobs-clause-run_fault
+returns-in_err-jobs-clause-run_fault g c = search rules
+
+pub returns-in_err-jobs-clause-totals : goal.returns-in_err-jobs-clause-totals
+returns-in_err-jobs-clause-totals g c = search rules
+
+pub returns-in_err-operator-clause-run_fault : goal.returns-in_err-operator-clause-run_fault
+returns-in_err-operator-clause-run_fault g c = search rules
+
+pub returns-in_err-operator-clause-totals : goal.returns-in_err-operator-clause-totals
+returns-in_err-operator-clause-totals g c = search rules
+
+pub returns-in_err-tally-clause-run_fault : goal.returns-in_err-tally-clause-run_fault
+returns-in_err-tally-clause-run_fault g c = search rules
+
+pub returns-in_err-tally-clause-totals : goal.returns-in_err-tally-clause-totals
+returns-in_err-tally-clause-totals g c = search rules

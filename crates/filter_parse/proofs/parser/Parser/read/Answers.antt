@@ -3,3 +3,9 @@ use Rattle.filter_parse.proofs.parser.Parser.read.Goals as goal
 
 pub returns : goal.returns
 returns g c = search rules
+
+pub returns-in_err-step : goal.returns-in_err-step
+returns-in_err-step g c = search rules
+
+pub loop-found-preserved : goal.loop-found-preserved
+loop-found-preserved g c = search rules

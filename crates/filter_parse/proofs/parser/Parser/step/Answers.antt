@@ -1,4 +1,4 @@
-use Rattle.std.proofs.Common.{◌≡◌, ◌∙◌, Some, ap, inl, inr, sym, ℕ}
+use Rattle.std.proofs.Common.{rules, ◌≡◌, ◌∙◌, Some, ap, inl, inr, sym, ℕ}
 use Rattle.std.proofs.lemmas.Result.{err_from_is_err_and}
 use Rattle.filter_parse.specs.declared.token.Token.{Token}
 use Rattle.filter_parse.specs.body.Parser.{Parsing, fault_in, judged_by, parsing_of, reduced, shifted, state_of, stepped}
@@ -16,3 +16,6 @@ returns-in_err-shift-clause-met g c =
     c.in_ok-reduce.ensures.reduced c.in_ok-reduce.ensures.brackets in
     let p = err_from_is_err_and c.from_residual-in_err-shift.result c.from_residual-in_err-shift.ensures.1 in
     rw (p.1, p.2) elim c.in_err-shift.ensures.met [ inl e ↦ inl e | inr e ↦ inr (sym same ∙ e) ]
+
+pub returns-in_default : goal.returns-in_default
+returns-in_default g c = search rules

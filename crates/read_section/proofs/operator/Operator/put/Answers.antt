@@ -76,12 +76,12 @@ invariant_of-self c = let q = c.requires in let low = q.free.0 in let begin = RO
     let zeros = set c.self.inside.zeros c.args.row c.form_end.result in
     let within = subst (λ (n : ℕ). n ≤ ROW_WORDS) (sym c.form_end.ensures) (end_within _ _ _ _ _ _ _ c.self.invariant c.args.row c.args.config low q.publishable holds c.index.result.now first) in
     let behind = subst (IsZeroFrom c.self.inside.seat.view c.args.row) (sym c.form_end.ensures) (zero_behind _ _ _ _ _ _ _ c.self.invariant c.args.row c.args.config low q.publishable holds c.index.result.now first) in
-    subst (IsKeptBy c.publish.new.self.view c.args.config c.count_version.new.self c.self.inside.reported zeros c.self.inside.words.items) (sym c.replace.ensures)
-    (subst (λ o. IsKeptBy o.view c.args.config c.count_version.new.self c.self.inside.reported zeros c.self.inside.words.items (map page_of c.row_names-names.result.now)) (sym c.publish.ensures)
+    let kept = subst (λ o. IsKeptBy o.view c.args.config c.count_version.new.self c.self.inside.reported zeros c.self.inside.words.items (map page_of c.row_names-names.result.now)) (sym c.publish.ensures)
     (IsKeptBy-zeros _ _ _ _ _ _ _ (IsKeptBy-published _ _ _ _ _ _ _ c.self.invariant c.args.row c.args.config (map page_of c.row_names-names.result.now) c.count_version.new.self (subst (λ (o : OperatorValue). IsFreeRow the_shape o.view c.args.row) (sym c.self.view_is) q.free) (omega arith)
     (subst (HoldsForm the_shape 0 c.self.inside.seat.view.stored c.args.row c.args.config) (sym given) (holds_named _ _ _ _ _ _ _ c.self.invariant c.args.row c.args.config low q.publishable holds)) (sym given)
     (pages_few _ _ _ _ _ _ _ c.self.invariant c.args.row c.args.config low q.publishable holds (map page_of c.row_names-names.result.now) given) c.count_version.ensures.counted)
-    c.args.row c.form_end.result (row_inside c.args.row low) within behind))
+    c.args.row c.form_end.result (row_inside c.args.row low) within behind) in
+    search (rules, kept)
 
 pub returns-clause-named : goal.returns-clause-named
 returns-clause-named c = λ pages holds. let q = c.requires in
