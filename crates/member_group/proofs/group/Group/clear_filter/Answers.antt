@@ -34,7 +34,7 @@ returns-then-member-clause-answer g c =
 pub returns-then-is_none-clause-answer : goal.returns-then-is_none-clause-answer
 returns-then-is_none-clause-answer g c =
     refused_answer _ _ _
-    (clear_filter_without c.args.id c.args.self.now c.in-Some.at c.index-members-at.result (rw (← c.members.ensures.members) c.in-Some.ensures.found) (rw (← c.members-2.ensures.members) c.index-members-at.is) c.if-member.false (rw c.if-is_none.ensures refl))
+    (clear_filter_without c.args.id c.args.self.now c.in-Some.at c.index-members-at.result (rw (← c.members.ensures.members) c.in-Some.ensures.found) (rw (← c.members-2.ensures.members) c.index-members-at.is) (search rules) (rw c.if-is_none.ensures refl))
 
 pub returns-in_err-with_filter-clause-answer : goal.returns-in_err-with_filter-clause-answer
 returns-in_err-with_filter-clause-answer g c =
