@@ -12,3 +12,6 @@ returns-in_default-clause-counters c = search rules
 
 pub returns-in_default-clause-tally : goal.returns-in_default-clause-tally
 returns-in_default-clause-tally c = search rules
+
+pub of_words-requires : goal.of_words-requires
+of_words-requires c = search rules
