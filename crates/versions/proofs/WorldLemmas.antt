@@ -1,6 +1,6 @@
 -- A world at its opening, and after one event more.
-use Rattle.std.proofs.Common.{◌≡◌, ℕ, zero, suc, ◌<◌, ◌≤◌, List, None, Option, Some, [], ◌∷◌, ◌++◌, ap, arith, length, length-append, refl, replicate, reverse, slice_get, subst, sym, ◌∙◌, ⊎_elim}
-use Rattle.std.proofs.lemmas.List.{append-nil, get_or-replicate, length-replicate, reverse-append}
+use Rattle.std.proofs.Common.{◌≡◌, ℕ, zero, suc, ◌<◌, ◌≤◌, List, None, Option, Some, [], ◌∷◌, ◌++◌, ap, arith, drop, length, length-append, refl, replicate, reverse, slice_get, subst, sym, take, ◌∙◌, ⊎_elim}
+use Rattle.std.proofs.lemmas.List.{append-nil, get_or-replicate, length-replicate, reverse-append, take_at}
 use Rattle.std.proofs.lemmas.Option.{slice_get-get_or}
 use mathlib.Core.Option.{some}
 use lib.ListN.{get_elem?}
@@ -148,6 +148,20 @@ IsWorld-stepped config events table table' progress progress' found step x h leg
       table_length = long ∙ h.table_length;
       proposed = subst (λ (t : State (List Group)). IsProposalAt (events ++ Stepped step x ∷ []) t.operator.proposal (proposal_by step found)) (sym more) (proposed-after s events step x found h.proposed);
     }
+
+-- the same for words that are written over those before, and for an answer that names no step: `search` finds what the step promised
+pub IsWorld-taken : {A : Type 0} → (config : List Group) (events : List (Event (List Group))) (table : List ℕ) (progress : Progress A) (found : Option ℕ) (step : Step) (x : ℕ) → IsWorld config events table progress found
+    → IsLegalStep the_shape (world_after config events) step x
+    → (events' : List (Event (List Group))) (table' lent : List ℕ) (progress' : Progress A) (found' : Option ℕ) (n : ℕ) → events' ≡ events ++ Stepped step x ∷ [] → lent ≡ table → length table' ≡ length lent
+    → Follows lent progress table' progress' step x → found' ≡ proposal_by step found → n ≡ length table → IsWorld config events' (take n (table' ++ drop (length table') table)) progress' found'
+IsWorld-taken config events table progress found step x h legal events' table' lent progress' found' n events_are lent_is long follows found_is n_is =
+    let long' : length table' ≡ length table = long ∙ ap length lent_is in
+    let whole : take n (table' ++ drop (length table') table) ≡ table' = take_at table' (drop (length table') table) n (long' ∙ sym n_is) in
+    let follows' : Follows table progress table' progress' step x = subst (λ l. Follows l progress table' progress' step x) lent_is follows in
+    subst (λ l. IsWorld config events' l progress' found') (sym whole)
+    (subst (λ l. IsWorld config l table' progress' found') (sym events_are)
+    (subst (λ p. IsWorld config (events ++ Stepped step x ∷ []) table' progress' p) (sym found_is)
+    (IsWorld-stepped config events table table' progress progress' found step x h legal long' follows')))
 
 -- a world after a proposal
 pub IsWorld-proposed : {A : Type 0} → (config : List Group) (events : List (Event (List Group))) (table : List ℕ) (progress : Progress A) (found : Option ℕ) (proposed : List Group) → IsWorld config events table progress found

@@ -1,15 +1,13 @@
-use Rattle.std.proofs.Common.{arith, [], ap, drop, length, set, subst, sym, take, ◌++◌, ◌∙◌, ◌∷◌, ◌≡◌, List, rules}
+use Rattle.std.proofs.Common.{arith, [], ap, set, subst, sym, ◌++◌, ◌∙◌, ◌∷◌, ◌≡◌, List, rules}
 use Rattle.std.proofs.lemmas.Grind.{common_steps}
-use Rattle.std.proofs.lemmas.List.{take_at}
 use Rattle.config_image.specs.Image.{Group}
 use Rattle.versions.specs.declared.step.Event.TheVariants.{Stepped}
 use Rattle.versions.specs.State.{State}
 use Rattle.versions.specs.Legal.{IsLegalStep}
-use Rattle.versions.specs.body.Mirror.{Follows, IsMirror}
+use Rattle.versions.specs.body.Mirror.{IsMirror}
 use Rattle.versions.specs.Table.{the_shape}
 use Rattle.versions.specs.World.{world_after}
-use Rattle.versions.specs.body.WorldKept.{IsWorld}
-use Rattle.versions.proofs.WorldLemmas.{IsReached-world, IsWorld-stepped, world_after-pushed}
+use Rattle.versions.proofs.WorldLemmas.{IsReached-world, IsWorld-taken, world_after-pushed}
 use Rattle.versions.proofs.TraceLemmas.{one_word}
 use Rattle.versions.specs.Step.{place_of}
 use Rattle.versions.proofs.world.World.step.Goals as goal
@@ -27,13 +25,8 @@ invariant_of-self-2 g c =
     let w = c.self.inside in let h = c.self.invariant in let s = world_after w.opening w.events.items in
     let legal : IsLegalStep the_shape s c.args.step c.in-Some.word = subst (λ (t : State (List Group)). IsLegalStep the_shape t c.args.step c.in-Some.word) (sym c.self.view_is) c.in-Some.ensures.decided in
     let events : c.push_reserved.new.self.items ≡ w.events.items ++ Stepped c.args.step c.in-Some.word ∷ [] = c.push_reserved.ensures.items ∙ ap (λ l. l ++ Stepped c.args.step c.in-Some.word ∷ []) c.reserve.ensures.items in
-    let long : length c.take.new.words ≡ length w.words.items = c.take.auto.words ∙ ap length c.deref_mut.ensures.value in
-    let table : take w.words.len (c.take.new.words ++ drop (length c.take.new.words) w.words.items) ≡ c.take.new.words = take_at c.take.new.words (drop (length c.take.new.words) w.words.items) w.words.len (long ∙ sym w.words.ok.0) in
-    let follows : Follows w.words.items w.progress c.take.new.words c.take.new.self c.args.step c.in-Some.word = subst (λ l. Follows l w.progress c.take.new.words c.take.new.self c.args.step c.in-Some.word) c.deref_mut.ensures.value c.take.ensures in
-    subst (λ l. IsWorld w.opening c.push_reserved.new.self.items l c.take.new.self c.proposal_after-self-inside.result) (sym table)
-    (subst (λ l. IsWorld w.opening l c.take.new.words c.take.new.self c.proposal_after-self-inside.result) (sym events)
-    (subst (λ found. IsWorld w.opening (w.events.items ++ Stepped c.args.step c.in-Some.word ∷ []) c.take.new.words c.take.new.self found) (sym c.proposal_after-self-inside.ensures)
-    (IsWorld-stepped w.opening w.events.items w.words.items c.take.new.words w.progress c.take.new.self w.proposal c.args.step c.in-Some.word h legal long follows)))
+    let taken = IsWorld-taken w.opening w.events.items w.words.items w.progress w.proposal c.args.step c.in-Some.word h legal in
+    search (rules, taken, events)
 
 pub returns-clause-one_word : goal.returns-clause-one_word
 returns-clause-one_word g c =
