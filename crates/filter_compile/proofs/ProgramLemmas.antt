@@ -16,7 +16,7 @@ use Rattle.packet_facts.specs.Known.{Holds}
 use Rattle.filter_compile.specs.declared.TheConstants.{ACCEPTED, SHORT}
 use Rattle.filter_compile.specs.Answer.{AnswersFor, HasFarJumpsOnly, HasNoFarJump, answer_of}
 use Rattle.filter_compile.specs.body.Piece.{GoesBy, Tests}
-use Rattle.filter_compile.specs.body.Program.{IsProgramOf}
+use Rattle.filter_compile.specs.body.Program.{IsCompiledTo}
 
 module _ (tree : Tree) (known if_yes if_no : Known) (yes_by no_by : ℕ) (program : List ℕ) (whole : IsFinished (Tests (Holds known) (Holds if_yes) (Holds if_no) (truth_of tree)) (weight_of tree) ACCEPTED 0 yes_by no_by program) where
   program_within : length program ≤ size_of tree
@@ -48,7 +48,7 @@ module _ (tree : Tree) (known if_yes if_no : Known) (yes_by no_by : ℕ) (progra
   program_jumpless : yes_by ≡ size_of tree - 2 → no_by ≡ size_of tree - 1 → size_of tree ≤ SHORT → HasNoFarJump program
   program_jumpless yes_is no_is short pc k at = let far = (whole.far_jumps (size_of tree - 1) (omega arith) (omega arith) pc k at).far in omega arith
 
-  pub is_program : size_of tree ≤ MAX_INSTRUCTIONS → yes_by ≡ size_of tree - 2 → no_by ≡ size_of tree - 1 → ((packet : List ℕ) (x : ℕ) → Holds known packet x) → IsProgramOf tree program
+  pub is_program : size_of tree ≤ MAX_INSTRUCTIONS → yes_by ≡ size_of tree - 2 → no_by ≡ size_of tree - 1 → ((packet : List ℕ) (x : ℕ) → Holds known packet x) → IsCompiledTo tree program
   is_program fits yes_is no_is nothing = record {
     answer = program_answers nothing;
     within_size = program_within;

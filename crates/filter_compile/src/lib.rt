@@ -8,7 +8,7 @@ ghost use Rattle.bpf_verify.specs.declared.TheConstants.{CELLS, MAX_INSTRUCTIONS
 ghost use Rattle.filter_tree.specs.Measure.{cells_of, size_of};
 ghost use Rattle.filter_tree.specs.View.{tree_of};
 ghost use Rattle.filter_compile.specs.Answer.{AnswersFor, HasFarJumpsOnly, HasNoFarJump};
-ghost use Rattle.filter_compile.specs.body.Program.{IsProgramOf};
+ghost use Rattle.filter_compile.specs.body.Program.{IsCompiledTo};
 ghost use Rattle.filter_compile.specs.declared.fault.CompileFault.TheVariants.{CellsExceeded, TooLong};
 
 mod arithmetic;
@@ -103,7 +103,7 @@ fn program_of<A: Allocator, B: Allocator + Clone>(
     requires size { size ≡ size_of (tree_of expr.now) }
     requires cells { cells_of (tree_of expr.now) ≤ CELLS }
     requires limit { size ≤ MAX_INSTRUCTIONS }
-    ensures program { IfOk result (λ program. IsProgramOf (tree_of expr.now) program.words) }
+    ensures program { IfOk result (λ program. IsCompiledTo (tree_of expr.now) program.words) }
     ensures charge { IfOk result (λ program. program.charge ≡ size) }
 {
     let lists = alloc.clone()?;
@@ -121,7 +121,7 @@ fn write_words<'a, A: Allocator, B: Allocator>(
     requires size { size ≡ size_of (tree_of expr.now) }
     requires cells { cells_of (tree_of expr.now) ≤ CELLS }
     requires limit { size ≤ MAX_INSTRUCTIONS }
-    ensures program { OnOk result (IsProgramOf (tree_of expr.now) code.new) }
+    ensures program { OnOk result (IsCompiledTo (tree_of expr.now) code.new) }
 {
     let mut yes = code.exit(size - 2);
     let mut no = code.exit(size - 1);
@@ -144,7 +144,7 @@ fn write_to_exits<'a, A: Allocator, B: Allocator>(
     requires no_empty { no.old.holes ≡ [] }
     requires yes_by { yes.old.by ≡ size - 2 }
     requires no_by { no.old.by ≡ size - 1 }
-    ensures program { OnOk result (IsProgramOf (tree_of expr.now) code.new) }
+    ensures program { OnOk result (IsCompiledTo (tree_of expr.now) code.new) }
 {
     expression(code, expr, Known::nothing(), size - 2, yes, no)?;
     code.land(yes);

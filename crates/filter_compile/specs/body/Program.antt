@@ -7,7 +7,7 @@ use Rattle.filter_compile.specs.declared.TheConstants.{SHORT}
 use Rattle.filter_compile.specs.Answer.{AnswersFor, HasFarJumpsOnly, HasNoFarJump}
 
 -- the words are accepted, answer for the expression within its size, and have a JA only where it may be far
-pub record IsProgramOf (tree : Tree) (words : List ℕ) : Type 0 where
+pub record IsCompiledTo (tree : Tree) (words : List ℕ) : Type 0 where
   pub answer : AnswersFor tree words
   pub within_size : length words ≤ size_of tree
   pub far_jumps : HasFarJumpsOnly (size_of tree) words
