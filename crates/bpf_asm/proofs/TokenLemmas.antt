@@ -1,12 +1,12 @@
 -- The tokens of a text, from its front.
-use Rattle.std.proofs.Common.{◌≡◌, ◌==◌, ◌∙◌, ◌+◌, ◌||◌, Bool, List, None, Some, [], ap, cond, drop, false, refl, slice_get, suc, sym, take, true, zero, ◌∷◌, ℕ}
+use Rattle.std.proofs.Common.{◌≡◌, ◌==◌, ◌∙◌, ◌+◌, ◌||◌, Bool, List, None, Option, Some, [], ap, arith, codes, cond, drop, false, inl, inr, length, refl, slice_get, suc, sym, take, true, zero, ◌∷◌, ℕ}
 use Rattle.std.specs.Char.{is_ascii_alphanumeric, is_ascii_digit}
 use Rattle.std.specs.Int.{is_in_range}
-use Rattle.std.specs.List.{prefix_len}
+use Rattle.std.specs.List.{list_any, prefix_len}
 use Rattle.std.proofs.Math.Numerals.{one-add}
-use Rattle.std.proofs.lemmas.Bool.{cond-false, cond-true}
-use Rattle.bpf_asm.specs.body.Reading.{more_of, number_of, number_token, token_at, tokens_after, tokens_of}
-use Rattle.bpf_asm.specs.Token.{begins_word, is_gap, is_in_word, is_mark, mark, stray, word}
+use Rattle.std.proofs.lemmas.Bool.{cond-false, cond-true, eq-eqb, eqb-true, ne_eqb, or_cases, or_parts}
+use Rattle.bpf_asm.specs.body.Reading.{after_mark, is_end, more_of, number_of, number_token, token_at, tokens_after, tokens_of}
+use Rattle.bpf_asm.specs.Token.{Token, begins_word, is_gap, is_in_word, is_mark, mark, stray, word}
 
 -- what is skipped is dropped
 pub tokens_after-drop : (n : ℕ) (text : List ℕ) → tokens_after n text ≡ tokens_of (drop n text)
@@ -79,6 +79,25 @@ module _ (is_kind : ℕ → Bool) (b : ℕ) (text : List ℕ) (first : is_kind b
   pub drop-first : drop (prefix_len is_kind (b ∷ text)) (b ∷ text) ≡ drop (prefix_len is_kind text) text
   drop-first = ap (λ n. drop n (b ∷ text)) prefix_len-first
 
+-- a mark begins no word and no number
+none_of : (test : ℕ → Bool) (b : ℕ) (marks : List ℕ) → list_any test marks ≡ false → list_any (λ m. b == m) marks ≡ true → test b ≡ false
+none_of test b [] none any = cc
+none_of test b (m ∷ marks) none any =
+    let parts = or_parts (test m) (list_any test marks) none in
+    elim (or_cases (b == m) (list_any (λ mark. b == mark) marks) any) [
+      | inl here ↦ rw (eqb-true b m here) parts.0
+      | inr later ↦ none_of test b marks parts.1 later
+    ]
+
+-- another first token than a mark that is looked for
+other_token : (m b : ℕ) (begins digit is : Bool) (run : List ℕ) (n : Option ℕ) (rest : List Token) → (b == m) ≡ false → after_mark m (cond begins (word run) (cond digit (number_token n) (cond is (mark b) stray)) ∷ rest) ≡ None
+unfolding after_mark
+other_token m b true digit is run n rest other = refl
+other_token m b false true is run None rest other = refl
+other_token m b false true is run (Some k) rest other = refl
+other_token m b false false true run n rest other = rw other refl
+other_token m b false false false run n rest other = refl
+
 -- the text is the gap and then these bytes, of which the first is no gap
 module _ (text line : List ℕ) (b : ℕ) (behind : line ≡ drop (prefix_len is_gap text) text) (first : Some b ≡ slice_get line 0) where
   line_is : line ≡ b ∷ drop 1 line
@@ -111,3 +130,25 @@ module _ (text line : List ℕ) (b : ℕ) (behind : line ≡ drop (prefix_len is
 
   pub stray_first : begins_word b ≡ false → is_ascii_digit b ≡ false → is_mark b ≡ false → tokens_of text ≡ stray ∷ tokens_of (drop 1 line)
   stray_first no_word no_digit is = tokens_of-line ∙ rw (no_word, no_digit, is) refl
+
+  pub mark_found : (m : ℕ) → is_mark m ≡ true → b ≡ m → after_mark m (tokens_of text) ≡ Some (tokens_of (drop 1 line))
+  unfolding after_mark
+  mark_found m is same =
+      let here : is_mark b ≡ true = rw same is in
+      rw (mark_first (none_of begins_word b (codes "[]()#+*&,:") refl here) (none_of is_ascii_digit b (codes "[]()#+*&,:") refl here) here, eq-eqb b m same) refl
+
+  pub mark_missed : (m : ℕ) → (b ≡ m → ⊥) → after_mark m (tokens_of text) ≡ None
+  mark_missed m other =
+      rw tokens_of-line (other_token m b (begins_word b) (is_ascii_digit b) (is_mark b) _ _ _ (ne_eqb b m other))
+
+  pub some_token : is_end (tokens_of text) ≡ false
+  some_token = rw tokens_of-line refl
+
+pub blank-is_end : (text line : List ℕ) → line ≡ drop (prefix_len is_gap text) text → is_end (tokens_of text) ≡ (length line == 0)
+blank-is_end text [] behind = ap is_end (sym (tokens_of-behind_gap text) ∙ ap tokens_of (sym behind) ∙ tokens_of-nil)
+blank-is_end text (b ∷ line) behind =
+    some_token text (b ∷ line) b behind refl ∙ sym (ne_eqb (suc (length line)) 0 (λ none. absurd (omega arith)))
+
+pub no_tokens : (text line : List ℕ) → line ≡ drop (prefix_len is_gap text) text → None ≡ slice_get line 0 → tokens_of text ≡ []
+no_tokens text line behind none =
+    sym (tokens_of-behind_gap text) ∙ ap tokens_of (sym behind ∙ no_front line none) ∙ tokens_of-nil

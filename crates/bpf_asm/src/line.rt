@@ -7,9 +7,8 @@ ghost use Rattle.bpf_asm.specs.body.Reading.{forms_fault, lines_read, read_line,
 ghost use Rattle.bpf_asm.specs.body.View.{UnlessMemory, left_len, line_of, lines_left, statement_of};
 
 use crate::fault::AsmFault;
-use crate::operand::after_mark;
 use crate::statement::{Statement, read_statement};
-use crate::token::{Token, first_token};
+use crate::token::{Token, after_mark, first_token};
 use std::alloc::Allocator;
 
 #[derive(Clone, Copy)]

@@ -2,11 +2,11 @@
 
 ghost use Rattle.std.specs.Prelude.{◌≡◌, codes};
 ghost use Rattle.std.specs.Option.{option_map};
-ghost use Rattle.bpf_asm.specs.body.Reading.{after_mark, after_number, after_word, bracket_in, closed_in, form_in, header_in, marked_in, named_in, tokens_of};
+ghost use Rattle.bpf_asm.specs.body.Reading.{after_number, bracket_in, closed_in, form_in, header_in, marked_in, named_in, tokens_of};
 ghost use Rattle.bpf_asm.specs.body.View.{form_of};
 
 use crate::mnemonic::is_name;
-use crate::token::{Token, first_token};
+use crate::token::{Token, after_mark, first_token};
 
 #[derive(Clone, Copy)]
 pub(crate) enum Form<'a> {
@@ -18,26 +18,6 @@ pub(crate) enum Form<'a> {
     Header(u32),
     Skip(u32),
     Name(&'a [u8]),
-}
-
-#[tactic(auto, unfolding(crate::specs::body::Reading::after_mark))]
-pub(crate) fn after_mark(line: &[u8], mark: u8) -> Option<&[u8]>
-    ensures { option_map (λ rest. tokens_of rest.now) result ≡ after_mark mark (tokens_of line.now) }
-{
-    match first_token(line) {
-        Some((Token::Mark(b), rest)) if b == mark => Some(rest),
-        _ => None,
-    }
-}
-
-#[tactic(auto, unfolding(crate::specs::body::Reading::after_word))]
-fn after_word<'a>(line: &'a [u8], name: &[u8]) -> Option<&'a [u8]>
-    ensures { option_map (λ rest. tokens_of rest.now) result ≡ after_word name.now (tokens_of line.now) }
-{
-    match first_token(line) {
-        Some((Token::Word(other), rest)) if other == name => Some(rest),
-        _ => None,
-    }
 }
 
 #[tactic(auto, unfolding(crate::specs::body::Reading::after_number))]
@@ -60,19 +40,17 @@ fn closed(line: &[u8]) -> Option<(u32, &[u8])>
 }
 
 // `k]` or `x+k]`, behind `[`
-#[tactic(auto, unfolding(crate::specs::body::Reading::bracket_in))]
+#[tactic(auto, unfolding(crate::specs::body::Reading::bracket_in, crate::specs::body::Reading::closed_in, crate::specs::body::Reading::after_number, crate::specs::body::Reading::after_word))]
 fn bracket(line: &[u8]) -> Option<(Form<'_>, &[u8])>
     ensures { option_map (λ found. (form_of found.0, tokens_of found.1.now)) result ≡ bracket_in (tokens_of line.now) }
 {
-    match after_word(line, b"x") {
-        Some(rest) => {
+    match first_token(line) {
+        Some((Token::Number(k), rest)) => Some((Form::Absolute(k), after_mark(rest, b']')?)),
+        Some((Token::Word(name), rest)) if is_name(name, "x") => {
             let (k, rest) = closed(after_mark(rest, b'+')?)?;
             Some((Form::Indexed(k), rest))
         }
-        None => {
-            let (k, rest) = closed(line)?;
-            Some((Form::Absolute(k), rest))
-        }
+        _ => None,
     }
 }
 

@@ -6,8 +6,8 @@ ghost use Rattle.bpf_asm.specs.body.Reading.{alone, branch_in, cell_operand, far
 ghost use Rattle.bpf_asm.specs.body.View.{form_of, statement_of, target_of};
 
 use crate::mnemonic::{is_name, operation_of, test_of};
-use crate::operand::{Form, after_mark, operand_form};
-use crate::token::{Token, first_token};
+use crate::operand::{Form, operand_form};
+use crate::token::{Token, after_mark, first_token, is_blank};
 use bpf_insn::{Insn, Operand, Size, Test};
 
 /// Where a jump goes.
@@ -175,9 +175,10 @@ fn branch(test: Test, line: &[u8]) -> Option<Statement<'_>>
     let operand = operand_of(form)?;
     let (yes, rest) = near_target(after_mark(rest, b',')?)?;
     let (no, rest) = near_target(after_mark(rest, b',')?)?;
-    match first_token(rest) {
-        None => Some(Statement::Branch(test, operand, yes, no)),
-        Some(_) => None,
+    if is_blank(rest) {
+        Some(Statement::Branch(test, operand, yes, no))
+    } else {
+        None
     }
 }
 
@@ -201,8 +202,9 @@ pub(crate) fn read_statement<'a>(name: &[u8], line: &'a [u8]) -> Option<Statemen
         return branch(test, line);
     }
     let (form, rest) = operand_form(line)?;
-    match first_token(rest) {
-        None => unbranched(name, form),
-        Some(_) => None,
+    if is_blank(rest) {
+        unbranched(name, form)
+    } else {
+        None
     }
 }

@@ -1,8 +1,9 @@
 //! The tokens of a line (docs/MACHINE.md, "Assembly text").
 
-ghost use Rattle.std.specs.Prelude.{◌≡◌, ◌∷◌, ◌≤◌, MatchOption, [], drop, length, take};
+ghost use Rattle.std.specs.Prelude.{◌≡◌, ◌∷◌, ◌≤◌, IsTrue, MatchOption, [], drop, length, take};
 ghost use Rattle.std.specs.List.{prefix_len};
-ghost use Rattle.bpf_asm.specs.body.Reading.{number_of, number_token, tokens_of};
+ghost use Rattle.std.specs.Option.{option_map};
+ghost use Rattle.bpf_asm.specs.body.Reading.{after_mark, is_end, number_of, number_token, tokens_of};
 ghost use Rattle.bpf_asm.specs.Token.{begins_word, is_gap, is_mark};
 ghost use Rattle.bpf_asm.specs.body.View.{is_of, token_of};
 
@@ -91,11 +92,38 @@ fn number_token(run: &[u8]) -> Token<'_>
     }
 }
 
+#[inline(always)]
+fn behind_gap(line: &[u8]) -> &[u8]
+    ensures { result.now ≡ drop (prefix_len is_gap line.now) line.now }
+{
+    longest_run(Kind::Gap, line).1
+}
+
+/// Tells whether a line has no token.
+#[inline(always)]
+pub(crate) fn is_blank(line: &[u8]) -> bool
+    ensures { result ≡ is_end (tokens_of line.now) }
+{
+    behind_gap(line).is_empty()
+}
+
+/// Gives what follows a mark, where that is the first token of a line.
+#[inline(always)]
+pub(crate) fn after_mark(line: &[u8], mark: u8) -> Option<&[u8]>
+    requires { IsTrue (is_mark mark) }
+    ensures { option_map (λ rest. tokens_of rest.now) result ≡ after_mark mark (tokens_of line.now) }
+{
+    let line = behind_gap(line);
+    let b = *line.first()?;
+    if b == mark { Some(&line[1..]) } else { None }
+}
+
 /// Reads the first token of a line, and gives the rest of the line, or nothing where only gaps are left.
+#[inline(always)]
 pub(crate) fn first_token(line: &[u8]) -> Option<(Token<'_>, &[u8])>
     ensures { MatchOption result (tokens_of line.now ≡ []) (λ found. tokens_of line.now ≡ token_of found.0 ∷ tokens_of found.1.now) }
 {
-    let (_gap, line) = longest_run(Kind::Gap, line);
+    let line = behind_gap(line);
     let b = *line.first()?;
     if begins_word(b) {
         let (name, rest) = longest_run(Kind::Word, line);

@@ -1,6 +1,6 @@
 -- What the steps of the assembler read: lists of tokens, and the parts of a form from their front. Its laws are that it
 -- reads exactly the grammar (`Spells_line`).
-use Rattle.std.specs.Prelude.{◌==◌, ◌+◌, ◌*◌, ◌^◌, ◌∷◌, ◌&&◌, List, None, Option, Some, [], codes, drop, if◌then◌else◌, length, map, nat_lt, option_and_then, slice_index, suc, unwrap_or, zero, ℕ}
+use Rattle.std.specs.Prelude.{◌==◌, ◌+◌, ◌*◌, ◌^◌, ◌∷◌, ◌&&◌, Bool, List, None, Option, Some, [], codes, drop, false, if◌then◌else◌, length, map, nat_lt, option_and_then, slice_index, suc, true, unwrap_or, zero, ℕ}
 use Rattle.std.specs.Char.{digit_value, is_ascii_alphanumeric, is_ascii_digit}
 use Rattle.std.specs.List.{prefix_len, take_while}
 use Rattle.std.specs.Option.{option_map}
@@ -262,9 +262,13 @@ near_in (number k ∷ tokens) = Some (skips k, tokens)
 near_in (word name ∷ tokens) = Some (goes_to name, tokens)
 near_in _ = None
 
+-- no token is left
+abbrev pub is_end : List Token → Bool
+is_end [] = true
+is_end (token ∷ tokens) = false
+
 abbrev pub at_end : {A : Type 0} → List Token → A → Option A
-at_end [] found = Some found
-at_end (token ∷ tokens) found = None
+at_end tokens found = if is_end tokens then Some found else None
 
 unfoldable pub branch_in : Test → List Token → Option Statement
 branch_in test tokens = do
