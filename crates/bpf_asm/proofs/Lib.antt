@@ -1,5 +1,6 @@
 pub mod NumberLemmas
 pub mod CutLemmas
+pub mod TableLemmas
 pub mod TokenLemmas
 pub mod SpelledLemmas
 pub mod FormLemmas

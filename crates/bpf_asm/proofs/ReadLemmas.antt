@@ -11,7 +11,7 @@ use Rattle.bpf_insn.specs.declared.instruction.Operand.TheVariants.{K, X}
 use Rattle.bpf_insn.specs.declared.instruction.Test.{Test}
 use Rattle.bpf_insn.specs.declared.instruction.Test.TheVariants.{CommonBit, Equal, Greater, GreaterOrEqual}
 use Rattle.bpf_asm.proofs.SpelledLemmas.{HasNoStray}
-use Rattle.bpf_asm.specs.body.Reading.{after_mark, after_number, after_word, alone, bracket_in, branch_in, cell_operand, closed_in, far_of, form_in, header_in, insn_in, label_or, line, line_in, marked_in, named_in, near_in, operand_of, operation_of, other_insn, rest_in, return_of, short_load, statement_in, test_of, unbranched, unbranched_in, word_load, x_load}
+use Rattle.bpf_asm.specs.body.Reading.{after_mark, after_number, after_word, alone, bracket_in, branch_behind, branch_in, cell_operand, closed_in, far_of, form_in, header_in, insn_in, label_or, line, line_in, marked_in, named_in, near_in, operand_of, operation_of, other_insn, rest_in, return_of, short_load, statement_in, test_of, unbranched, unbranched_in, word_load, x_load}
 use Rattle.bpf_asm.specs.Statement.{SpellsInsn, SpellsParts, SpellsRest, SpellsStatement, Statement, Target, absolute, branch, cell, comma, constant, far_target, goes_to, header, indexed, jump, near_target, operand, operation_name, plain, skips, test_name}
 use Rattle.bpf_asm.specs.Token.{Token, word}
 
@@ -70,7 +70,7 @@ BranchIsRead test right on_true on_false =
     × HasNoStray (branch_operands right on_true on_false)
 
 branch_read : (test : Test) (right : Operand) (on_true on_false : Target) → BranchIsRead test right on_true on_false
-unfolding branch_in form_in marked_in named_in after_number after_mark operand_of near_in
+unfolding branch_in branch_behind form_in marked_in named_in after_number after_mark operand_of near_in
 branch_read test (K k) (skips m) (skips n) = (refl, refl, tt)
 branch_read test (K k) (skips m) (goes_to other) = (refl, refl, tt)
 branch_read test (K k) (goes_to label) (skips n) = (refl, refl, tt)

@@ -6,7 +6,7 @@ use Rattle.bpf_insn.specs.declared.instruction.Insn.{Insn}
 use Rattle.bpf_insn.specs.declared.instruction.Test.{Test}
 use Rattle.bpf_asm.proofs.FormLemmas.{after_mark_is, bind, by_name, form_is, form_tokens, nothing_found}
 use Rattle.bpf_asm.proofs.InsnLemmas.{insn_is, operand_is, test_is}
-use Rattle.bpf_asm.specs.body.Reading.{Form, absolute_form, after_mark, at_end, branch_in, branch_or, cell_form, constant_form, far_of, form_in, header_form, indexed_form, insn_in, label_or, line, line_in, name_form, near_in, nothing, operand_of, rest_in, skip_form, statement_in, test_of, unbranched, unbranched_in}
+use Rattle.bpf_asm.specs.body.Reading.{Form, absolute_form, after_mark, at_end, branch_behind, branch_in, branch_or, cell_form, constant_form, far_of, form_in, header_form, indexed_form, insn_in, label_or, line, line_in, name_form, near_in, nothing, operand_of, rest_in, skip_form, statement_in, test_of, unbranched, unbranched_in}
 use Rattle.bpf_asm.specs.Statement.{Line, SpellsParts, SpellsRest, SpellsStatement, Statement, Target, branch, far_target, goes_to, jump, near_target, operand, plain, skips, test_name}
 use Rattle.bpf_asm.specs.Token.{Token, mark, number, stray, word}
 
@@ -36,7 +36,7 @@ ended (token ∷ tokens) own found is = nothing_found found is
 
 module _ (name : List ℕ) (test : Test) (tokens : List Token) (found : Statement) where
   branch_is : test_of name ≡ Some test → branch_in test tokens ≡ Some found → SpellsStatement (word name ∷ tokens) found
-  unfolding branch_in
+  unfolding branch_in branch_behind
   branch_is named is =
       bind (form_in tokens) _ found is (λ form at_form is_1.
       bind (operand_of form.0) _ found is_1 (λ right at_right is_2.

@@ -1,10 +1,11 @@
 //! The lines of a text, and what stands on each (docs/MACHINE.md, "Assembly text").
 
-ghost use Rattle.std.specs.Prelude.{◌≡◌, ◌∷◌, ◌≤◌, IfErr, IfOk, None, OnOk, length, map};
+ghost use Rattle.std.specs.Prelude.{◌≡◌, ◌∷◌, ◌++◌, ◌≤◌, IfErr, IfOk, None, OnOk, Some, is_some, length, map};
 ghost use Rattle.std.specs.Option.{option_map};
+ghost use Rattle.bpf_asm.specs.declared.fault.AsmFault.TheVariants.{OutOfMemory};
 ghost use Rattle.bpf_asm.specs.Line.{ends_line, lines_of};
-ghost use Rattle.bpf_asm.specs.body.Reading.{forms_fault, lines_read, read_line, rest_in, tokens_of};
-ghost use Rattle.bpf_asm.specs.body.View.{UnlessMemory, left_len, line_of, lines_left, statement_of};
+ghost use Rattle.bpf_asm.specs.body.Reading.{forms_fault, line, lines_read, read_line, rest_in, tokens_of};
+ghost use Rattle.bpf_asm.specs.body.View.{UnlessMemory, left_len, line_begun, line_of, lines_left, one_or_none};
 
 use crate::fault::AsmFault;
 use crate::statement::{Statement, read_statement};
@@ -36,40 +37,77 @@ pub(crate) fn first_line(text: &[u8]) -> (&[u8], Option<&[u8]>)
     (text, None)
 }
 
-// An instruction, or nothing.
+// What a line begins with: its label, and its mnemonic with the bytes behind that.
+#[derive(Clone, Copy)]
+struct Heading<'a> {
+    label: Option<&'a [u8]>,
+    mnemonic: Option<(&'a [u8], &'a [u8])>,
+}
+
+// A line with a label, behind which the line goes on.
 #[tactic(auto, unfolding(crate::specs::body::Reading::rest_in))]
-fn statement_or_nothing(line: &[u8]) -> Option<Option<Statement<'_>>>
-    ensures { option_map (option_map statement_of) result ≡ rest_in (tokens_of line.now) }
+fn labelled<'a>(name: &'a [u8], behind: &'a [u8]) -> Option<Heading<'a>>
+    ensures { line_begun result ≡ option_map (λ statement. line (Some name.entry.now) statement) (rest_in (tokens_of behind.entry.now)) }
 {
-    match first_token(line) {
-        None => Some(None),
-        Some((Token::Word(name), rest)) => Some(Some(read_statement(name, rest)?)),
+    let label = Some(name);
+    match first_token(behind) {
+        None => Some(Heading {
+            label,
+            mnemonic: None,
+        }),
+        Some((Token::Word(name), rest)) => Some(Heading {
+            label,
+            mnemonic: Some((name, rest)),
+        }),
         _ => None,
     }
 }
 
-/// Reads a line, or tells that it is in no form.
 #[tactic(auto, unfolding(crate::specs::body::Reading::read_line, crate::specs::body::Reading::line_in))]
-pub(crate) fn read_line(line: &[u8]) -> Option<Line<'_>>
-    ensures { option_map line_of result ≡ read_line line.now }
+fn read_heading(line: &[u8]) -> Option<Heading<'_>>
+    ensures { line_begun result ≡ read_line line.now }
 {
     match first_token(line) {
-        None => Some(Line {
+        None => Some(Heading {
             label: None,
-            statement: None,
+            mnemonic: None,
         }),
         Some((Token::Word(name), rest)) => match after_mark(rest, b':') {
-            Some(rest) => Some(Line {
-                label: Some(name),
-                statement: statement_or_nothing(rest)?,
-            }),
-            None => Some(Line {
+            Some(rest) => labelled(name, rest),
+            None => Some(Heading {
                 label: None,
-                statement: Some(read_statement(name, rest)?),
+                mnemonic: Some((name, rest)),
             }),
         },
         _ => None,
     }
+}
+
+// Reads a line and puts it behind the lines before it, or tells that it is in no form. Each of the two kinds of lines is put there
+// where it is made: a line is large, and moved as seldom as can be.
+fn push_line<'a, A: Allocator>(
+    lines: &mut Vec<Line<'a>, A>,
+    bytes: &'a [u8],
+) -> Result<bool, AsmFault>
+    ensures in_form { IfOk result (λ in_form. in_form ≡ is_some (read_line bytes.entry.now)) }
+    ensures pushed { OnOk result (map line_of lines.new.items ≡ map line_of lines.old.items ++ one_or_none (read_line bytes.entry.now)) }
+    ensures fault { IfErr result (λ fault. fault ≡ OutOfMemory) }
+{
+    let Some(heading) = read_heading(bytes) else {
+        return Ok(false);
+    };
+    let label = heading.label;
+    let Some((name, rest)) = heading.mnemonic else {
+        let statement = None;
+        lines.push(Line { label, statement })?;
+        return Ok(true);
+    };
+    let Some(statement) = read_statement(name, rest) else {
+        return Ok(false);
+    };
+    let statement = Some(statement);
+    lines.push(Line { label, statement })?;
+    Ok(true)
 }
 
 /// Reads the lines of a text, or tells the first that is in no form.
@@ -83,9 +121,8 @@ pub(crate) fn read_lines<A: Allocator>(alloc: A, text: &[u8]) -> Result<Vec<Line
     let mut left = Some(text);
     while let Some(coming) = left {
         let (bytes, rest) = first_line(coming);
-        match read_line(bytes) {
-            Some(line) => lines.push(line)?,
-            None => return Err(AsmFault::Syntax { line: number }),
+        if !push_line(&mut lines, bytes)? {
+            return Err(AsmFault::Syntax { line: number });
         }
         number += 1;
         left = rest;

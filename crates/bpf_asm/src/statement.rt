@@ -2,7 +2,7 @@
 
 ghost use Rattle.std.specs.Prelude.{◌≡◌};
 ghost use Rattle.std.specs.Option.{option_map};
-ghost use Rattle.bpf_asm.specs.body.Reading.{alone, branch_in, cell_operand, far_of, insn_in, near_in, operand_of, other_insn, return_of, short_load, statement_in, tokens_of, unbranched, word_load, x_load};
+ghost use Rattle.bpf_asm.specs.body.Reading.{alone, branch_behind, cell_operand, far_of, insn_in, near_in, operand_of, other_insn, return_of, short_load, statement_in, tokens_of, unbranched, word_load, x_load};
 ghost use Rattle.bpf_asm.specs.body.View.{form_of, statement_of, target_of};
 
 use crate::mnemonic::{is_name, operation_of, test_of};
@@ -167,13 +167,13 @@ fn near_target(line: &[u8]) -> Option<(Target<'_>, &[u8])>
     }
 }
 
-#[tactic(auto, unfolding(crate::specs::body::Reading::branch_in))]
-fn branch(test: Test, line: &[u8]) -> Option<Statement<'_>>
-    ensures { option_map statement_of result ≡ branch_in test (tokens_of line.now) }
+// A conditional jump, behind whose operand the line goes on.
+#[tactic(auto, unfolding(crate::specs::body::Reading::branch_behind))]
+fn branch<'a>(test: Test, form: Form<'a>, line: &'a [u8]) -> Option<Statement<'a>>
+    ensures { option_map statement_of result ≡ branch_behind test (form_of form.entry) (tokens_of line.now) }
 {
-    let (form, rest) = operand_form(line)?;
     let operand = operand_of(form)?;
-    let (yes, rest) = near_target(after_mark(rest, b',')?)?;
+    let (yes, rest) = near_target(after_mark(line, b',')?)?;
     let (no, rest) = near_target(after_mark(rest, b',')?)?;
     if is_blank(rest) {
         Some(Statement::Branch(test, operand, yes, no))
@@ -194,15 +194,14 @@ fn unbranched<'a>(name: &[u8], form: Form<'a>) -> Option<Statement<'a>>
 }
 
 /// Reads the instruction of a mnemonic and of the line behind it.
-#[tactic(auto, unfolding(crate::specs::body::Reading::unbranched_in, crate::specs::body::Reading::statement_in))]
+#[tactic(auto, unfolding(crate::specs::body::Reading::branch_in, crate::specs::body::Reading::unbranched_in, crate::specs::body::Reading::statement_in))]
 pub(crate) fn read_statement<'a>(name: &[u8], line: &'a [u8]) -> Option<Statement<'a>>
     ensures { option_map statement_of result ≡ statement_in name.now (tokens_of line.now) }
 {
-    if let Some(test) = test_of(name) {
-        return branch(test, line);
-    }
     let (form, rest) = operand_form(line)?;
-    if is_blank(rest) {
+    if let Some(test) = test_of(name) {
+        branch(test, form, rest)
+    } else if is_blank(rest) {
         unbranched(name, form)
     } else {
         None

@@ -4,7 +4,7 @@ ghost use Rattle.std.specs.Prelude.{◌≡◌, ◌∷◌, ◌≤◌, IsTrue, Mat
 ghost use Rattle.std.specs.List.{prefix_len};
 ghost use Rattle.std.specs.Option.{option_map};
 ghost use Rattle.bpf_asm.specs.body.Reading.{after_mark, is_end, number_of, number_token, tokens_of};
-ghost use Rattle.bpf_asm.specs.Token.{begins_word, is_gap, is_mark};
+ghost use Rattle.bpf_asm.specs.Token.{begins_word, is_gap, is_in_word, is_mark};
 ghost use Rattle.bpf_asm.specs.body.View.{is_of, token_of};
 
 use crate::number::number_of;
@@ -43,11 +43,29 @@ fn is_mark(b: u8) -> bool
     )
 }
 
+// Each byte of a word stands at its own place, and a comma at every other place.
+static IN_WORDS: [u8; 256] = *b"\
+    ,,,,,,,,,,,,,,,,,,,,,,,,,,,,,,,,\
+    ,,,,,,,,,,,,,,,,0123456789,,,,,,\
+    ,ABCDEFGHIJKLMNOPQRSTUVWXYZ,,,,_\
+    ,abcdefghijklmnopqrstuvwxyz,,,,,\
+    ,,,,,,,,,,,,,,,,,,,,,,,,,,,,,,,,\
+    ,,,,,,,,,,,,,,,,,,,,,,,,,,,,,,,,\
+    ,,,,,,,,,,,,,,,,,,,,,,,,,,,,,,,,\
+    ,,,,,,,,,,,,,,,,,,,,,,,,,,,,,,,,";
+
+#[inline(always)]
+fn is_in_word(b: u8) -> bool
+    ensures { result ≡ is_in_word b }
+{
+    IN_WORDS[b as usize] != b','
+}
+
 #[inline(always)]
 fn begins_word(b: u8) -> bool
     ensures { result ≡ begins_word b }
 {
-    b.is_ascii_alphabetic() || b == b'_'
+    is_in_word(b) && !b.is_ascii_digit()
 }
 
 #[inline(always)]
@@ -56,8 +74,8 @@ fn is_of(kind: Kind, b: u8) -> bool
 {
     match kind {
         Kind::Gap => is_gap(b),
-        Kind::Word => b.is_ascii_alphanumeric() || b == b'_',
-        Kind::Number => b.is_ascii_alphanumeric(),
+        Kind::Word => is_in_word(b),
+        Kind::Number => is_in_word(b) && b != b'_',
     }
 }
 

@@ -270,15 +270,20 @@ is_end (token ∷ tokens) = false
 abbrev pub at_end : {A : Type 0} → List Token → A → Option A
 at_end tokens found = if is_end tokens then Some found else None
 
-unfoldable pub branch_in : Test → List Token → Option Statement
-branch_in test tokens = do
-  form ← form_in tokens
-  right ← operand_of form.0
-  yes_at ← after_mark 44 form.1
+-- the operand and the targets of a conditional jump, of which the operand was read
+unfoldable pub branch_behind : Test → Form → List Token → Option Statement
+branch_behind test form tokens = do
+  right ← operand_of form
+  yes_at ← after_mark 44 tokens
   on_true ← near_in yes_at
   no_at ← after_mark 44 on_true.1
   on_false ← near_in no_at
   at_end on_false.1 (branch test right on_true.0 on_false.0)
+
+unfoldable pub branch_in : Test → List Token → Option Statement
+branch_in test tokens = do
+  form ← form_in tokens
+  branch_behind test form.0 form.1
 
 -- a statement that is no conditional jump, of a mnemonic and an operand
 unfoldable pub unbranched : List ℕ → Form → Option Statement

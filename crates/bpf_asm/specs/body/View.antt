@@ -22,9 +22,10 @@ use Rattle.bpf_asm.specs.declared.statement.Target.{Target as LentTarget}
 use Rattle.bpf_asm.specs.declared.statement.Target.TheVariants as target
 use Rattle.bpf_asm.specs.declared.fault.AsmFault.{AsmFault}
 use Rattle.bpf_asm.specs.declared.fault.AsmFault.TheVariants.{BackwardJump, DoubleLabel, OutOfMemory, UnknownLabel}
+use Rattle.bpf_asm.specs.declared.line.Heading.{Heading as LentHeading}
 use Rattle.bpf_asm.specs.declared.line.Line.{Line as LentLine}
 use Rattle.bpf_asm.specs.Line.{lines_of}
-use Rattle.bpf_asm.specs.body.Reading.{Form, absolute_form, cell_form, constant_form, header_form, indexed_form, name_form, nothing, skip_form}
+use Rattle.bpf_asm.specs.body.Reading.{Form, absolute_form, cell_form, constant_form, header_form, indexed_form, line, name_form, nothing, skip_form, statement_in, tokens_of}
 use Rattle.bpf_asm.specs.Statement.{Line, Statement, Target, branch, goes_to, jump, plain, skips}
 use Rattle.bpf_asm.specs.Target.{IsInsnOf}
 use Rattle.bpf_asm.specs.Token.{Token, is_gap, is_in_word, mark, number, stray, word}
@@ -61,6 +62,21 @@ statement_of (statement.Branch test right on_true on_false) = branch test right 
 
 abbrev pub line_of : LentLine → Line
 line_of it = record { label = option_map (λ name. name.now) it.label; statement = option_map statement_of it.statement }
+
+-- a line of what it begins with, of which the operands are still to be read
+abbrev pub line_behind : Option (Bor (List ℕ)) → Option (Bor (List ℕ) × Bor (List ℕ)) → Option Line
+line_behind label None = Some (line (option_map (λ name. name.now) label) None)
+line_behind label (Some (name, rest)) =
+    option_map (λ statement. line (option_map (λ it. it.now) label) (Some statement)) (statement_in name.now (tokens_of rest.now))
+
+abbrev pub line_begun : Option LentHeading → Option Line
+line_begun None = None
+line_begun (Some heading) = line_behind heading.label heading.mnemonic
+
+-- what a line adds to the lines, nothing where it is in no form
+abbrev pub one_or_none : Option Line → List Line
+one_or_none None = []
+one_or_none (Some it) = it ∷ []
 
 -- the lines of what is left of a text, none where its last line was taken
 abbrev pub lines_left : Option (Bor (List ℕ)) → List (List ℕ)

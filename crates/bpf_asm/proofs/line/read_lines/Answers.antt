@@ -10,11 +10,11 @@ returns-clause-in_form g c = search rules
 pub returns-clause-lines : goal.returns-clause-lines
 returns-clause-lines g c = search rules
 
-pub returns-in-None-clause-fault : goal.returns-in-None-clause-fault
-returns-in-None-clause-fault g c = search rules
+pub returns-then-not-branch-clause-fault : goal.returns-then-not-branch-clause-fault
+returns-then-not-branch-clause-fault g c = search rules
 
-pub returns-in-None-clause-in_form : goal.returns-in-None-clause-in_form
-returns-in-None-clause-in_form g c = search rules
+pub returns-then-not-branch-clause-in_form : goal.returns-then-not-branch-clause-in_form
+returns-then-not-branch-clause-in_form g c = search rules
 
-pub returns-in-None-clause-lines : goal.returns-in-None-clause-lines
-returns-in-None-clause-lines g c = search rules
+pub returns-then-not-branch-clause-lines : goal.returns-then-not-branch-clause-lines
+returns-then-not-branch-clause-lines g c = search rules
