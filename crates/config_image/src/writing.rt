@@ -8,7 +8,7 @@ ghost use Rattle.config_image.specs.Image.{all_member_records, filter_words, gro
 
 use crate::size::{members_in, programs_len, words, words_in};
 use crate::word::{PLACE_LIMIT, lock_word, program_reference};
-use bpf_verify::Program;
+use bpf_verify::{MAX_INSTRUCTIONS, Program};
 use member_group::{
     Config, GROUP_LIMIT, GROUP_WORDS, Group, HEAD_WORDS, MEMBER_LIMIT, MEMBER_WORDS, Member,
 };
@@ -65,17 +65,19 @@ pub(crate) fn write_group_records<A: Allocator, S: WordSink>(
     }
 }
 
-// A group's member records, where the filters begin at `filters_at`.
+// A group's member records, where the filters begin at `filters_at`. Tells where they end.
 fn write_member_records<A: Allocator, S: WordSink>(
     members: &[Member<Program<A>>],
     filters_at: usize,
     sink: &mut S,
-)
+) -> usize
     requires few { length members.now ≤ MEMBER_LIMIT }
     requires filters { filters_at ≤ PLACE_LIMIT / 2 }
     requires room { length (member_records filters_at members.now) ≤ S.room sink.old }
     ensures taken { S.taken sink.new ≡ S.taken sink.old ++ member_records filters_at members.now }
     ensures room { S.room sink.new + length (member_records filters_at members.now) ≡ S.room sink.old }
+    ensures behind { result ≡ filters_at + length (filter_words members.now) }
+    ensures limited { result ≤ filters_at + MEMBER_LIMIT * MAX_INSTRUCTIONS }
 {
     let mut place = filters_at;
     for member in members {
@@ -85,6 +87,7 @@ fn write_member_records<A: Allocator, S: WordSink>(
         write_words(&record, sink);
         place += words(member.filter.as_ref()).len();
     }
+    place
 }
 
 // All member records, where the programs begin at `programs_at`.
@@ -103,8 +106,7 @@ pub(crate) fn write_members<A: Allocator, S: WordSink>(
     let mut place = programs_at;
     for group in groups {
         let filters_at = place + words(group.selector()).len();
-        write_member_records(group.members(), filters_at, sink);
-        place += programs_len(group);
+        place = write_member_records(group.members(), filters_at, sink);
     }
 }
 
