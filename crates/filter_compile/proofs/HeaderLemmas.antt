@@ -19,11 +19,6 @@ use Rattle.filter_tree.specs.declared.truth.Truth.{Truth}
 use Rattle.filter_tree.specs.declared.truth.Truth.TheVariants.{Fails, No, Yes}
 use Rattle.filter_tree.specs.declared.primitive.Direction.{Direction}
 use Rattle.filter_tree.specs.declared.primitive.Direction.TheVariants.{Both, Destination as Destination', Either, Source as Source'}
-use Rattle.filter_tree.specs.declared.primitive.Primitive.{Primitive}
-use Rattle.filter_tree.specs.declared.primitive.Primitive.TheVariants.{AtLeast, AtMost, Host, Ip, Net, Port as Port', PortRange, Proto}
-use Rattle.filter_tree.specs.declared.primitive.Transport.{Transport}
-use Rattle.filter_tree.specs.declared.primitive.Transport.TheVariants.{Tcp, Udp, Unnamed}
-use Rattle.filter_tree.specs.Measure.{by_direction, weight_of_primitive}
 use Rattle.filter_tree.specs.Outcome.{◌and_then◌, ◌or_else◌, answer, opposite, tested}
 use Rattle.filter_tree.specs.Prefix.{NetworkPrefix, covers}
 use Rattle.filter_tree.specs.Primitive.{at_ends, is_between, is_first_fragment, is_ip}
@@ -35,7 +30,7 @@ use Rattle.filter_compile.specs.declared.ends.End.{End}
 use Rattle.filter_compile.specs.declared.ends.End.TheVariants as end_is
 use Rattle.filter_compile.specs.declared.ends.Part.{Part}
 use Rattle.filter_compile.specs.declared.ends.Part.TheVariants.{Address, Port}
-use Rattle.filter_compile.specs.body.Header.{end_of, ends_pass, passes, weight_of_check, weight_of_ports}
+use Rattle.filter_compile.specs.body.Header.{end_of, ends_pass, passes, weight_of_check}
 use Rattle.filter_compile.specs.body.Piece.{Asks, ComesWith, Computes, DecidedBy, Decides, Facts, GoesBy, LoadsAs, Tests, behind}
 use Rattle.filter_compile.proofs.PacketLemmas.{and-high_bits, and-low_bits, number_at-below, packet_number-number_at}
 use Rattle.filter_compile.proofs.ValueLemmas.{plain_loads}
@@ -209,58 +204,9 @@ opposite_answer false = refl
 pub at_most : (len n : ℕ) → opposite (answer (nat_lt n len)) ≡ answer (nat_le len n)
 at_most len n = opposite_answer (nat_lt n len) ∙ ap answer (sym (le_not_lt len n))
 
--- ---- weights, direction by direction
-
-pub host_weight : (direction : Direction) → by_direction direction 4 8 + 5 ≤ by_direction direction 9 13
-host_weight Source' = omega arith
-host_weight Destination' = omega arith
-host_weight Either = omega arith
-host_weight Both = omega arith
-
-pub net_weight : (direction : Direction) → by_direction direction 5 10 + 5 ≤ by_direction direction 10 15
-net_weight Source' = omega arith
-net_weight Destination' = omega arith
-net_weight Either = omega arith
-net_weight Both = omega arith
-
-ports_weight : (direction : Direction) (one transport whole both : ℕ) → one + 1 + 4 + transport + 5 ≤ whole → (one + one) + 1 + 4 + transport + 5 ≤ both
-    → by_direction direction one (one + one) + 1 + 4 + transport + 5 ≤ by_direction direction whole both
-ports_weight Source' one transport whole both low high = low
-ports_weight Destination' one transport whole both low high = low
-ports_weight Either one transport whole both low high = high
-ports_weight Both one transport whole both low high = high
-
-pub port_weight : (transport : Transport) (direction : Direction) (n k : ℕ) → weight_of_ports transport direction (Equal k) ≤ weight_of_primitive (Port' transport direction n)
-port_weight Tcp direction n k = ports_weight direction 4 4 18 22 (omega arith) (omega arith)
-port_weight Udp direction n k = ports_weight direction 4 4 18 22 (omega arith) (omega arith)
-port_weight Unnamed direction n k = ports_weight direction 4 10 24 28 (omega arith) (omega arith)
-
-pub port_range_weight : (transport : Transport) (direction : Direction) (n m j k : ℕ) → weight_of_ports transport direction (Between j k) ≤ weight_of_primitive (PortRange transport direction n m)
-port_range_weight Tcp direction n m j k = ports_weight direction 7 4 21 28 (omega arith) (omega arith)
-port_range_weight Udp direction n m j k = ports_weight direction 7 4 21 28 (omega arith) (omega arith)
-port_range_weight Unnamed direction n m j k = ports_weight direction 7 10 27 34 (omega arith) (omega arith)
+-- ---- weights
 
 pub check_weight : (check : Check) → 3 ≤ weight_of_check check
 check_weight (Equal n) = omega arith
 check_weight (Covered prefix) = omega arith
 check_weight (Between n m) = omega arith
-
-by_direction_some : (direction : Direction) (n m : ℕ) → 1 ≤ n → 1 ≤ m → 1 ≤ by_direction direction n m
-by_direction_some Source' n m one two = one
-by_direction_some Destination' n m one two = one
-by_direction_some Either n m one two = two
-by_direction_some Both n m one two = two
-
-pub primitive_weight : (primitive : Primitive) → 1 ≤ weight_of_primitive primitive
-primitive_weight Ip = omega arith
-primitive_weight (Proto n) = omega arith
-primitive_weight (Host direction address) = by_direction_some direction 9 13 (omega arith) (omega arith)
-primitive_weight (Net direction prefix) = by_direction_some direction 10 15 (omega arith) (omega arith)
-primitive_weight (Port' Tcp direction n) = by_direction_some direction 18 22 (omega arith) (omega arith)
-primitive_weight (Port' Udp direction n) = by_direction_some direction 18 22 (omega arith) (omega arith)
-primitive_weight (Port' Unnamed direction n) = by_direction_some direction 24 28 (omega arith) (omega arith)
-primitive_weight (PortRange Tcp direction n m) = by_direction_some direction 21 28 (omega arith) (omega arith)
-primitive_weight (PortRange Udp direction n m) = by_direction_some direction 21 28 (omega arith) (omega arith)
-primitive_weight (PortRange Unnamed direction n m) = by_direction_some direction 27 34 (omega arith) (omega arith)
-primitive_weight (AtMost n) = omega arith
-primitive_weight (AtLeast n) = omega arith

@@ -4,6 +4,7 @@ pub mod ArithmeticLemmas
 mod CellLemmas
 pub mod TestLemmas
 pub mod HeaderLemmas
+pub mod WeightLemmas
 pub mod GuardLemmas
 pub mod ProgramLemmas
 pub mod StepLemmas

@@ -4,3 +4,4 @@ pub mod Header
 pub mod Sides
 pub mod Arithmetic
 pub mod Program
+pub mod Weight

@@ -11,6 +11,7 @@ ghost use Rattle.filter_tree.specs.Truth.{truth_of};
 ghost use Rattle.filter_tree.specs.View.{tree_of};
 ghost use Rattle.packet_facts.specs.Known.{Holds};
 ghost use Rattle.filter_compile.specs.body.Piece.{Tests};
+ghost use Rattle.filter_compile.specs.body.Weight.{weight_under};
 
 use crate::SHORT;
 use crate::primitive::primitive;
@@ -45,11 +46,11 @@ pub(crate) fn expression<'a, A: Allocator, B: Allocator>(
     no: &mut Exit<'a, A>,
 ) -> Result<Sides, AllocError>
     requires cells { cells_of (tree_of expr.now) ≤ CELLS }
-    requires room { length code.old + weight_of (tree_of expr.now) ≤ end }
+    requires room { length code.old + weight_under known (tree_of expr.now) ≤ end }
     requires limit { end ≤ MAX_INSTRUCTIONS }
     requires yes_behind { end ≤ yes.old.by }
     requires no_behind { end ≤ no.old.by }
-    ensures writes { IfOk result (λ sides. Writes (Tests (Holds known) (Holds sides.yes) (Holds sides.no) (truth_of (tree_of expr.now))) (weight_of (tree_of expr.now)) code.old code.new yes.old yes.new no.old no.new) }
+    ensures writes { IfOk result (λ sides. Writes (Tests (Holds known) (Holds sides.yes) (Holds sides.no) (truth_of (tree_of expr.now))) (weight_under known (tree_of expr.now)) code.old code.new yes.old yes.new no.old no.new) }
 {
     match expr {
         Expr::Primitive(one) => primitive(code, *one, known, yes, no),
@@ -79,11 +80,11 @@ fn conjunction<'a, A: Allocator, B: Allocator>(
     no: &mut Exit<'a, A>,
 ) -> Result<Sides, AllocError>
     requires cells { cells_of (conjunction_tree (tree_of left.now) (tree_of right.now)) ≤ CELLS }
-    requires room { length code.old + weight_of (conjunction_tree (tree_of left.now) (tree_of right.now)) ≤ end }
+    requires room { length code.old + weight_under known (conjunction_tree (tree_of left.now) (tree_of right.now)) ≤ end }
     requires limit { end ≤ MAX_INSTRUCTIONS }
     requires yes_behind { end ≤ yes.old.by }
     requires no_behind { end ≤ no.old.by }
-    ensures writes { IfOk result (λ sides. Writes (Tests (Holds known) (Holds sides.yes) (Holds sides.no) (truth_of (conjunction_tree (tree_of left.now) (tree_of right.now)))) (weight_of (conjunction_tree (tree_of left.now) (tree_of right.now))) code.old code.new yes.old yes.new no.old no.new) }
+    ensures writes { IfOk result (λ sides. Writes (Tests (Holds known) (Holds sides.yes) (Holds sides.no) (truth_of (conjunction_tree (tree_of left.now) (tree_of right.now)))) (weight_under known (conjunction_tree (tree_of left.now) (tree_of right.now))) code.old code.new yes.old yes.new no.old no.new) }
 {
     let first = left_of_and(code, left, known, first_end(end, right), no)?;
     let second = expression(code, right, first.yes, end, yes, no)?;
@@ -104,11 +105,11 @@ fn disjunction<'a, A: Allocator, B: Allocator>(
     no: &mut Exit<'a, A>,
 ) -> Result<Sides, AllocError>
     requires cells { cells_of (disjunction_tree (tree_of left.now) (tree_of right.now)) ≤ CELLS }
-    requires room { length code.old + weight_of (disjunction_tree (tree_of left.now) (tree_of right.now)) ≤ end }
+    requires room { length code.old + weight_under known (disjunction_tree (tree_of left.now) (tree_of right.now)) ≤ end }
     requires limit { end ≤ MAX_INSTRUCTIONS }
     requires yes_behind { end ≤ yes.old.by }
     requires no_behind { end ≤ no.old.by }
-    ensures writes { IfOk result (λ sides. Writes (Tests (Holds known) (Holds sides.yes) (Holds sides.no) (truth_of (disjunction_tree (tree_of left.now) (tree_of right.now)))) (weight_of (disjunction_tree (tree_of left.now) (tree_of right.now))) code.old code.new yes.old yes.new no.old no.new) }
+    ensures writes { IfOk result (λ sides. Writes (Tests (Holds known) (Holds sides.yes) (Holds sides.no) (truth_of (disjunction_tree (tree_of left.now) (tree_of right.now)))) (weight_under known (disjunction_tree (tree_of left.now) (tree_of right.now))) code.old code.new yes.old yes.new no.old no.new) }
 {
     let first = left_of_or(code, left, known, first_end(end, right), yes)?;
     let second = expression(code, right, first.no, end, yes, no)?;
@@ -128,10 +129,10 @@ fn left_of_and<'a, A: Allocator, B: Allocator>(
     no: &mut Exit<'a, A>,
 ) -> Result<Sides, AllocError>
     requires cells { cells_of (tree_of left.now) ≤ CELLS }
-    requires room { length code.old + weight_of (tree_of left.now) ≤ end }
+    requires room { length code.old + weight_under known (tree_of left.now) ≤ end }
     requires limit { end ≤ MAX_INSTRUCTIONS }
     requires behind { end ≤ no.old.by }
-    ensures guards { IfOk result (λ sides. Guards (Tests (Holds known) (Holds sides.yes) (Holds sides.no) (truth_of (tree_of left.now))) (weight_of (tree_of left.now)) code.old code.new no.old no.new) }
+    ensures guards { IfOk result (λ sides. Guards (Tests (Holds known) (Holds sides.yes) (Holds sides.no) (truth_of (tree_of left.now))) (weight_under known (tree_of left.now)) code.old code.new no.old no.new) }
 {
     let mut on = code.exit(end);
     let sides = expression(code, left, known, end, &mut on, no)?;
@@ -149,10 +150,10 @@ fn left_of_or<'a, A: Allocator, B: Allocator>(
     yes: &mut Exit<'a, A>,
 ) -> Result<Sides, AllocError>
     requires cells { cells_of (tree_of left.now) ≤ CELLS }
-    requires room { length code.old + weight_of (tree_of left.now) ≤ end }
+    requires room { length code.old + weight_under known (tree_of left.now) ≤ end }
     requires limit { end ≤ MAX_INSTRUCTIONS }
     requires behind { end ≤ yes.old.by }
-    ensures guards { IfOk result (λ sides. Guards (λ at_no at_yes words. Tests (Holds known) (Holds sides.yes) (Holds sides.no) (truth_of (tree_of left.now)) at_yes at_no words) (weight_of (tree_of left.now)) code.old code.new yes.old yes.new) }
+    ensures guards { IfOk result (λ sides. Guards (λ at_no at_yes words. Tests (Holds known) (Holds sides.yes) (Holds sides.no) (truth_of (tree_of left.now)) at_yes at_no words) (weight_under known (tree_of left.now)) code.old code.new yes.old yes.new) }
 {
     let mut on = code.exit(end);
     let sides = expression(code, left, known, end, yes, &mut on)?;

@@ -1,6 +1,6 @@
 //! Tests that come before others: each falls through where it holds, and is left out where it is known to.
 
-ghost use Rattle.std.specs.Prelude.{◌≡◌, ◌+◌, ◌≤◌, IfOk, OnOk, false, length, true};
+ghost use Rattle.std.specs.Prelude.{◌≡◌, ◌≢◌, ◌+◌, ◌≤◌, IfOk, OnOk, Some, false, length, true};
 ghost use Rattle.ipv4_fields.specs.declared.header.Field.TheVariants.{Protocol};
 ghost use Rattle.ipv4_fields.specs.Field.{field_of};
 ghost use Rattle.bpf_verify.specs.declared.TheConstants.{MAX_INSTRUCTIONS};
@@ -14,6 +14,7 @@ ghost use Rattle.packet_facts.specs.Known.{Holds, Settles};
 ghost use Rattle.filter_compile.specs.body.Header.{weight_of_transport};
 ghost use Rattle.filter_compile.specs.body.Piece.{LoadsHeader, Tests};
 ghost use Rattle.filter_compile.specs.body.Sides.{HoldsWhere};
+ghost use Rattle.filter_compile.specs.body.Weight.{version_weight_under};
 
 use crate::header::{has_ports, is_first_fragment, is_ip, is_protocol};
 use crate::sides::Passed;
@@ -26,6 +27,7 @@ use std::alloc::{AllocError, Allocator};
 /// Tests whether a test has to be written: there is cause, and what is known does not tell that it is true.
 pub(crate) fn must_ask(used: bool, told: Option<bool>) -> bool
     ensures used { result ≡ true → used ≡ true }
+    ensures asked { result ≡ true → told ≢ Some true }
     ensures left_out { result ≡ false → (truth : Truth) → Settles told truth → where_so used truth ≡ Yes }
 {
     match told {
@@ -40,9 +42,9 @@ pub(crate) fn guard_ip<'a, A: Allocator>(
     known: Known,
     no: &mut Exit<'a, A>,
 ) -> Result<Passed, AllocError>
-    requires room { length code.old + weight_where used 5 ≤ MAX_INSTRUCTIONS }
-    requires behind { length code.old + weight_where used 5 ≤ no.old.by }
-    ensures guards { IfOk result (λ passed. Guards (Tests (Holds known) (Holds passed.on) (HoldsWhere passed.no) (λ packet. where_so used (is_ip packet))) (weight_where used 5) code.old code.new no.old no.new) }
+    requires room { length code.old + weight_where used (version_weight_under known) ≤ MAX_INSTRUCTIONS }
+    requires behind { length code.old + weight_where used (version_weight_under known) ≤ no.old.by }
+    ensures guards { IfOk result (λ passed. Guards (Tests (Holds known) (Holds passed.on) (HoldsWhere passed.no) (λ packet. where_so used (is_ip packet))) (weight_where used (version_weight_under known)) code.old code.new no.old no.new) }
 {
     if !must_ask(used, known.ip()) {
         return Ok(Passed::at_once(known));

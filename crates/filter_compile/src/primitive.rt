@@ -7,13 +7,13 @@ ghost use Rattle.bpf_verify.specs.declared.TheConstants.{MAX_INSTRUCTIONS};
 ghost use Rattle.bpf_machine.specs.Meaning.{holds};
 ghost use Rattle.backpatch.specs.Pieces.{Writes};
 ghost use Rattle.backpatch.specs.body.Guards.{Guards};
-ghost use Rattle.filter_tree.specs.Measure.{weight_of_primitive};
 ghost use Rattle.filter_tree.specs.Outcome.{◌and_then◌, answer, tested};
 ghost use Rattle.filter_tree.specs.Primitive.{address_passes, has_ports, is_first_fragment, is_ip, is_protocol, port_passes, truth_of_primitive};
 ghost use Rattle.packet_facts.specs.Known.{Holds};
 ghost use Rattle.filter_compile.specs.body.Header.{passes, weight_of_addresses, weight_of_ports, weight_of_transport};
 ghost use Rattle.filter_compile.specs.body.Piece.{Decides, Tests};
 ghost use Rattle.filter_compile.specs.body.Sides.{HoldsWhere};
+ghost use Rattle.filter_compile.specs.body.Weight.{version_weight_under, weight_of_primitive_from};
 
 use crate::check::Check;
 use crate::ends::{Part, ends};
@@ -73,10 +73,10 @@ fn addresses<'a, A: Allocator>(
     yes: &mut Exit<'a, A>,
     no: &mut Exit<'a, A>,
 ) -> Result<Sides, AllocError>
-    requires room { length code.old + weight_of_addresses direction check.now ≤ MAX_INSTRUCTIONS }
-    requires yes_behind { length code.old + weight_of_addresses direction check.now ≤ yes.old.by }
-    requires behind { length code.old + weight_of_addresses direction check.now ≤ no.old.by }
-    ensures writes { IfOk result (λ sides. Writes (Tests (Holds known) (Holds sides.yes) (Holds sides.no) (address_passes direction (passes check.now))) (weight_of_addresses direction check.now) code.old code.new yes.old yes.new no.old no.new) }
+    requires room { length code.old + weight_of_addresses (version_weight_under known) direction check.now ≤ MAX_INSTRUCTIONS }
+    requires yes_behind { length code.old + weight_of_addresses (version_weight_under known) direction check.now ≤ yes.old.by }
+    requires behind { length code.old + weight_of_addresses (version_weight_under known) direction check.now ≤ no.old.by }
+    ensures writes { IfOk result (λ sides. Writes (Tests (Holds known) (Holds sides.yes) (Holds sides.no) (address_passes direction (passes check.now))) (weight_of_addresses (version_weight_under known) direction check.now) code.old code.new yes.old yes.new no.old no.new) }
 {
     let ip = guard_ip(code, true, known, no)?;
     ends(code, Part::Address, direction, check, yes, no)?;
@@ -93,10 +93,10 @@ fn guard_ports<'a, A: Allocator>(
     known: Known,
     no: &mut Exit<'a, A>,
 ) -> Result<Passed, AllocError>
-    requires room { length code.old + (weight_of_transport transport + 9) ≤ MAX_INSTRUCTIONS }
-    requires behind { length code.old + (weight_of_transport transport + 9) ≤ no.old.by }
+    requires room { length code.old + (weight_of_transport transport + 4 + version_weight_under known) ≤ MAX_INSTRUCTIONS }
+    requires behind { length code.old + (weight_of_transport transport + 4 + version_weight_under known) ≤ no.old.by }
     ensures guards { IfOk result (λ passed. Guards (Tests (Holds known) (Holds passed.on) (HoldsWhere passed.no)
-        (λ packet. is_ip packet and_then tested (has_ports transport) (field_of Protocol packet) and_then is_first_fragment packet)) (weight_of_transport transport + 9) code.old code.new no.old no.new) }
+        (λ packet. is_ip packet and_then tested (has_ports transport) (field_of Protocol packet) and_then is_first_fragment packet)) (weight_of_transport transport + 4 + version_weight_under known) code.old code.new no.old no.new) }
 {
     let ip = guard_ip(code, true, known, no)?;
     let protocol = guard_transport(code, transport, ip.on, no)?;
@@ -113,10 +113,10 @@ fn ports<'a, A: Allocator>(
     yes: &mut Exit<'a, A>,
     no: &mut Exit<'a, A>,
 ) -> Result<Sides, AllocError>
-    requires room { length code.old + weight_of_ports transport direction check.now ≤ MAX_INSTRUCTIONS }
-    requires yes_behind { length code.old + weight_of_ports transport direction check.now ≤ yes.old.by }
-    requires behind { length code.old + weight_of_ports transport direction check.now ≤ no.old.by }
-    ensures writes { IfOk result (λ sides. Writes (Tests (Holds known) (Holds sides.yes) (Holds sides.no) (port_passes transport direction (passes check.now))) (weight_of_ports transport direction check.now) code.old code.new yes.old yes.new no.old no.new) }
+    requires room { length code.old + weight_of_ports (version_weight_under known) transport direction check.now ≤ MAX_INSTRUCTIONS }
+    requires yes_behind { length code.old + weight_of_ports (version_weight_under known) transport direction check.now ≤ yes.old.by }
+    requires behind { length code.old + weight_of_ports (version_weight_under known) transport direction check.now ≤ no.old.by }
+    ensures writes { IfOk result (λ sides. Writes (Tests (Holds known) (Holds sides.yes) (Holds sides.no) (port_passes transport direction (passes check.now))) (weight_of_ports (version_weight_under known) transport direction check.now) code.old code.new yes.old yes.new no.old no.new) }
 {
     let before = guard_ports(code, transport, known, no)?;
     load_header(code, before.on.header_in_x())?;
@@ -152,10 +152,10 @@ pub(crate) fn primitive<'a, A: Allocator>(
     yes: &mut Exit<'a, A>,
     no: &mut Exit<'a, A>,
 ) -> Result<Sides, AllocError>
-    requires room { length code.old + weight_of_primitive primitive ≤ MAX_INSTRUCTIONS }
-    requires yes_behind { length code.old + weight_of_primitive primitive ≤ yes.old.by }
-    requires behind { length code.old + weight_of_primitive primitive ≤ no.old.by }
-    ensures writes { IfOk result (λ sides. Writes (Tests (Holds known) (Holds sides.yes) (Holds sides.no) (truth_of_primitive primitive)) (weight_of_primitive primitive) code.old code.new yes.old yes.new no.old no.new) }
+    requires room { length code.old + weight_of_primitive_from (version_weight_under known) primitive ≤ MAX_INSTRUCTIONS }
+    requires yes_behind { length code.old + weight_of_primitive_from (version_weight_under known) primitive ≤ yes.old.by }
+    requires behind { length code.old + weight_of_primitive_from (version_weight_under known) primitive ≤ no.old.by }
+    ensures writes { IfOk result (λ sides. Writes (Tests (Holds known) (Holds sides.yes) (Holds sides.no) (truth_of_primitive primitive)) (weight_of_primitive_from (version_weight_under known) primitive) code.old code.new yes.old yes.new no.old no.new) }
 {
     if known.excludes(&primitive) {
         return settled(code, known, no);

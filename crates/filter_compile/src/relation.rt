@@ -7,13 +7,14 @@ ghost use Rattle.backpatch.specs.Pieces.{Writes};
 ghost use Rattle.backpatch.specs.body.Guards.{Guards};
 ghost use Rattle.bpf_machine.specs.Meaning.{operand_value};
 ghost use Rattle.filter_tree.specs.Arithmetic.{value_of_arith};
-ghost use Rattle.filter_tree.specs.Measure.{cells_of, cells_of_arith, weight_of, weight_of_arith, weight_of_guards};
+ghost use Rattle.filter_tree.specs.Measure.{cells_of, cells_of_arith, weight_of_arith};
 ghost use Rattle.filter_tree.specs.Tree.{relation as relation_tree};
 ghost use Rattle.filter_tree.specs.Truth.{guards, holds, truth_of, used_by};
 ghost use Rattle.filter_tree.specs.View.{arith_tree_of};
 ghost use Rattle.packet_facts.specs.Known.{Holds};
 ghost use Rattle.filter_compile.specs.body.Piece.{Compares, Tests, compared_with};
 ghost use Rattle.filter_compile.specs.body.Sides.{HoldsWhere};
+ghost use Rattle.filter_compile.specs.body.Weight.{version_weight_under, weight_of_guards_from, weight_under};
 
 use crate::arithmetic::{Simple, arithmetic, pair, simple_of};
 use crate::guard::{guard_first_fragment, guard_ip, guard_protocol};
@@ -31,9 +32,9 @@ fn guards<'a, A: Allocator>(
     known: Known,
     no: &mut Exit<'a, A>,
 ) -> Result<Passed, AllocError>
-    requires room { length code.old + weight_of_guards (used_by used) ≤ MAX_INSTRUCTIONS }
-    requires behind { length code.old + weight_of_guards (used_by used) ≤ no.old.by }
-    ensures guards { IfOk result (λ passed. Guards (Tests (Holds known) (Holds passed.on) (HoldsWhere passed.no) (guards (used_by used))) (weight_of_guards (used_by used)) code.old code.new no.old no.new) }
+    requires room { length code.old + weight_of_guards_from (version_weight_under known) (used_by used) ≤ MAX_INSTRUCTIONS }
+    requires behind { length code.old + weight_of_guards_from (version_weight_under known) (used_by used) ≤ no.old.by }
+    ensures guards { IfOk result (λ passed. Guards (Tests (Holds known) (Holds passed.on) (HoldsWhere passed.no) (guards (used_by used))) (weight_of_guards_from (version_weight_under known) (used_by used)) code.old code.new no.old no.new) }
 {
     let ip = guard_ip(code, used.any(), known, no)?;
     let tcp = guard_protocol(code, used.tcp, 6, ip.on, no)?;
@@ -112,10 +113,10 @@ pub(crate) fn relation<'a, A: Allocator, B: Allocator>(
     no: &mut Exit<'a, A>,
 ) -> Result<Sides, AllocError>
     requires cells { cells_of (relation_tree (arith_tree_of left.now) relation (arith_tree_of right.now)) ≤ CELLS }
-    requires room { length code.old + weight_of (relation_tree (arith_tree_of left.now) relation (arith_tree_of right.now)) ≤ MAX_INSTRUCTIONS }
-    requires behind { length code.old + weight_of (relation_tree (arith_tree_of left.now) relation (arith_tree_of right.now)) ≤ no.old.by }
+    requires room { length code.old + weight_under known (relation_tree (arith_tree_of left.now) relation (arith_tree_of right.now)) ≤ MAX_INSTRUCTIONS }
+    requires behind { length code.old + weight_under known (relation_tree (arith_tree_of left.now) relation (arith_tree_of right.now)) ≤ no.old.by }
     ensures writes { IfOk result (λ sides. Writes (Tests (Holds known) (Holds sides.yes) (Holds sides.no) (truth_of (relation_tree (arith_tree_of left.now) relation (arith_tree_of right.now))))
-        (weight_of (relation_tree (arith_tree_of left.now) relation (arith_tree_of right.now))) code.old code.new yes.old yes.new no.old no.new) }
+        (weight_under known (relation_tree (arith_tree_of left.now) relation (arith_tree_of right.now))) code.old code.new yes.old yes.new no.old no.new) }
 {
     let used = Accesses::of_both(left, right);
     if known.excludes_guards(used) {

@@ -1,11 +1,14 @@
-use Rattle.std.proofs.Common.{arith}
+use Rattle.std.proofs.Common.{◌≤◌, arith, rules}
 use Rattle.backpatch.proofs.GuardLemmas.{Guards-landed, Guards-landed_no, Guards-writes}
-use Rattle.backpatch.proofs.WritesLemmas.{Writes-not, landable, landable_no}
+use Rattle.backpatch.proofs.WritesLemmas.{Writes-not, Writes-weight, landable, landable_no}
+use Rattle.filter_tree.specs.Measure.{weight_of}
 use Rattle.filter_tree.specs.Truth.{truth_of}
 use Rattle.filter_tree.specs.View.{tree_of}
 use Rattle.packet_facts.specs.Known.{Holds}
+use Rattle.filter_compile.specs.body.Weight.{weight_under}
 use Rattle.filter_compile.proofs.GuardLemmas.{Guards-writes_no}
 use Rattle.filter_compile.proofs.TestLemmas.{Tests-and, Tests-not, Tests-or}
+use Rattle.filter_compile.proofs.WeightLemmas.{weight_under-within}
 use Rattle.filter_compile.proofs.expression.+expression.Goals as goal
 
 pub expression-returns-in-Primitive : goal.expression-returns-in-Primitive
@@ -26,20 +29,28 @@ expression-returns-in-And g height c = record { writes = rw (c.in-And.is, ← c.
 pub expression-returns-in-Or : goal.expression-returns-in-Or
 expression-returns-in-Or g height c = record { writes = rw (c.in-Or.is, ← c.deref-in-Or.ensures, ← c.deref-in-Or-2.ensures) c.disjunction.ensures.writes }
 
+pub conjunction-expression-requires : goal.conjunction-expression-requires
+conjunction-expression-requires g height c κs within =
+    let few : weight_under c.in_ok-first.first.yes (tree_of c.args.right.now) ≤ weight_of (tree_of c.args.right.now) = weight_under-within c.in_ok-first.first.yes (tree_of c.args.right.now) in search rules
+
 pub conjunction-returns : goal.conjunction-returns
 conjunction-returns g height c =
     let left = tree_of c.args.left.now in let right = tree_of c.args.right.now in let first = c.in_ok-first.first in let second = c.in_ok-second.second in record {
       writes = Guards-writes
           (λ at_yes at_no mid words h k. Tests-and (Holds c.args.known) (Holds first.yes) (Holds second.yes) (Holds first.no) (Holds second.no) (Holds c.join.result) (truth_of left) (truth_of right) c.join.ensures.of_self c.join.ensures.of_other at_yes at_no mid words k h)
-          c.in_ok-first.ensures.guards c.in_ok-second.ensures.writes;
+          c.in_ok-first.ensures.guards (Writes-weight (weight_of right) (weight_under-within first.yes right) c.in_ok-second.ensures.writes);
     }
+
+pub disjunction-expression-requires : goal.disjunction-expression-requires
+disjunction-expression-requires g height c κs within =
+    let few : weight_under c.in_ok-first.first.no (tree_of c.args.right.now) ≤ weight_of (tree_of c.args.right.now) = weight_under-within c.in_ok-first.first.no (tree_of c.args.right.now) in search rules
 
 pub disjunction-returns : goal.disjunction-returns
 disjunction-returns g height c =
     let left = tree_of c.args.left.now in let right = tree_of c.args.right.now in let first = c.in_ok-first.first in let second = c.in_ok-second.second in record {
       writes = Guards-writes_no
           (λ at_yes at_no mid words h k. Tests-or (Holds c.args.known) (Holds first.no) (Holds second.no) (Holds first.yes) (Holds second.yes) (Holds c.join.result) (truth_of left) (truth_of right) c.join.ensures.of_self c.join.ensures.of_other at_yes at_no mid words k h)
-          c.in_ok-first.ensures.guards c.in_ok-second.ensures.writes;
+          c.in_ok-first.ensures.guards (Writes-weight (weight_of right) (weight_under-within first.no right) c.in_ok-second.ensures.writes);
     }
 
 pub left_of_and-land-requires-clause-open : goal.left_of_and-land-requires-clause-open

@@ -1,23 +1,24 @@
-use Rattle.std.proofs.Common.{arith, false, length, refl, subst, sym}
+use Rattle.std.proofs.Common.{◌+◌, arith, false, length, refl, subst, sym}
 use Rattle.std.proofs.lemmas.Result.{IfOk-weaker}
 use Rattle.backpatch.proofs.WritesLemmas.{Writes-not, Writes-weight}
 use Rattle.bpf_insn.specs.declared.instruction.Test.TheVariants as test_is
 use Rattle.bpf_machine.specs.Meaning.{holds}
 use Rattle.filter_tree.specs.declared.primitive.Primitive.TheVariants.{AtLeast, AtMost, Host, Net, Port, PortRange}
 use Rattle.filter_tree.specs.Outcome.{answer, opposite}
-use Rattle.filter_tree.specs.Measure.{weight_of_primitive}
 use Rattle.filter_tree.specs.Primitive.{is_ip, is_protocol, truth_of_primitive}
 use Rattle.packet_facts.specs.Known.{Holds}
 use Rattle.filter_compile.specs.body.Piece.{Decides}
+use Rattle.filter_compile.specs.body.Weight.{version_weight_under, weight_of_primitive_from}
 use Rattle.filter_compile.proofs.GuardLemmas.{Writes-decided, Writes-guarded, Writes-no}
-use Rattle.filter_compile.proofs.HeaderLemmas.{at_most, host_weight, net_weight, port_range_weight, port_weight, primitive_weight}
+use Rattle.filter_compile.proofs.HeaderLemmas.{at_most}
 use Rattle.filter_compile.proofs.TestLemmas.{Decides-not, Decides-same}
+use Rattle.filter_compile.proofs.WeightLemmas.{port_range_weight, port_weight, primitive_weight}
 use Rattle.filter_compile.proofs.primitive.primitive.Goals as goal
 
 pub returns-then-excludes : goal.returns-then-excludes
 returns-then-excludes g c = record {
   writes = IfOk-weaker c.settled.result _ _
-      (λ sides leaves. Writes-no c.args.known sides (truth_of_primitive c.args.primitive) (weight_of_primitive c.args.primitive) c.args.yes.now (primitive_weight c.args.primitive) (c.if-excludes.ensures.excluded refl) leaves) c.settled.ensures.leaves;
+      (λ sides leaves. Writes-no c.args.known sides (truth_of_primitive c.args.primitive) (weight_of_primitive_from (version_weight_under c.args.known) c.args.primitive) c.args.yes.now (primitive_weight (version_weight_under c.args.known) c.args.primitive) (c.if-excludes.ensures.excluded refl) leaves) c.settled.ensures.leaves;
 }
 
 pub returns-in-Ip : goal.returns-in-Ip
@@ -26,30 +27,31 @@ returns-in-Ip g c = record { writes = rw c.in-Ip.is c.version.ensures.writes }
 pub returns-in_ok-sides-in-Proto : goal.returns-in_ok-sides-in-Proto
 returns-in_ok-sides-in-Proto g c =
     let ip = c.in_ok-ip-in-Proto.ip in let sides = c.in_ok-sides-in-Proto.sides in record {
-      writes = rw c.in-Proto.is (Writes-guarded c.args.known ip.on sides.yes sides.no c.or_no.result ip.no is_ip (is_protocol c.in-Proto.n) 9 (omega arith) c.or_no.ensures.of_self c.or_no.ensures.of_no c.in_ok-ip-in-Proto.ensures.guards c.in_ok-sides-in-Proto.ensures.writes);
+      writes = rw c.in-Proto.is (Writes-guarded c.args.known ip.on sides.yes sides.no c.or_no.result ip.no is_ip (is_protocol c.in-Proto.n) (version_weight_under c.args.known + 4) (omega arith) c.or_no.ensures.of_self c.or_no.ensures.of_no c.in_ok-ip-in-Proto.ensures.guards c.in_ok-sides-in-Proto.ensures.writes);
     }
 
 pub returns-in-Host : goal.returns-in-Host
 returns-in-Host g c = record {
-  writes = rw c.in-Host.is (IfOk-weaker c.addresses.result _ _ (λ sides w. Writes-weight (weight_of_primitive (Host c.in-Host.direction c.in-Host.address)) (host_weight c.in-Host.direction) w) c.addresses.ensures.writes);
+  writes = rw c.in-Host.is (IfOk-weaker c.addresses.result _ _ (λ sides w. Writes-weight (weight_of_primitive_from (version_weight_under c.args.known) (Host c.in-Host.direction c.in-Host.address)) (omega arith) w) c.addresses.ensures.writes);
 }
 
 pub returns-in-Net : goal.returns-in-Net
 returns-in-Net g c = record {
-  writes = rw c.in-Net.is (IfOk-weaker c.addresses-in-Net.result _ _ (λ sides w. Writes-weight (weight_of_primitive (Net c.in-Net.direction c.in-Net.prefix)) (net_weight c.in-Net.direction) w) c.addresses-in-Net.ensures.writes);
+  writes = rw c.in-Net.is (IfOk-weaker c.addresses-in-Net.result _ _ (λ sides w. Writes-weight (weight_of_primitive_from (version_weight_under c.args.known) (Net c.in-Net.direction c.in-Net.prefix)) (omega arith) w) c.addresses-in-Net.ensures.writes);
 }
 
 pub returns-in-Port : goal.returns-in-Port
 returns-in-Port g c =
-    let n = c.in-Port.n in record {
-      writes = rw c.in-Port.is (IfOk-weaker c.ports.result _ _ (λ sides w. Writes-weight (weight_of_primitive (Port c.in-Port.transport c.in-Port.direction n)) (port_weight c.in-Port.transport c.in-Port.direction n n) w) c.ports.ensures.writes);
+    let n = c.in-Port.n in let v = version_weight_under c.args.known in record {
+      writes = rw c.in-Port.is (IfOk-weaker c.ports.result _ _
+          (λ sides w. Writes-weight (weight_of_primitive_from v (Port c.in-Port.transport c.in-Port.direction n)) (port_weight v c.in-Port.transport c.in-Port.direction n n) w) c.ports.ensures.writes);
     }
 
 pub returns-in-PortRange : goal.returns-in-PortRange
 returns-in-PortRange g c =
-    let n = c.in-PortRange.n in let m = c.in-PortRange.m in record {
+    let n = c.in-PortRange.n in let m = c.in-PortRange.m in let v = version_weight_under c.args.known in record {
       writes = rw c.in-PortRange.is (IfOk-weaker c.ports-in-PortRange.result _ _
-          (λ sides w. Writes-weight (weight_of_primitive (PortRange c.in-PortRange.transport c.in-PortRange.direction n m)) (port_range_weight c.in-PortRange.transport c.in-PortRange.direction n m n m) w) c.ports-in-PortRange.ensures.writes);
+          (λ sides w. Writes-weight (weight_of_primitive_from v (PortRange c.in-PortRange.transport c.in-PortRange.direction n m)) (port_range_weight v c.in-PortRange.transport c.in-PortRange.direction n m n m) w) c.ports-in-PortRange.ensures.writes);
     }
 
 pub returns-in_ok-bytes-in-AtMost : goal.returns-in_ok-bytes-in-AtMost
