@@ -5,3 +5,4 @@ pub mod Sides
 pub mod Arithmetic
 pub mod Program
 pub mod Weight
+pub mod Elsewhere

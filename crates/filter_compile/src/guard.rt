@@ -1,6 +1,6 @@
 //! Tests that come before others: each falls through where it holds, and is left out where it is known to.
 
-ghost use Rattle.std.specs.Prelude.{◌≡◌, ◌≢◌, ◌+◌, ◌≤◌, IfOk, OnOk, Some, false, length, true};
+ghost use Rattle.std.specs.Prelude.{◌≡◌, ◌≢◌, ◌+◌, ◌≤◌, IfOk, None, OnOk, Some, false, length, true};
 ghost use Rattle.ipv4_fields.specs.declared.header.Field.TheVariants.{Protocol};
 ghost use Rattle.ipv4_fields.specs.Field.{field_of};
 ghost use Rattle.bpf_verify.specs.declared.TheConstants.{MAX_INSTRUCTIONS};
@@ -11,6 +11,7 @@ ghost use Rattle.filter_tree.specs.Measure.{weight_where};
 ghost use Rattle.filter_tree.specs.Outcome.{tested, where_so};
 ghost use Rattle.filter_tree.specs.Primitive.{has_ports, is_first_fragment, is_ip, is_protocol};
 ghost use Rattle.packet_facts.specs.Known.{Holds, Settles};
+ghost use Rattle.packet_facts.specs.Told.{ip_of};
 ghost use Rattle.filter_compile.specs.body.Header.{weight_of_transport};
 ghost use Rattle.filter_compile.specs.body.Piece.{LoadsHeader, Tests};
 ghost use Rattle.filter_compile.specs.body.Sides.{HoldsWhere};
@@ -52,9 +53,10 @@ pub(crate) fn guard_ip<'a, A: Allocator>(
     ask_ip(code, known, no)
 }
 
-// Apart from what comes before it: else a guard that has nothing to write clears room for what this needs.
+/// Writes the test of the version. Apart from what comes before it: else a guard that has nothing to write clears room for
+/// what this needs.
 #[inline(never)]
-fn ask_ip<'a, A: Allocator>(
+pub(crate) fn ask_ip<'a, A: Allocator>(
     code: &mut Code<'a, A>,
     known: Known,
     no: &mut Exit<'a, A>,
@@ -62,6 +64,7 @@ fn ask_ip<'a, A: Allocator>(
     requires room { length code.old + 5 ≤ MAX_INSTRUCTIONS }
     requires behind { length code.old + 5 ≤ no.old.by }
     ensures guards { IfOk result (λ passed. Guards (Tests (Holds known) (Holds passed.on) (HoldsWhere passed.no) is_ip) 5 code.old code.new no.old no.new) }
+    ensures learned { IfOk result (λ passed. ip_of known ≡ None → ip_of passed.on ≡ Some true) }
 {
     let mut on = code.exit(code.len() + 5);
     is_ip(code, &mut on, no)?;

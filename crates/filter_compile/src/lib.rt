@@ -13,6 +13,7 @@ ghost use Rattle.filter_compile.specs.declared.fault.CompileFault.TheVariants.{C
 
 mod arithmetic;
 mod check;
+mod elsewhere;
 mod ends;
 mod expression;
 mod fault;

@@ -11,7 +11,6 @@ use Rattle.filter_tree.specs.declared.primitive.Transport.TheVariants.{Tcp, Udp,
 use Rattle.filter_tree.specs.declared.sides.Accesses.{Accesses}
 use Rattle.filter_tree.specs.declared.truth.Truth.{Truth}
 use Rattle.filter_tree.specs.declared.truth.Truth.TheVariants.{No, Yes}
-use Rattle.filter_tree.specs.Measure.{weight_of_guards}
 use Rattle.filter_tree.specs.Outcome.{answer, tested}
 use Rattle.filter_tree.specs.Primitive.{has_ports, is_first_fragment, is_ip, is_protocol}
 use Rattle.filter_tree.specs.Truth.{guards, used_by}
@@ -169,7 +168,3 @@ ip_by_fragment known told = ip_by_first known.header told
 pub guards-used_by : (used : Accesses) (other : DataProtocol → Bool) → used.ip ≡ other data_is.Ip → used.tcp ≡ other data_is.Tcp → used.udp ≡ other data_is.Udp → used.icmp ≡ other data_is.Icmp
     → (packet : List ℕ) → guards (used_by used) packet ≡ guards other packet
 guards-used_by used other ip tcp udp icmp packet = cc
-
-pub weight-used_by : (used : Accesses) (other : DataProtocol → Bool) → used.ip ≡ other data_is.Ip → used.tcp ≡ other data_is.Tcp → used.udp ≡ other data_is.Udp → used.icmp ≡ other data_is.Icmp
-    → weight_of_guards (used_by used) ≡ weight_of_guards other
-weight-used_by used other ip tcp udp icmp = cc

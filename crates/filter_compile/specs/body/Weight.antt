@@ -1,5 +1,5 @@
--- The most instructions of a part by what is known of the version where it begins: the test of the version that comes first
--- in it is not written where the version is known to be 4.
+-- The most instructions of a part by what is known where it begins: the test of the version that comes first in it is left out
+-- where the version is known to be 4.
 use Rattle.std.specs.Prelude.{◌+◌, Bool, None, Option, Some, false, true, ℕ}
 use Rattle.filter_tree.specs.declared.arithmetic.Protocol.{Protocol}
 use Rattle.filter_tree.specs.declared.arithmetic.Protocol.TheVariants.{Icmp, Tcp as TcpData, Udp as UdpData}
@@ -18,8 +18,8 @@ version_weight None = 5
 version_weight (Some false) = 5
 version_weight (Some true) = 0
 
--- the same of a primitive, a relation's guards and an expression, whose first test, where it is that of the version, takes v.
--- The primitive of the version alone takes as many wherever it stands: what is known of it is one jump
+-- the most instructions of a primitive, of a relation's guards and of an expression where the test of the version, if it comes
+-- first, takes v. The primitive `ip` counts whole: where it is known it is a jump still
 abbrev pub weight_of_primitive_from : ℕ → Primitive → ℕ
 weight_of_primitive_from v Ip = 5
 weight_of_primitive_from v (Proto n) = v + 4
@@ -50,7 +50,7 @@ weight_from v (negation tree) = weight_from v tree
 weight_from v (conjunction left right) = weight_from v left + weight_of right
 weight_from v (disjunction left right) = weight_from v left + weight_of right
 
--- the same where this is known
+-- the same by what is known
 abbrev pub version_weight_under : Known → ℕ
 version_weight_under known = version_weight (ip_of known)
 

@@ -26,7 +26,7 @@ struct Row {
     steps: u32,
 }
 
-const ROWS: [Row; 7] = [
+const ROWS: [Row; 11] = [
     Row {
         text: "ip",
         charge: 7,
@@ -79,10 +79,42 @@ const ROWS: [Row; 7] = [
         text: "(src host 10.0.0.1 or src host 10.0.0.7 or src net 192.168.0.0/16) and udp \
                and (dst port 53 or dst portrange 9000-9100) and not (less 29 or greater 1400)",
         charge: 98,
-        instructions: 35,
+        instructions: 29,
         far_jumps: 0,
         packet: &LONGER_PACKET,
         steps: 17,
+    },
+    Row {
+        text: "tcp or udp",
+        charge: 20,
+        instructions: 9,
+        far_jumps: 0,
+        packet: &SAMPLE_PACKET,
+        steps: 8,
+    },
+    Row {
+        text: "src host 10.0.0.7 or src host 10.0.0.9 or src host 10.0.0.1",
+        charge: 29,
+        instructions: 11,
+        far_jumps: 0,
+        packet: &SAMPLE_PACKET,
+        steps: 10,
+    },
+    Row {
+        text: "not tcp and not icmp and port 53",
+        charge: 48,
+        instructions: 20,
+        far_jumps: 0,
+        packet: &SAMPLE_PACKET,
+        steps: 18,
+    },
+    Row {
+        text: "port 80 or port 443 or port 53",
+        charge: 86,
+        instructions: 38,
+        far_jumps: 0,
+        packet: &SAMPLE_PACKET,
+        steps: 34,
     },
 ];
 

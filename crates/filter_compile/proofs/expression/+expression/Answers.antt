@@ -1,4 +1,4 @@
-use Rattle.std.proofs.Common.{◌≤◌, arith, rules}
+use Rattle.std.proofs.Common.{◌≡◌, ◌∙◌, ◌+◌, ◌≤◌, Some, ap, arith, false, rules, true}
 use Rattle.backpatch.proofs.GuardLemmas.{Guards-landed, Guards-landed_no, Guards-writes}
 use Rattle.backpatch.proofs.WritesLemmas.{Writes-not, Writes-weight, landable, landable_no}
 use Rattle.filter_tree.specs.Measure.{weight_of}
@@ -6,28 +6,76 @@ use Rattle.filter_tree.specs.Truth.{truth_of}
 use Rattle.filter_tree.specs.View.{tree_of}
 use Rattle.packet_facts.specs.Known.{Holds}
 use Rattle.filter_compile.specs.body.Weight.{weight_under}
+use Rattle.filter_compile.proofs.ElsewhereLemmas.{Writes-no_elsewhere, Writes-yes_elsewhere, settled, unknown_weight, version_room}
 use Rattle.filter_compile.proofs.GuardLemmas.{Guards-writes_no}
 use Rattle.filter_compile.proofs.TestLemmas.{Tests-and, Tests-not, Tests-or}
 use Rattle.filter_compile.proofs.WeightLemmas.{weight_under-within}
 use Rattle.filter_compile.proofs.expression.+expression.Goals as goal
 
-pub expression-returns-in-Primitive : goal.expression-returns-in-Primitive
-expression-returns-in-Primitive g height c = record { writes = rw c.in-Primitive.is c.primitive.ensures.writes }
+pub expression-behind_version-requires : goal.expression-behind_version-requires
+expression-behind_version-requires g height c κs within =
+    let whole : weight_under c.args.known (tree_of c.args.expr.now) ≡ weight_of (tree_of c.args.expr.now) = unknown_weight c.args.known (tree_of c.args.expr.now) c.in-Some.ensures.unknown in search rules
 
-pub expression-returns-in-Relation : goal.expression-returns-in-Relation
-expression-returns-in-Relation g height c = record { writes = rw c.in-Relation.is c.relation.ensures.writes }
+pub expression-returns-in-Some : goal.expression-returns-in-Some
+expression-returns-in-Some g height c = record { writes = rw (unknown_weight c.args.known (tree_of c.args.expr.now) c.in-Some.ensures.unknown) c.behind_version.ensures.writes }
 
-pub expression-returns-in_ok-sides-in-Not : goal.expression-returns-in_ok-sides-in-Not
-expression-returns-in_ok-sides-in-Not g height c =
+-- ---- behind the test of the version
+
+pub behind_version-ask_ip-requires-clause-room : goal.behind_version-ask_ip-requires-clause-room
+behind_version-ask_ip-requires-clause-room g height c = let saved = (settled (tree_of c.args.expr.now) c.args.truth c.requires.settled c.requires.begins).saved in omega arith
+
+pub behind_version-ask_ip-requires-clause-behind : goal.behind_version-ask_ip-requires-clause-behind
+behind_version-ask_ip-requires-clause-behind g height c = let saved = (settled (tree_of c.args.expr.now) c.args.truth c.requires.settled c.requires.begins).saved in omega arith
+
+pub behind_version-ask_ip-requires-2-clause-room : goal.behind_version-ask_ip-requires-2-clause-room
+behind_version-ask_ip-requires-2-clause-room g height c = let saved = (settled (tree_of c.args.expr.now) c.args.truth c.requires.settled c.requires.begins).saved in omega arith
+
+pub behind_version-ask_ip-requires-2-clause-behind : goal.behind_version-ask_ip-requires-2-clause-behind
+behind_version-ask_ip-requires-2-clause-behind g height c = let saved = (settled (tree_of c.args.expr.now) c.args.truth c.requires.settled c.requires.begins).saved in omega arith
+
+pub behind_version-parts-requires : goal.behind_version-parts-requires
+behind_version-parts-requires g height c κs within =
+    let tree = tree_of c.args.expr.now in let on = c.in_ok-ip.ip.on in
+    let few : 5 + weight_under on tree ≤ weight_of tree = version_room tree on (c.in_ok-ip.ensures.learned c.requires.unknown) c.args.truth (settled tree c.args.truth c.requires.settled c.requires.begins) in search rules
+
+pub behind_version-parts-requires-2 : goal.behind_version-parts-requires-2
+behind_version-parts-requires-2 g height c κs within =
+    let tree = tree_of c.args.expr.now in let on = c.in_ok-ip-2.ip.on in
+    let few : 5 + weight_under on tree ≤ weight_of tree = version_room tree on (c.in_ok-ip-2.ensures.learned c.requires.unknown) c.args.truth (settled tree c.args.truth c.requires.settled c.requires.begins) in search rules
+
+pub behind_version-returns-then-truth : goal.behind_version-returns-then-truth
+behind_version-returns-then-truth g height c =
+    let tree = tree_of c.args.expr.now in let ip = c.in_ok-ip.ip in let sides = c.in_ok-sides.sides in record {
+      writes = Writes-yes_elsewhere tree c.args.known ip.on ip.no (c.in_ok-ip.ensures.learned c.requires.unknown) sides.yes c.or_no.result sides.no (settled tree true (c.requires.settled ∙ ap Some c.if-truth.true) c.requires.begins) c.or_no.ensures.of_self c.or_no.ensures.of_no
+          c.in_ok-ip.ensures.guards c.in_ok-sides.ensures.writes;
+    }
+
+pub behind_version-returns : goal.behind_version-returns
+behind_version-returns g height c =
+    let tree = tree_of c.args.expr.now in let ip = c.in_ok-ip-2.ip in let sides = c.in_ok-sides-2.sides in record {
+      writes = Writes-no_elsewhere tree c.args.known ip.on ip.no (c.in_ok-ip-2.ensures.learned c.requires.unknown) sides.yes sides.no c.or_no-2.result (settled tree false (c.requires.settled ∙ ap Some c.if-truth.false) c.requires.begins) c.or_no-2.ensures.of_self c.or_no-2.ensures.of_no
+          c.in_ok-ip-2.ensures.guards c.in_ok-sides-2.ensures.writes;
+    }
+
+-- ---- the parts
+
+pub parts-returns-in-Primitive : goal.parts-returns-in-Primitive
+parts-returns-in-Primitive g height c = record { writes = rw c.in-Primitive.is c.primitive.ensures.writes }
+
+pub parts-returns-in-Relation : goal.parts-returns-in-Relation
+parts-returns-in-Relation g height c = record { writes = rw c.in-Relation.is c.relation.ensures.writes }
+
+pub parts-returns-in_ok-sides-in-Not : goal.parts-returns-in_ok-sides-in-Not
+parts-returns-in_ok-sides-in-Not g height c =
     let inner = tree_of c.deref.result.now in let known = c.args.known in let sides = c.in_ok-sides-in-Not.sides in record {
       writes = rw (c.in-Not.is, ← c.deref.ensures) (Writes-not (λ at_yes at_no words h. Tests-not (Holds known) (Holds sides.no) (Holds sides.yes) (truth_of inner) at_yes at_no words h) c.in_ok-sides-in-Not.ensures.writes);
     }
 
-pub expression-returns-in-And : goal.expression-returns-in-And
-expression-returns-in-And g height c = record { writes = rw (c.in-And.is, ← c.deref-in-And.ensures, ← c.deref-in-And-2.ensures) c.conjunction.ensures.writes }
+pub parts-returns-in-And : goal.parts-returns-in-And
+parts-returns-in-And g height c = record { writes = rw (c.in-And.is, ← c.deref-in-And.ensures, ← c.deref-in-And-2.ensures) c.conjunction.ensures.writes }
 
-pub expression-returns-in-Or : goal.expression-returns-in-Or
-expression-returns-in-Or g height c = record { writes = rw (c.in-Or.is, ← c.deref-in-Or.ensures, ← c.deref-in-Or-2.ensures) c.disjunction.ensures.writes }
+pub parts-returns-in-Or : goal.parts-returns-in-Or
+parts-returns-in-Or g height c = record { writes = rw (c.in-Or.is, ← c.deref-in-Or.ensures, ← c.deref-in-Or-2.ensures) c.disjunction.ensures.writes }
 
 pub conjunction-expression-requires : goal.conjunction-expression-requires
 conjunction-expression-requires g height c κs within =

@@ -4,16 +4,22 @@ use Rattle.filter_tree.specs.declared.expression.Expr.{size-Expr}
 use Rattle.filter_compile.proofs.expression.+expression.Given as goal
 
 abbrev pub decreases-expression : goal.decreases-expression
-decreases-expression g l = 3 * size-Expr _ l.expr.now
+decreases-expression g l = 5 * size-Expr _ l.expr.now + 2
+
+abbrev pub decreases-behind_version : goal.decreases-behind_version
+decreases-behind_version g l = 5 * size-Expr _ l.expr.now + 1
+
+abbrev pub decreases-parts : goal.decreases-parts
+decreases-parts g l = 5 * size-Expr _ l.expr.now
 
 abbrev pub decreases-conjunction : goal.decreases-conjunction
-decreases-conjunction g l = 3 * max (size-Expr _ l.left.now) (size-Expr _ l.right.now) + 2
+decreases-conjunction g l = 5 * max (size-Expr _ l.left.now) (size-Expr _ l.right.now) + 4
 
 abbrev pub decreases-disjunction : goal.decreases-disjunction
-decreases-disjunction g l = 3 * max (size-Expr _ l.left.now) (size-Expr _ l.right.now) + 2
+decreases-disjunction g l = 5 * max (size-Expr _ l.left.now) (size-Expr _ l.right.now) + 4
 
 abbrev pub decreases-left_of_and : goal.decreases-left_of_and
-decreases-left_of_and g l = 3 * size-Expr _ l.left.now + 1
+decreases-left_of_and g l = 5 * size-Expr _ l.left.now + 3
 
 abbrev pub decreases-left_of_or : goal.decreases-left_of_or
-decreases-left_of_or g l = 3 * size-Expr _ l.left.now + 1
+decreases-left_of_or g l = 5 * size-Expr _ l.left.now + 3

@@ -1,0 +1,8 @@
+use Rattle.std.proofs.Common.{rules}
+use Rattle.filter_compile.proofs.elsewhere.+elsewhere.Goals as goal
+
+pub returns-in-Not : goal.returns-in-Not
+returns-in-Not g height c = search rules
+
+pub returns-in-Some-false : goal.returns-in-Some-false
+returns-in-Some-false g height c = search rules
