@@ -68,8 +68,17 @@ fn begins_with_ip<B: Allocator>(expr: &Expr<B>) -> bool
     }
 }
 
-/// Tells where the test of the version may stand before an expression: what that says of the packets that are not of IPv4.
-/// `None` where it does not begin with such a test, does not say the same of all of them, or the version is known.
+// A primitive and a relation test the version once, as they are.
+fn has_parts<B: Allocator>(expr: &Expr<B>) -> bool {
+    match expr {
+        Expr::Primitive(_) => false,
+        Expr::Relation(_, _, _) => false,
+        _ => true,
+    }
+}
+
+/// Tells where the test of the version is to stand before an expression of several parts: what that says of packets that are
+/// not of IPv4. `None` where it does not begin with such a test, need not say the same of all of them, or the version is known.
 pub(crate) fn settled_elsewhere<B: Allocator>(expr: &Expr<B>, known: Known) -> Option<bool>
     ensures settled { IfSome result (λ truth. elsewhere (tree_of expr.now) ≡ Some truth) }
     ensures begins { IfSome result (λ truth. begins_with_ip (tree_of expr.now) ≡ false) }
@@ -78,5 +87,9 @@ pub(crate) fn settled_elsewhere<B: Allocator>(expr: &Expr<B>, known: Known) -> O
     if known.ip().is_some() || begins_with_ip(expr) {
         return None;
     }
-    elsewhere(expr)
+    if has_parts(expr) {
+        elsewhere(expr)
+    } else {
+        None
+    }
 }

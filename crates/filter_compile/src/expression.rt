@@ -63,7 +63,9 @@ pub(crate) fn expression<'a, A: Allocator, B: Allocator>(
     }
 }
 
-// Writes the test of the version, and the expression behind it. `truth` is what that says of packets that are not of IPv4.
+// Writes the test of the version, and the expression behind it. `truth` is what that says of packets that are not of IPv4. Apart
+// from the recursion: it comes once on a way down the tree.
+#[inline(never)]
 #[cycle(expression)]
 fn behind_version<'a, A: Allocator, B: Allocator>(
     code: &mut Code<'a, A>,
