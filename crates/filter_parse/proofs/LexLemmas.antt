@@ -152,7 +152,7 @@ all-prefix p q same (c ∷ ds) h =
     let both = and-parts (p c) (list_all p ds) h in
     ap (λ t. cond t (1 + prefix_len q ds) 0) (same c both.0) ∙ ap (λ n. 1 + n) (all-prefix p q same ds both.1) ∙ omega arith
 
-none-any : (p q : ℕ → Bool) → ((c : ℕ) → p c ≡ true → q c ≡ false) → (ds : List ℕ) → list_all p ds ≡ true → list_any q ds ≡ false
+pub none-any : (p q : ℕ → Bool) → ((c : ℕ) → p c ≡ true → q c ≡ false) → (ds : List ℕ) → list_all p ds ≡ true → list_any q ds ≡ false
 none-any p q differ [] h = refl
 none-any p q differ (c ∷ ds) h =
     let both = and-parts (p c) (list_all p ds) h in

@@ -11,6 +11,7 @@ mod PostfixLemmas
 mod TakenLemmas
 mod ParseLemmas
 mod LexLemmas
+mod NumberLemmas
 mod PrintedLemmas
 mod AddressLemmas
 mod FaultlessLemmas

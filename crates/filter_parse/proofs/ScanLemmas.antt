@@ -116,7 +116,7 @@ run-all-at part c text true e all =
     ∙ ap (λ t. t && list_all part (take (prefix_len part text) text)) e ∙ all
 run-all-at part c text false e all = ap (λ t. list_all part (take (cond t (1 + prefix_len part text) 0) (c ∷ text))) e
 
-run-all : (part : ℕ → Bool) (text : List ℕ) → list_all part (take (prefix_len part text) text) ≡ true
+pub run-all : (part : ℕ → Bool) (text : List ℕ) → list_all part (take (prefix_len part text) text) ≡ true
 run-all part [] = refl
 run-all part (c ∷ text) = run-all-at part c text (part c) refl (run-all part text)
 

@@ -42,7 +42,7 @@ tokens_from-blank text place c rest here blank =
 abbrev pub rest_of : List ℕ → ℕ → List ℕ
 rest_of text place = take (length text - place) (drop place text)
 
-rest_of-drop : (text : List ℕ) (place : ℕ) → rest_of text place ≡ drop place text
+pub rest_of-drop : (text : List ℕ) (place : ℕ) → rest_of text place ≡ drop place text
 rest_of-drop text place = take_all (length text - place) (drop place text) (simp length-drop (omega arith))
 
 cons-drop : (s : List ℕ) → 0 < length s → s ≡ get_or s 0 0 ∷ rest_of s 1

@@ -3,3 +3,4 @@ pub mod Parser
 pub mod Postfix
 pub mod Stack
 pub mod Scan
+pub mod Number

@@ -1,15 +1,43 @@
 //! The tree of an expression in postfix order: its last part is taken first, and then the parts that this one stands over.
 
-ghost use Rattle.std.specs.Prelude.{◌≡◌, ◌<◌, IfOk, OnOk, length};
+ghost use Rattle.std.specs.Prelude.{◌≡◌, ◌<◌, ◌∷◌, IfOk, MatchOption, OnOk, length, reverse};
 ghost use Rattle.filter_tree.specs.View.{arith_tree_of, tree_of};
-ghost use Rattle.filter_parse.specs.body.Stack.{from_top};
+ghost use Rattle.filter_parse.specs.declared.item.Item.TheVariants.{Number};
+ghost use Rattle.filter_parse.specs.body.Stack.{below_top, top_of};
 ghost use Rattle.filter_parse.specs.body.Postfix.{HasArithmetic, HasTree, arith_parts, tree_parts};
 
 use crate::OutOfMemory;
 use crate::item::Item;
-use crate::stack::Stack;
 use filter_tree::{Arith, Expr, Primitive};
 use std::alloc::Allocator;
+
+fn take_last(parts: &mut &[Item]) -> Option<Item>
+    ensures top { result ≡ top_of (reverse parts.old.now) }
+    ensures below { reverse parts.new.now ≡ below_top (reverse parts.old.now) }
+{
+    match parts.split_last() {
+        Some((last, others)) => {
+            *parts = others;
+            Some(*last)
+        }
+        None => None,
+    }
+}
+
+// Takes the last part where it is a number.
+fn take_number(parts: &mut &[Item]) -> Option<u32>
+    ensures { MatchOption result
+        (parts.new.now ≡ parts.old.now)
+        (λ n. reverse parts.old.now ≡ Number n ∷ reverse parts.new.now) }
+{
+    match parts.split_last() {
+        Some((Item::Number(n), others)) => {
+            *parts = others;
+            Some(*n)
+        }
+        _ => None,
+    }
+}
 
 // Each part is made where it is to stand: else each turn of the recursions clears room for the whole parts that they answer.
 
@@ -40,30 +68,33 @@ fn put<A: Allocator>(to: &mut Expr<A>, made: Expr<A>)
 }
 
 #[cycle(arithmetic)]
-fn operand<'a, A: Allocator + Clone>(
-    alloc: &'a A,
-    parts: &mut Stack<'a, Item, A>,
+fn operand<A: Allocator + Clone>(
+    alloc: &A,
+    parts: &mut &[Item],
 ) -> Result<Box<Arith<A>, A>, OutOfMemory>
-    requires { HasArithmetic (from_top parts.old) }
-    ensures taken { IfOk result (λ made. from_top parts.old ≡ arith_parts (arith_tree_of made.value) (from_top parts.new)) }
-    ensures fewer { OnOk result (length (from_top parts.new) < length (from_top parts.old)) }
+    requires { HasArithmetic (reverse parts.old.now) }
+    ensures taken { IfOk result (λ made. reverse parts.old.now ≡ arith_parts (arith_tree_of made.value) (reverse parts.new.now)) }
+    ensures fewer { OnOk result (length (reverse parts.new.now) < length (reverse parts.old.now)) }
 {
+    if let Some(n) = take_number(parts) {
+        return Ok(Box::new(alloc.clone()?, Arith::Number(n))?);
+    }
     let mut made = arithmetic_place(alloc)?;
     arithmetic(alloc, parts, &mut made)?;
     Ok(made)
 }
 
 #[cycle(arithmetic)]
-fn arithmetic<'a, A: Allocator + Clone>(
-    alloc: &'a A,
-    parts: &mut Stack<'a, Item, A>,
+fn arithmetic<A: Allocator + Clone>(
+    alloc: &A,
+    parts: &mut &[Item],
     to: &mut Arith<A>,
 ) -> Result<(), OutOfMemory>
-    requires { HasArithmetic (from_top parts.old) }
-    ensures taken { OnOk result (from_top parts.old ≡ arith_parts (arith_tree_of to.new) (from_top parts.new)) }
-    ensures fewer { OnOk result (length (from_top parts.new) < length (from_top parts.old)) }
+    requires { HasArithmetic (reverse parts.old.now) }
+    ensures taken { OnOk result (reverse parts.old.now ≡ arith_parts (arith_tree_of to.new) (reverse parts.new.now)) }
+    ensures fewer { OnOk result (length (reverse parts.new.now) < length (reverse parts.old.now)) }
 {
-    match parts.pop() {
+    match take_last(parts) {
         Some(Item::Number(n)) => {
             put_arithmetic(to, Arith::Number(n));
             Ok(())
@@ -92,14 +123,32 @@ fn arithmetic<'a, A: Allocator + Clone>(
     }
 }
 
+// A side of a relation: mostly a number, which is made without a call.
+#[inline(always)]
+fn side<A: Allocator + Clone>(
+    alloc: &A,
+    parts: &mut &[Item],
+    to: &mut Arith<A>,
+) -> Result<(), OutOfMemory>
+    requires { HasArithmetic (reverse parts.old.now) }
+    ensures taken { OnOk result (reverse parts.old.now ≡ arith_parts (arith_tree_of to.new) (reverse parts.new.now)) }
+    ensures fewer { OnOk result (length (reverse parts.new.now) < length (reverse parts.old.now)) }
+{
+    if let Some(n) = take_number(parts) {
+        put_arithmetic(to, Arith::Number(n));
+        return Ok(());
+    }
+    arithmetic(alloc, parts, to)
+}
+
 #[cycle(build)]
-fn part<'a, A: Allocator + Clone>(
-    alloc: &'a A,
-    parts: &mut Stack<'a, Item, A>,
+fn part<A: Allocator + Clone>(
+    alloc: &A,
+    parts: &mut &[Item],
 ) -> Result<Box<Expr<A>, A>, OutOfMemory>
-    requires { HasTree (from_top parts.old) }
-    ensures taken { IfOk result (λ made. from_top parts.old ≡ tree_parts (tree_of made.value) (from_top parts.new)) }
-    ensures fewer { OnOk result (length (from_top parts.new) < length (from_top parts.old)) }
+    requires { HasTree (reverse parts.old.now) }
+    ensures taken { IfOk result (λ made. reverse parts.old.now ≡ tree_parts (tree_of made.value) (reverse parts.new.now)) }
+    ensures fewer { OnOk result (length (reverse parts.new.now) < length (reverse parts.old.now)) }
 {
     let mut made = place(alloc)?;
     build(alloc, parts, &mut made)?;
@@ -108,25 +157,25 @@ fn part<'a, A: Allocator + Clone>(
 
 /// Takes the last tree from some parts, and puts it to its place.
 #[cycle(build)]
-pub(crate) fn build<'a, A: Allocator + Clone>(
-    alloc: &'a A,
-    parts: &mut Stack<'a, Item, A>,
+pub(crate) fn build<A: Allocator + Clone>(
+    alloc: &A,
+    parts: &mut &[Item],
     to: &mut Expr<A>,
 ) -> Result<(), OutOfMemory>
-    requires { HasTree (from_top parts.old) }
-    ensures taken { OnOk result (from_top parts.old ≡ tree_parts (tree_of to.new) (from_top parts.new)) }
-    ensures fewer { OnOk result (length (from_top parts.new) < length (from_top parts.old)) }
+    requires { HasTree (reverse parts.old.now) }
+    ensures taken { OnOk result (reverse parts.old.now ≡ tree_parts (tree_of to.new) (reverse parts.new.now)) }
+    ensures fewer { OnOk result (length (reverse parts.new.now) < length (reverse parts.old.now)) }
 {
-    match parts.pop() {
+    match take_last(parts) {
         Some(Item::Primitive(primitive)) => {
             put(to, Expr::Primitive(primitive));
             Ok(())
         }
         Some(Item::Relate(relator)) => {
             let mut right = Arith::Length;
-            arithmetic(alloc, parts, &mut right)?;
+            side(alloc, parts, &mut right)?;
             let mut left = Arith::Length;
-            arithmetic(alloc, parts, &mut left)?;
+            side(alloc, parts, &mut left)?;
             put(to, Expr::Relation(left, relator, right));
             Ok(())
         }

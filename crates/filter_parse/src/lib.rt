@@ -76,11 +76,12 @@ fn read_tree<'a, A: Allocator + Clone>(
     ensures every_tree { (tree : Tree) → HasTree text.now tree → IfErr result (λ fault. fault ≡ ParseFault.OutOfMemory) }
 {
     parser.read(text)?;
-    if is_too_deep(alloc, parser.output.entries())? {
+    let mut parts = parser.output.entries();
+    if is_too_deep(alloc, parts)? {
         return Err(ParseFault::TooDeep { at: text.len() });
     }
     let mut tree = Expr::Primitive(Primitive::Ip);
-    build(alloc, &mut parser.output, &mut tree)?;
+    build(alloc, &mut parts, &mut tree)?;
     Ok(tree)
 }
 

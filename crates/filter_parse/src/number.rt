@@ -7,31 +7,25 @@ ghost use Rattle.filter_parse.specs.Token.{address_of, capped, first_dot, first_
 
 use crate::token::{TOO_BIG, Token};
 
-const DECIMAL: u64 = 10;
+pub(crate) const DECIMAL: u64 = 10;
 
 const HEXADECIMAL: u64 = 16;
 
 fn digit_value(c: u8) -> u64
     ensures { result ≡ digit_value c }
 {
-    if c < 48 {
-        36
-    } else if c < 58 {
+    if c.is_ascii_digit() {
         u64::from(c - 48)
-    } else if c < 65 {
-        36
-    } else if c < 91 {
-        u64::from(c - 55)
-    } else if c < 97 {
-        36
-    } else if c < 123 {
+    } else if c.is_ascii_lowercase() {
         u64::from(c - 87)
+    } else if c.is_ascii_uppercase() {
+        u64::from(c - 55)
     } else {
         36
     }
 }
 
-fn value_of(base: u64, digits: &[u8]) -> u64
+pub(crate) fn value_of(base: u64, digits: &[u8]) -> u64
     requires more { 1 ≤ base }
     requires small { base ≤ 16 }
     ensures { result ≡ capped (value_of base digits.now) }

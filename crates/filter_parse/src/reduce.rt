@@ -81,7 +81,24 @@ impl<'a, A: Allocator> Parser<'a, A> {
     }
 }
 
+// Mostly there is none to reduce, which is told without a call.
+#[inline(always)]
 fn reduce_operators<'a, A: Allocator>(
+    stack: &mut Stack<'a, Pending, A>,
+    output: &mut Stack<'a, Item, A>,
+    precedence: u32,
+) -> Result<(), OutOfMemory>
+    ensures { OnOk result
+        (parsing Number (from_top stack.new) output.new.entries.items ≡ reduced_operators precedence (from_top stack.old) output.old.entries.items) }
+{
+    if reducible(stack, precedence).is_none() {
+        return Ok(());
+    }
+    reduce_each_operator(stack, output, precedence)
+}
+
+#[inline(never)]
+fn reduce_each_operator<'a, A: Allocator>(
     stack: &mut Stack<'a, Pending, A>,
     output: &mut Stack<'a, Item, A>,
     precedence: u32,

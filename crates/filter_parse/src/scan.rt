@@ -1,11 +1,13 @@
 //! Taking a text apart into its tokens (docs/EXPRESSIONS.md, "Tokens").
 
 ghost use Rattle.std.specs.Prelude.{◌≡◌, ◌≤◌, ◌+◌, ◌∷◌, ◌<◌, IfSome, MatchOption, [], drop, length};
+ghost use Rattle.std.specs.Char.{is_ascii_digit};
 ghost use Rattle.std.specs.List.{prefix_len};
 ghost use Rattle.filter_parse.specs.Token.{begins_word, is_blank, is_number_part, is_word_part};
+ghost use Rattle.filter_parse.specs.body.Number.{ends_number, is_plain, number_lexeme};
 ghost use Rattle.filter_parse.specs.body.Scan.{lexeme, sign_lexeme, tokens_from};
 
-use crate::number::number_or_address;
+use crate::number::{DECIMAL, number_or_address, value_of};
 use crate::sign::{pair_sign, sign, word_token};
 use crate::token::{Lexeme, Token};
 
@@ -55,6 +57,64 @@ fn number_len(text: &[u8]) -> usize
     text.iter().take_while(|c| is_number_part(**c)).count()
 }
 
+fn digits_len(text: &[u8]) -> usize
+    ensures len { result ≡ prefix_len is_ascii_digit text.now }
+    ensures within { result ≤ length text.now }
+{
+    text.iter().take_while(|c| c.is_ascii_digit()).count()
+}
+
+// Tests whether digits have no leading zero, but for `0` alone.
+fn is_plain(digits: &[u8]) -> bool
+    ensures { result ≡ is_plain digits.now }
+{
+    match digits {
+        [] => false,
+        [_] => true,
+        [first, ..] => *first > b'0',
+    }
+}
+
+fn ends_number(rest: &[u8]) -> bool
+    ensures { result ≡ ends_number rest.now }
+{
+    match rest {
+        [] => true,
+        [c, ..] => !is_number_part(*c),
+    }
+}
+
+fn number_lexeme(text: &[u8]) -> Lexeme
+    ensures exact { result ≡ number_lexeme text.now }
+    ensures len { result.len ≡ prefix_len is_number_part text.now }
+    ensures within { result.len ≤ length text.now }
+{
+    let len = digits_len(text);
+    let digits = &text[..len];
+    if is_plain(digits) && ends_number(&text[len..]) {
+        let n = value_of(DECIMAL, digits);
+        return Lexeme {
+            token: Token::Number(n),
+            len,
+        };
+    }
+    other_number_lexeme(text)
+}
+
+// An address, a hexadecimal number, or one that is misspelt.
+#[inline(never)]
+fn other_number_lexeme(text: &[u8]) -> Lexeme
+    ensures exact { result ≡ number_lexeme text.now }
+    ensures len { result.len ≡ prefix_len is_number_part text.now }
+    ensures within { result.len ≤ length text.now }
+{
+    let len = number_len(text);
+    Lexeme {
+        token: number_or_address(&text[..len]),
+        len,
+    }
+}
+
 fn sign_lexeme(c: u8, rest: &[u8]) -> Lexeme
     ensures exact { result ≡ sign_lexeme c rest.now }
     ensures some { 1 ≤ result.len }
@@ -84,11 +144,7 @@ fn lexeme(text: &[u8], c: u8, rest: &[u8]) -> Lexeme
             len,
         }
     } else if c.is_ascii_digit() {
-        let len = number_len(text);
-        Lexeme {
-            token: number_or_address(&text[..len]),
-            len,
-        }
+        number_lexeme(text)
     } else {
         sign_lexeme(c, rest)
     }

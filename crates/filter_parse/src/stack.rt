@@ -26,6 +26,20 @@ impl<'a, T: Copy + Default + Drop, A: Allocator> Stack<'a, T, A> {
         ensures top { OnOk result (from_top self.new ≡ entry ∷ from_top self.old) }
         ensures last { OnOk result (self.new.entries.items ≡ self.old.entries.items ++ entry ∷ []) }
     {
+        if self.entries.len() < self.entries.capacity() {
+            self.entries.push_reserved(entry);
+            return Ok(());
+        }
+        self.grow_and_push(entry)
+    }
+
+    // A call of its own, for which the push that finds room saves no registers.
+    #[cold]
+    #[inline(never)]
+    fn grow_and_push(&mut self, entry: T) -> Result<(), OutOfMemory>
+        ensures top { OnOk result (from_top self.new ≡ entry ∷ from_top self.old) }
+        ensures last { OnOk result (self.new.entries.items ≡ self.old.entries.items ++ entry ∷ []) }
+    {
         self.entries.push(entry)?;
         Ok(())
     }

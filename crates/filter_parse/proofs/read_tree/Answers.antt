@@ -1,8 +1,7 @@
-use Rattle.std.proofs.Common.{arith, inl, inr, length, rules}
+use Rattle.std.proofs.Common.{◌∙◌, ap, arith, inl, inr, length, reverse, rules, sym}
 use Rattle.std.proofs.lemmas.Result.{err_from_is_err_and}
 use Rattle.filter_tree.specs.View.{tree_of}
 use Rattle.filter_parse.specs.declared.fault.ParseFault.TheVariants.{TooDeep}
-use Rattle.filter_parse.specs.body.Stack.{from_top}
 use Rattle.filter_parse.proofs.ParseLemmas.{deep-says, fault-says, parts-tree, tree-or-fault, tree-says}
 use Rattle.filter_parse.proofs.read_tree.Goals as goal
 
@@ -21,20 +20,20 @@ returns-in_err-read-clause-every_tree g c = λ tree t.
 
 pub returns-then-branch-clause-fault : goal.returns-then-branch-clause-fault
 returns-then-branch-clause-fault g c =
-    inr (deep-says c.args.text.now c.read.new.self.output.entries.items c.entries.result.now c.in_ok-read.ensures c.entries.ensures (c.in_ok-is_too_deep.ensures.deep c.if-branch.true))
+    inr (deep-says c.args.text.now c.read.new.self.output.entries.items c.entries-parts.result.now c.in_ok-read.ensures c.entries-parts.ensures (c.in_ok-is_too_deep.ensures.deep c.if-branch.true))
 
 pub returns-then-branch-clause-every_tree : goal.returns-then-branch-clause-every_tree
 returns-then-branch-clause-every_tree g c = λ tree t.
     absurd (tree-or-fault c.args.text.now tree (TooDeep (length c.args.text.now)) t
-    (deep-says c.args.text.now c.read.new.self.output.entries.items c.entries.result.now c.in_ok-read.ensures c.entries.ensures (c.in_ok-is_too_deep.ensures.deep c.if-branch.true)))
+    (deep-says c.args.text.now c.read.new.self.output.entries.items c.entries-parts.result.now c.in_ok-read.ensures c.entries-parts.ensures (c.in_ok-is_too_deep.ensures.deep c.if-branch.true)))
 
 pub build-requires : goal.build-requires
-build-requires g c = (omega arith, parts-tree c.args.text.now c.read.new.self.output.entries.items c.in_ok-read.ensures)
+build-requires g c = (rw c.entries-parts.ensures (parts-tree c.args.text.now c.read.new.self.output.entries.items c.in_ok-read.ensures))
 
 pub returns-clause-parses : goal.returns-clause-parses
 returns-clause-parses g c =
-    tree-says c.args.text.now c.read.new.self.output.entries.items c.entries.result.now (tree_of c.build.new.to) (from_top c.build.new.parts)
-    c.in_ok-read.ensures c.entries.ensures (c.in_ok-is_too_deep.ensures.shallow c.if-branch.false) c.in_ok-build.ensures.taken
+    tree-says c.args.text.now c.read.new.self.output.entries.items c.entries-parts.result.now (tree_of c.build.new.to) (reverse c.build.new.parts.now)
+    c.in_ok-read.ensures c.entries-parts.ensures (c.in_ok-is_too_deep.ensures.shallow c.if-branch.false) (ap reverse (sym c.entries-parts.ensures) ∙ c.in_ok-build.ensures.taken)
 
 pub returns-clause-every_tree : goal.returns-clause-every_tree
 returns-clause-every_tree g c = search rules

@@ -1,9 +1,8 @@
-use Rattle.std.proofs.Common.{◌*◌, ◌+◌, length}
-use Rattle.filter_parse.specs.body.Stack.{from_top}
+use Rattle.std.proofs.Common.{◌*◌, ◌+◌, length, reverse}
 use Rattle.filter_parse.proofs.build.+build.Given as goal
 
 abbrev pub decreases-build : goal.decreases-build
-decreases-build g l = 2 * length (from_top l.parts.now)
+decreases-build g l = 2 * length (reverse l.parts.now.now)
 
 abbrev pub decreases-part : goal.decreases-part
-decreases-part g l = 2 * length (from_top l.parts.now) + 1
+decreases-part g l = 2 * length (reverse l.parts.now.now) + 1

@@ -1,7 +1,7 @@
 use Rattle.std.proofs.Common.{◌≡◌, length}
 use Rattle.filter_parse.specs.body.Parser.{reduced_operators}
 use Rattle.filter_parse.specs.body.Stack.{from_top}
-use Rattle.filter_parse.proofs.reduce.reduce_operators.Given as goal
+use Rattle.filter_parse.proofs.reduce.reduce_each_operator.Given as goal
 
 abbrev pub invariant-loop-operator : goal.invariant-loop-operator
 invariant-loop-operator g l =

@@ -1,0 +1,25 @@
+-- Numbers at the front of a text: most are decimal, and are read by their digits alone.
+use Rattle.std.specs.Prelude.{◌∷◌, Bool, List, [], false, nat_lt, take, true, ℕ}
+use Rattle.std.specs.List.{prefix_len}
+use Rattle.filter_parse.specs.declared.token.Lexeme.{Lexeme}
+use Rattle.filter_parse.specs.Token.{is_number_part, number_or_address}
+
+-- the number or address that a text begins with, and its number of bytes
+abbrev pub number_lexeme : List ℕ → Lexeme
+number_lexeme text = record { token = number_or_address (take (prefix_len is_number_part text) text); len = prefix_len is_number_part text }
+
+-- digits without a leading zero, or one alone
+abbrev pub is_plain : List ℕ → Bool
+is_plain [] = false
+is_plain (c ∷ []) = true
+is_plain (c ∷ digits) = nat_lt 48 c
+
+-- not
+abbrev negation_of : Bool → Bool
+negation_of true = false
+negation_of false = true
+
+-- no number goes on with what follows
+abbrev pub ends_number : List ℕ → Bool
+ends_number [] = true
+ends_number (c ∷ rest) = negation_of (is_number_part c)
