@@ -2,8 +2,8 @@
 
 ghost use Rattle.std.specs.Prelude.{◌≡◌, ◌∷◌, ◌++◌, MatchResult, None, [], Some};
 ghost use Rattle.filter_parse.specs.declared.fault.ParseFault.TheVariants.{OutOfMemory};
-ghost use Rattle.filter_parse.specs.declared.state.State.TheVariants.{Number};
-ghost use Rattle.filter_parse.specs.body.Parser.{Meets, after_number, judged_by, parsing, parsing_of, size_of_number, sized_by};
+ghost use Rattle.filter_parse.specs.declared.state.State.TheVariants.{Number, WantsEnd, WantsSize};
+ghost use Rattle.filter_parse.specs.body.Parser.{Meets, after_number, fault_in, judged_by, parsing, parsing_of, shifted, size_of_number, sized_by};
 ghost use Rattle.filter_parse.specs.body.Stack.{from_top};
 
 use crate::fault::ParseFault;
@@ -43,12 +43,40 @@ impl<'a, A: Allocator> Parser<'a, A> {
         }
     }
 
-    pub(crate) fn shift_size(
+    pub(crate) fn after_colon(
         &mut self,
         protocol: Protocol,
-        n: u64,
+        lookahead: Token,
         at: usize,
     ) -> Result<(), ParseFault>
+        ensures met { Meets (judged_by (fault_in (WantsSize protocol) self.old.brackets lookahead at) at
+            (shifted lookahead (parsing (WantsSize protocol) (from_top self.old.stack) self.old.output.entries.items))) result (parsing_of self.new) }
+        ensures brackets { self.new.brackets ≡ self.old.brackets }
+    {
+        match lookahead {
+            Token::Number(n) => self.shift_size(protocol, n, at),
+            _ => Err(ParseFault::Syntax { at }),
+        }
+    }
+
+    pub(crate) fn after_size(
+        &mut self,
+        protocol: Protocol,
+        size: Size,
+        lookahead: Token,
+        at: usize,
+    ) -> Result<(), ParseFault>
+        ensures met { Meets (judged_by (fault_in (WantsEnd protocol size) self.old.brackets lookahead at) at
+            (shifted lookahead (parsing (WantsEnd protocol size) (from_top self.old.stack) self.old.output.entries.items))) result (parsing_of self.new) }
+        ensures brackets { self.new.brackets ≡ self.old.brackets }
+    {
+        match lookahead {
+            Token::CloseIndex => self.put_operand(Item::Access(protocol, size)),
+            _ => Err(ParseFault::Syntax { at }),
+        }
+    }
+
+    fn shift_size(&mut self, protocol: Protocol, n: u64, at: usize) -> Result<(), ParseFault>
         ensures met { Meets (judged_by None at
             (sized_by protocol (size_of_number n) (from_top self.old.stack) self.old.output.entries.items)) result (parsing_of self.new) }
         ensures brackets { self.new.brackets ≡ self.old.brackets }

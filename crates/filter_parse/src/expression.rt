@@ -58,6 +58,7 @@ impl<'a, A: Allocator> Parser<'a, A> {
         }
     }
 
+    #[inline(always)]
     pub(crate) fn after_truth(&mut self, lookahead: Token, at: usize) -> Result<(), ParseFault>
         ensures met { Meets (judged_by None at
             (after_truth lookahead (from_top self.old.stack) self.old.output.entries.items)) result (parsing_of self.new) }

@@ -1,6 +1,6 @@
 //! Reductions: what is pending on the stack and has its right side whole goes to the output.
 
-ghost use Rattle.std.specs.Prelude.{◌≡◌, ◌++◌, ◌∷◌, IfOk, None, OnOk, Some, [], MatchResult};
+ghost use Rattle.std.specs.Prelude.{◌≡◌, ◌++◌, ◌⊎◌, ◌∷◌, IfOk, None, OnOk, Some, [], MatchResult};
 ghost use Rattle.filter_parse.specs.Grammar.{named, precedence_of};
 ghost use Rattle.filter_parse.specs.declared.item.Item.TheVariants.{Primitive as PutPrimitive};
 ghost use Rattle.filter_parse.specs.declared.state.State.TheVariants.{Named, Number, Truth};
@@ -31,9 +31,10 @@ impl<'a, A: Allocator> Parser<'a, A> {
     }
 
     #[inline(always)]
-    fn reduce_number(&mut self, lookahead: Option<Token>) -> Result<(), OutOfMemory>
+    pub(crate) fn reduce_number(&mut self, lookahead: Option<Token>) -> Result<(), OutOfMemory>
         requires { self.old.state ≡ Number }
         ensures reduced { OnOk result (parsing_of self.new ≡ reduced lookahead (parsing_of self.old)) }
+        ensures state { OnOk result ((self.new.state ≡ Number) ⊎ (self.new.state ≡ Truth)) }
         ensures brackets { self.new.brackets ≡ self.old.brackets }
     {
         reduce_operators(
@@ -53,13 +54,14 @@ impl<'a, A: Allocator> Parser<'a, A> {
     }
 
     #[inline(always)]
-    fn reduce_name(
+    pub(crate) fn reduce_name(
         &mut self,
         protocol: Protocol,
         lookahead: Option<Token>,
     ) -> Result<(), OutOfMemory>
         requires { self.old.state ≡ Named protocol }
         ensures reduced { OnOk result (parsing_of self.new ≡ reduced lookahead (parsing_of self.old)) }
+        ensures state { OnOk result ((self.new.state ≡ Named protocol) ⊎ (self.new.state ≡ Truth)) }
         ensures brackets { self.new.brackets ≡ self.old.brackets }
     {
         if ends(lookahead) && !is_numeric(&self.stack) {
@@ -70,6 +72,7 @@ impl<'a, A: Allocator> Parser<'a, A> {
 
     /// Appends a whole primitive to the output, and reduces what it is the right side of.
     pub(crate) fn reduce_primitive(&mut self, primitive: Primitive) -> Result<(), OutOfMemory>
+        ensures state { OnOk result (self.new.state ≡ Truth) }
         ensures put { OnOk result (parsing_of self.new
             ≡ reduced_connectives (from_top self.old.stack) (self.old.output.entries.items ++ PutPrimitive primitive ∷ [])) }
         ensures brackets { self.new.brackets ≡ self.old.brackets }
