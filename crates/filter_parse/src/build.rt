@@ -2,13 +2,13 @@
 
 ghost use Rattle.std.specs.Prelude.{◌≡◌, ◌<◌, ◌∷◌, IfOk, MatchOption, OnOk, length, reverse};
 ghost use Rattle.filter_tree.specs.View.{arith_tree_of, tree_of};
-ghost use Rattle.filter_parse.specs.declared.item.Item.TheVariants.{Number};
+ghost use Rattle.filter_parse.specs.declared.item.Item.TheVariants.{Number, Primitive as IsPrimitive, Relate};
 ghost use Rattle.filter_parse.specs.body.Stack.{below_top, top_of};
 ghost use Rattle.filter_parse.specs.body.Postfix.{HasArithmetic, HasTree, arith_parts, tree_parts};
 
 use crate::OutOfMemory;
 use crate::item::Item;
-use filter_tree::{Arith, Expr, Primitive};
+use filter_tree::{Arith, Expr, Primitive, Relation};
 use std::alloc::Allocator;
 
 fn take_last(parts: &mut &[Item]) -> Option<Item>
@@ -34,6 +34,20 @@ fn take_number(parts: &mut &[Item]) -> Option<u32>
         Some((Item::Number(n), others)) => {
             *parts = others;
             Some(*n)
+        }
+        _ => None,
+    }
+}
+
+fn take_primitive(parts: &mut &[Item]) -> Option<Primitive>
+    ensures { MatchOption result
+        (parts.new.now ≡ parts.old.now)
+        (λ p. reverse parts.old.now ≡ IsPrimitive p ∷ reverse parts.new.now) }
+{
+    match parts.split_last() {
+        Some((Item::Primitive(primitive), others)) => {
+            *parts = others;
+            Some(*primitive)
         }
         _ => None,
     }
@@ -141,6 +155,26 @@ fn side<A: Allocator + Clone>(
     arithmetic(alloc, parts, to)
 }
 
+// A relation, whose part was taken, with a frame of its own: it is the largest.
+#[inline(never)]
+fn relation<A: Allocator + Clone>(
+    alloc: &A,
+    parts: &mut &[Item],
+    relator: Relation,
+    to: &mut Expr<A>,
+) -> Result<(), OutOfMemory>
+    requires { HasTree (Relate relator ∷ reverse parts.old.now) }
+    ensures taken { OnOk result (Relate relator ∷ reverse parts.old.now ≡ tree_parts (tree_of to.new) (reverse parts.new.now)) }
+    ensures fewer { OnOk result (length (reverse parts.new.now) < length (reverse parts.old.now)) }
+{
+    let mut right = Arith::Length;
+    side(alloc, parts, &mut right)?;
+    let mut left = Arith::Length;
+    side(alloc, parts, &mut left)?;
+    put(to, Expr::Relation(left, relator, right));
+    Ok(())
+}
+
 #[cycle(build)]
 fn part<A: Allocator + Clone>(
     alloc: &A,
@@ -150,6 +184,9 @@ fn part<A: Allocator + Clone>(
     ensures taken { IfOk result (λ made. reverse parts.old.now ≡ tree_parts (tree_of made.value) (reverse parts.new.now)) }
     ensures fewer { OnOk result (length (reverse parts.new.now) < length (reverse parts.old.now)) }
 {
+    if let Some(primitive) = take_primitive(parts) {
+        return Ok(Box::new(alloc.clone()?, Expr::Primitive(primitive))?);
+    }
     let mut made = place(alloc)?;
     build(alloc, parts, &mut made)?;
     Ok(made)
@@ -171,14 +208,7 @@ pub(crate) fn build<A: Allocator + Clone>(
             put(to, Expr::Primitive(primitive));
             Ok(())
         }
-        Some(Item::Relate(relator)) => {
-            let mut right = Arith::Length;
-            side(alloc, parts, &mut right)?;
-            let mut left = Arith::Length;
-            side(alloc, parts, &mut left)?;
-            put(to, Expr::Relation(left, relator, right));
-            Ok(())
-        }
+        Some(Item::Relate(relator)) => relation(alloc, parts, relator, to),
         Some(Item::Negate) => {
             put(to, Expr::Not(part(alloc, parts)?));
             Ok(())

@@ -1,18 +1,14 @@
-use Rattle.std.proofs.Common.{rules, ◌*◌, ◌+◌, ◌<◌, ◌∙◌, Some, ap, arith, length, reverse, sym}
-use Rattle.filter_parse.proofs.TakenLemmas.{fewer-below, has-conjoined, has-conjoined-left, has-disjoined, has-disjoined-left, has-negated, has-relation-left, has-relation-right, truth-top}
+use Rattle.std.proofs.Common.{◌*◌, ◌+◌, ◌<◌, ◌∙◌, ◌∷◌, Some, ap, arith, length, reverse, subst, sym}
+use Rattle.filter_parse.specs.declared.item.Item.TheVariants.{Relate}
+use Rattle.filter_parse.specs.body.Postfix.{HasTree}
+use Rattle.filter_parse.proofs.TakenLemmas.{fewer-below, has-conjoined, has-conjoined-left, has-disjoined, has-disjoined-left, has-negated, split, truth-top}
 use Rattle.filter_parse.proofs.build.+build.Goals as goal
 
-pub build-side-requires : goal.build-side-requires
-build-side-requires g t c =
+pub build-relation-requires : goal.build-relation-requires
+build-relation-requires g t c =
     let s = reverse c.args.parts.now.now in
     let top = ap Some (sym c.in-Some-Relate.field-0-is) ∙ sym c.in-Some-Relate.is ∙ c.take_last.ensures.top in
-    (rw c.take_last.ensures.below (has-relation-right s _ c.requires top))
-
-pub build-side-requires-in-Some-Relate : goal.build-side-requires-in-Some-Relate
-build-side-requires-in-Some-Relate g t c =
-    let s = reverse c.args.parts.now.now in
-    let top = ap Some (sym c.in-Some-Relate.field-0-is) ∙ sym c.in-Some-Relate.is ∙ c.take_last.ensures.top in
-    (has-relation-left _ s _ _ c.requires top (sym c.take_last.ensures.below ∙ c.in_ok-side-in-Some-Relate.ensures.taken))
+    subst HasTree (split s _ top ∙ ap (λ below. Relate c.in-Some-Relate.relator ∷ below) (sym c.take_last.ensures.below)) c.requires
 
 pub build-part-requires : goal.build-part-requires
 build-part-requires g t c κs within =
@@ -70,6 +66,3 @@ build-unreachable-requires-in-Some-Operate g t c = truth-top (reverse c.args.par
 
 pub build-unreachable-requires-in-None : goal.build-unreachable-requires-in-None
 build-unreachable-requires-in-None g t c = truth-top (reverse c.args.parts.now.now) _ c.requires (sym c.in-None.is ∙ c.take_last.ensures.top)
-
-pub build-returns-in_ok-side-in-Some-Relate-2-clause-taken : goal.build-returns-in_ok-side-in-Some-Relate-2-clause-taken
-build-returns-in_ok-side-in-Some-Relate-2-clause-taken g t c = search rules
