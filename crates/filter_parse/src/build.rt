@@ -167,12 +167,14 @@ fn relation<A: Allocator + Clone>(
     ensures taken { OnOk result (Relate relator ∷ reverse parts.old.now ≡ tree_parts (tree_of to.new) (reverse parts.new.now)) }
     ensures fewer { OnOk result (length (reverse parts.new.now) < length (reverse parts.old.now)) }
 {
-    let mut right = Arith::Length;
-    side(alloc, parts, &mut right)?;
-    let mut left = Arith::Length;
-    side(alloc, parts, &mut left)?;
-    put(to, Expr::Relation(left, relator, right));
-    Ok(())
+    put(to, Expr::Relation(Arith::Length, relator, Arith::Length));
+    match to {
+        Expr::Relation(left, _, right) => {
+            side(alloc, parts, right)?;
+            side(alloc, parts, left)
+        }
+        _ => unreachable!(),
+    }
 }
 
 #[cycle(build)]

@@ -6,5 +6,5 @@ use Rattle.filter_parse.proofs.build.relation.Goals as goal
 pub side-requires : goal.side-requires
 side-requires g c = has-relation-right (Relate c.args.relator ∷ reverse c.args.parts.now.now) c.args.relator c.requires refl
 
-pub side-requires-2 : goal.side-requires-2
-side-requires-2 g c = has-relation-left _ (Relate c.args.relator ∷ reverse c.args.parts.now.now) _ c.args.relator c.requires refl c.in_ok-side.ensures.taken
+pub side-requires-in-Relation : goal.side-requires-in-Relation
+side-requires-in-Relation g c = has-relation-left _ (Relate c.args.relator ∷ reverse c.args.parts.now.now) _ c.args.relator c.requires refl c.in_ok-side-in-Relation.ensures.taken
