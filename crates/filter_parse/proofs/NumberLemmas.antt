@@ -1,13 +1,14 @@
--- A decimal number is read by its digits alone.
-use Rattle.std.proofs.Common.{◌≡◌, ◌≤◌, ◌+◌, ◌∙◌, ◌∷◌, ◌&&◌, Bool, List, [], ap, arith, cond, drop, false, length, refl, sym, take, true, unwrap_or, ℕ}
+-- A decimal or hexadecimal number is read by its digits alone.
+use Rattle.std.proofs.Common.{◌≡◌, ◌≤◌, ◌<◌, ◌==◌, ◌+◌, ◌∙◌, ◌∷◌, ◌&&◌, Bool, List, [], ap, arith, cond, drop, false, length, refl, suc, sym, take, true, unwrap_or, ℕ}
+use Rattle.std.proofs.lemmas.Bool.Decides.{nat_tests}
 use Rattle.std.proofs.lemmas.List.{length-take-le, take-append-drop}
-use Rattle.std.specs.Char.{is_ascii_digit}
+use Rattle.std.specs.Char.{is_ascii_digit, is_ascii_hexdigit}
 use Rattle.std.specs.List.{list_all, prefix_len}
 use Rattle.filter_parse.specs.declared.token.Lexeme.{Lexeme}
 use Rattle.filter_parse.specs.declared.token.TheConstants.{TOO_BIG}
 use Rattle.filter_parse.specs.declared.token.Token.TheVariants.{Address, Number, Stray}
 use Rattle.filter_parse.specs.Token.{address_of, capped, is_decimal, is_dot, is_hexadecimal, is_number_part, number_or_address, number_token, value_of}
-use Rattle.filter_parse.specs.body.Number.{ends_number, is_plain, number_lexeme}
+use Rattle.filter_parse.specs.body.Number.{begins_hexadecimal, ends_number, is_plain, number_lexeme}
 use Rattle.filter_parse.proofs.LexLemmas.{all-prefix, and-parts, digit-no_dot, digit-part, longest, none-any}
 use Rattle.filter_parse.proofs.ScanLemmas.{run-all}
 use Rattle.filter_parse.proofs.TokenLemmas.{rest_of, rest_of-drop}
@@ -31,12 +32,12 @@ no-more : (rest : List ℕ) → ends_number rest ≡ true → prefix_len is_numb
 no-more [] ends = refl
 no-more (c ∷ rest) ends = no-more-at c rest (is_number_part c) refl ends
 
-plain-len : (text : List ℕ) (len : ℕ) → len ≡ prefix_len is_ascii_digit text → len ≤ length text → ends_number (rest_of text len) ≡ true →
-    prefix_len is_number_part text ≡ len
-plain-len text len is within ends =
-    let all : list_all is_ascii_digit (take len text) ≡ true = rw is (run-all is_ascii_digit text) in
+run-len : (part : ℕ → Bool) → ((c : ℕ) → part c ≡ true → is_number_part c ≡ true) → (text : List ℕ) (len : ℕ) → len ≡ prefix_len part text → len ≤ length text →
+    ends_number (rest_of text len) ≡ true → prefix_len is_number_part text ≡ len
+run-len part same text len is within ends =
+    let all : list_all part (take len text) ≡ true = rw is (run-all part text) in
     ap (prefix_len is_number_part) (sym (take-append-drop len text))
-    ∙ longest is_number_part (take len text) (drop len text) (all-prefix is_ascii_digit is_number_part digit-part (take len text) all)
+    ∙ longest is_number_part (take len text) (drop len text) (all-prefix part is_number_part same (take len text) all)
     (ap (prefix_len is_number_part) (sym (rest_of-drop text len)) ∙ no-more (rest_of text len) ends)
     ∙ length-take-le len text within
 
@@ -44,8 +45,58 @@ pub plain-lexeme : (text : List ℕ) (len : ℕ) → len ≡ prefix_len is_ascii
     ends_number (rest_of text len) ≡ true → (prefix_len is_number_part text ≡ len) × (record { token = Number (capped (value_of 10 (take len text))); len = len } ≡ number_lexeme text)
 plain-lexeme text len is within plain ends =
     let all : list_all is_ascii_digit (take len text) ≡ true = rw is (run-all is_ascii_digit text) in
-    let same = plain-len text len is within ends in (
+    let same = run-len is_ascii_digit digit-part text len is within ends in (
       same,
       ap (λ t. record { token = t; len = len }) (sym (plain-token (take len text) all plain))
           ∙ ap (λ n. record { token = number_or_address (take n text); len = n }) (sym same),
     )
+
+-- ---- hexadecimal numbers
+
+hex-part : (c : ℕ) → is_ascii_hexdigit c ≡ true → is_number_part c ≡ true
+hex-part c h = grind (arith, nat_tests)
+
+hex-no_dot : (c : ℕ) → is_ascii_hexdigit c ≡ true → is_dot c ≡ false
+hex-no_dot c h = grind (arith, nat_tests)
+
+hex-token : (digits : List ℕ) → list_all is_ascii_hexdigit digits ≡ true → 0 < length digits → number_or_address (48 ∷ 120 ∷ digits) ≡ Number (capped (value_of 16 digits))
+hex-token [] all some = absurd (omega arith)
+hex-token (e ∷ digits) all some =
+    ap (λ t. cond t (Address (unwrap_or (address_of (48 ∷ 120 ∷ e ∷ digits)) TOO_BIG)) (number_token (48 ∷ 120 ∷ e ∷ digits)))
+    (none-any is_ascii_hexdigit is_dot hex-no_dot (e ∷ digits) all)
+    ∙ ap (λ t. cond t (Number (capped (value_of 16 (e ∷ digits)))) Stray) all
+
+is-0x : (c d : ℕ) → (c == 48 && d == 120) ≡ true → (c ≡ 48) × (d ≡ 120)
+is-0x c d h =
+    let both = and-parts (c == 48) (d == 120) h in
+    let first = both.0 in
+    let second = both.1 in
+    (grind (arith, nat_tests), grind (arith, nat_tests))
+
+behind-0x : (text : List ℕ) → begins_hexadecimal text ≡ true → text ≡ 48 ∷ 120 ∷ rest_of text 2
+behind-0x [] h = absurd cc
+behind-0x (c ∷ []) h = absurd cc
+behind-0x (c ∷ d ∷ rest) h =
+    let is = is-0x c d h in
+    ap (λ x. x ∷ d ∷ rest) is.0 ∙ ap (λ x. 48 ∷ x ∷ rest) is.1 ∙ ap (λ (r : List ℕ). 48 ∷ 120 ∷ r) (sym (rest_of-drop (c ∷ d ∷ rest) 2))
+
+hex-at : (rest : List ℕ) (len : ℕ) → len ≡ prefix_len is_ascii_hexdigit rest → len ≤ length rest → 0 < len → ends_number (rest_of rest len) ≡ true →
+    (prefix_len is_number_part (48 ∷ 120 ∷ rest) ≡ suc (suc len))
+    × (record { token = Number (capped (value_of 16 (take len rest))); len = suc (suc len) } ≡ number_lexeme (48 ∷ 120 ∷ rest))
+hex-at rest len is within some ends =
+    let all : list_all is_ascii_hexdigit (take len rest) ≡ true = rw is (run-all is_ascii_hexdigit rest) in
+    let more : 0 < length (take len rest) = rw (length-take-le len rest within) some in
+    let same : prefix_len is_number_part (48 ∷ 120 ∷ rest) ≡ suc (suc len) =
+    ap (λ n. 1 + (1 + n)) (run-len is_ascii_hexdigit hex-part rest len is within ends) ∙ omega arith in (
+      same,
+      ap (λ t. record { token = t; len = suc (suc len) }) (sym (hex-token (take len rest) all more))
+          ∙ ap (λ n. record { token = number_or_address (take n (48 ∷ 120 ∷ rest)); len = n }) (sym same),
+    )
+
+pub hex-lexeme : (text : List ℕ) (len : ℕ) → begins_hexadecimal text ≡ true → len ≡ prefix_len is_ascii_hexdigit (rest_of text 2) → len ≤ length (rest_of text 2) → 0 < len →
+    ends_number (rest_of (rest_of text 2) len) ≡ true →
+    (prefix_len is_number_part text ≡ suc (suc len)) × (record { token = Number (capped (value_of 16 (take len (rest_of text 2)))); len = suc (suc len) } ≡ number_lexeme text)
+hex-lexeme text len begins is within some ends =
+    let at = hex-at (rest_of text 2) len is within some ends in
+    let whole = behind-0x text begins in
+    (ap (prefix_len is_number_part) whole ∙ at.0, at.1 ∙ sym (ap number_lexeme whole))

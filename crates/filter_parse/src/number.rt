@@ -9,7 +9,7 @@ use crate::token::{TOO_BIG, Token};
 
 pub(crate) const DECIMAL: u64 = 10;
 
-const HEXADECIMAL: u64 = 16;
+pub(crate) const HEXADECIMAL: u64 = 16;
 
 fn digit_value(c: u8) -> u64
     ensures { result ≡ digit_value c }

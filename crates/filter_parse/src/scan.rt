@@ -1,13 +1,13 @@
 //! Taking a text apart into its tokens (docs/EXPRESSIONS.md, "Tokens").
 
-ghost use Rattle.std.specs.Prelude.{◌≡◌, ◌≤◌, ◌+◌, ◌∷◌, ◌<◌, IfSome, MatchOption, [], drop, length};
-ghost use Rattle.std.specs.Char.{is_ascii_digit};
+ghost use Rattle.std.specs.Prelude.{◌≡◌, ◌≤◌, ◌+◌, ◌∷◌, ◌<◌, IfSome, IsTrue, MatchOption, [], drop, length};
+ghost use Rattle.std.specs.Char.{is_ascii_digit, is_ascii_hexdigit};
 ghost use Rattle.std.specs.List.{prefix_len};
 ghost use Rattle.filter_parse.specs.Token.{begins_word, is_blank, is_number_part, is_word_part};
-ghost use Rattle.filter_parse.specs.body.Number.{ends_number, is_plain, number_lexeme};
+ghost use Rattle.filter_parse.specs.body.Number.{begins_hexadecimal, ends_number, is_plain, number_lexeme};
 ghost use Rattle.filter_parse.specs.body.Scan.{lexeme, sign_lexeme, tokens_from};
 
-use crate::number::{DECIMAL, number_or_address, value_of};
+use crate::number::{DECIMAL, HEXADECIMAL, number_or_address, value_of};
 use crate::sign::{pair_sign, sign, word_token};
 use crate::token::{Lexeme, Token};
 
@@ -98,11 +98,47 @@ fn number_lexeme(text: &[u8]) -> Lexeme
             len,
         };
     }
+    rare_number_lexeme(text)
+}
+
+fn begins_hexadecimal(text: &[u8]) -> bool
+    ensures exact { result ≡ begins_hexadecimal text.now }
+    ensures room { IsTrue result → 2 ≤ length text.now }
+{
+    match text {
+        [b'0', b'x', ..] => true,
+        _ => false,
+    }
+}
+
+fn hexadecimal_len(text: &[u8]) -> usize
+    ensures len { result ≡ prefix_len is_ascii_hexdigit text.now }
+    ensures within { result ≤ length text.now }
+{
+    text.iter().take_while(|c| c.is_ascii_hexdigit()).count()
+}
+
+#[inline(never)]
+fn rare_number_lexeme(text: &[u8]) -> Lexeme
+    ensures exact { result ≡ number_lexeme text.now }
+    ensures len { result.len ≡ prefix_len is_number_part text.now }
+    ensures within { result.len ≤ length text.now }
+{
+    if begins_hexadecimal(text) {
+        let rest = &text[2..];
+        let len = hexadecimal_len(rest);
+        if len > 0 && ends_number(&rest[len..]) {
+            let n = value_of(HEXADECIMAL, &rest[..len]);
+            return Lexeme {
+                token: Token::Number(n),
+                len: len + 2,
+            };
+        }
+    }
     other_number_lexeme(text)
 }
 
-// An address, a hexadecimal number, or one that is misspelt.
-#[inline(never)]
+// An address, or a number that is misspelt.
 fn other_number_lexeme(text: &[u8]) -> Lexeme
     ensures exact { result ≡ number_lexeme text.now }
     ensures len { result.len ≡ prefix_len is_number_part text.now }

@@ -1,5 +1,5 @@
 -- Numbers at the front of a text: most are decimal, and are read by their digits alone.
-use Rattle.std.specs.Prelude.{◌∷◌, Bool, List, [], false, nat_lt, take, true, ℕ}
+use Rattle.std.specs.Prelude.{◌∷◌, ◌==◌, ◌&&◌, Bool, List, [], false, nat_lt, take, true, ℕ}
 use Rattle.std.specs.List.{prefix_len}
 use Rattle.filter_parse.specs.declared.token.Lexeme.{Lexeme}
 use Rattle.filter_parse.specs.Token.{is_number_part, number_or_address}
@@ -13,6 +13,11 @@ abbrev pub is_plain : List ℕ → Bool
 is_plain [] = false
 is_plain (c ∷ []) = true
 is_plain (c ∷ digits) = nat_lt 48 c
+
+-- `0x`, and whatever follows
+abbrev pub begins_hexadecimal : List ℕ → Bool
+begins_hexadecimal (c ∷ d ∷ rest) = c == 48 && d == 120
+begins_hexadecimal _ = false
 
 -- not
 abbrev negation_of : Bool → Bool
