@@ -4,7 +4,6 @@ use Rattle.std.proofs.lemmas.Bool.Decides.{nat_tests}
 use Rattle.std.proofs.lemmas.List.{length-take-le, take-append-drop}
 use Rattle.std.specs.Char.{is_ascii_digit, is_ascii_hexdigit}
 use Rattle.std.specs.List.{list_all, prefix_len}
-use Rattle.filter_parse.specs.declared.token.Lexeme.{Lexeme}
 use Rattle.filter_parse.specs.declared.token.TheConstants.{TOO_BIG}
 use Rattle.filter_parse.specs.declared.token.Token.TheVariants.{Address, Number, Stray}
 use Rattle.filter_parse.specs.Token.{address_of, capped, is_decimal, is_dot, is_hexadecimal, is_number_part, number_or_address, number_token, value_of}

@@ -1,4 +1,4 @@
-use Rattle.std.proofs.Common.{◌∙◌, ap, arith, inl, inr, length, reverse, rules, sym}
+use Rattle.std.proofs.Common.{◌∙◌, ap, inl, inr, length, reverse, rules, sym}
 use Rattle.std.proofs.lemmas.Result.{err_from_is_err_and}
 use Rattle.filter_tree.specs.View.{tree_of}
 use Rattle.filter_parse.specs.declared.fault.ParseFault.TheVariants.{TooDeep}

@@ -1,4 +1,4 @@
-use Rattle.std.proofs.Common.{rules, ◌∷◌, refl, reverse}
+use Rattle.std.proofs.Common.{◌∷◌, refl, reverse}
 use Rattle.filter_parse.specs.declared.item.Item.TheVariants.{Relate}
 use Rattle.filter_parse.proofs.TakenLemmas.{has-relation-left, has-relation-right}
 use Rattle.filter_parse.proofs.build.relation.Goals as goal

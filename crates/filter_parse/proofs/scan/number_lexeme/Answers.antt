@@ -1,5 +1,4 @@
 use Rattle.std.proofs.Common.{◌∙◌, ap, sym}
-use Rattle.filter_parse.specs.declared.token.Lexeme.{Lexeme}
 use Rattle.filter_parse.specs.declared.token.Token.TheVariants.{Number}
 use Rattle.filter_parse.proofs.NumberLemmas.{plain-lexeme}
 use Rattle.filter_parse.proofs.scan.number_lexeme.Goals as goal

@@ -1,5 +1,4 @@
 use Rattle.std.proofs.Common.{◌≡◌, ◌+◌, ◌∙◌, ap, arith, suc, sym, take}
-use Rattle.filter_parse.specs.declared.token.Lexeme.{Lexeme}
 use Rattle.filter_parse.specs.declared.token.Token.TheVariants.{Number}
 use Rattle.filter_parse.specs.Token.{capped, value_of}
 use Rattle.filter_parse.proofs.NumberLemmas.{hex-lexeme}
