@@ -44,7 +44,7 @@ struct Heading<'a> {
     mnemonic: Option<(&'a [u8], &'a [u8])>,
 }
 
-// A line with a label, behind which the line goes on.
+// What a line with a label begins with; `behind` follows the colon.
 #[tactic(auto, unfolding(crate::specs::body::Reading::rest_in))]
 fn labelled<'a>(name: &'a [u8], behind: &'a [u8]) -> Option<Heading<'a>>
     ensures { line_begun result ≡ option_map (λ statement. line (Some name.entry.now) statement) (rest_in (tokens_of behind.entry.now)) }
@@ -83,8 +83,8 @@ fn read_heading(line: &[u8]) -> Option<Heading<'_>>
     }
 }
 
-// Reads a line and puts it behind the lines before it, or tells that it is in no form. Each of the two kinds of lines is put there
-// where it is made: a line is large, and moved as seldom as can be.
+// Reads a line and puts it behind the lines before it, or tells that it is in no form. Lines with and without an instruction are
+// each put there where they are made: a line is large, and moved as seldom as can be.
 fn push_line<'a, A: Allocator>(
     lines: &mut Vec<Line<'a>, A>,
     bytes: &'a [u8],

@@ -167,7 +167,7 @@ fn near_target(line: &[u8]) -> Option<(Target<'_>, &[u8])>
     }
 }
 
-// A conditional jump, behind whose operand the line goes on.
+// A conditional jump whose operand was read; `line` is what follows that.
 #[tactic(auto, unfolding(crate::specs::body::Reading::branch_behind))]
 fn branch<'a>(test: Test, form: Form<'a>, line: &'a [u8]) -> Option<Statement<'a>>
     ensures { option_map statement_of result ≡ branch_behind test (form_of form.entry) (tokens_of line.now) }

@@ -43,7 +43,7 @@ fn is_mark(b: u8) -> bool
     )
 }
 
-// Each byte of a word stands at its own place, and a comma at every other place.
+// A byte that may stand in a word has itself at its place, every other byte a comma.
 static IN_WORDS: [u8; 256] = *b"\
     ,,,,,,,,,,,,,,,,,,,,,,,,,,,,,,,,\
     ,,,,,,,,,,,,,,,,0123456789,,,,,,\

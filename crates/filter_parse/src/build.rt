@@ -155,7 +155,7 @@ fn side<A: Allocator + Clone>(
     arithmetic(alloc, parts, to)
 }
 
-// A relation, whose part was taken, with a frame of its own: it is the largest.
+// Fills a place with a relation, whose own part was taken already. A function of its own: it needs the largest frame.
 #[inline(never)]
 fn relation<A: Allocator + Clone>(
     alloc: &A,

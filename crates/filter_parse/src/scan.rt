@@ -118,6 +118,7 @@ fn hexadecimal_len(text: &[u8]) -> usize
     text.iter().take_while(|c| c.is_ascii_hexdigit()).count()
 }
 
+// A hexadecimal number, or what no digits alone tell.
 #[inline(never)]
 fn rare_number_lexeme(text: &[u8]) -> Lexeme
     ensures exact { result ≡ number_lexeme text.now }

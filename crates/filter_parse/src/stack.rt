@@ -33,7 +33,7 @@ impl<'a, T: Copy + Default + Drop, A: Allocator> Stack<'a, T, A> {
         self.grow_and_push(entry)
     }
 
-    // A call of its own, for which the push that finds room saves no registers.
+    // Apart from `push`, which would else save registers for this call also where there is room.
     #[cold]
     #[inline(never)]
     fn grow_and_push(&mut self, entry: T) -> Result<(), OutOfMemory>

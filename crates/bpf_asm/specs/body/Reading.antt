@@ -270,7 +270,7 @@ is_end (token ∷ tokens) = false
 abbrev pub at_end : {A : Type 0} → List Token → A → Option A
 at_end tokens found = if is_end tokens then Some found else None
 
--- the operand and the targets of a conditional jump, of which the operand was read
+-- a conditional jump whose operand was read: the tokens hold its targets
 unfoldable pub branch_behind : Test → Form → List Token → Option Statement
 branch_behind test form tokens = do
   right ← operand_of form

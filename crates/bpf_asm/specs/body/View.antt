@@ -63,15 +63,16 @@ statement_of (statement.Branch test right on_true on_false) = branch test right 
 abbrev pub line_of : LentLine → Line
 line_of it = record { label = option_map (λ name. name.now) it.label; statement = option_map statement_of it.statement }
 
--- a line of what it begins with, of which the operands are still to be read
-abbrev pub line_behind : Option (Bor (List ℕ)) → Option (Bor (List ℕ) × Bor (List ℕ)) → Option Line
-line_behind label None = Some (line (option_map (λ name. name.now) label) None)
-line_behind label (Some (name, rest)) =
+-- the line of a label and a mnemonic, whose operand is read from the bytes behind it
+abbrev pub line_of_heading : Option (Bor (List ℕ)) → Option (Bor (List ℕ) × Bor (List ℕ)) → Option Line
+line_of_heading label None = Some (line (option_map (λ name. name.now) label) None)
+line_of_heading label (Some (name, rest)) =
     option_map (λ statement. line (option_map (λ it. it.now) label) (Some statement)) (statement_in name.now (tokens_of rest.now))
 
+-- the line of what was read of it so far, none where that is in no form
 abbrev pub line_begun : Option LentHeading → Option Line
 line_begun None = None
-line_begun (Some heading) = line_behind heading.label heading.mnemonic
+line_begun (Some heading) = line_of_heading heading.label heading.mnemonic
 
 -- what a line adds to the lines, nothing where it is in no form
 abbrev pub one_or_none : Option Line → List Line

@@ -1,5 +1,5 @@
 -- Numbers at the front of a text: most are decimal, and are read by their digits alone.
-use Rattle.std.specs.Prelude.{◌∷◌, ◌==◌, ◌&&◌, Bool, List, [], false, nat_lt, take, true, ℕ}
+use Rattle.std.specs.Prelude.{◌∷◌, ◌==◌, ◌&&◌, Bool, List, [], false, nat_lt, not, take, true, ℕ}
 use Rattle.std.specs.List.{prefix_len}
 use Rattle.filter_parse.specs.declared.token.Lexeme.{Lexeme}
 use Rattle.filter_parse.specs.Token.{is_number_part, number_or_address}
@@ -19,12 +19,7 @@ abbrev pub begins_hexadecimal : List ℕ → Bool
 begins_hexadecimal (c ∷ d ∷ rest) = c == 48 && d == 120
 begins_hexadecimal _ = false
 
--- not
-abbrev negation_of : Bool → Bool
-negation_of true = false
-negation_of false = true
-
 -- no number goes on with what follows
 abbrev pub ends_number : List ℕ → Bool
 ends_number [] = true
-ends_number (c ∷ rest) = negation_of (is_number_part c)
+ends_number (c ∷ rest) = not (is_number_part c)

@@ -23,5 +23,5 @@ loop-group-preserved g c =
     let less = rw (c.members.ensures.members, selector) at c.write_member_records-place.ensures.room in
     let behind = rw (c.members.ensures.members, selector) at c.write_member_records-place.ensures.behind in
     let place : c.write_member_records-place.result ≡ c.loop-group.place + length (group_program_words c.group-item.result) =
-        omega (arith, behind, length-append (words_of c.group-item.result.selector) (filter_words c.group-item.result.members)) in
+    omega (arith, behind, length-append (words_of c.group-item.result.selector) (filter_words c.group-item.result.members)) in
     (rw place (writing_piece _ _ _ _ _ _ c.loop-group.invariant.0 _ _ split _ _ put less), omega arith)
