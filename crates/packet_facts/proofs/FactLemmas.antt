@@ -19,25 +19,25 @@ use Rattle.packet_facts.specs.declared.header.Header.TheVariants as header_is
 use Rattle.packet_facts.specs.declared.header.Protocol.{Protocol}
 use Rattle.packet_facts.specs.declared.header.Protocol.TheVariants.{Any, Is, IsNot}
 use Rattle.packet_facts.specs.declared.known.Known.{Known}
-use Rattle.packet_facts.specs.Known.{Holds, IsFirst, IsHeader, IsProtocol, Knows, Settles}
-use Rattle.packet_facts.specs.Told.{first_fragment_of, first_in, header_in_x_of, ip_of, ip_told, named_told, number_told, ports_told, protocol_in, protocol_of, transport_of}
+use Rattle.packet_facts.specs.Known.{HasPorts, Holds, IsFirst, IsHeader, IsProtocol, Knows, Settles}
+use Rattle.packet_facts.specs.Told.{first_fragment_of, first_in, header_in_x_of, ip_of, ip_told, named_told, number_told, ports_in, ports_told, protocol_in, protocol_of, transport_of}
 
 -- ---- what is settled
 
 settles_ip : (header : Header) (packet : List ℕ) → IsHeader header packet → Settles (ip_told header) (is_ip packet)
 settles_ip header_is.Any packet is = tt
 settles_ip header_is.NotIpv4 packet is = is
-settles_ip (header_is.Ipv4 protocol first) packet is = is.0
+settles_ip (header_is.Ipv4 protocol ports first) packet is = is.0
 
 first_is : (header : Header) (packet : List ℕ) → IsHeader header packet → IsFirst (first_in header) packet
 first_is header_is.Any packet is = tt
 first_is header_is.NotIpv4 packet is = tt
-first_is (header_is.Ipv4 protocol first) packet is = is.2
+first_is (header_is.Ipv4 protocol ports first) packet is = is.3
 
 protocol_is : (header : Header) (packet : List ℕ) → IsHeader header packet → IsProtocol (protocol_in header) packet
 protocol_is header_is.Any packet is = tt
 protocol_is header_is.NotIpv4 packet is = tt
-protocol_is (header_is.Ipv4 protocol first) packet is = is.1
+protocol_is (header_is.Ipv4 protocol ports first) packet is = is.1
 
 settles_answer : (b : Bool) (truth : Truth) → truth ≡ answer b → Settles (Some b) truth
 settles_answer true truth is = is
@@ -54,16 +54,23 @@ settles_number (IsNot m) n packet is =
     (λ ne. subst P (sym (ne_eqb m n ne)) tt)
     (cases_eq m n)
 
-settles_ports : (protocol : Protocol) (packet : List ℕ) → IsProtocol protocol packet → Settles (ports_told protocol) (tested (has_ports Unnamed) (field_of field_is.Protocol packet))
-settles_ports Any packet is = tt
-settles_ports (Is m) packet is = settles_answer (has_ports Unnamed m) (tested (has_ports Unnamed) (field_of field_is.Protocol packet)) (ap (tested (has_ports Unnamed)) is)
-settles_ports (IsNot m) packet is = tt
+settles_ports : (protocol : Protocol) (ports : Bool) (packet : List ℕ) → IsProtocol protocol packet → HasPorts ports packet → Settles (ports_told protocol ports) (tested (has_ports Unnamed) (field_of field_is.Protocol packet))
+settles_ports Any true packet is has = has
+settles_ports Any false packet is has = tt
+settles_ports (Is m) ports packet is has = settles_answer (has_ports Unnamed m) (tested (has_ports Unnamed) (field_of field_is.Protocol packet)) (ap (tested (has_ports Unnamed)) is)
+settles_ports (IsNot m) true packet is has = has
+settles_ports (IsNot m) false packet is has = tt
 
-settles_named : (transport : Transport) (protocol : Protocol) (packet : List ℕ) → IsProtocol protocol packet
-    → Settles (named_told protocol transport) (tested (has_ports transport) (field_of field_is.Protocol packet))
-settles_named Tcp protocol packet is = settles_number protocol 6 packet is
-settles_named Udp protocol packet is = settles_number protocol 17 packet is
-settles_named Unnamed protocol packet is = settles_ports protocol packet is
+settles_header_ports : (header : Header) (packet : List ℕ) → IsHeader header packet → Settles (ports_in header) (tested (has_ports Unnamed) (field_of field_is.Protocol packet))
+settles_header_ports header_is.Any packet is = tt
+settles_header_ports header_is.NotIpv4 packet is = tt
+settles_header_ports (header_is.Ipv4 protocol ports first) packet is = settles_ports protocol ports packet is.1 is.2
+
+settles_named : (transport : Transport) (header : Header) (packet : List ℕ) → IsHeader header packet
+    → Settles (named_told header transport) (tested (has_ports transport) (field_of field_is.Protocol packet))
+settles_named Tcp header packet is = settles_number (protocol_in header) 6 packet (protocol_is header packet is)
+settles_named Udp header packet is = settles_number (protocol_in header) 17 packet (protocol_is header packet is)
+settles_named Unnamed header packet is = settles_header_ports header packet is
 
 module _ (known : Known) (packet : List ℕ) (x : ℕ) (holds : Holds known packet x) where
   -- the truth of each test, as far as the facts tell it
@@ -74,7 +81,7 @@ module _ (known : Known) (packet : List ℕ) (x : ℕ) (holds : Holds known pack
   protocol_settled n = settles_number (protocol_in known.header) n packet (protocol_is known.header packet holds.0)
 
   pub transport_settled : (transport : Transport) → Settles (transport_of known transport) (tested (has_ports transport) (field_of field_is.Protocol packet))
-  transport_settled transport = settles_named transport (protocol_in known.header) packet (protocol_is known.header packet holds.0)
+  transport_settled transport = settles_named transport known.header packet holds.0
 
   -- the same where the answer is known
   pub ip_yes : ip_of known ≡ Some true → is_ip packet ≡ Yes
@@ -140,12 +147,12 @@ module _ (known : Known) (packet : List ℕ) (x : ℕ) (holds : Holds known pack
 ip_by_number : (header : Header) (n : ℕ) (b : Bool) → number_told (protocol_in header) n ≡ Some b → ip_told header ≡ Some true
 ip_by_number header_is.Any n b told = cc
 ip_by_number header_is.NotIpv4 n b told = cc
-ip_by_number (header_is.Ipv4 protocol first) n b told = refl
+ip_by_number (header_is.Ipv4 protocol ports first) n b told = refl
 
-ip_by_ports : (header : Header) (b : Bool) → ports_told (protocol_in header) ≡ Some b → ip_told header ≡ Some true
+ip_by_ports : (header : Header) (b : Bool) → ports_in header ≡ Some b → ip_told header ≡ Some true
 ip_by_ports header_is.Any b told = cc
 ip_by_ports header_is.NotIpv4 b told = cc
-ip_by_ports (header_is.Ipv4 protocol first) b told = refl
+ip_by_ports (header_is.Ipv4 protocol ports first) b told = refl
 
 pub ip_by_protocol : (known : Known) (n : ℕ) (b : Bool) → protocol_of known n ≡ Some b → ip_of known ≡ Some true
 ip_by_protocol known n b told = ip_by_number known.header n b told
@@ -158,10 +165,18 @@ ip_by_transport known Unnamed b told = ip_by_ports known.header b told
 ip_by_first : (header : Header) → first_in header ≡ true → ip_told header ≡ Some true
 ip_by_first header_is.Any told = cc
 ip_by_first header_is.NotIpv4 told = cc
-ip_by_first (header_is.Ipv4 protocol first) told = refl
+ip_by_first (header_is.Ipv4 protocol ports first) told = refl
 
 pub ip_by_fragment : (known : Known) → first_fragment_of known ≡ true → ip_of known ≡ Some true
 ip_by_fragment known told = ip_by_first known.header told
+
+first_by_none : (header : Header) → ip_told header ≡ None → first_in header ≡ false
+first_by_none header_is.Any told = refl
+first_by_none header_is.NotIpv4 told = refl
+first_by_none (header_is.Ipv4 protocol ports first) told = cc
+
+pub first_fragment_unknown : (known : Known) → ip_of known ≡ None → first_fragment_of known ≡ false
+first_fragment_unknown known told = first_by_none known.header told
 
 -- ---- the guards of what accessors read, by each of the four
 

@@ -2,9 +2,11 @@
 use Rattle.std.specs.Prelude.{◌≡◌, ◌≢◌, ◌*◌, List, None, Option, Some, Bool, false, true, ℕ}
 use Rattle.ipv4_fields.specs.declared.header.Field.TheVariants as field_is
 use Rattle.ipv4_fields.specs.Field.{field_of, ihl_of}
+use Rattle.filter_tree.specs.declared.primitive.Transport.TheVariants.{Unnamed}
 use Rattle.filter_tree.specs.declared.truth.Truth.{Truth}
 use Rattle.filter_tree.specs.declared.truth.Truth.TheVariants.{No, Yes}
-use Rattle.filter_tree.specs.Primitive.{is_first_fragment, is_ip}
+use Rattle.filter_tree.specs.Outcome.{tested}
+use Rattle.filter_tree.specs.Primitive.{has_ports, is_first_fragment, is_ip}
 use Rattle.packet_facts.specs.declared.header.Header.{Header}
 use Rattle.packet_facts.specs.declared.header.Header.TheVariants as header_is
 use Rattle.packet_facts.specs.declared.header.Protocol.{Protocol}
@@ -23,6 +25,11 @@ IsProtocol Any packet = Unit {0}
 IsProtocol (Is n) packet = field_of field_is.Protocol packet ≡ Some n
 IsProtocol (IsNot n) packet = (m : ℕ) × (field_of field_is.Protocol packet ≡ Some m) × (m ≢ n)
 
+-- it is one that has ports, where that is known
+abbrev pub HasPorts : Bool → List ℕ → Type 0
+HasPorts false packet = Unit {0}
+HasPorts true packet = tested (has_ports Unnamed) (field_of field_is.Protocol packet) ≡ Yes
+
 -- it has the beginning of the datagram, where that is known
 abbrev pub IsFirst : Bool → List ℕ → Type 0
 IsFirst false packet = Unit {0}
@@ -32,7 +39,7 @@ IsFirst true packet = is_first_fragment packet ≡ Yes
 abbrev pub IsHeader : Header → List ℕ → Type 0
 IsHeader header_is.Any packet = Unit {0}
 IsHeader header_is.NotIpv4 packet = is_ip packet ≡ No
-IsHeader (header_is.Ipv4 protocol first) packet = (is_ip packet ≡ Yes) × IsProtocol protocol packet × IsFirst first packet
+IsHeader (header_is.Ipv4 protocol ports first) packet = (is_ip packet ≡ Yes) × IsProtocol protocol packet × HasPorts ports packet × IsFirst first packet
 
 -- X is as known: it holds the length of the packet's IPv4 header, or nothing is known of it
 abbrev pub Knows : Bool → List ℕ → ℕ → Type 0

@@ -25,18 +25,18 @@ agreed _ _ = None
 abbrev pub ip_told : Header → Option Bool
 ip_told header_is.Any = None
 ip_told header_is.NotIpv4 = Some false
-ip_told (header_is.Ipv4 protocol first) = Some true
+ip_told (header_is.Ipv4 protocol ports first) = Some true
 
--- what is known of the protocol, and whether it is known to have the beginning of the datagram
+-- what is known of the protocol, and whether the packet is known to have the beginning of the datagram
 abbrev pub protocol_in : Header → Protocol
 protocol_in header_is.Any = Any
 protocol_in header_is.NotIpv4 = Any
-protocol_in (header_is.Ipv4 protocol first) = protocol
+protocol_in (header_is.Ipv4 protocol ports first) = protocol
 
 abbrev pub first_in : Header → Bool
 first_in header_is.Any = false
 first_in header_is.NotIpv4 = false
-first_in (header_is.Ipv4 protocol first) = first
+first_in (header_is.Ipv4 protocol ports first) = first
 
 -- whether the protocol has a number
 abbrev pub number_told : Protocol → ℕ → Option Bool
@@ -51,20 +51,25 @@ is_number (Is n) = true
 is_number (IsNot n) = false
 
 -- whether it is TCP, UDP or SCTP
-abbrev pub ports_told : Protocol → Option Bool
-ports_told Any = None
-ports_told (Is n) = Some (has_ports Unnamed n)
-ports_told (IsNot n) = None
+abbrev pub ports_told : Protocol → Bool → Option Bool
+ports_told Any ports = if ports then Some true else None
+ports_told (Is n) ports = Some (has_ports Unnamed n)
+ports_told (IsNot n) ports = if ports then Some true else None
+
+abbrev pub ports_in : Header → Option Bool
+ports_in header_is.Any = None
+ports_in header_is.NotIpv4 = None
+ports_in (header_is.Ipv4 protocol ports first) = ports_told protocol ports
 
 -- a protocol is named
 abbrev pub IsNamed : Transport → Type 0
 IsNamed transport = transport ≢ Unnamed
 
 -- whether it is the one that is named, else TCP, UDP or SCTP
-abbrev pub named_told : Protocol → Transport → Option Bool
-named_told protocol Tcp = number_told protocol 6
-named_told protocol Udp = number_told protocol 17
-named_told protocol Unnamed = ports_told protocol
+abbrev pub named_told : Header → Transport → Option Bool
+named_told header Tcp = number_told (protocol_in header) 6
+named_told header Udp = number_told (protocol_in header) 17
+named_told header Unnamed = ports_in header
 
 abbrev pub ip_of : Known → Option Bool
 ip_of known = ip_told known.header
@@ -73,7 +78,7 @@ abbrev pub protocol_of : Known → ℕ → Option Bool
 protocol_of known n = number_told (protocol_in known.header) n
 
 abbrev pub transport_of : Known → Transport → Option Bool
-transport_of known transport = named_told (protocol_in known.header) transport
+transport_of known transport = named_told known.header transport
 
 abbrev pub knows_number : Known → Bool
 knows_number known = is_number (protocol_in known.header)

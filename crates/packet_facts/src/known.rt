@@ -3,6 +3,7 @@
 ghost use Rattle.std.specs.Prelude.{◌≡◌, ◌&&◌, IsTrue, List, Some, false, true, ℕ};
 ghost use Rattle.ipv4_fields.specs.declared.header.Field.TheVariants.{Protocol as ProtocolField};
 ghost use Rattle.ipv4_fields.specs.Field.{field_of};
+ghost use Rattle.filter_tree.specs.declared.primitive.Transport.{Transport};
 ghost use Rattle.filter_tree.specs.declared.primitive.Transport.TheVariants.{Unnamed};
 ghost use Rattle.filter_tree.specs.declared.truth.Truth.TheVariants.{Yes};
 ghost use Rattle.filter_tree.specs.Outcome.{tested};
@@ -10,7 +11,7 @@ ghost use Rattle.filter_tree.specs.Primitive.{has_ports, is_first_fragment, is_i
 ghost use Rattle.packet_facts.specs.Known.{Holds, Knows, Settles};
 ghost use Rattle.packet_facts.specs.Told.{agreed, first_fragment_of, header_in_x_of, ip_of, knows_number, protocol_of, transport_of};
 
-use crate::header::{Header, Protocol, join_headers};
+use crate::header::{Header, Protocol, join_headers, ports};
 use filter_tree::Transport;
 
 /// What is known of a packet, and whether X holds the length of its IPv4 header.
@@ -31,14 +32,15 @@ impl Known {
         }
     }
 
-    /// Knows what holds where one or the other does: where two ways meet. Of two protocols none is known; a number that
-    /// neither is stays known, unless both are known by theirs.
+    /// Knows what holds where one or the other does: where two ways meet. Of two protocols none is known, but that both
+    /// have ports is; a number that neither is stays known, unless both are known by theirs.
     pub fn join(self, other: Known) -> Known
         ensures of_self { (packet : List ℕ) (x : ℕ) → Holds self packet x → Holds result packet x }
         ensures of_other { (packet : List ℕ) (x : ℕ) → Holds other packet x → Holds result packet x }
         ensures ip { ip_of result ≡ agreed (ip_of self) (ip_of other) }
         ensures protocol { (n : ℕ) → protocol_of self n ≡ Some true → protocol_of other n ≡ Some true → protocol_of result n ≡ Some true }
         ensures excluded { (n : ℕ) → protocol_of self n ≡ Some false → protocol_of other n ≡ Some false → (knows_number self && knows_number other) ≡ false → protocol_of result n ≡ Some false }
+        ensures transport { (transport : Transport) → transport_of self transport ≡ Some true → transport_of other transport ≡ Some true → transport_of result transport ≡ Some true }
         ensures first_fragment { first_fragment_of result ≡ (first_fragment_of self && first_fragment_of other) }
         ensures header_in_x { header_in_x_of result ≡ (header_in_x_of self && header_in_x_of other) }
     {
@@ -56,7 +58,7 @@ impl Known {
         match self.header {
             Header::Any => None,
             Header::NotIpv4 => Some(false),
-            Header::Ipv4(_, _) => Some(true),
+            Header::Ipv4(_, _, _) => Some(true),
         }
     }
 
@@ -67,8 +69,8 @@ impl Known {
         ensures known { (packet : List ℕ) (x : ℕ) → Holds self packet x → Settles result (is_protocol n packet) }
     {
         match self.header {
-            Header::Ipv4(Protocol::Is(m), _) => Some(m == n),
-            Header::Ipv4(Protocol::IsNot(m), _) if m == n => Some(false),
+            Header::Ipv4(Protocol::Is(m), _, _) => Some(m == n),
+            Header::Ipv4(Protocol::IsNot(m), _, _) if m == n => Some(false),
             _ => None,
         }
     }
@@ -91,7 +93,7 @@ impl Known {
         ensures known { (packet : List ℕ) (x : ℕ) → Holds self packet x → Settles result (tested (has_ports Unnamed) (field_of ProtocolField packet)) }
     {
         match self.header {
-            Header::Ipv4(Protocol::Is(n), _) => Some(n == 6 || n == 17 || n == 132),
+            Header::Ipv4(protocol, with_ports, _) => ports(protocol, with_ports),
             _ => None,
         }
     }
@@ -103,7 +105,7 @@ impl Known {
         ensures known { IsTrue result → (packet : List ℕ) (x : ℕ) → Holds self packet x → is_first_fragment packet ≡ Yes }
     {
         match self.header {
-            Header::Ipv4(_, first) => first,
+            Header::Ipv4(_, _, first) => first,
             _ => false,
         }
     }

@@ -3,6 +3,7 @@
 ghost use Rattle.std.specs.Prelude.{◌≡◌, List, None, Some, false, true, ℕ};
 ghost use Rattle.ipv4_fields.specs.declared.header.Field.TheVariants.{Protocol as ProtocolField};
 ghost use Rattle.ipv4_fields.specs.Field.{field_of};
+ghost use Rattle.filter_tree.specs.declared.primitive.Transport.{Transport};
 ghost use Rattle.filter_tree.specs.declared.primitive.Transport.TheVariants.{Unnamed};
 ghost use Rattle.filter_tree.specs.declared.truth.Truth.TheVariants.{No, Yes};
 ghost use Rattle.filter_tree.specs.Outcome.{tested};
@@ -21,11 +22,12 @@ impl Known {
         ensures holds { (packet : List ℕ) (x : ℕ) → Holds self packet x → is_ip packet ≡ Yes → Holds result packet x }
         ensures kept { (packet : List ℕ) (x : ℕ) → Holds result packet x → Holds self packet x }
         ensures learned { ip_of self ≡ None → ip_of result ≡ Some true }
+        ensures same_transport { (transport : Transport) → transport_of result transport ≡ transport_of self transport }
         ensures same_x { header_in_x_of result ≡ header_in_x_of self }
     {
         match self.header {
             Header::Any => Known {
-                header: Header::Ipv4(Protocol::Any, false),
+                header: Header::Ipv4(Protocol::Any, false, false),
                 ..self
             },
             _ => self,
@@ -57,12 +59,12 @@ impl Known {
     {
         let is = Protocol::Is(n);
         match self.header {
-            Header::Ipv4(Protocol::Any, first) => Known {
-                header: Header::Ipv4(is, first),
+            Header::Ipv4(Protocol::Any, with_ports, first) => Known {
+                header: Header::Ipv4(is, with_ports, first),
                 ..self
             },
-            Header::Ipv4(Protocol::IsNot(m), first) if m != n => Known {
-                header: Header::Ipv4(is, first),
+            Header::Ipv4(Protocol::IsNot(m), with_ports, first) if m != n => Known {
+                header: Header::Ipv4(is, with_ports, first),
                 ..self
             },
             _ => self,
@@ -78,25 +80,40 @@ impl Known {
         ensures same_x { header_in_x_of result ≡ header_in_x_of self }
     {
         match self.header {
-            Header::Ipv4(Protocol::Any, first) => Known {
-                header: Header::Ipv4(Protocol::IsNot(n), first),
+            Header::Ipv4(Protocol::Any, with_ports, first) => Known {
+                header: Header::Ipv4(Protocol::IsNot(n), with_ports, first),
                 ..self
             },
             _ => self,
         }
     }
 
-    /// Knows besides that the protocol is the one that is named; where none is, TCP, UDP or SCTP, of which nothing is kept.
+    /// Knows besides that the protocol is the one that is named; where none is, TCP, UDP or SCTP.
     pub fn with_transport(self, transport: Transport) -> Known
         ensures holds { (packet : List ℕ) (x : ℕ) → Holds self packet x → tested (has_ports transport) (field_of ProtocolField packet) ≡ Yes → Holds result packet x }
         ensures kept { (packet : List ℕ) (x : ℕ) → Holds result packet x → Holds self packet x }
-        ensures learned { ip_of self ≡ Some true → transport_of self transport ≡ None → IsNamed transport → transport_of result transport ≡ Some true }
+        ensures learned { ip_of self ≡ Some true → transport_of self transport ≡ None → transport_of result transport ≡ Some true }
         ensures same_x { header_in_x_of result ≡ header_in_x_of self }
     {
         match transport {
             Transport::Tcp => self.with_protocol(6),
             Transport::Udp => self.with_protocol(17),
-            Transport::Unnamed => self,
+            Transport::Unnamed => self.with_ports(),
+        }
+    }
+
+    fn with_ports(self) -> Known
+        ensures holds { (packet : List ℕ) (x : ℕ) → Holds self packet x → tested (has_ports Unnamed) (field_of ProtocolField packet) ≡ Yes → Holds result packet x }
+        ensures kept { (packet : List ℕ) (x : ℕ) → Holds result packet x → Holds self packet x }
+        ensures learned { ip_of self ≡ Some true → transport_of self Unnamed ≡ None → transport_of result Unnamed ≡ Some true }
+        ensures same_x { header_in_x_of result ≡ header_in_x_of self }
+    {
+        match self.header {
+            Header::Ipv4(protocol, false, first) => Known {
+                header: Header::Ipv4(protocol, true, first),
+                ..self
+            },
+            _ => self,
         }
     }
 
@@ -121,11 +138,12 @@ impl Known {
         ensures holds { (packet : List ℕ) (x : ℕ) → Holds self packet x → is_first_fragment packet ≡ Yes → Holds result packet x }
         ensures kept { (packet : List ℕ) (x : ℕ) → Holds result packet x → Holds self packet x }
         ensures learned { ip_of self ≡ Some true → first_fragment_of result ≡ true }
+        ensures same_transport { (transport : Transport) → transport_of result transport ≡ transport_of self transport }
         ensures same_x { header_in_x_of result ≡ header_in_x_of self }
     {
         match self.header {
-            Header::Ipv4(protocol, _) => Known {
-                header: Header::Ipv4(protocol, true),
+            Header::Ipv4(protocol, with_ports, _) => Known {
+                header: Header::Ipv4(protocol, with_ports, true),
                 ..self
             },
             _ => self,

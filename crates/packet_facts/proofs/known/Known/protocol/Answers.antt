@@ -1,17 +1,17 @@
 use Rattle.std.proofs.Common.{rules}
 use Rattle.packet_facts.proofs.known.Known.protocol.Goals as goal
 
-pub returns-in-Ipv4-Is-default-clause-exact : goal.returns-in-Ipv4-Is-default-clause-exact
-returns-in-Ipv4-Is-default-clause-exact c = search rules
+pub returns-in-Ipv4-Is-default-default-clause-exact : goal.returns-in-Ipv4-Is-default-default-clause-exact
+returns-in-Ipv4-Is-default-default-clause-exact c = search rules
 
-pub returns-in-Ipv4-Is-default-clause-known : goal.returns-in-Ipv4-Is-default-clause-known
-returns-in-Ipv4-Is-default-clause-known c = search rules
+pub returns-in-Ipv4-Is-default-default-clause-known : goal.returns-in-Ipv4-Is-default-default-clause-known
+returns-in-Ipv4-Is-default-default-clause-known c = search rules
 
-pub returns-in-Ipv4-IsNot-default-clause-exact : goal.returns-in-Ipv4-IsNot-default-clause-exact
-returns-in-Ipv4-IsNot-default-clause-exact c = search rules
+pub returns-in-Ipv4-IsNot-default-default-clause-exact : goal.returns-in-Ipv4-IsNot-default-default-clause-exact
+returns-in-Ipv4-IsNot-default-default-clause-exact c = search rules
 
-pub returns-in-Ipv4-IsNot-default-clause-known : goal.returns-in-Ipv4-IsNot-default-clause-known
-returns-in-Ipv4-IsNot-default-clause-known c = search rules
+pub returns-in-Ipv4-IsNot-default-default-clause-known : goal.returns-in-Ipv4-IsNot-default-default-clause-known
+returns-in-Ipv4-IsNot-default-default-clause-known c = search rules
 
 pub returns-in_default-2-clause-exact : goal.returns-in_default-2-clause-exact
 returns-in_default-2-clause-exact c = search rules
