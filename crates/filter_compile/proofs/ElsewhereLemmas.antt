@@ -1,33 +1,41 @@
--- Where it is settled what an expression says of packets that are not of IPv4: its truth on them, what is saved where the
--- version is known, and its code behind the test of the version.
+-- Where it is settled what an expression says of the packets that fail a guard: its truth on them, what is saved where the
+-- guard is known to hold, and its code behind the guard.
 use Rattle.std.proofs.Common.{◌≡◌, ◌∙◌, ◌+◌, ◌≤◌, Bool, List, None, Option, Some, ap, arith, false, inl, inr, refl, sym, true, ℕ, ⊎_elim}
-use Rattle.std.specs.Prelude.{◌⊎◌, if◌then◌else◌, not}
+use Rattle.std.specs.Prelude.{◌⊎◌, ◌&&◌, if◌then◌else◌, not}
 use Rattle.backpatch.specs.Holes.{Open}
 use Rattle.backpatch.specs.Pieces.{Writes}
 use Rattle.backpatch.specs.body.Guards.{Guards}
 use Rattle.backpatch.proofs.WritesLemmas.{Writes-means, Writes-weight}
+use Rattle.ipv4_fields.specs.declared.header.Field.TheVariants.{Protocol}
+use Rattle.ipv4_fields.specs.Field.{field_of}
 use Rattle.filter_tree.specs.declared.primitive.Primitive.{Primitive}
 use Rattle.filter_tree.specs.declared.primitive.Primitive.TheVariants.{AtLeast, AtMost, Host, Ip, Net, Port, PortRange, Proto}
+use Rattle.filter_tree.specs.declared.primitive.Transport.{Transport}
 use Rattle.filter_tree.specs.declared.primitive.Transport.TheVariants.{Tcp, Udp, Unnamed}
 use Rattle.filter_tree.specs.declared.expression.Relation.{Relation}
 use Rattle.filter_tree.specs.declared.truth.Truth.{Truth}
 use Rattle.filter_tree.specs.declared.truth.Truth.TheVariants.{Fails, No, Yes}
-use Rattle.filter_tree.specs.Measure.{weight_of, weight_of_primitive, weight_where}
+use Rattle.filter_tree.specs.Measure.{weight_of, weight_where}
 use Rattle.filter_tree.specs.Arithmetic.{value_of_arith}
-use Rattle.filter_tree.specs.Outcome.{◌and_then◌, ◌or_else◌, answer, opposite, where_so}
-use Rattle.filter_tree.specs.Primitive.{is_ip}
+use Rattle.filter_tree.specs.Outcome.{◌and_then◌, ◌or_else◌, answer, opposite, tested, where_so}
+use Rattle.filter_tree.specs.Primitive.{has_ports, is_first_fragment, is_ip}
 use Rattle.filter_tree.specs.Tree.{ArithTree, Tree, conjunction, disjunction, negation, primitive, relation}
 use Rattle.filter_tree.specs.Truth.{accesses_of_both, any_accessor, compared, truth_of}
 use Rattle.packet_facts.specs.declared.known.Known.{Known}
 use Rattle.packet_facts.specs.Known.{Holds}
-use Rattle.packet_facts.specs.Told.{ip_of}
+use Rattle.packet_facts.specs.Told.{transport_of}
+use Rattle.packet_facts.proofs.FactLemmas.{first_fragment_unknown}
+use Rattle.filter_compile.specs.declared.front.Guard.{Guard}
+use Rattle.filter_compile.specs.declared.front.Guard.TheVariants.{Ports, Version}
 use Rattle.filter_compile.specs.body.Elsewhere.{accesses_elsewhere, and_elsewhere, begins_with_ip, elsewhere, is_ip_primitive, not_elsewhere, or_elsewhere, primitive_elsewhere}
+use Rattle.filter_compile.specs.body.Front.{BeginsWith, IsLearned, MayAsk, guard_truth, guard_weight, has_only_ports, is_ports, is_same}
+use Rattle.filter_compile.specs.body.Header.{weight_of_transport}
 use Rattle.filter_compile.specs.body.Piece.{Tests}
 use Rattle.filter_compile.specs.body.Sides.{HoldsWhere}
-use Rattle.filter_compile.specs.body.Weight.{version_weight, weight_from, weight_of_primitive_from, weight_under}
+use Rattle.filter_compile.specs.body.Weight.{is_yes, ports_weight_under, version_weight, version_weight_under, weight_under}
 use Rattle.filter_compile.proofs.GuardLemmas.{Guards-writes_no, Writes-guarded}
 use Rattle.filter_compile.proofs.TestLemmas.{Tests-not, Tests-or, Tests-same}
-use Rattle.filter_compile.proofs.WeightLemmas.{primitive_whole, weight_from-whole}
+use Rattle.filter_compile.proofs.WeightLemmas.{ports_few, ports_weight-asked, ports_weight-known}
 
 -- ---- the parts that settle it
 
@@ -54,148 +62,249 @@ opposite_answer : (b : Bool) → opposite (answer b) ≡ answer (not b)
 opposite_answer true = refl
 opposite_answer false = refl
 
+-- ---- parts that are ports
+
+same_is : (one other : Transport) → is_same one other ≡ true → one ≡ other
+same_is Tcp Tcp is = refl
+same_is Tcp Udp is = cc
+same_is Tcp Unnamed is = cc
+same_is Udp Tcp is = cc
+same_is Udp Udp is = refl
+same_is Udp Unnamed is = cc
+same_is Unnamed Tcp is = cc
+same_is Unnamed Udp is = cc
+same_is Unnamed Unnamed is = refl
+
+both_true : (one other : Bool) → (one && other) ≡ true → (one ≡ true) × (other ≡ true)
+both_true true other is = (refl, is)
+both_true false other is = cc
+
 -- ---- what is said elsewhere
 
--- the truth of a tree on packets that are not of IPv4, and that it fails where the version can't be read
-pub record IsSaid (tree : Tree) (b : Bool) : Type 0 where
-  pub no : (packet : List ℕ) → is_ip packet ≡ No → truth_of tree packet ≡ answer b
-  pub fails : (packet : List ℕ) → is_ip packet ≡ Fails → truth_of tree packet ≡ Fails
+-- the truth of a tree on packets that fail a guard, and that it fails where the guard does
+pub record IsSaid (guard : Guard) (tree : Tree) (b : Bool) : Type 0 where
+  pub no : (packet : List ℕ) → guard_truth guard packet ≡ No → truth_of tree packet ≡ answer b
+  pub fails : (packet : List ℕ) → guard_truth guard packet ≡ Fails → truth_of tree packet ≡ Fails
 
-said_primitive : (p : Primitive) (b : Bool) → primitive_elsewhere p ≡ Some b → IsSaid (primitive p) b
-said_primitive Ip b is = let e : false ≡ b = cc in record { no = λ packet none. rw none (ap answer e); fails = λ packet none. none }
-said_primitive (Proto n) b is = let e : false ≡ b = cc in record { no = λ packet none. rw none (ap answer e); fails = λ packet none. rw none refl }
-said_primitive (Host direction address) b is = let e : false ≡ b = cc in record { no = λ packet none. rw none (ap answer e); fails = λ packet none. rw none refl }
-said_primitive (Net direction prefix) b is = let e : false ≡ b = cc in record { no = λ packet none. rw none (ap answer e); fails = λ packet none. rw none refl }
-said_primitive (Port transport direction n) b is = let e : false ≡ b = cc in record { no = λ packet none. rw none (ap answer e); fails = λ packet none. rw none refl }
-said_primitive (PortRange transport direction n m) b is = let e : false ≡ b = cc in record { no = λ packet none. rw none (ap answer e); fails = λ packet none. rw none refl }
-said_primitive (AtMost n) b is = cc
-said_primitive (AtLeast n) b is = cc
+said_version : (p : Primitive) (b : Bool) → primitive_elsewhere p ≡ Some b → IsSaid Version (primitive p) b
+said_version Ip b is = let e : false ≡ b = cc in record { no = λ packet none. rw none (ap answer e); fails = λ packet none. none }
+said_version (Proto n) b is = let e : false ≡ b = cc in record { no = λ packet none. rw none (ap answer e); fails = λ packet none. rw none refl }
+said_version (Host direction address) b is = let e : false ≡ b = cc in record { no = λ packet none. rw none (ap answer e); fails = λ packet none. rw none refl }
+said_version (Net direction prefix) b is = let e : false ≡ b = cc in record { no = λ packet none. rw none (ap answer e); fails = λ packet none. rw none refl }
+said_version (Port transport direction n) b is = let e : false ≡ b = cc in record { no = λ packet none. rw none (ap answer e); fails = λ packet none. rw none refl }
+said_version (PortRange transport direction n m) b is = let e : false ≡ b = cc in record { no = λ packet none. rw none (ap answer e); fails = λ packet none. rw none refl }
+said_version (AtMost n) b is = cc
+said_version (AtLeast n) b is = cc
+
+other_ports : (transport other : Transport) (t : Truth) (packet : List ℕ) → transport ≡ other → guard_truth (Ports transport) packet ≡ t → guard_truth (Ports other) packet ≡ t
+other_ports transport other t packet same is = ap (λ k. guard_truth (Ports k) packet) (sym same) ∙ is
+
+said_ports : (transport : Transport) (p : Primitive) (b : Bool) → is_ports transport p ≡ true → primitive_elsewhere p ≡ Some b → IsSaid (Ports transport) (primitive p) b
+said_ports transport Ip b only is = cc
+said_ports transport (Proto n) b only is = cc
+said_ports transport (Host direction address) b only is = cc
+said_ports transport (Net direction prefix) b only is = cc
+said_ports transport (Port other direction n) b only is = let e : false ≡ b = cc in record {
+  no = λ packet none. let first : (is_ip packet and_then tested (has_ports other) (field_of Protocol packet) and_then is_first_fragment packet) ≡ No = other_ports transport other No packet (same_is transport other only) none in rw first (ap answer e);
+  fails = λ packet none. let first : (is_ip packet and_then tested (has_ports other) (field_of Protocol packet) and_then is_first_fragment packet) ≡ Fails = other_ports transport other Fails packet (same_is transport other only) none in rw first refl;
+}
+said_ports transport (PortRange other direction n m) b only is = let e : false ≡ b = cc in record {
+  no = λ packet none. let first : (is_ip packet and_then tested (has_ports other) (field_of Protocol packet) and_then is_first_fragment packet) ≡ No = other_ports transport other No packet (same_is transport other only) none in rw first (ap answer e);
+  fails = λ packet none. let first : (is_ip packet and_then tested (has_ports other) (field_of Protocol packet) and_then is_first_fragment packet) ≡ Fails = other_ports transport other Fails packet (same_is transport other only) none in rw first refl;
+}
+said_ports transport (AtMost n) b only is = cc
+said_ports transport (AtLeast n) b only is = cc
+
+-- all parts of a tree are such that a guard is theirs
+abbrev HasOnly : Guard → Tree → Type 0
+HasOnly Version tree = Unit {0}
+HasOnly (Ports transport) tree = has_only_ports transport tree ≡ true
+
+only_both : (guard : Guard) (left right : Tree) → HasOnly guard (conjunction left right) → HasOnly guard left × HasOnly guard right
+only_both Version left right only = (tt, tt)
+only_both (Ports transport) left right only = both_true (has_only_ports transport left) (has_only_ports transport right) only
+
+only_either : (guard : Guard) (left right : Tree) → HasOnly guard (disjunction left right) → HasOnly guard left × HasOnly guard right
+only_either Version left right only = (tt, tt)
+only_either (Ports transport) left right only = both_true (has_only_ports transport left) (has_only_ports transport right) only
+
+only_inner : (guard : Guard) (tree : Tree) → HasOnly guard (negation tree) → HasOnly guard tree
+only_inner Version tree only = tt
+only_inner (Ports transport) tree only = only
+
+said_primitive : (guard : Guard) (p : Primitive) (b : Bool) → HasOnly guard (primitive p) → primitive_elsewhere p ≡ Some b → IsSaid guard (primitive p) b
+said_primitive Version p b only is = said_version p b is
+said_primitive (Ports transport) p b only is = said_ports transport p b only is
 
 -- the first guard of a relation
 begins : (any : Bool) (first t u v w other : Truth) → any ≡ true → first ≡ other → (where_so any first and_then t and_then u and_then v and_then w) ≡ (other and_then t and_then u and_then v and_then w)
 begins true first t u v w other is same = ap (λ s. s and_then t and_then u and_then v and_then w) same
 begins false first t u v w other is same = absurd cc
 
-said_relation : (left : ArithTree) (relator : Relation) (right : ArithTree) (b : Bool) → accesses_elsewhere (accesses_of_both left right) ≡ Some b → IsSaid (relation left relator right) b
-said_relation left relator right b is =
+said_relation : (guard : Guard) (left : ArithTree) (relator : Relation) (right : ArithTree) (b : Bool) → HasOnly guard (relation left relator right) → accesses_elsewhere (accesses_of_both left right) ≡ Some b → IsSaid guard (relation left relator right) b
+said_relation Version left relator right b only is =
     let used = accesses_of_both left right in let told = any_told (any_accessor used) b is in record {
       no = λ packet none. ap (λ t. t and_then compared relator (value_of_arith left packet) (value_of_arith right packet)) (begins (any_accessor used) (is_ip packet) _ _ _ _ No told.0 none) ∙ ap answer told.1;
       fails = λ packet none. ap (λ t. t and_then compared relator (value_of_arith left packet) (value_of_arith right packet)) (begins (any_accessor used) (is_ip packet) _ _ _ _ Fails told.0 none);
     }
+said_relation (Ports transport) left relator right b only is = absurd cc
 
-said : (tree : Tree) (b : Bool) → elsewhere tree ≡ Some b → IsSaid tree b
-said (primitive p) b is = said_primitive p b is
-said (relation left relator right) b is = said_relation left relator right b is
-said (negation tree) b is =
-    let told = not_told (elsewhere tree) b is in let part = said tree told.0 told.1 in record {
+said : (guard : Guard) (tree : Tree) (b : Bool) → HasOnly guard tree → elsewhere tree ≡ Some b → IsSaid guard tree b
+said guard (primitive p) b only is = said_primitive guard p b only is
+said guard (relation left relator right) b only is = said_relation guard left relator right b only is
+said guard (negation tree) b only is =
+    let told = not_told (elsewhere tree) b is in let part = said guard tree told.0 (only_inner guard tree only) told.1 in record {
       no = λ packet none. ap opposite (part.no packet none) ∙ (opposite_answer told.0 ∙ ap answer told.2);
       fails = λ packet none. ap opposite (part.fails packet none);
     }
-said (conjunction left right) b is =
+said guard (conjunction left right) b only is =
+    let parts = only_both guard left right only in
     ⊎_elim
-    (λ (past : (elsewhere left ≡ Some false) × (false ≡ b)). let part = said left false past.0 in record {
+    (λ (past : (elsewhere left ≡ Some false) × (false ≡ b)). let part = said guard left false parts.0 past.0 in record {
       no = λ packet none. ap (λ t. t and_then truth_of right packet) (part.no packet none) ∙ ap answer past.1;
       fails = λ packet none. ap (λ t. t and_then truth_of right packet) (part.fails packet none);
     })
-    (λ (on : (elsewhere left ≡ Some true) × (elsewhere right ≡ Some b)). let part = said left true on.0 in record {
-      no = λ packet none. ap (λ t. t and_then truth_of right packet) (part.no packet none) ∙ (said right b on.1).no packet none;
+    (λ (on : (elsewhere left ≡ Some true) × (elsewhere right ≡ Some b)). let part = said guard left true parts.0 on.0 in record {
+      no = λ packet none. ap (λ t. t and_then truth_of right packet) (part.no packet none) ∙ (said guard right b parts.1 on.1).no packet none;
       fails = λ packet none. ap (λ t. t and_then truth_of right packet) (part.fails packet none);
     })
     (and_told (elsewhere left) (elsewhere right) b is)
-said (disjunction left right) b is =
+said guard (disjunction left right) b only is =
+    let parts = only_either guard left right only in
     ⊎_elim
-    (λ (past : (elsewhere left ≡ Some true) × (true ≡ b)). let part = said left true past.0 in record {
+    (λ (past : (elsewhere left ≡ Some true) × (true ≡ b)). let part = said guard left true parts.0 past.0 in record {
       no = λ packet none. ap (λ t. t or_else truth_of right packet) (part.no packet none) ∙ ap answer past.1;
       fails = λ packet none. ap (λ t. t or_else truth_of right packet) (part.fails packet none);
     })
-    (λ (on : (elsewhere left ≡ Some false) × (elsewhere right ≡ Some b)). let part = said left false on.0 in record {
-      no = λ packet none. ap (λ t. t or_else truth_of right packet) (part.no packet none) ∙ (said right b on.1).no packet none;
+    (λ (on : (elsewhere left ≡ Some false) × (elsewhere right ≡ Some b)). let part = said guard left false parts.0 on.0 in record {
+      no = λ packet none. ap (λ t. t or_else truth_of right packet) (part.no packet none) ∙ (said guard right b parts.1 on.1).no packet none;
       fails = λ packet none. ap (λ t. t or_else truth_of right packet) (part.fails packet none);
     })
     (or_told (elsewhere left) (elsewhere right) b is)
 
--- ---- what is saved where the version is known
-
-primitive_saves : (p : Primitive) (b : Bool) → primitive_elsewhere p ≡ Some b → is_ip_primitive p ≡ false → weight_of_primitive_from 0 p + 5 ≡ weight_of_primitive p
-primitive_saves Ip b is other = cc
-primitive_saves (Proto n) b is other = refl
-primitive_saves (Host direction address) b is other = let whole = primitive_whole (Host direction address) in omega arith
-primitive_saves (Net direction prefix) b is other = let whole = primitive_whole (Net direction prefix) in omega arith
-primitive_saves (Port Tcp direction n) b is other = let whole = primitive_whole (Port Tcp direction n) in omega arith
-primitive_saves (Port Udp direction n) b is other = let whole = primitive_whole (Port Udp direction n) in omega arith
-primitive_saves (Port Unnamed direction n) b is other = let whole = primitive_whole (Port Unnamed direction n) in omega arith
-primitive_saves (PortRange Tcp direction n m) b is other = let whole = primitive_whole (PortRange Tcp direction n m) in omega arith
-primitive_saves (PortRange Udp direction n m) b is other = let whole = primitive_whole (PortRange Udp direction n m) in omega arith
-primitive_saves (PortRange Unnamed direction n m) b is other = let whole = primitive_whole (PortRange Unnamed direction n m) in omega arith
-primitive_saves (AtMost n) b is other = cc
-primitive_saves (AtLeast n) b is other = cc
-
-guards_save : (any : Bool) → any ≡ true → weight_where any 0 + 5 ≡ weight_where any 5
-guards_save true is = refl
-guards_save false is = absurd cc
+-- ---- what is saved where the guard is known to hold
 
 left_told : (left right : Option Bool) (b : Bool) → and_elsewhere left right ≡ Some b ⊎ or_elsewhere left right ≡ Some b → (c : Bool) × (left ≡ Some c)
 left_told None right b is = ⊎_elim (λ (h : None ≡ Some b). cc) (λ (h : None ≡ Some b). cc) is
 left_told (Some c) right b is = (c, refl)
 
-saves : (tree : Tree) (b : Bool) → elsewhere tree ≡ Some b → begins_with_ip tree ≡ false → weight_from 0 tree + 5 ≡ weight_of tree
-saves (primitive p) b is other = primitive_saves p b is other
-saves (relation left relator right) b is other =
-    let used = accesses_of_both left right in let saved = guards_save (any_accessor used) (any_told (any_accessor used) b is).0 in omega arith
-saves (negation tree) b is other = let told = not_told (elsewhere tree) b is in saves tree told.0 told.1 other
-saves (conjunction left right) b is other =
-    let told = left_told (elsewhere left) (elsewhere right) b (inl is) in let saved = saves left told.0 told.1 other in omega arith
-saves (disjunction left right) b is other =
-    let told = left_told (elsewhere left) (elsewhere right) b (inr is) in let saved = saves left told.0 told.1 other in omega arith
+-- there is room for the guard, and for what is behind it
+pub record HasRoom (guard : Guard) (known : Known) (tree : Tree) : Type 0 where
+  pub test : guard_weight guard known ≤ weight_under known tree
+  pub rest : (on : Known) → IsLearned guard on → guard_weight guard known + weight_under on tree ≤ weight_under known tree
 
--- both, of an expression that begins with a test of the version behind which others stand
-pub record IsSettled (tree : Tree) (b : Bool) : Type 0 where
-  pub said : IsSaid tree b
-  pub saved : weight_from 0 tree + 5 ≡ weight_of tree
+HasRoom-more : (guard : Guard) (known : Known) (part tree : Tree) (n : ℕ) → ((k : Known) → weight_under k tree ≡ weight_under k part + n) → HasRoom guard known part → HasRoom guard known tree
+HasRoom-more guard known part tree n same h = record {
+  test = let whole = same known in let test = h.test in omega arith;
+  rest = λ on learned. let whole = same known in let lighter = same on in let rest = h.rest on learned in omega arith;
+}
 
-pub settled : (tree : Tree) (b : Bool) → elsewhere tree ≡ Some b → begins_with_ip tree ≡ false → IsSettled tree b
-settled tree b is other = record { said = said tree b is; saved = saves tree b is other }
+module _ (known : Known) (may_ask : MayAsk Version known) where
+  unknown_version : version_weight_under known ≡ 5
+  unknown_version = ap version_weight may_ask
 
--- ---- an expression behind the test of the version
+  known_version : (on : Known) → IsLearned Version on → version_weight_under on ≡ 0
+  known_version on learned = ap version_weight learned
 
-no_first : (tree : Tree) → IsSettled tree false → (t : Truth) (packet : List ℕ) → is_ip packet ≡ t → (t and_then truth_of tree packet) ≡ truth_of tree packet
-no_first tree is Yes packet first = refl
-no_first tree is No packet first = sym (is.said.no packet first)
-no_first tree is Fails packet first = sym (is.said.fails packet first)
+  unknown_ports : (transport : Transport) → ports_weight_under known transport ≡ weight_of_transport transport + 9
+  unknown_ports transport =
+      let asked = ports_weight-asked known transport (ap (λ first. first && is_yes (transport_of known transport)) (first_fragment_unknown known may_ask)) in let v = unknown_version in omega arith
 
-yes_first : (tree : Tree) → IsSettled tree true → (t : Truth) (packet : List ℕ) → is_ip packet ≡ t → (opposite t or_else truth_of tree packet) ≡ truth_of tree packet
-yes_first tree is Yes packet first = refl
-yes_first tree is No packet first = sym (is.said.no packet first)
-yes_first tree is Fails packet first = sym (is.said.fails packet first)
+  known_ports : (on : Known) → IsLearned Version on → (transport : Transport) → ports_weight_under on transport ≤ weight_of_transport transport + 4
+  known_ports on learned transport = let few = ports_few on transport in let v = known_version on learned in omega arith
 
--- what is written where the version is known to be 4
-known_weight : (known : Known) (tree : Tree) → ip_of known ≡ Some true → weight_under known tree ≡ weight_from 0 tree
-known_weight known tree is = ap (λ told. weight_from (version_weight told) tree) is
+  room_of_version : (p : Primitive) (b : Bool) → primitive_elsewhere p ≡ Some b → is_ip_primitive p ≡ false → HasRoom Version known (primitive p)
+  room_of_version Ip b is other = cc
+  room_of_version (Proto n) b is other = let v = unknown_version in record { test = omega arith; rest = λ on learned. let w = known_version on learned in omega arith }
+  room_of_version (Host direction address) b is other = let v = unknown_version in record { test = omega arith; rest = λ on learned. let w = known_version on learned in omega arith }
+  room_of_version (Net direction prefix) b is other = let v = unknown_version in record { test = omega arith; rest = λ on learned. let w = known_version on learned in omega arith }
+  room_of_version (Port transport direction n) b is other = let v = unknown_ports transport in record { test = omega arith; rest = λ on learned. let w = known_ports on learned transport in omega arith }
+  room_of_version (PortRange transport direction n m) b is other = let v = unknown_ports transport in record { test = omega arith; rest = λ on learned. let w = known_ports on learned transport in omega arith }
+  room_of_version (AtMost n) b is other = cc
+  room_of_version (AtLeast n) b is other = cc
 
--- and where nothing is known of it
-pub unknown_weight : (known : Known) (tree : Tree) → ip_of known ≡ None → weight_under known tree ≡ weight_of tree
-unknown_weight known tree is = ap (λ told. weight_from (version_weight told) tree) is ∙ weight_from-whole tree
+  guards_of_version : (any : Bool) → any ≡ true → (v : ℕ) → weight_where any v ≡ v
+  guards_of_version true is v = refl
+  guards_of_version false is v = absurd cc
 
--- there is room for the test and what is behind it
-pub version_room : (tree : Tree) (on : Known) → ip_of on ≡ Some true → (b : Bool) → IsSettled tree b → 5 + weight_under on tree ≤ weight_of tree
-version_room tree on is_ipv4 b is = let few = known_weight on tree is_ipv4 in let saved = is.saved in omega arith
+  room_for_version : (tree : Tree) (b : Bool) → elsewhere tree ≡ Some b → begins_with_ip tree ≡ false → HasRoom Version known tree
+  room_for_version (primitive p) b is other = room_of_version p b is other
+  room_for_version (relation left relator right) b is other =
+      let any = any_accessor (accesses_of_both left right) in let told = (any_told any b is).0 in let v = unknown_version in let whole = guards_of_version any told (version_weight_under known) in record {
+        test = omega arith;
+        rest = λ on learned. let w = known_version on learned in let none = guards_of_version any told (version_weight_under on) in omega arith;
+      }
+  room_for_version (negation tree) b is other = let told = not_told (elsewhere tree) b is in HasRoom-more Version known tree (negation tree) 0 (λ k. omega arith) (room_for_version tree told.0 told.1 other)
+  room_for_version (conjunction left right) b is other =
+      let told = left_told (elsewhere left) (elsewhere right) b (inl is) in HasRoom-more Version known left (conjunction left right) (weight_of right) (λ k. refl) (room_for_version left told.0 told.1 other)
+  room_for_version (disjunction left right) b is other =
+      let told = left_told (elsewhere left) (elsewhere right) b (inr is) in HasRoom-more Version known left (disjunction left right) (weight_of right) (λ k. refl) (room_for_version left told.0 told.1 other)
 
-module _ (tree : Tree) (known on : Known) (missed : Option Known) (is_ipv4 : ip_of on ≡ Some true) {c0 c1 c2 : List ℕ} where
-  -- packets that are not of IPv4 go to no
-  pub Writes-no_elsewhere : (if_yes second_no if_no : Known) {y y' n n' n'' : Open} → IsSettled tree false → ((packet : List ℕ) (x : ℕ) → HoldsWhere missed packet x → Holds if_no packet x) → ((packet : List ℕ) (x : ℕ) → Holds second_no packet x → Holds if_no packet x)
-      → Guards (Tests (Holds known) (Holds on) (HoldsWhere missed) is_ip) 5 c0 c1 n n' → Writes (Tests (Holds on) (Holds if_yes) (Holds second_no) (truth_of tree)) (weight_under on tree) c1 c2 y y' n' n''
-      → Writes (Tests (Holds known) (Holds if_yes) (Holds if_no) (truth_of tree)) (weight_of tree) c0 c2 y y' n n''
+module _ (transport : Transport) (known : Known) where
+  known_same : (other : Transport) → transport ≡ other → (on : Known) → IsLearned (Ports transport) on → ports_weight_under on other ≡ 0
+  known_same other same on learned = ap (λ k. ports_weight_under on k) (sym same) ∙ ports_weight-known on transport learned
+
+  same_weight : (other : Transport) → transport ≡ other → ports_weight_under known transport ≡ ports_weight_under known other
+  same_weight other same = ap (λ k. ports_weight_under known k) same
+
+  room_of_ports : (p : Primitive) → is_ports transport p ≡ true → HasRoom (Ports transport) known (primitive p)
+  room_of_ports Ip only = cc
+  room_of_ports (Proto n) only = cc
+  room_of_ports (Host direction address) only = cc
+  room_of_ports (Net direction prefix) only = cc
+  room_of_ports (Port other direction n) only =
+      let same = same_is transport other only in let v = same_weight other same in record { test = omega arith; rest = λ on learned. let w = known_same other same on learned in omega arith }
+  room_of_ports (PortRange other direction n m) only =
+      let same = same_is transport other only in let v = same_weight other same in record { test = omega arith; rest = λ on learned. let w = known_same other same on learned in omega arith }
+  room_of_ports (AtMost n) only = cc
+  room_of_ports (AtLeast n) only = cc
+
+  room_for_ports : (tree : Tree) → has_only_ports transport tree ≡ true → HasRoom (Ports transport) known tree
+  room_for_ports (primitive p) only = room_of_ports p only
+  room_for_ports (relation left relator right) only = cc
+  room_for_ports (negation tree) only = HasRoom-more (Ports transport) known tree (negation tree) 0 (λ k. omega arith) (room_for_ports tree only)
+  room_for_ports (conjunction left right) only =
+      HasRoom-more (Ports transport) known left (conjunction left right) (weight_of right) (λ k. refl) (room_for_ports left (both_true (has_only_ports transport left) (has_only_ports transport right) only).0)
+  room_for_ports (disjunction left right) only =
+      HasRoom-more (Ports transport) known left (disjunction left right) (weight_of right) (λ k. refl) (room_for_ports left (both_true (has_only_ports transport left) (has_only_ports transport right) only).0)
+
+-- both, of an expression that begins with a guard
+pub record IsSettled (guard : Guard) (known : Known) (tree : Tree) (b : Bool) : Type 0 where
+  pub said : IsSaid guard tree b
+  pub room : HasRoom guard known tree
+
+pub settled : (guard : Guard) (known : Known) (tree : Tree) (b : Bool) → MayAsk guard known → BeginsWith guard tree → elsewhere tree ≡ Some b → IsSettled guard known tree b
+settled Version known tree b may_ask begins is = record { said = said Version tree b tt is; room = room_for_version known may_ask tree b is begins }
+settled (Ports transport) known tree b may_ask begins is = record { said = said (Ports transport) tree b begins is; room = room_for_ports transport known tree begins }
+
+-- ---- an expression behind a guard
+
+no_first : (guard : Guard) (tree : Tree) → IsSaid guard tree false → (t : Truth) (packet : List ℕ) → guard_truth guard packet ≡ t → (t and_then truth_of tree packet) ≡ truth_of tree packet
+no_first guard tree is Yes packet first = refl
+no_first guard tree is No packet first = sym (is.no packet first)
+no_first guard tree is Fails packet first = sym (is.fails packet first)
+
+yes_first : (guard : Guard) (tree : Tree) → IsSaid guard tree true → (t : Truth) (packet : List ℕ) → guard_truth guard packet ≡ t → (opposite t or_else truth_of tree packet) ≡ truth_of tree packet
+yes_first guard tree is Yes packet first = refl
+yes_first guard tree is No packet first = sym (is.no packet first)
+yes_first guard tree is Fails packet first = sym (is.fails packet first)
+
+module _ (guard : Guard) (tree : Tree) (known on : Known) (missed : Option Known) (learned : IsLearned guard on) {c0 c1 c2 : List ℕ} where
+  -- packets that fail it go to no
+  pub Writes-no_elsewhere : (if_yes second_no if_no : Known) {y y' n n' n'' : Open} → IsSettled guard known tree false → ((packet : List ℕ) (x : ℕ) → HoldsWhere missed packet x → Holds if_no packet x) → ((packet : List ℕ) (x : ℕ) → Holds second_no packet x → Holds if_no packet x)
+      → Guards (Tests (Holds known) (Holds on) (HoldsWhere missed) (guard_truth guard)) (guard_weight guard known) c0 c1 n n' → Writes (Tests (Holds on) (Holds if_yes) (Holds second_no) (truth_of tree)) (weight_under on tree) c1 c2 y y' n' n''
+      → Writes (Tests (Holds known) (Holds if_yes) (Holds if_no) (truth_of tree)) (weight_under known tree) c0 c2 y y' n n''
   Writes-no_elsewhere if_yes second_no if_no is of_self of_no guards writes = Writes-means
-      (λ at_yes at_no words h. Tests-same (Holds known) (Holds if_yes) (Holds if_no) (λ packet. is_ip packet and_then truth_of tree packet) (truth_of tree) at_yes at_no words (λ packet x ok g. no_first tree is (is_ip packet) packet refl) h)
-      (Writes-guarded known on if_yes second_no if_no missed is_ip (truth_of tree) (weight_of tree) (version_room tree on is_ipv4 false is) of_self of_no guards writes)
+      (λ at_yes at_no words h. Tests-same (Holds known) (Holds if_yes) (Holds if_no) (λ packet. guard_truth guard packet and_then truth_of tree packet) (truth_of tree) at_yes at_no words (λ packet x ok g. no_first guard tree is.said (guard_truth guard packet) packet refl) h)
+      (Writes-guarded known on if_yes second_no if_no missed (guard_truth guard) (truth_of tree) (weight_under known tree) (is.room.rest on learned) of_self of_no guards writes)
 
   -- they go to yes
-  pub Writes-yes_elsewhere : (second_yes if_yes if_no : Known) {y y' y'' n n' : Open} → IsSettled tree true → ((packet : List ℕ) (x : ℕ) → HoldsWhere missed packet x → Holds if_yes packet x) → ((packet : List ℕ) (x : ℕ) → Holds second_yes packet x → Holds if_yes packet x)
-      → Guards (Tests (Holds known) (Holds on) (HoldsWhere missed) is_ip) 5 c0 c1 y y' → Writes (Tests (Holds on) (Holds second_yes) (Holds if_no) (truth_of tree)) (weight_under on tree) c1 c2 y' y'' n n'
-      → Writes (Tests (Holds known) (Holds if_yes) (Holds if_no) (truth_of tree)) (weight_of tree) c0 c2 y y'' n n'
-  Writes-yes_elsewhere second_yes if_yes if_no is of_self of_yes guards writes = Writes-weight (weight_of tree) (version_room tree on is_ipv4 true is)
-      (Guards-writes_no {one = λ at_yes at_no words. Tests (Holds known) (Holds on) (HoldsWhere missed) is_ip at_no at_yes words} {both = Tests (Holds known) (Holds if_yes) (Holds if_no) (truth_of tree)}
-      (λ at_yes at_no mid words h k. Tests-same (Holds known) (Holds if_yes) (Holds if_no) (λ packet. opposite (is_ip packet) or_else truth_of tree packet) (truth_of tree) at_yes at_no words (λ packet x ok g. yes_first tree is (is_ip packet) packet refl)
-      (Tests-or (Holds known) (Holds on) (Holds if_no) (HoldsWhere missed) (Holds second_yes) (Holds if_yes) (λ packet. opposite (is_ip packet)) (truth_of tree) of_self of_yes at_yes at_no mid words k
-      (Tests-not (Holds known) (HoldsWhere missed) (Holds on) is_ip at_yes mid words h)))
+  pub Writes-yes_elsewhere : (second_yes if_yes if_no : Known) {y y' y'' n n' : Open} → IsSettled guard known tree true → ((packet : List ℕ) (x : ℕ) → HoldsWhere missed packet x → Holds if_yes packet x) → ((packet : List ℕ) (x : ℕ) → Holds second_yes packet x → Holds if_yes packet x)
+      → Guards (Tests (Holds known) (Holds on) (HoldsWhere missed) (guard_truth guard)) (guard_weight guard known) c0 c1 y y' → Writes (Tests (Holds on) (Holds second_yes) (Holds if_no) (truth_of tree)) (weight_under on tree) c1 c2 y' y'' n n'
+      → Writes (Tests (Holds known) (Holds if_yes) (Holds if_no) (truth_of tree)) (weight_under known tree) c0 c2 y y'' n n'
+  Writes-yes_elsewhere second_yes if_yes if_no is of_self of_yes guards writes = Writes-weight (weight_under known tree) (is.room.rest on learned)
+      (Guards-writes_no {one = λ at_yes at_no words. Tests (Holds known) (Holds on) (HoldsWhere missed) (guard_truth guard) at_no at_yes words} {both = Tests (Holds known) (Holds if_yes) (Holds if_no) (truth_of tree)}
+      (λ at_yes at_no mid words h k. Tests-same (Holds known) (Holds if_yes) (Holds if_no) (λ packet. opposite (guard_truth guard packet) or_else truth_of tree packet) (truth_of tree) at_yes at_no words (λ packet x ok g. yes_first guard tree is.said (guard_truth guard packet) packet refl)
+      (Tests-or (Holds known) (Holds on) (Holds if_no) (HoldsWhere missed) (Holds second_yes) (Holds if_yes) (λ packet. opposite (guard_truth guard packet)) (truth_of tree) of_self of_yes at_yes at_no mid words k
+      (Tests-not (Holds known) (HoldsWhere missed) (Holds on) (guard_truth guard) at_yes mid words h)))
       guards writes)

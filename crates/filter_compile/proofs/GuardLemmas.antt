@@ -1,19 +1,27 @@
 -- Guards: a test that is left out, and one that falls through where it is true.
-use Rattle.std.proofs.Common.{◌≡◌, ◌+◌, ◌≤◌, Bool, List, Option, Some, [], arith, false, refl, subst, sym, true, ℕ}
+use Rattle.std.proofs.Common.{◌≡◌, ◌∙◌, ◌+◌, ◌≤◌, Bool, List, None, Option, Some, [], arith, false, refl, subst, sym, true, ℕ}
+use Rattle.std.specs.Prelude.{◌≢◌, ◌&&◌}
 use Rattle.backpatch.specs.Holes.{IsLanded, Open}
 use Rattle.backpatch.specs.Pieces.{Meaning, Writes}
 use Rattle.backpatch.specs.body.Guards.{Guards}
 use Rattle.backpatch.proofs.GuardLemmas.{Guards-guards, Guards-landed, Guards-none, Guards-weight, Guards-writes}
 use Rattle.backpatch.proofs.WritesLemmas.{Writes-means, Writes-not, Writes-weight}
+use Rattle.ipv4_fields.specs.declared.header.Field.TheVariants.{Protocol}
+use Rattle.ipv4_fields.specs.Field.{field_of}
+use Rattle.filter_tree.specs.declared.primitive.Transport.{Transport}
 use Rattle.filter_tree.specs.declared.truth.Truth.{Truth}
 use Rattle.filter_tree.specs.declared.truth.Truth.TheVariants.{No, Yes}
 use Rattle.filter_tree.specs.Measure.{weight_where}
-use Rattle.filter_tree.specs.Outcome.{◌and_then◌, where_so}
+use Rattle.filter_tree.specs.Outcome.{◌and_then◌, tested, where_so}
+use Rattle.filter_tree.specs.Primitive.{has_ports, is_first_fragment, is_ip}
 use Rattle.packet_facts.specs.declared.known.Known.{Known}
 use Rattle.packet_facts.specs.Known.{Holds}
+use Rattle.packet_facts.specs.Told.{first_fragment_of, transport_of}
+use Rattle.packet_facts.proofs.FactLemmas.{first_fragment_yes, ip_by_fragment, ip_yes, transport_yes}
 use Rattle.filter_compile.specs.body.Piece.{Decides, Tests}
 use Rattle.filter_compile.specs.declared.sides.Sides.{Sides}
 use Rattle.filter_compile.specs.body.Sides.{HoldsWhere, Leaves}
+use Rattle.filter_compile.specs.body.Weight.{is_yes, leads_to_ports}
 use Rattle.filter_compile.proofs.TestLemmas.{Tests-and, Tests-decided, Tests-no, Tests-none, Tests-yes}
 
 pub yes_where : (used : Bool) (truth : Truth) → truth ≡ Yes → where_so used truth ≡ Yes
@@ -31,6 +39,32 @@ unused false truth is = refl
 pub weight_used : (used : Bool) (w : ℕ) → used ≡ true → weight_where used w ≡ w
 weight_used true w is = refl
 weight_used false w is = absurd cc
+
+-- ---- what is known
+
+none_told : (told : Option Bool) → told ≢ Some true → told ≢ Some false → told ≡ None
+none_told None not_yes not_no = refl
+none_told (Some true) not_yes not_no = absurd (not_yes refl)
+none_told (Some false) not_yes not_no = absurd (not_no refl)
+
+pub unknown : (told other : Option Bool) → told ≡ other → told ≢ Some true → other ≢ Some false → other ≡ None
+unknown told other same not_yes not_no = none_told other (λ is. not_yes (same ∙ is)) not_no
+
+led_both : (first : Bool) (told : Option Bool) → (first && is_yes told) ≡ true → (first ≡ true) × (told ≡ Some true)
+led_both true (Some true) is = (refl, refl)
+led_both true (Some false) is = cc
+led_both true None is = cc
+led_both false told is = cc
+
+-- what comes before ports is true where it is known to be
+pub led_truth : (known : Known) (transport : Transport) → leads_to_ports known transport ≡ true → (packet : List ℕ) (x : ℕ) → Holds known packet x
+    → (is_ip packet and_then tested (has_ports transport) (field_of Protocol packet) and_then is_first_fragment packet) ≡ Yes
+led_truth known transport led packet x h =
+    let told = led_both (first_fragment_of known) (transport_of known transport) led in
+    rw (ip_yes known packet x h (ip_by_fragment known told.0), transport_yes known packet x h transport told.1, first_fragment_yes known packet x h told.0) refl
+
+pub leads : (known : Known) (transport : Transport) → first_fragment_of known ≡ true → transport_of known transport ≡ Some true → leads_to_ports known transport ≡ true
+leads known transport first told = rw (first, told) refl
 
 -- nothing is written
 pub Guards-left_out : (known on : Known) (if_no : Option Known) (truth : List ℕ → Truth) (weight : ℕ) (code : List ℕ) (n : Open) → on ≡ known → ((packet : List ℕ) (x : ℕ) → Holds known packet x → truth packet ≡ Yes)

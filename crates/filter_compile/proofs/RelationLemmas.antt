@@ -23,7 +23,7 @@ use Rattle.filter_compile.specs.declared.arithmetic.Simple.TheVariants.{Length}
 use Rattle.filter_compile.specs.body.Arithmetic.{simple_value}
 use Rattle.filter_compile.specs.body.Piece.{Compares, Computes, Facts, Pairs, Tests, compared_with}
 use Rattle.filter_compile.specs.body.Sides.{HoldsWhere}
-use Rattle.filter_compile.specs.body.Weight.{weight_from, weight_of_guards_from}
+use Rattle.filter_compile.specs.body.Weight.{version_weight_under, weight_of_guards_under, weight_under}
 use Rattle.filter_compile.proofs.ArithmeticLemmas.{Pairs-length}
 use Rattle.filter_compile.proofs.GuardLemmas.{Writes-guarded}
 use Rattle.filter_compile.proofs.TestLemmas.{Compares-checks, Compares-pair, Compares-same, Tests-same, Tests-value, from_value}
@@ -31,15 +31,15 @@ use Rattle.filter_compile.proofs.TestLemmas.{Compares-checks, Compares-pair, Com
 -- ---- guards
 
 -- what the guards test, with what was told of all protocols
-pub Guards-told : (v : ℕ) (used : Accesses) (given when_yes when_no : Facts) (any transport : Bool) {c0 c1 : List ℕ} {n n' : Open} → any ≡ any_accessor (used_by used) → transport ≡ any_transport (used_by used)
+pub Guards-told : (known : Known) (used : Accesses) (given when_yes when_no : Facts) (any transport : Bool) {c0 c1 : List ℕ} {n n' : Open} → any ≡ any_accessor (used_by used) → transport ≡ any_transport (used_by used)
     → Guards (Tests given when_yes when_no (λ packet. where_so any (is_ip packet) and_then where_so used.tcp (is_protocol 6 packet) and_then where_so used.udp (is_protocol 17 packet) and_then where_so used.icmp (is_protocol 1 packet) and_then where_so transport (is_first_fragment packet)))
-    (weight_where any v + weight_where used.tcp 4 + weight_where used.udp 4 + weight_where used.icmp 4 + weight_where transport 4) c0 c1 n n'
-    → Guards (Tests given when_yes when_no (guards (used_by used))) (weight_of_guards_from v (used_by used)) c0 c1 n n'
-Guards-told v used given when_yes when_no any transport {c0 = c0} {c1 = c1} {n = n} {n' = n'} any_is transport_is h =
+    (weight_where any (version_weight_under known) + weight_where used.tcp 4 + weight_where used.udp 4 + weight_where used.icmp 4 + weight_where transport 4) c0 c1 n n'
+    → Guards (Tests given when_yes when_no (guards (used_by used))) (weight_of_guards_under known (used_by used)) c0 c1 n n'
+Guards-told known used given when_yes when_no any transport {c0 = c0} {c1 = c1} {n = n} {n' = n'} any_is transport_is h =
     subst (λ (t : Bool). Guards (Tests given when_yes when_no (λ packet. where_so (any_accessor (used_by used)) (is_ip packet) and_then where_so used.tcp (is_protocol 6 packet) and_then where_so used.udp (is_protocol 17 packet) and_then where_so used.icmp (is_protocol 1 packet) and_then where_so t (is_first_fragment packet)))
-    (weight_where (any_accessor (used_by used)) v + weight_where used.tcp 4 + weight_where used.udp 4 + weight_where used.icmp 4 + weight_where t 4) c0 c1 n n') transport_is
+    (weight_where (any_accessor (used_by used)) (version_weight_under known) + weight_where used.tcp 4 + weight_where used.udp 4 + weight_where used.icmp 4 + weight_where t 4) c0 c1 n n') transport_is
     (subst (λ (b : Bool). Guards (Tests given when_yes when_no (λ packet. where_so b (is_ip packet) and_then where_so used.tcp (is_protocol 6 packet) and_then where_so used.udp (is_protocol 17 packet) and_then where_so used.icmp (is_protocol 1 packet) and_then where_so transport (is_first_fragment packet)))
-    (weight_where b v + weight_where used.tcp 4 + weight_where used.udp 4 + weight_where used.icmp 4 + weight_where transport 4) c0 c1 n n') any_is h)
+    (weight_where b (version_weight_under known) + weight_where used.tcp 4 + weight_where used.udp 4 + weight_where used.icmp 4 + weight_where transport 4) c0 c1 n n') any_is h)
 
 -- ---- comparisons
 
@@ -73,21 +73,21 @@ abbrev pub sides : Relation → ArithTree → ArithTree → List ℕ → Truth
 sides relator left right packet = from_value (λ a. tested (holds relator a) (value_of_arith right packet)) (value_of_arith left packet)
 
 module _ (relator : Relation) (left right : ArithTree) (used : Accesses) (same_guards : (packet : List ℕ) → guards (used_by used) packet ≡ guards (accesses_of_both left right) packet)
-    (v : ℕ) (same_weight : weight_of_guards_from v (used_by used) ≡ weight_of_guards_from v (accesses_of_both left right)) where
+    (known : Known) (same_weight : weight_of_guards_under known (used_by used) ≡ weight_of_guards_under known (accesses_of_both left right)) where
   pub excluded_relation : (packet : List ℕ) → guards (used_by used) packet ≡ No → truth_of (relation left relator right) packet ≡ No
   excluded_relation packet is = ap (λ t. t and_then compared relator (value_of_arith left packet) (value_of_arith right packet)) (sym (same_guards packet) ∙ is)
 
-  pub relation_weight : 1 ≤ weight_from v (relation left relator right)
+  pub relation_weight : 1 ≤ weight_under known (relation left relator right)
   relation_weight = omega arith
 
-  module _ (known on last if_no : Known) (missed : Option Known) (held between after : Bool) {c0 c1 c2 c3 : List ℕ} {y y' n n' n'' : Open} (knows : (packet : List ℕ) (x : ℕ) → Holds on packet x → Knows held packet x)
+  module _ (on last if_no : Known) (missed : Option Known) (held between after : Bool) {c0 c1 c2 c3 : List ℕ} {y y' n n' n'' : Open} (knows : (packet : List ℕ) (x : ℕ) → Holds on packet x → Knows held packet x)
       (tells : (packet : List ℕ) (x x' : ℕ) → Holds on packet x → Knows after packet x' → Holds last packet x') (of_self : (packet : List ℕ) (x : ℕ) → HoldsWhere missed packet x → Holds if_no packet x) (of_no : (packet : List ℕ) (x : ℕ) → Holds last packet x → Holds if_no packet x)
-      (guarded : Guards (Tests (Holds known) (Holds on) (HoldsWhere missed) (guards (used_by used))) (weight_of_guards_from v (used_by used)) c0 c1 n n')
+      (guarded : Guards (Tests (Holds known) (Holds on) (HoldsWhere missed) (guards (used_by used))) (weight_of_guards_under known (used_by used)) c0 c1 n n')
       (computes : Extends (Computes (λ packet a. value_of_arith left packet) held between 0) (weight_of_arith left) c1 c2)
       (compares : Writes (Compares (compared_with relator (value_of_arith right)) between after) (weight_of_arith right + 6) c2 c3 y y' n' n'') where
-    pub Writes-relation : Writes (Tests (Holds known) (Holds last) (Holds if_no) (truth_of (relation left relator right))) (weight_from v (relation left relator right)) c0 c3 y y' n n''
+    pub Writes-relation : Writes (Tests (Holds known) (Holds last) (Holds if_no) (truth_of (relation left relator right))) (weight_under known (relation left relator right)) c0 c3 y y' n n''
     Writes-relation = Writes-means
         (λ at_yes at_no words h. Tests-same (Holds known) (Holds last) (Holds if_no) (λ packet. guards (used_by used) packet and_then sides relator left right packet) (truth_of (relation left relator right)) at_yes at_no words
         (λ packet x ok g. ap (λ t. t and_then sides relator left right packet) (same_guards packet) ∙ ap (λ t. guards (accesses_of_both left right) packet and_then t) (compared_same relator (value_of_arith left packet) (value_of_arith right packet))) h)
-        (Writes-guarded known on last last if_no missed (guards (used_by used)) (sides relator left right) (weight_from v (relation left relator right)) (let e = same_weight in omega arith) of_self of_no guarded
+        (Writes-guarded known on last last if_no missed (guards (used_by used)) (sides relator left right) (weight_under known (relation left relator right)) (let e = same_weight in omega arith) of_self of_no guarded
         (Extends-writes (λ at_yes at_no mid words one two. Tests-value (Holds on) held between after (value_of_arith left) (compared_with relator (value_of_arith right)) (Holds last) at_yes at_no mid words knows tells one two) computes compares))

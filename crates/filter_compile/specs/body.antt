@@ -6,3 +6,4 @@ pub mod Arithmetic
 pub mod Program
 pub mod Weight
 pub mod Elsewhere
+pub mod Front

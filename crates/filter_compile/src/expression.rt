@@ -1,7 +1,7 @@
 //! The code of an expression: its parts stand one behind the other, each begins with what the one before tells, and goes
 //! where its truth leads.
 
-ghost use Rattle.std.specs.Prelude.{◌≡◌, ◌+◌, ◌≤◌, IfOk, None, Some, false, length};
+ghost use Rattle.std.specs.Prelude.{◌≡◌, ◌+◌, ◌≤◌, IfOk, Some, length};
 ghost use Rattle.bpf_verify.specs.declared.TheConstants.{CELLS, MAX_INSTRUCTIONS};
 ghost use Rattle.backpatch.specs.Pieces.{Writes};
 ghost use Rattle.backpatch.specs.body.Guards.{Guards};
@@ -10,14 +10,13 @@ ghost use Rattle.filter_tree.specs.Tree.{conjunction as conjunction_tree, disjun
 ghost use Rattle.filter_tree.specs.Truth.{truth_of};
 ghost use Rattle.filter_tree.specs.View.{tree_of};
 ghost use Rattle.packet_facts.specs.Known.{Holds};
-ghost use Rattle.packet_facts.specs.Told.{ip_of};
-ghost use Rattle.filter_compile.specs.body.Elsewhere.{begins_with_ip, elsewhere};
+ghost use Rattle.filter_compile.specs.body.Elsewhere.{elsewhere};
+ghost use Rattle.filter_compile.specs.body.Front.{BeginsWith, MayAsk};
 ghost use Rattle.filter_compile.specs.body.Piece.{Tests};
 ghost use Rattle.filter_compile.specs.body.Weight.{weight_under};
 
 use crate::SHORT;
-use crate::elsewhere::settled_elsewhere;
-use crate::guard::ask_ip;
+use crate::front::{Front, ask, in_front};
 use crate::primitive::primitive;
 use crate::relation::relation;
 use crate::sides::Sides;
@@ -39,8 +38,8 @@ fn first_end<B: Allocator>(end: u32, right: &Expr<B>) -> u32
     end - right.weight()
 }
 
-/// Writes the code of an expression, which ends at the place `end` at last. Where it begins with the test of the version, and
-/// says the same of all packets that are not of IPv4, that test stands once before it.
+/// Writes the code of an expression, which ends at the place `end` at last. Where it says the same of all packets that fail the
+/// tests with which it begins, they stand once before it.
 #[cycle(expression)]
 pub(crate) fn expression<'a, A: Allocator, B: Allocator>(
     code: &mut Code<'a, A>,
@@ -57,48 +56,48 @@ pub(crate) fn expression<'a, A: Allocator, B: Allocator>(
     requires no_behind { end ≤ no.old.by }
     ensures writes { IfOk result (λ sides. Writes (Tests (Holds known) (Holds sides.yes) (Holds sides.no) (truth_of (tree_of expr.now))) (weight_under known (tree_of expr.now)) code.old code.new yes.old yes.new no.old no.new) }
 {
-    match settled_elsewhere(expr, known) {
-        Some(truth) => behind_version(code, expr, truth, known, end, yes, no),
+    match in_front(expr, known) {
+        Some(front) => behind_guard(code, expr, front, known, end, yes, no),
         None => parts(code, expr, known, end, yes, no),
     }
 }
 
-// Writes the test of the version, and the expression behind it. `truth` is what that says of packets that are not of IPv4. Apart
-// from the recursion: it comes once on a way down the tree.
+// Writes the tests in front of an expression, and the expression behind them. Not inlined: it comes at most twice on a way down the
+// tree, and each level would clear room for it.
 #[inline(never)]
 #[cycle(expression)]
-fn behind_version<'a, A: Allocator, B: Allocator>(
+fn behind_guard<'a, A: Allocator, B: Allocator>(
     code: &mut Code<'a, A>,
     expr: &Expr<B>,
-    truth: bool,
+    front: Front,
     known: Known,
     end: u32,
     yes: &mut Exit<'a, A>,
     no: &mut Exit<'a, A>,
 ) -> Result<Sides, AllocError>
-    requires settled { elsewhere (tree_of expr.now) ≡ Some truth }
-    requires begins { begins_with_ip (tree_of expr.now) ≡ false }
-    requires unknown { ip_of known ≡ None }
+    requires settled { elsewhere (tree_of expr.now) ≡ Some front.truth }
+    requires may_ask { MayAsk front.guard known }
+    requires begins { BeginsWith front.guard (tree_of expr.now) }
     requires cells { cells_of (tree_of expr.now) ≤ CELLS }
-    requires room { length code.old + weight_of (tree_of expr.now) ≤ end }
+    requires room { length code.old + weight_under known (tree_of expr.now) ≤ end }
     requires limit { end ≤ MAX_INSTRUCTIONS }
     requires yes_behind { end ≤ yes.old.by }
     requires no_behind { end ≤ no.old.by }
-    ensures writes { IfOk result (λ sides. Writes (Tests (Holds known) (Holds sides.yes) (Holds sides.no) (truth_of (tree_of expr.now))) (weight_of (tree_of expr.now)) code.old code.new yes.old yes.new no.old no.new) }
+    ensures writes { IfOk result (λ sides. Writes (Tests (Holds known) (Holds sides.yes) (Holds sides.no) (truth_of (tree_of expr.now))) (weight_under known (tree_of expr.now)) code.old code.new yes.old yes.new no.old no.new) }
 {
-    if truth {
-        let ip = ask_ip(code, known, yes)?;
-        let sides = parts(code, expr, ip.on, end, yes, no)?;
+    if front.truth {
+        let passed = ask(code, front.guard, known, yes)?;
+        let sides = parts(code, expr, passed.on, end, yes, no)?;
         return Ok(Sides {
-            yes: ip.or_no(sides.yes),
+            yes: passed.or_no(sides.yes),
             no: sides.no,
         });
     }
-    let ip = ask_ip(code, known, no)?;
-    let sides = parts(code, expr, ip.on, end, yes, no)?;
+    let passed = ask(code, front.guard, known, no)?;
+    let sides = parts(code, expr, passed.on, end, yes, no)?;
     Ok(Sides {
         yes: sides.yes,
-        no: ip.or_no(sides.no),
+        no: passed.or_no(sides.no),
     })
 }
 

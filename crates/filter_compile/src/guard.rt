@@ -5,17 +5,18 @@ ghost use Rattle.ipv4_fields.specs.declared.header.Field.TheVariants.{Protocol};
 ghost use Rattle.ipv4_fields.specs.Field.{field_of};
 ghost use Rattle.bpf_verify.specs.declared.TheConstants.{MAX_INSTRUCTIONS};
 ghost use Rattle.backpatch.specs.body.Guards.{Extends, Guards};
+ghost use Rattle.filter_tree.specs.declared.primitive.Transport.{Transport};
 ghost use Rattle.filter_tree.specs.declared.truth.Truth.{Truth};
 ghost use Rattle.filter_tree.specs.declared.truth.Truth.TheVariants.{Yes};
 ghost use Rattle.filter_tree.specs.Measure.{weight_where};
 ghost use Rattle.filter_tree.specs.Outcome.{tested, where_so};
 ghost use Rattle.filter_tree.specs.Primitive.{has_ports, is_first_fragment, is_ip, is_protocol};
 ghost use Rattle.packet_facts.specs.Known.{Holds, Settles};
-ghost use Rattle.packet_facts.specs.Told.{ip_of};
+ghost use Rattle.packet_facts.specs.Told.{first_fragment_of, ip_of, transport_of};
 ghost use Rattle.filter_compile.specs.body.Header.{weight_of_transport};
 ghost use Rattle.filter_compile.specs.body.Piece.{LoadsHeader, Tests};
 ghost use Rattle.filter_compile.specs.body.Sides.{HoldsWhere};
-ghost use Rattle.filter_compile.specs.body.Weight.{version_weight_under};
+ghost use Rattle.filter_compile.specs.body.Weight.{leads_to_ports, version_weight_under};
 
 use crate::header::{has_ports, is_first_fragment, is_ip, is_protocol};
 use crate::sides::Passed;
@@ -29,6 +30,7 @@ use std::alloc::{AllocError, Allocator};
 pub(crate) fn must_ask(used: bool, told: Option<bool>) -> bool
     ensures used { result ≡ true → used ≡ true }
     ensures asked { result ≡ true → told ≢ Some true }
+    ensures known { result ≡ false → used ≡ true → told ≡ Some true }
     ensures left_out { result ≡ false → (truth : Truth) → Settles told truth → where_so used truth ≡ Yes }
 {
     match told {
@@ -46,6 +48,8 @@ pub(crate) fn guard_ip<'a, A: Allocator>(
     requires room { length code.old + weight_where used (version_weight_under known) ≤ MAX_INSTRUCTIONS }
     requires behind { length code.old + weight_where used (version_weight_under known) ≤ no.old.by }
     ensures guards { IfOk result (λ passed. Guards (Tests (Holds known) (Holds passed.on) (HoldsWhere passed.no) (λ packet. where_so used (is_ip packet))) (weight_where used (version_weight_under known)) code.old code.new no.old no.new) }
+    ensures learned { IfOk result (λ passed. used ≡ true → ip_of known ≢ Some false → ip_of passed.on ≡ Some true) }
+    ensures same_transport { IfOk result (λ passed. (transport : Transport) → transport_of passed.on transport ≡ transport_of known transport) }
 {
     if !must_ask(used, known.ip()) {
         return Ok(Passed::at_once(known));
@@ -65,6 +69,7 @@ pub(crate) fn ask_ip<'a, A: Allocator>(
     requires behind { length code.old + 5 ≤ no.old.by }
     ensures guards { IfOk result (λ passed. Guards (Tests (Holds known) (Holds passed.on) (HoldsWhere passed.no) is_ip) 5 code.old code.new no.old no.new) }
     ensures learned { IfOk result (λ passed. ip_of known ≡ None → ip_of passed.on ≡ Some true) }
+    ensures same_transport { IfOk result (λ passed. (transport : Transport) → transport_of passed.on transport ≡ transport_of known transport) }
 {
     let mut on = code.exit(code.len() + 5);
     is_ip(code, &mut on, no)?;
@@ -112,6 +117,13 @@ fn ask_protocol<'a, A: Allocator>(
     })
 }
 
+/// Tests whether all that comes before ports is known to hold.
+pub(crate) fn leads_to_ports(known: Known, transport: Transport) -> bool
+    ensures { result ≡ leads_to_ports known transport }
+{
+    known.first_fragment() && matches!(known.transport(transport), Some(true))
+}
+
 // The most instructions of the test of a protocol that has ports.
 fn weight_of(transport: Transport) -> u32
     ensures { result ≡ weight_of_transport transport }
@@ -132,6 +144,7 @@ pub(crate) fn guard_transport<'a, A: Allocator>(
     requires room { length code.old + weight_of_transport transport ≤ MAX_INSTRUCTIONS }
     requires behind { length code.old + weight_of_transport transport ≤ no.old.by }
     ensures guards { IfOk result (λ passed. Guards (Tests (Holds known) (Holds passed.on) (HoldsWhere passed.no) (λ packet. tested (has_ports transport) (field_of Protocol packet))) (weight_of_transport transport) code.old code.new no.old no.new) }
+    ensures learned { IfOk result (λ passed. ip_of known ≡ Some true → transport_of known transport ≢ Some false → transport_of passed.on transport ≡ Some true) }
 {
     if !must_ask(true, known.transport(transport)) {
         return Ok(Passed::at_once(known));
@@ -154,6 +167,8 @@ pub(crate) fn guard_first_fragment<'a, A: Allocator>(
     requires room { length code.old + weight_where used 4 ≤ MAX_INSTRUCTIONS }
     requires behind { length code.old + weight_where used 4 ≤ no.old.by }
     ensures guards { IfOk result (λ passed. Guards (Tests (Holds known) (Holds passed.on) (HoldsWhere passed.no) (λ packet. where_so used (is_first_fragment packet))) (weight_where used 4) code.old code.new no.old no.new) }
+    ensures learned { IfOk result (λ passed. used ≡ true → ip_of known ≡ Some true → first_fragment_of passed.on ≡ true) }
+    ensures same_transport { IfOk result (λ passed. (transport : Transport) → transport_of passed.on transport ≡ transport_of known transport) }
 {
     if known.first_fragment() {
         return Ok(Passed::at_once(known));
@@ -173,6 +188,8 @@ fn ask_first_fragment<'a, A: Allocator>(
     requires room { length code.old + 4 ≤ MAX_INSTRUCTIONS }
     requires behind { length code.old + 4 ≤ no.old.by }
     ensures guards { IfOk result (λ passed. Guards (Tests (Holds known) (Holds passed.on) (HoldsWhere passed.no) is_first_fragment) 4 code.old code.new no.old no.new) }
+    ensures learned { IfOk result (λ passed. ip_of known ≡ Some true → first_fragment_of passed.on ≡ true) }
+    ensures same_transport { IfOk result (λ passed. (transport : Transport) → transport_of passed.on transport ≡ transport_of known transport) }
 {
     let mut on = code.exit(code.len() + 4);
     is_first_fragment(code, &mut on, no)?;

@@ -17,6 +17,7 @@ mod elsewhere;
 mod ends;
 mod expression;
 mod fault;
+mod front;
 mod guard;
 mod header;
 mod primitive;

@@ -1,6 +1,6 @@
 //! The code of a primitive without arithmetic (pcap-filter(7), "Primitives").
 
-ghost use Rattle.std.specs.Prelude.{◌+◌, ◌≤◌, IfOk, OnOk, false, length};
+ghost use Rattle.std.specs.Prelude.{◌≡◌, ◌≢◌, ◌+◌, ◌≤◌, IfOk, OnOk, Some, false, length, true};
 ghost use Rattle.ipv4_fields.specs.declared.header.Field.TheVariants.{Protocol};
 ghost use Rattle.ipv4_fields.specs.Field.{field_of};
 ghost use Rattle.bpf_verify.specs.declared.TheConstants.{MAX_INSTRUCTIONS};
@@ -10,14 +10,17 @@ ghost use Rattle.backpatch.specs.body.Guards.{Guards};
 ghost use Rattle.filter_tree.specs.Outcome.{◌and_then◌, answer, tested};
 ghost use Rattle.filter_tree.specs.Primitive.{address_passes, has_ports, is_first_fragment, is_ip, is_protocol, port_passes, truth_of_primitive};
 ghost use Rattle.packet_facts.specs.Known.{Holds};
-ghost use Rattle.filter_compile.specs.body.Header.{passes, weight_of_addresses, weight_of_ports, weight_of_transport};
+ghost use Rattle.packet_facts.specs.Told.{ip_of, transport_of};
+ghost use Rattle.filter_compile.specs.body.Header.{passes, weight_of_addresses, weight_of_ports};
 ghost use Rattle.filter_compile.specs.body.Piece.{Decides, Tests};
 ghost use Rattle.filter_compile.specs.body.Sides.{HoldsWhere};
-ghost use Rattle.filter_compile.specs.body.Weight.{version_weight_under, weight_of_primitive_from};
+ghost use Rattle.filter_compile.specs.body.Weight.{leads_to_ports, ports_weight_under, version_weight_under, weight_of_primitive_under};
 
 use crate::check::Check;
 use crate::ends::{Part, ends};
-use crate::guard::{guard_first_fragment, guard_ip, guard_transport, load_header, must_ask};
+use crate::guard::{
+    guard_first_fragment, guard_ip, guard_transport, leads_to_ports, load_header, must_ask,
+};
 use crate::header::{is_ip, is_protocol};
 use crate::sides::{Passed, Sides, settled};
 use backpatch::{Code, Exit};
@@ -86,18 +89,22 @@ fn addresses<'a, A: Allocator>(
     })
 }
 
-// What is tested before ports.
-fn guard_ports<'a, A: Allocator>(
+/// What is tested before ports.
+pub(crate) fn guard_ports<'a, A: Allocator>(
     code: &mut Code<'a, A>,
     transport: Transport,
     known: Known,
     no: &mut Exit<'a, A>,
 ) -> Result<Passed, AllocError>
-    requires room { length code.old + (weight_of_transport transport + 4 + version_weight_under known) ≤ MAX_INSTRUCTIONS }
-    requires behind { length code.old + (weight_of_transport transport + 4 + version_weight_under known) ≤ no.old.by }
+    requires room { length code.old + ports_weight_under known transport ≤ MAX_INSTRUCTIONS }
+    requires behind { length code.old + ports_weight_under known transport ≤ no.old.by }
     ensures guards { IfOk result (λ passed. Guards (Tests (Holds known) (Holds passed.on) (HoldsWhere passed.no)
-        (λ packet. is_ip packet and_then tested (has_ports transport) (field_of Protocol packet) and_then is_first_fragment packet)) (weight_of_transport transport + 4 + version_weight_under known) code.old code.new no.old no.new) }
+        (λ packet. is_ip packet and_then tested (has_ports transport) (field_of Protocol packet) and_then is_first_fragment packet)) (ports_weight_under known transport) code.old code.new no.old no.new) }
+    ensures learned { IfOk result (λ passed. ip_of known ≢ Some false → transport_of known transport ≢ Some false → leads_to_ports passed.on transport ≡ true) }
 {
+    if leads_to_ports(known, transport) {
+        return Ok(Passed::at_once(known));
+    }
     let ip = guard_ip(code, true, known, no)?;
     let protocol = guard_transport(code, transport, ip.on, no)?;
     let first = guard_first_fragment(code, true, protocol.on, no)?;
@@ -113,10 +120,10 @@ fn ports<'a, A: Allocator>(
     yes: &mut Exit<'a, A>,
     no: &mut Exit<'a, A>,
 ) -> Result<Sides, AllocError>
-    requires room { length code.old + weight_of_ports (version_weight_under known) transport direction check.now ≤ MAX_INSTRUCTIONS }
-    requires yes_behind { length code.old + weight_of_ports (version_weight_under known) transport direction check.now ≤ yes.old.by }
-    requires behind { length code.old + weight_of_ports (version_weight_under known) transport direction check.now ≤ no.old.by }
-    ensures writes { IfOk result (λ sides. Writes (Tests (Holds known) (Holds sides.yes) (Holds sides.no) (port_passes transport direction (passes check.now))) (weight_of_ports (version_weight_under known) transport direction check.now) code.old code.new yes.old yes.new no.old no.new) }
+    requires room { length code.old + weight_of_ports (ports_weight_under known transport) direction check.now ≤ MAX_INSTRUCTIONS }
+    requires yes_behind { length code.old + weight_of_ports (ports_weight_under known transport) direction check.now ≤ yes.old.by }
+    requires behind { length code.old + weight_of_ports (ports_weight_under known transport) direction check.now ≤ no.old.by }
+    ensures writes { IfOk result (λ sides. Writes (Tests (Holds known) (Holds sides.yes) (Holds sides.no) (port_passes transport direction (passes check.now))) (weight_of_ports (ports_weight_under known transport) direction check.now) code.old code.new yes.old yes.new no.old no.new) }
 {
     let before = guard_ports(code, transport, known, no)?;
     load_header(code, before.on.header_in_x())?;
@@ -152,10 +159,10 @@ pub(crate) fn primitive<'a, A: Allocator>(
     yes: &mut Exit<'a, A>,
     no: &mut Exit<'a, A>,
 ) -> Result<Sides, AllocError>
-    requires room { length code.old + weight_of_primitive_from (version_weight_under known) primitive ≤ MAX_INSTRUCTIONS }
-    requires yes_behind { length code.old + weight_of_primitive_from (version_weight_under known) primitive ≤ yes.old.by }
-    requires behind { length code.old + weight_of_primitive_from (version_weight_under known) primitive ≤ no.old.by }
-    ensures writes { IfOk result (λ sides. Writes (Tests (Holds known) (Holds sides.yes) (Holds sides.no) (truth_of_primitive primitive)) (weight_of_primitive_from (version_weight_under known) primitive) code.old code.new yes.old yes.new no.old no.new) }
+    requires room { length code.old + weight_of_primitive_under known primitive ≤ MAX_INSTRUCTIONS }
+    requires yes_behind { length code.old + weight_of_primitive_under known primitive ≤ yes.old.by }
+    requires behind { length code.old + weight_of_primitive_under known primitive ≤ no.old.by }
+    ensures writes { IfOk result (λ sides. Writes (Tests (Holds known) (Holds sides.yes) (Holds sides.no) (truth_of_primitive primitive)) (weight_of_primitive_under known primitive) code.old code.new yes.old yes.new no.old no.new) }
 {
     if known.excludes(&primitive) {
         return settled(code, known, no);

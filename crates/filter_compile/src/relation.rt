@@ -14,7 +14,7 @@ ghost use Rattle.filter_tree.specs.View.{arith_tree_of};
 ghost use Rattle.packet_facts.specs.Known.{Holds};
 ghost use Rattle.filter_compile.specs.body.Piece.{Compares, Tests, compared_with};
 ghost use Rattle.filter_compile.specs.body.Sides.{HoldsWhere};
-ghost use Rattle.filter_compile.specs.body.Weight.{version_weight_under, weight_of_guards_from, weight_under};
+ghost use Rattle.filter_compile.specs.body.Weight.{weight_of_guards_under, weight_under};
 
 use crate::arithmetic::{Simple, arithmetic, pair, simple_of};
 use crate::guard::{guard_first_fragment, guard_ip, guard_protocol};
@@ -32,9 +32,9 @@ fn guards<'a, A: Allocator>(
     known: Known,
     no: &mut Exit<'a, A>,
 ) -> Result<Passed, AllocError>
-    requires room { length code.old + weight_of_guards_from (version_weight_under known) (used_by used) ≤ MAX_INSTRUCTIONS }
-    requires behind { length code.old + weight_of_guards_from (version_weight_under known) (used_by used) ≤ no.old.by }
-    ensures guards { IfOk result (λ passed. Guards (Tests (Holds known) (Holds passed.on) (HoldsWhere passed.no) (guards (used_by used))) (weight_of_guards_from (version_weight_under known) (used_by used)) code.old code.new no.old no.new) }
+    requires room { length code.old + weight_of_guards_under known (used_by used) ≤ MAX_INSTRUCTIONS }
+    requires behind { length code.old + weight_of_guards_under known (used_by used) ≤ no.old.by }
+    ensures guards { IfOk result (λ passed. Guards (Tests (Holds known) (Holds passed.on) (HoldsWhere passed.no) (guards (used_by used))) (weight_of_guards_under known (used_by used)) code.old code.new no.old no.new) }
 {
     let ip = guard_ip(code, used.any(), known, no)?;
     let tcp = guard_protocol(code, used.tcp, 6, ip.on, no)?;

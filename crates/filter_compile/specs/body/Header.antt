@@ -29,7 +29,7 @@ weight_of_check (Equal n) = 3
 weight_of_check (Covered prefix) = 4
 weight_of_check (Between n m) = 6
 
--- the most instructions of the tests of both ends, of addresses and of ports with what comes before them, first the version
+-- the most instructions of the tests of both ends, of addresses and of ports with what comes before them
 abbrev pub weight_of_ends : Direction → Check → ℕ
 weight_of_ends direction check = by_direction direction (weight_of_check check + 1) ((weight_of_check check + 1) + (weight_of_check check + 1))
 
@@ -41,8 +41,8 @@ weight_of_transport Tcp = 4
 weight_of_transport Udp = 4
 weight_of_transport Unnamed = 10
 
-abbrev pub weight_of_ports : ℕ → Transport → Direction → Check → ℕ
-weight_of_ports version transport direction check = weight_of_ends direction check + 1 + 4 + weight_of_transport transport + version
+abbrev pub weight_of_ports : ℕ → Direction → Check → ℕ
+weight_of_ports guards direction check = weight_of_ends direction check + 1 + guards
 
 -- the field that tells of an end of a packet: its address, or its port, which is loaded by the length of the header in X
 abbrev pub end_of : Part → End → List ℕ → Option ℕ

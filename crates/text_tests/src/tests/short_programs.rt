@@ -26,7 +26,7 @@ struct Row {
     steps: u32,
 }
 
-const ROWS: [Row; 11] = [
+const ROWS: [Row; 12] = [
     Row {
         text: "ip",
         charge: 7,
@@ -79,7 +79,7 @@ const ROWS: [Row; 11] = [
         text: "(src host 10.0.0.1 or src host 10.0.0.7 or src net 192.168.0.0/16) and udp \
                and (dst port 53 or dst portrange 9000-9100) and not (less 29 or greater 1400)",
         charge: 98,
-        instructions: 29,
+        instructions: 26,
         far_jumps: 0,
         packet: &LONGER_PACKET,
         steps: 17,
@@ -111,10 +111,18 @@ const ROWS: [Row; 11] = [
     Row {
         text: "port 80 or port 443 or port 53",
         charge: 86,
-        instructions: 38,
+        instructions: 24,
         far_jumps: 0,
         packet: &SAMPLE_PACKET,
-        steps: 34,
+        steps: 22,
+    },
+    Row {
+        text: "udp port 53 or udp port 5353",
+        charge: 46,
+        instructions: 18,
+        far_jumps: 0,
+        packet: &SAMPLE_PACKET,
+        steps: 13,
     },
 ];
 

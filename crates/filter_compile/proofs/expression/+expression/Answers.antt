@@ -5,56 +5,52 @@ use Rattle.filter_tree.specs.Measure.{weight_of}
 use Rattle.filter_tree.specs.Truth.{truth_of}
 use Rattle.filter_tree.specs.View.{tree_of}
 use Rattle.packet_facts.specs.Known.{Holds}
+use Rattle.filter_compile.specs.body.Front.{guard_weight}
 use Rattle.filter_compile.specs.body.Weight.{weight_under}
-use Rattle.filter_compile.proofs.ElsewhereLemmas.{Writes-no_elsewhere, Writes-yes_elsewhere, settled, unknown_weight, version_room}
+use Rattle.filter_compile.proofs.ElsewhereLemmas.{Writes-no_elsewhere, Writes-yes_elsewhere, settled}
 use Rattle.filter_compile.proofs.GuardLemmas.{Guards-writes_no}
 use Rattle.filter_compile.proofs.TestLemmas.{Tests-and, Tests-not, Tests-or}
 use Rattle.filter_compile.proofs.WeightLemmas.{weight_under-within}
 use Rattle.filter_compile.proofs.expression.+expression.Goals as goal
 
-pub expression-behind_version-requires : goal.expression-behind_version-requires
-expression-behind_version-requires g height c κs within =
-    let whole : weight_under c.args.known (tree_of c.args.expr.now) ≡ weight_of (tree_of c.args.expr.now) = unknown_weight c.args.known (tree_of c.args.expr.now) c.in-Some.ensures.unknown in search rules
+-- ---- behind a guard
 
-pub expression-returns-in-Some : goal.expression-returns-in-Some
-expression-returns-in-Some g height c = record { writes = rw (unknown_weight c.args.known (tree_of c.args.expr.now) c.in-Some.ensures.unknown) c.behind_version.ensures.writes }
+pub behind_guard-ask-requires-clause-room : goal.behind_guard-ask-requires-clause-room
+behind_guard-ask-requires-clause-room g height c = let test = (settled c.args.front.guard c.args.known (tree_of c.args.expr.now) c.args.front.truth c.requires.may_ask c.requires.begins c.requires.settled).room.test in omega arith
 
--- ---- behind the test of the version
+pub behind_guard-ask-requires-clause-behind : goal.behind_guard-ask-requires-clause-behind
+behind_guard-ask-requires-clause-behind g height c = let test = (settled c.args.front.guard c.args.known (tree_of c.args.expr.now) c.args.front.truth c.requires.may_ask c.requires.begins c.requires.settled).room.test in omega arith
 
-pub behind_version-ask_ip-requires-clause-room : goal.behind_version-ask_ip-requires-clause-room
-behind_version-ask_ip-requires-clause-room g height c = let saved = (settled (tree_of c.args.expr.now) c.args.truth c.requires.settled c.requires.begins).saved in omega arith
+pub behind_guard-ask-requires-2-clause-room : goal.behind_guard-ask-requires-2-clause-room
+behind_guard-ask-requires-2-clause-room g height c = let test = (settled c.args.front.guard c.args.known (tree_of c.args.expr.now) c.args.front.truth c.requires.may_ask c.requires.begins c.requires.settled).room.test in omega arith
 
-pub behind_version-ask_ip-requires-clause-behind : goal.behind_version-ask_ip-requires-clause-behind
-behind_version-ask_ip-requires-clause-behind g height c = let saved = (settled (tree_of c.args.expr.now) c.args.truth c.requires.settled c.requires.begins).saved in omega arith
+pub behind_guard-ask-requires-2-clause-behind : goal.behind_guard-ask-requires-2-clause-behind
+behind_guard-ask-requires-2-clause-behind g height c = let test = (settled c.args.front.guard c.args.known (tree_of c.args.expr.now) c.args.front.truth c.requires.may_ask c.requires.begins c.requires.settled).room.test in omega arith
 
-pub behind_version-ask_ip-requires-2-clause-room : goal.behind_version-ask_ip-requires-2-clause-room
-behind_version-ask_ip-requires-2-clause-room g height c = let saved = (settled (tree_of c.args.expr.now) c.args.truth c.requires.settled c.requires.begins).saved in omega arith
+pub behind_guard-parts-requires : goal.behind_guard-parts-requires
+behind_guard-parts-requires g height c κs within =
+    let front = c.args.front in let tree = tree_of c.args.expr.now in let on = c.in_ok-passed.passed.on in
+    let few : guard_weight front.guard c.args.known + weight_under on tree ≤ weight_under c.args.known tree =
+    (settled front.guard c.args.known tree front.truth c.requires.may_ask c.requires.begins c.requires.settled).room.rest on (c.in_ok-passed.ensures.learned c.requires.may_ask) in search rules
 
-pub behind_version-ask_ip-requires-2-clause-behind : goal.behind_version-ask_ip-requires-2-clause-behind
-behind_version-ask_ip-requires-2-clause-behind g height c = let saved = (settled (tree_of c.args.expr.now) c.args.truth c.requires.settled c.requires.begins).saved in omega arith
+pub behind_guard-parts-requires-2 : goal.behind_guard-parts-requires-2
+behind_guard-parts-requires-2 g height c κs within =
+    let front = c.args.front in let tree = tree_of c.args.expr.now in let on = c.in_ok-passed-2.passed.on in
+    let few : guard_weight front.guard c.args.known + weight_under on tree ≤ weight_under c.args.known tree =
+    (settled front.guard c.args.known tree front.truth c.requires.may_ask c.requires.begins c.requires.settled).room.rest on (c.in_ok-passed-2.ensures.learned c.requires.may_ask) in search rules
 
-pub behind_version-parts-requires : goal.behind_version-parts-requires
-behind_version-parts-requires g height c κs within =
-    let tree = tree_of c.args.expr.now in let on = c.in_ok-ip.ip.on in
-    let few : 5 + weight_under on tree ≤ weight_of tree = version_room tree on (c.in_ok-ip.ensures.learned c.requires.unknown) c.args.truth (settled tree c.args.truth c.requires.settled c.requires.begins) in search rules
-
-pub behind_version-parts-requires-2 : goal.behind_version-parts-requires-2
-behind_version-parts-requires-2 g height c κs within =
-    let tree = tree_of c.args.expr.now in let on = c.in_ok-ip-2.ip.on in
-    let few : 5 + weight_under on tree ≤ weight_of tree = version_room tree on (c.in_ok-ip-2.ensures.learned c.requires.unknown) c.args.truth (settled tree c.args.truth c.requires.settled c.requires.begins) in search rules
-
-pub behind_version-returns-then-truth : goal.behind_version-returns-then-truth
-behind_version-returns-then-truth g height c =
-    let tree = tree_of c.args.expr.now in let ip = c.in_ok-ip.ip in let sides = c.in_ok-sides.sides in record {
-      writes = Writes-yes_elsewhere tree c.args.known ip.on ip.no (c.in_ok-ip.ensures.learned c.requires.unknown) sides.yes c.or_no.result sides.no (settled tree true (c.requires.settled ∙ ap Some c.if-truth.true) c.requires.begins) c.or_no.ensures.of_self c.or_no.ensures.of_no
-          c.in_ok-ip.ensures.guards c.in_ok-sides.ensures.writes;
+pub behind_guard-returns-then-front : goal.behind_guard-returns-then-front
+behind_guard-returns-then-front g height c =
+    let guard = c.args.front.guard in let tree = tree_of c.args.expr.now in let passed = c.in_ok-passed.passed in let sides = c.in_ok-sides.sides in record {
+      writes = Writes-yes_elsewhere guard tree c.args.known passed.on passed.no (c.in_ok-passed.ensures.learned c.requires.may_ask) sides.yes c.or_no.result sides.no
+          (settled guard c.args.known tree true c.requires.may_ask c.requires.begins (c.requires.settled ∙ ap Some c.if-front.true)) c.or_no.ensures.of_self c.or_no.ensures.of_no c.in_ok-passed.ensures.guards c.in_ok-sides.ensures.writes;
     }
 
-pub behind_version-returns : goal.behind_version-returns
-behind_version-returns g height c =
-    let tree = tree_of c.args.expr.now in let ip = c.in_ok-ip-2.ip in let sides = c.in_ok-sides-2.sides in record {
-      writes = Writes-no_elsewhere tree c.args.known ip.on ip.no (c.in_ok-ip-2.ensures.learned c.requires.unknown) sides.yes sides.no c.or_no-2.result (settled tree false (c.requires.settled ∙ ap Some c.if-truth.false) c.requires.begins) c.or_no-2.ensures.of_self c.or_no-2.ensures.of_no
-          c.in_ok-ip-2.ensures.guards c.in_ok-sides-2.ensures.writes;
+pub behind_guard-returns : goal.behind_guard-returns
+behind_guard-returns g height c =
+    let guard = c.args.front.guard in let tree = tree_of c.args.expr.now in let passed = c.in_ok-passed-2.passed in let sides = c.in_ok-sides-2.sides in record {
+      writes = Writes-no_elsewhere guard tree c.args.known passed.on passed.no (c.in_ok-passed-2.ensures.learned c.requires.may_ask) sides.yes sides.no c.or_no-2.result
+          (settled guard c.args.known tree false c.requires.may_ask c.requires.begins (c.requires.settled ∙ ap Some c.if-front.false)) c.or_no-2.ensures.of_self c.or_no-2.ensures.of_no c.in_ok-passed-2.ensures.guards c.in_ok-sides-2.ensures.writes;
     }
 
 -- ---- the parts

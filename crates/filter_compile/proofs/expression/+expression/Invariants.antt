@@ -6,8 +6,8 @@ use Rattle.filter_compile.proofs.expression.+expression.Given as goal
 abbrev pub decreases-expression : goal.decreases-expression
 decreases-expression g l = 5 * size-Expr _ l.expr.now + 2
 
-abbrev pub decreases-behind_version : goal.decreases-behind_version
-decreases-behind_version g l = 5 * size-Expr _ l.expr.now + 1
+abbrev pub decreases-behind_guard : goal.decreases-behind_guard
+decreases-behind_guard g l = 5 * size-Expr _ l.expr.now + 1
 
 abbrev pub decreases-parts : goal.decreases-parts
 decreases-parts g l = 5 * size-Expr _ l.expr.now

@@ -12,4 +12,5 @@ returns g c = record {
   guards = let by = c.exit-on.ensures.by in let long = c.len.ensures.length in
       Guards-asked c.args.known c.with_ip.result c.without_ip.result is_ip 5 c.exit-on.ensures.empty (let room = c.requires.behind in omega arith) c.in_ok-is_ip.ensures.writes c.land.ensures.landed c.with_ip.ensures.holds c.without_ip.ensures.holds;
   learned = c.with_ip.ensures.learned;
+  same_transport = c.with_ip.ensures.same_transport;
 }

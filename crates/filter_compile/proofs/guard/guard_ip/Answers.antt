@@ -1,6 +1,9 @@
+use Rattle.std.proofs.Common.{◌∙◌, ap, sym}
+use Rattle.std.proofs.lemmas.Result.{IfOk-weaker}
 use Rattle.filter_tree.specs.Outcome.{where_so}
 use Rattle.filter_tree.specs.Primitive.{is_ip}
-use Rattle.filter_compile.proofs.GuardLemmas.{Guards-left_out}
+use Rattle.packet_facts.specs.Told.{ip_of, transport_of}
+use Rattle.filter_compile.proofs.GuardLemmas.{Guards-left_out, unknown}
 use Rattle.filter_compile.proofs.WeightLemmas.{version_weight-asked}
 use Rattle.filter_compile.proofs.guard.guard_ip.Goals as goal
 
@@ -8,12 +11,16 @@ pub returns-then-not-must_ask : goal.returns-then-not-must_ask
 returns-then-not-must_ask g c = record {
   guards = Guards-left_out c.args.known c.at_once.result.on c.at_once.result.no (λ packet. where_so c.args.used (is_ip packet)) _ c.args.code.now c.args.no.now c.at_once.ensures.on
       (λ packet x h. c.must_ask.ensures.left_out c.if-not-must_ask.true (is_ip packet) (c.ip.ensures.known packet x h));
+  learned = λ used not_no. ap ip_of c.at_once.ensures.on ∙ (sym c.ip.ensures.exact ∙ c.must_ask.ensures.known c.if-not-must_ask.true used);
+  same_transport = λ transport. ap (λ k. transport_of k transport) c.at_once.ensures.on;
 }
 
 pub returns : goal.returns
 returns g c =
     let whole = version_weight-asked c.args.known c.ip.result c.ip.ensures.exact (c.must_ask.ensures.asked c.if-not-must_ask.false) in record {
       guards = rw (whole, c.must_ask.ensures.used c.if-not-must_ask.false) c.ask_ip.ensures.guards;
+      learned = IfOk-weaker c.ask_ip.result _ _ (λ passed learned used not_no. learned (unknown c.ip.result (ip_of c.args.known) c.ip.ensures.exact (c.must_ask.ensures.asked c.if-not-must_ask.false) not_no)) c.ask_ip.ensures.learned;
+      same_transport = c.ask_ip.ensures.same_transport;
     }
 
 pub ask_ip-requires : goal.ask_ip-requires

@@ -8,7 +8,7 @@ use Rattle.filter_tree.specs.Outcome.{answer, opposite}
 use Rattle.filter_tree.specs.Primitive.{is_ip, is_protocol, truth_of_primitive}
 use Rattle.packet_facts.specs.Known.{Holds}
 use Rattle.filter_compile.specs.body.Piece.{Decides}
-use Rattle.filter_compile.specs.body.Weight.{version_weight_under, weight_of_primitive_from}
+use Rattle.filter_compile.specs.body.Weight.{version_weight_under, weight_of_primitive_under}
 use Rattle.filter_compile.proofs.GuardLemmas.{Writes-decided, Writes-guarded, Writes-no}
 use Rattle.filter_compile.proofs.HeaderLemmas.{at_most}
 use Rattle.filter_compile.proofs.TestLemmas.{Decides-not, Decides-same}
@@ -18,7 +18,7 @@ use Rattle.filter_compile.proofs.primitive.primitive.Goals as goal
 pub returns-then-excludes : goal.returns-then-excludes
 returns-then-excludes g c = record {
   writes = IfOk-weaker c.settled.result _ _
-      (λ sides leaves. Writes-no c.args.known sides (truth_of_primitive c.args.primitive) (weight_of_primitive_from (version_weight_under c.args.known) c.args.primitive) c.args.yes.now (primitive_weight (version_weight_under c.args.known) c.args.primitive) (c.if-excludes.ensures.excluded refl) leaves) c.settled.ensures.leaves;
+      (λ sides leaves. Writes-no c.args.known sides (truth_of_primitive c.args.primitive) (weight_of_primitive_under c.args.known c.args.primitive) c.args.yes.now (primitive_weight c.args.known c.args.primitive) (c.if-excludes.ensures.excluded refl) leaves) c.settled.ensures.leaves;
 }
 
 pub returns-in-Ip : goal.returns-in-Ip
@@ -32,26 +32,26 @@ returns-in_ok-sides-in-Proto g c =
 
 pub returns-in-Host : goal.returns-in-Host
 returns-in-Host g c = record {
-  writes = rw c.in-Host.is (IfOk-weaker c.addresses.result _ _ (λ sides w. Writes-weight (weight_of_primitive_from (version_weight_under c.args.known) (Host c.in-Host.direction c.in-Host.address)) (omega arith) w) c.addresses.ensures.writes);
+  writes = rw c.in-Host.is (IfOk-weaker c.addresses.result _ _ (λ sides w. Writes-weight (weight_of_primitive_under c.args.known (Host c.in-Host.direction c.in-Host.address)) (omega arith) w) c.addresses.ensures.writes);
 }
 
 pub returns-in-Net : goal.returns-in-Net
 returns-in-Net g c = record {
-  writes = rw c.in-Net.is (IfOk-weaker c.addresses-in-Net.result _ _ (λ sides w. Writes-weight (weight_of_primitive_from (version_weight_under c.args.known) (Net c.in-Net.direction c.in-Net.prefix)) (omega arith) w) c.addresses-in-Net.ensures.writes);
+  writes = rw c.in-Net.is (IfOk-weaker c.addresses-in-Net.result _ _ (λ sides w. Writes-weight (weight_of_primitive_under c.args.known (Net c.in-Net.direction c.in-Net.prefix)) (omega arith) w) c.addresses-in-Net.ensures.writes);
 }
 
 pub returns-in-Port : goal.returns-in-Port
 returns-in-Port g c =
-    let n = c.in-Port.n in let v = version_weight_under c.args.known in record {
+    let n = c.in-Port.n in let known = c.args.known in record {
       writes = rw c.in-Port.is (IfOk-weaker c.ports.result _ _
-          (λ sides w. Writes-weight (weight_of_primitive_from v (Port c.in-Port.transport c.in-Port.direction n)) (port_weight v c.in-Port.transport c.in-Port.direction n n) w) c.ports.ensures.writes);
+          (λ sides w. Writes-weight (weight_of_primitive_under known (Port c.in-Port.transport c.in-Port.direction n)) (port_weight known c.in-Port.transport c.in-Port.direction n n) w) c.ports.ensures.writes);
     }
 
 pub returns-in-PortRange : goal.returns-in-PortRange
 returns-in-PortRange g c =
-    let n = c.in-PortRange.n in let m = c.in-PortRange.m in let v = version_weight_under c.args.known in record {
+    let n = c.in-PortRange.n in let m = c.in-PortRange.m in let known = c.args.known in record {
       writes = rw c.in-PortRange.is (IfOk-weaker c.ports-in-PortRange.result _ _
-          (λ sides w. Writes-weight (weight_of_primitive_from v (PortRange c.in-PortRange.transport c.in-PortRange.direction n m)) (port_range_weight v c.in-PortRange.transport c.in-PortRange.direction n m n m) w) c.ports-in-PortRange.ensures.writes);
+          (λ sides w. Writes-weight (weight_of_primitive_under known (PortRange c.in-PortRange.transport c.in-PortRange.direction n m)) (port_range_weight known c.in-PortRange.transport c.in-PortRange.direction n m n m) w) c.ports-in-PortRange.ensures.writes);
     }
 
 pub returns-in_ok-bytes-in-AtMost : goal.returns-in_ok-bytes-in-AtMost

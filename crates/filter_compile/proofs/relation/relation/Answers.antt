@@ -5,7 +5,7 @@ use Rattle.filter_tree.specs.Truth.{accesses_of_both, truth_of}
 use Rattle.filter_tree.specs.View.{arith_tree_of}
 use Rattle.packet_facts.specs.Known.{Knows}
 use Rattle.packet_facts.proofs.FactLemmas.{guards-used_by, x_known}
-use Rattle.filter_compile.specs.body.Weight.{version_weight_under, weight_from}
+use Rattle.filter_compile.specs.body.Weight.{weight_under}
 use Rattle.filter_compile.proofs.GuardLemmas.{Writes-no}
 use Rattle.filter_compile.proofs.RelationLemmas.{Writes-relation, excluded_relation, relation_weight}
 use Rattle.filter_compile.proofs.WeightLemmas.{guards_weight-used_by}
@@ -14,17 +14,17 @@ use Rattle.filter_compile.proofs.relation.relation.Goals as goal
 pub returns-then-excludes_guards : goal.returns-then-excludes_guards
 returns-then-excludes_guards g c =
     let left = arith_tree_of c.args.left.now in let right = arith_tree_of c.args.right.now in let tree = relation left c.args.relation right in let used = c.of_both-used.result in let told = c.of_both-used.ensures in
-    let same = guards-used_by used (accesses_of_both left right) told.ip told.tcp told.udp told.icmp in let v = version_weight_under c.args.known in let weight = guards_weight-used_by v used (accesses_of_both left right) told.ip told.tcp told.udp told.icmp in record {
+    let same = guards-used_by used (accesses_of_both left right) told.ip told.tcp told.udp told.icmp in let known = c.args.known in let weight = guards_weight-used_by known used (accesses_of_both left right) told.ip told.tcp told.udp told.icmp in record {
       writes = IfOk-weaker c.settled.result _ _
-          (λ sides leaves. Writes-no c.args.known sides (truth_of tree) (weight_from v tree) c.args.yes.now (relation_weight c.args.relation left right used same v weight)
-          (λ packet x h. excluded_relation c.args.relation left right used same v weight packet (c.if-excludes_guards.ensures.excluded refl packet x h)) leaves) c.settled.ensures.leaves;
+          (λ sides leaves. Writes-no c.args.known sides (truth_of tree) (weight_under known tree) c.args.yes.now (relation_weight c.args.relation left right used same known weight)
+          (λ packet x h. excluded_relation c.args.relation left right used same known weight packet (c.if-excludes_guards.ensures.excluded refl packet x h)) leaves) c.settled.ensures.leaves;
     }
 
 pub returns : goal.returns
 returns g c =
     let left = arith_tree_of c.args.left.now in let right = arith_tree_of c.args.right.now in let used = c.of_both-used.result in let told = c.of_both-used.ensures in let before = c.in_ok-before.before in
-    let same = guards-used_by used (accesses_of_both left right) told.ip told.tcp told.udp told.icmp in let v = version_weight_under c.args.known in let weight = guards_weight-used_by v used (accesses_of_both left right) told.ip told.tcp told.udp told.icmp in record {
-      writes = Writes-relation c.args.relation left right used same v weight c.args.known before.on c.with_header_in_x-on.result c.or_no.result before.no c.header_in_x.result c.in_ok-held.held c.in_ok-held-2.held
+    let same = guards-used_by used (accesses_of_both left right) told.ip told.tcp told.udp told.icmp in let known = c.args.known in let weight = guards_weight-used_by known used (accesses_of_both left right) told.ip told.tcp told.udp told.icmp in record {
+      writes = Writes-relation c.args.relation left right used same known weight before.on c.with_header_in_x-on.result c.or_no.result before.no c.header_in_x.result c.in_ok-held.held c.in_ok-held-2.held
           (λ packet x k. subst (λ b. Knows b packet x) (sym c.header_in_x.ensures.exact) (x_known before.on packet x k)) c.with_header_in_x-on.ensures.holds c.or_no.ensures.of_self c.or_no.ensures.of_no
           c.in_ok-before.ensures.guards c.in_ok-held.ensures.computes c.in_ok-held-2.ensures.writes;
     }

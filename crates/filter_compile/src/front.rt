@@ -1,0 +1,156 @@
+//! Which tests stand once in front of an expression: the version, or all that comes before ports where its parts are nothing
+//! but ports of one transport.
+
+ghost use Rattle.std.specs.Prelude.{◌≡◌, ◌≢◌, ◌+◌, ◌≤◌, IfOk, IfSome, Some, false, length, true};
+ghost use Rattle.bpf_verify.specs.declared.TheConstants.{MAX_INSTRUCTIONS};
+ghost use Rattle.backpatch.specs.body.Guards.{Guards};
+ghost use Rattle.filter_tree.specs.View.{tree_of};
+ghost use Rattle.packet_facts.specs.Known.{Holds};
+ghost use Rattle.packet_facts.specs.Told.{ip_of, transport_of};
+ghost use Rattle.filter_compile.specs.body.Elsewhere.{elsewhere};
+ghost use Rattle.filter_compile.specs.body.Front.{BeginsWith, IsLearned, MayAsk, guard_truth, guard_weight, has_only_ports, is_ports, is_same};
+ghost use Rattle.filter_compile.specs.body.Piece.{Tests};
+ghost use Rattle.filter_compile.specs.body.Sides.{HoldsWhere};
+
+use crate::elsewhere::{begins_with_ip, elsewhere};
+use crate::guard::ask_ip;
+use crate::primitive::guard_ports;
+use crate::sides::Passed;
+use backpatch::{Code, Exit};
+use filter_tree::{Expr, Primitive, Transport};
+use packet_facts::Known;
+use std::alloc::{AllocError, Allocator};
+
+/// What is tested in front.
+#[derive(Clone, Copy)]
+pub(crate) enum Guard {
+    Version,
+    /// The version, the protocol and the fragment.
+    Ports(Transport),
+}
+
+/// What is tested in front, and what the expression says of the packets that fail it.
+#[derive(Clone, Copy)]
+pub(crate) struct Front {
+    pub(crate) guard: Guard,
+    pub(crate) truth: bool,
+}
+
+fn is_same(one: Transport, other: Transport) -> bool
+    ensures { result ≡ is_same one other }
+{
+    match (one, other) {
+        (Transport::Tcp, Transport::Tcp) => true,
+        (Transport::Udp, Transport::Udp) => true,
+        (Transport::Unnamed, Transport::Unnamed) => true,
+        _ => false,
+    }
+}
+
+fn is_ports(transport: Transport, primitive: Primitive) -> bool
+    ensures { result ≡ is_ports transport primitive }
+{
+    match primitive {
+        Primitive::Port(other, _, _) => is_same(transport, other),
+        Primitive::PortRange(other, _, _, _) => is_same(transport, other),
+        _ => false,
+    }
+}
+
+fn has_only_ports<B: Allocator>(transport: Transport, expr: &Expr<B>) -> bool
+    ensures { result ≡ has_only_ports transport (tree_of expr.now) }
+{
+    match expr {
+        Expr::Primitive(primitive) => is_ports(transport, *primitive),
+        Expr::Relation(_, _, _) => false,
+        Expr::Not(inner) => has_only_ports(transport, inner),
+        Expr::And(left, right) => has_only_ports(transport, left)
+            && has_only_ports(transport, right),
+        Expr::Or(left, right) => has_only_ports(transport, left)
+            && has_only_ports(transport, right),
+    }
+}
+
+// Of the first part, where it is one with ports.
+fn first_transport<B: Allocator>(expr: &Expr<B>) -> Option<Transport> {
+    match expr {
+        Expr::Primitive(Primitive::Port(transport, _, _)) => Some(*transport),
+        Expr::Primitive(Primitive::PortRange(transport, _, _, _)) => Some(*transport),
+        Expr::Primitive(_) => None,
+        Expr::Relation(_, _, _) => None,
+        Expr::Not(inner) => first_transport(inner),
+        Expr::And(left, _) => first_transport(left),
+        Expr::Or(left, _) => first_transport(left),
+    }
+}
+
+// Where the fragment is known to be the first, ports were asked for before.
+fn common_ports<B: Allocator>(expr: &Expr<B>, known: Known) -> Option<Transport>
+    ensures only { IfSome result (λ transport. has_only_ports transport (tree_of expr.now) ≡ true) }
+    ensures ip { IfSome result (λ transport. ip_of known ≢ Some false) }
+    ensures transport { IfSome result (λ transport. transport_of known transport ≢ Some false) }
+{
+    if known.first_fragment() || matches!(known.ip(), Some(false)) {
+        return None;
+    }
+    match first_transport(expr) {
+        Some(transport) if matches!(known.transport(transport), Some(false)) => None,
+        Some(transport) if has_only_ports(transport, expr) => Some(transport),
+        _ => None,
+    }
+}
+
+fn first_guard<B: Allocator>(expr: &Expr<B>, known: Known) -> Option<Guard>
+    ensures may_ask { IfSome result (λ guard. MayAsk guard known) }
+    ensures begins { IfSome result (λ guard. BeginsWith guard (tree_of expr.now)) }
+{
+    if let Some(transport) = common_ports(expr, known) {
+        return Some(Guard::Ports(transport));
+    }
+    if known.ip().is_some() || begins_with_ip(expr) {
+        return None;
+    }
+    Some(Guard::Version)
+}
+
+// A primitive and a relation make each test once, as they are.
+fn has_parts<B: Allocator>(expr: &Expr<B>) -> bool {
+    match expr {
+        Expr::Primitive(_) => false,
+        Expr::Relation(_, _, _) => false,
+        _ => true,
+    }
+}
+
+/// Tells what is to be tested in front of an expression of several parts: it begins with that test, has one truth on all packets
+/// that fail it, and whether a packet passes it is not known.
+pub(crate) fn in_front<B: Allocator>(expr: &Expr<B>, known: Known) -> Option<Front>
+    ensures settled { IfSome result (λ front. elsewhere (tree_of expr.now) ≡ Some front.truth) }
+    ensures may_ask { IfSome result (λ front. MayAsk front.guard known) }
+    ensures begins { IfSome result (λ front. BeginsWith front.guard (tree_of expr.now)) }
+{
+    if !has_parts(expr) {
+        return None;
+    }
+    let guard = first_guard(expr, known)?;
+    let truth = elsewhere(expr)?;
+    Some(Front { guard, truth })
+}
+
+/// Writes the test.
+pub(crate) fn ask<'a, A: Allocator>(
+    code: &mut Code<'a, A>,
+    guard: Guard,
+    known: Known,
+    no: &mut Exit<'a, A>,
+) -> Result<Passed, AllocError>
+    requires room { length code.old + guard_weight guard known ≤ MAX_INSTRUCTIONS }
+    requires behind { length code.old + guard_weight guard known ≤ no.old.by }
+    ensures guards { IfOk result (λ passed. Guards (Tests (Holds known) (Holds passed.on) (HoldsWhere passed.no) (guard_truth guard)) (guard_weight guard known) code.old code.new no.old no.new) }
+    ensures learned { IfOk result (λ passed. MayAsk guard known → IsLearned guard passed.on) }
+{
+    match guard {
+        Guard::Version => ask_ip(code, known, no),
+        Guard::Ports(transport) => guard_ports(code, transport, known, no),
+    }
+}
