@@ -1,5 +1,5 @@
-//! What an expression says of packets that are not of IPv4, where it says the same of all of them, and whether it begins with
-//! a test of the version behind which others stand.
+//! The truth of an expression on packets that are not of IPv4, where all of them have the same; and whether its first part is the
+//! primitive `ip`.
 
 ghost use Rattle.std.specs.Prelude.{◌≡◌};
 ghost use Rattle.filter_tree.specs.Truth.{used_by};
@@ -53,7 +53,7 @@ pub(crate) fn elsewhere<B: Allocator>(expr: &Expr<B>) -> Option<bool>
     }
 }
 
-/// Where the version is known `ip` takes a jump still, so it saves less than the test in front of it takes.
+/// Where the version is known, `ip` still takes a jump. So it saves less than the test in front takes.
 pub(crate) fn begins_with_ip<B: Allocator>(expr: &Expr<B>) -> bool
     ensures { result ≡ begins_with_ip (tree_of expr.now) }
 {

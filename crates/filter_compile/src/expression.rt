@@ -38,8 +38,8 @@ fn first_end<B: Allocator>(end: u32, right: &Expr<B>) -> u32
     end - right.weight()
 }
 
-/// Writes the code of an expression, which ends at the place `end` at last. Where it says the same of all packets that fail the
-/// tests with which it begins, they stand once before it.
+/// Writes the code of an expression, which ends at the place `end` at last. Where it has one truth on all packets that fail the
+/// tests with which it begins, these stand once before it.
 #[cycle(expression)]
 pub(crate) fn expression<'a, A: Allocator, B: Allocator>(
     code: &mut Code<'a, A>,

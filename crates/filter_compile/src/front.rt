@@ -29,7 +29,7 @@ pub(crate) enum Guard {
     Ports(Transport),
 }
 
-/// What is tested in front, and what the expression says of the packets that fail it.
+/// What is tested in front, and the truth of the expression on the packets that fail it.
 #[derive(Clone, Copy)]
 pub(crate) struct Front {
     pub(crate) guard: Guard,
@@ -113,23 +113,28 @@ fn first_guard<B: Allocator>(expr: &Expr<B>, known: Known) -> Option<Guard>
     Some(Guard::Version)
 }
 
-// A primitive and a relation make each test once, as they are.
-fn has_parts<B: Allocator>(expr: &Expr<B>) -> bool {
+// Whether packets that fail the first test of the left part go on to the right one, which would test the same again. Else what the
+// left part tells of the others is known there.
+fn asks_again<B: Allocator>(expr: &Expr<B>) -> bool {
     match expr {
-        Expr::Primitive(_) => false,
-        Expr::Relation(_, _, _) => false,
-        _ => true,
+        Expr::And(left, _) => match left.as_ref() {
+            Expr::Primitive(_) => false,
+            Expr::Relation(_, _, _) => false,
+            left => matches!(elsewhere(left), Some(true)),
+        },
+        Expr::Or(left, _) => matches!(elsewhere(left), Some(false)),
+        _ => false,
     }
 }
 
-/// Tells what is to be tested in front of an expression of several parts: it begins with that test, has one truth on all packets
-/// that fail it, and whether a packet passes it is not known.
+/// Tells what is to be tested in front of an expression, so that its parts do not test it again: it begins with that test, has
+/// one truth on all packets that fail it, and whether a packet passes it is not known.
 pub(crate) fn in_front<B: Allocator>(expr: &Expr<B>, known: Known) -> Option<Front>
     ensures settled { IfSome result (λ front. elsewhere (tree_of expr.now) ≡ Some front.truth) }
     ensures may_ask { IfSome result (λ front. MayAsk front.guard known) }
     ensures begins { IfSome result (λ front. BeginsWith front.guard (tree_of expr.now)) }
 {
-    if !has_parts(expr) {
+    if !asks_again(expr) {
         return None;
     }
     let guard = first_guard(expr, known)?;
