@@ -119,7 +119,8 @@ fn fitting_word(insn: Insn) -> u64
 
 impl Insn {
     /// Writes the instruction as a word: `code * 2^48 + jt * 2^40 + jf * 2^32 + k`, with 0 in each field that it does
-    /// not use.
+    /// not use. Inlined, so that the word of an instruction that stands in the source is a constant.
+    #[inline(always)]
     pub fn to_word(self) -> u64
         ensures word { result ≡ word_of self }
         ensures word_round_trip { instruction_of result ≡ Ok self }

@@ -1,6 +1,6 @@
 //! Lists of words that are read one at a time.
 
-ghost use Rattle.std.specs.Prelude.{◌≡◌, ◌<◌, ℕ, List, length, slice_get};
+ghost use Rattle.std.specs.Prelude.{◌≡◌, ◌<◌, ◌≤◌, ℕ, List, length, slice_get};
 
 /// A list of 64-bit words, which need not lie in memory as a slice: reading one takes `&mut self`, so that an
 /// implementor can note that it was read.
@@ -11,6 +11,9 @@ pub trait Words {
     ghost words: { Self → List ℕ };
 
     ghost rest: { Self → Rest };
+
+    // The first place that `program_word` may read.
+    ghost ready_from: { Self → ℕ };
 
     /// Tells the number of words.
     fn count(&self) -> usize
@@ -23,16 +26,22 @@ pub trait Words {
         ensures words_kept { words self.new ≡ words self.old }
         ensures rest_kept { rest self.new ≡ rest self.old };
 
-    /// Reads word `i`, as `word` does. Programs are run by this call, so an implementor may make it fast for words that lie near
-    /// the one that was read before.
-    fn program_word(&mut self, i: usize) -> u64
-        requires { i < length (words self.old) }
-        ensures value { slice_get (words self.old) i ≡ Some result }
+    /// Makes ready for `program_word` from place `from` on. A call of `word` behind it may end that.
+    fn begin_program(&mut self, from: usize)
+        requires { from < length (words self.old) }
+        ensures ready { ready_from self.new ≤ from }
         ensures words_kept { words self.new ≡ words self.old }
-        ensures rest_kept { rest self.new ≡ rest self.old }
-    {
-        self.word(i)
-    }
+        ensures rest_kept { rest self.new ≡ rest self.old };
+
+    /// Reads word `i`, as `word` does, after `begin_program` and before no place that was read since. Programs are run by this call:
+    /// they go from each place to a later one. So an implementor may make it fast for the words behind the one that was read before.
+    fn program_word(&mut self, i: usize) -> u64
+        requires within { i < length (words self.old) }
+        requires ahead { ready_from self.old ≤ i }
+        ensures value { slice_get (words self.old) i ≡ Some result }
+        ensures ready { ready_from self.new ≤ i }
+        ensures words_kept { words self.new ≡ words self.old }
+        ensures rest_kept { rest self.new ≡ rest self.old };
 }
 
 impl<'a> Words for &'a [u64] {
@@ -40,11 +49,21 @@ impl<'a> Words for &'a [u64] {
 
     ghost rest = { λ _. tt };
 
+    ghost ready_from = { λ _. 0 };
+
     fn count(&self) -> usize {
         self.len()
     }
 
     fn word(&mut self, i: usize) -> u64 {
         self[i]
+    }
+
+    #[inline(always)]
+    fn begin_program(&mut self, _from: usize) {}
+
+    #[inline(always)]
+    fn program_word(&mut self, i: usize) -> u64 {
+        self.word(i)
     }
 }

@@ -38,8 +38,10 @@ fn fetch<W: Words>(words: &mut W, from: usize, len: usize, place: usize) -> Insn
     requires fits { from + len < 2 ^ 64 }
     requires accepted { IsAccepted (program_at (W.words words.old) from len) }
     requires inside { (from ≤ place) × (place - from < len) }
+    requires ready { W.ready_from words.old ≤ place }
     ensures instruction { IsAt (program_at (W.words words.old) from len) (place - from) result }
     ensures cell { HasCell result }
+    ensures ready { W.ready_from words.new ≤ place }
     ensures words_kept { W.words words.new ≡ W.words words.old }
     ensures rest_kept { W.rest words.new ≡ W.rest words.old }
 {
@@ -84,6 +86,7 @@ pub fn run_copy<W: Words, const COPY: usize>(
 {
     // A list that can be counted is short enough for its places to be numbers of this machine.
     let _count = words.count();
+    words.begin_program(from);
     let mut machine = Registers { a: 0, x: 0 };
     let mut cells = [0; CELL_COUNT];
     // The place of the next instruction, and how many the jumps have passed over: the others before it were met.

@@ -10,6 +10,7 @@ invariant-running g l =
     × (g.W.Words.rest l.words ≡ g.W.Words.rest l.fn.words)
     × (length l.cells ≡ CELL_COUNT)
     × (l.from ≤ l.place)
+    × (g.W.Words.ready_from l.words ≤ l.place)
     × IsRunning (program_at (g.W.Words.words l.fn.words) l.from l.len) l.packet (l.place - l.from) l.passed_over l.machine.a l.machine.x l.cells
 
 abbrev pub decreases-running : goal.decreases-running
