@@ -1,5 +1,5 @@
 -- Words of the version that is held: where they stand, and what a fetch of them gives.
-use Rattle.std.proofs.Common.{◌≡◌, ◌%◌, ◌^◌, ℕ, ◌*◌, ◌+◌, ◌-◌, ◌<◌, ◌≤◌, List, [], Some, ap, arith, get_or, inl, inr, length, refl, slice_get, slice_index, slice_index_or, subst, sym, ◌∙◌}
+use Rattle.std.proofs.Common.{◌≡◌, ℕ, ◌*◌, ◌+◌, ◌-◌, ◌<◌, ◌≤◌, List, [], Some, ap, arith, get_or, inl, inr, length, refl, slice_get, slice_index, slice_index_or, subst, sym, ◌∙◌}
 use Rattle.std.proofs.lemmas.Option.{get_or_from_slice_get, slice_get-get_or}
 use mathlib.Core.Option.{some}
 use lib.ListN.{get_elem?}
@@ -185,10 +185,6 @@ module _ (worker : WorkerValue) (k n r : ℕ) (stage : worker.view.stage ≡ Ins
       let found_there = (parts_stand config).found index (part_begin config index) kp.0.1 (omega arith) (omega arith) in
       let below = Rattle.std.proofs.lemmas.Option.slice_get_within (image config) (part_begin config index) _ (found_there.3 ∙ slice_get-get_or found_there.0 (part_begin config index - part_begin config index) 0 found_there.2) in
       let room = known.1.0 in let end = kp.1.0.1 in omega arith
-
--- what lies ahead in the part that is kept, in numbers of 64 bits
-pub ahead_there : (i at len ahead : ℕ) → i < 2 ^ 64 → ahead ≡ (i + (2 ^ 64 - at)) % 2 ^ 64 → ahead < len → at + len ≤ ROW_WORDS + PAGE_WORDS → (at ≤ i) × (ahead ≡ i - at)
-ahead_there i at len ahead fits is less most = (omega arith, omega arith)
 
 -- what is known beside the parts
 module _ (worker : WorkerValue) (row : ℕ) (found : Found) (i : ℕ) (knows : Knows worker.view row found) (held : i < length (held_words worker)) where

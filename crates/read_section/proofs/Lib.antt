@@ -6,7 +6,6 @@ mod PartNameLemmas
 mod ReadLemmas
 mod SoughtLemmas
 mod RowReadLemmas
-mod AheadLemmas
 mod FrontLemmas
 mod NamedPartLemmas
 mod PartReadLemmas
@@ -23,3 +22,4 @@ pub mod FilledLemmas
 mod PutLemmas
 mod KeeperLemmas
 mod PoolLemmas
+mod CurrentRowLemmas

@@ -10,10 +10,10 @@ use Rattle.versions.specs.Safety.{IsHeldPlace}
 use Rattle.versions.specs.Step.{entry}
 use Rattle.versions.specs.View.{after_fetch}
 use Rattle.versions.specs.Table.{the_shape}
-use Rattle.read_section.specs.Reads.{AreFetchesIn, Reads, TellsWordAt, with_log}
+use Rattle.read_section.specs.Reads.{AreFetchesIn, Fetched, Reads, TellsWordAt, with_log}
 use Rattle.read_section.specs.Section.{at_pin, before_fetch, before_fetches}
 use Rattle.read_section.specs.Worker.{WorkerValue, steps}
-use Rattle.read_section.specs.body.Sought.{Fetched, IsSought, TellsName}
+use Rattle.read_section.specs.body.Sought.{IsSought, TellsName}
 use Rattle.read_section.specs.body.Steps.{SeesWord}
 
 pub none_fetched : (worker : WorkerValue) → Fetched 0 worker worker
@@ -91,3 +91,7 @@ before_more view (newest ∷ older) log each = ap (λ (s : Step). before_fetch s
 -- so a read leaves the worker as it was at its pin
 pub pinned_kept : (most i answer : ℕ) (before after : WorkerValue) → Reads most i answer before after → at_pin after ≡ at_pin before
 pinned_kept most i answer before after r = ap at_pin r.only ∙ ap (λ l. with_log l before) (before_more before.view (entry (Fetch before.view.number r.place) r.loaded ∷ r.older) before.view.log r.each)
+
+-- and so do fetches
+pub pinned_fetched : (n : ℕ) (before after : WorkerValue) → Fetched n before after → at_pin after ≡ at_pin before
+pinned_fetched n before after f = ap at_pin f.only ∙ ap (λ l. with_log l before) (before_more before.view f.fetches before.view.log f.each)

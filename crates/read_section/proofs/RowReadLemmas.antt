@@ -79,6 +79,22 @@ front_inside worker row found i knows held low =
     let heads = ap (λ f. f / 65536 % 65536) formed.0 ∙ told.begin_part in let whole = ap (λ f. f / 2 ^ 32) formed.0 ∙ told.length_part in
     let within = told.inside in omega arith
 
+-- the programs begin behind the first word
+pub some_heads_of : (worker : WorkerValue) (row : ℕ) (found : Found) (i : ℕ) → Knows worker.view row found → i < length (held_words worker) → 0 < found.form / 2 ^ 32 → 0 < found.form / 65536 % 65536
+some_heads_of worker row found i knows held some =
+    let t = held_stage worker.view.stage worker.view.seen i held in let config = config_held worker t.1 in
+    let known = known_there worker t.0 t.1 t.2 t.3 row found knows in let formed = known.1.1.1.0 (omega arith) in
+    let told = tells config worker.view.pages known.1.1.0 (ArePages-table config worker.view.pages formed.1) in
+    let heads = ap (λ f. f / 65536 % 65536) formed.0 ∙ told.begin_part in let first = some_heads config in omega arith
+
+-- a part that was found has its words behind the heads
+pub part_behind_heads : (worker : WorkerValue) (row : ℕ) (found : Found) (i : ℕ) → Knows worker.view row found → i < length (held_words worker) → 0 < found.len → found.form / 65536 % 65536 ≤ found.at
+part_behind_heads worker row found i knows held some =
+    let t = held_stage worker.view.stage worker.view.seen i held in let config = config_held worker t.1 in
+    let known = known_there worker t.0 t.1 t.2 t.3 row found knows in let part = known.1.1.1.1 some in let formed = known.1.1.1.0 part.0.0 in
+    let told = tells config worker.view.pages known.1.1.0 (ArePages-table config worker.view.pages formed.1) in
+    let heads = ap (λ f. f / 65536 % 65536) formed.0 ∙ told.begin_part in let at = part.1.0.0 in omega arith
+
 -- a word of the part that is kept
 pub ahead_newest : (worker : WorkerValue) (row : ℕ) (found : Found) (i : ℕ) (knows : Knows worker.view row found) (ahead : IsAhead found i) (x : ℕ) (k n r : ℕ) → worker.view.stage ≡ Inside k n r
     → TellsWordAt (slice_index_or worker.view.seen n []) r worker.view.pages i (found.begin + (i - found.at)) x x

@@ -46,3 +46,13 @@ pub record Reads (most i answer : ℕ) (before after : WorkerValue) : Type 0 whe
 -- the most fetches that read a word: of the row's first word, of eleven names, and of the word
 abbrev pub FewFetches : ℕ → ℕ → WorkerValue → WorkerValue → Type 0
 FewFetches = Reads 13
+
+-- so many fetches of words of the version that is held, and nothing else
+pub record Fetched (n : ℕ) (before after : WorkerValue) : Type 0 where
+  pub fetches : List Entry
+  pub counted : length fetches ≡ n
+  pub only : after ≡ with_log (fetches ++ before.view.log) before
+  pub each : AreFetchesIn before.view fetches
+
+abbrev pub FetchedAtMost : ℕ → WorkerValue → WorkerValue → Type 0
+FetchedAtMost most before after = (n : ℕ) × (n ≤ most) × Fetched n before after

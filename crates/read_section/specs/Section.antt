@@ -25,6 +25,10 @@ worker_of section = section.worker.now
 abbrev pub borrow_of : Section → GName
 borrow_of section = section.worker.ghost_name
 
+-- the first place that may be read of a program: where the part begins that was found last
+abbrev pub ready_from : Section → ℕ
+ready_from section = section.kept.found.at
+
 abbrev pub version_of : Stage → ℕ
 version_of (Inside read_word n r) = n
 version_of _ = 0

@@ -32,6 +32,38 @@ pub(crate) struct Kept {
     // Whether the row's first word was fetched. Once the compiler knows that it was, it knows that the word stays.
     pub(crate) is_formed: bool,
     pub(crate) found: Found,
+    // Of the part that was found last, what a word of a program is read by: the place in the image behind its last word, and how much
+    // further the place of a word in the table is than its place in the image.
+    pub(crate) end: usize,
+    pub(crate) shift: usize,
+}
+
+impl Kept {
+    ghost use Rattle.std.specs.Prelude.{◌≡◌, ◌+◌, ◌-◌, ◌<◌, ◌≤◌, ◌^◌, IsTrue};
+
+    /// Tells whether a part is kept, and place `i` is the one behind it.
+    #[inline(always)]
+    pub(crate) fn ends_at(self, i: usize) -> bool
+        ensures { IsTrue result → (self.found.at < i) × (i ≡ self.end) }
+    {
+        self.found.at < i && i == self.end
+    }
+
+    /// The same with another part.
+    #[inline(always)]
+    pub(crate) fn with_part(self, found: Found) -> Kept
+        requires end { found.at + found.len < 2 ^ 64 }
+        requires shift { found.at ≤ found.begin }
+        ensures { result ≡ record { row = self.row; is_formed = self.is_formed; found = found; end = found.at + found.len; shift = found.begin - found.at } }
+    {
+        Kept {
+            row: self.row,
+            is_formed: self.is_formed,
+            found,
+            end: found.at + found.len,
+            shift: found.begin - found.at,
+        }
+    }
 }
 
 // Calls give these two back in registers; a `Found` would go through memory.

@@ -1,6 +1,8 @@
 //! The operator: the one that fills rows and pages, publishes and reclaims, by single steps.
 
 ghost use Rattle.std.specs.Prelude.{◌≡◌, ◌+◌, ◌*◌, ◌/◌, ◌%◌, ◌<◌, ◌≤◌, ◌↔◌, IsTrue, List, MatchOption, [], length, slice_index, suc, ℕ};
+ghost use mathlib.Core.Option.{some};
+ghost use lib.ListN.{get_elem?};
 ghost use Rattle.config_image.specs.declared.TheConstants.{PAGE_LIMIT, PAGE_WORDS, ROW_WORDS};
 ghost use Rattle.config_image.specs.Image.{Group, image};
 ghost use Rattle.config_image.specs.Pooled.{parts};
@@ -166,6 +168,29 @@ impl Operator {
     {
         let place = ROWS_BEGIN + row * ROW_WORDS + place;
         self.words[place]
+    }
+
+    /// Lends the words of a row, as `row_word` tells them one by one. No step.
+    pub fn row_words(&self, row: usize) -> &[u64]
+        requires { row < ROWS }
+        ensures whole { length result.now ≡ ROW_WORDS }
+        ensures words { (i : ℕ) → i < ROW_WORDS → slice_index result.now i ≡ slice_index self.now.view.stored (row * ROW_WORDS + i) }
+    {
+        let begin = ROWS_BEGIN + row * ROW_WORDS;
+        &self.words[begin..begin + ROW_WORDS]
+    }
+
+    /// Tells the row of the current version. No step.
+    pub fn current_row(&self) -> usize
+        ensures current { get_elem? self.now.view.version_rows (number_after self.now.view.log) ≡ some result }
+        ensures a_row { result < ROWS }
+    {
+        for row in 0..ROWS {
+            if self.book.last[row] == self.book.number + 1 {
+                return row;
+            }
+        }
+        unreachable!()
     }
 
     /// Tests whether a page is free: each version that names it is. No step; false where there is no such page.

@@ -4,12 +4,12 @@ ghost use Rattle.std.specs.Prelude.{◌≡◌, ◌+◌, ◌-◌, ◌*◌, ◌/�
 ghost use Rattle.config_image.specs.declared.TheConstants.{PAGE_WORDS};
 ghost use Rattle.versions.specs.declared.layout.TheConstants.{POOL_BEGIN};
 ghost use Rattle.read_section.specs.declared.reading.TheConstants.{FEW_PARTS};
-ghost use Rattle.read_section.specs.Reads.{FewFetches, Reads};
+ghost use Rattle.read_section.specs.Reads.{FetchedAtMost, FewFetches, Reads};
 ghost use Rattle.read_section.specs.Section.{held_words};
-ghost use Rattle.read_section.specs.body.Found.{Knows, KnowsForm};
-ghost use Rattle.read_section.specs.body.Sought.{FetchedAtMost, FindsPart, IsAhead, IsSought, TellsName};
+ghost use Rattle.read_section.specs.body.Found.{Knows, KnowsForm, Reaches};
+ghost use Rattle.read_section.specs.body.Sought.{FindsPart, IsAhead, IsSought, TellsName};
 
-use crate::found::{Found, NamedPart, WordAndForm};
+use crate::found::{Found, Kept, NamedPart, WordAndForm};
 use crate::worker::Worker;
 use config_image::{PAGE_WORDS, ROW_WORDS};
 use part_search::Search;
@@ -95,10 +95,10 @@ fn likely_index(form: u64, i: usize) -> usize
     requires { (form / 65536 % 65536 ≤ i) × (i < form / 2 ^ 32) }
 {
     let entries = entries_of(form);
-    if entries < 2 {
+    let heads = heads_of(form);
+    if entries < 2 || i == heads {
         return 0;
     }
-    let heads = heads_of(form);
     (i - heads) * entries / (length_of(form) - heads)
 }
 
@@ -119,28 +119,6 @@ fn part_between(form: u64, index: usize, name: u64, behind: u64) -> Found
     }
 }
 
-// The part that holds word i: the likely one, if it is that, and else by a search.
-//
-// Cold, as the next function is, so that the compiler takes what it answers as rare, and keeps the registers for what is read in
-// the part that is kept.
-#[cold]
-#[inline(never)]
-fn named_part(worker: &mut Worker, row: usize, form: u64, i: usize) -> NamedPart
-    requires { IsSought worker.old.view row form i }
-    ensures found { FindsPart worker.old.view i result }
-    ensures few { FetchedAtMost 11 worker.old worker.new }
-{
-    let index = likely_index(form, i);
-    if index < entries_of(form) && entries_of(form) < FEW_PARTS {
-        let name = name_or_end(worker, row, form, i, index);
-        let behind = name_or_end(worker, row, form, i, index + 1);
-        if part_start(name) <= i && i < part_start(behind) {
-            return NamedPart { index, name };
-        }
-    }
-    search_part(worker, row, form, i)
-}
-
 // The name at an index, or where the parts end, for the part in front of it.
 #[cold]
 #[inline(never)]
@@ -153,17 +131,37 @@ fn name_behind(worker: &mut Worker, row: usize, form: u64, i: usize, index: usiz
     name_or_end(worker, row, form, i, index)
 }
 
-// The part that holds word i, as it is kept.
+// The part that holds word i, by a search, as it is kept.
 #[inline(always)]
-fn find_part(worker: &mut Worker, row: usize, form: u64, i: usize) -> Found
+fn searched_part(worker: &mut Worker, row: usize, form: u64, i: usize) -> Found
+    requires { IsSought worker.old.view row form i }
+    ensures known { Knows worker.old.view row result }
+    ensures there { IsAhead result i }
+    ensures few { FetchedAtMost 12 worker.old worker.new }
+    ensures few_of_few { form % 65536 < FEW_PARTS → FetchedAtMost 10 worker.old worker.new }
+{
+    let part = search_part(worker, row, form, i);
+    let behind = name_behind(worker, row, form, i, part.index + 1);
+    part_between(form, part.index, part.name, behind)
+}
+
+/// Finds the part that holds word `i`, of the programs: the likely one, if it is that, and else by a search.
+#[inline(always)]
+pub(crate) fn find_part(worker: &mut Worker, row: usize, form: u64, i: usize) -> Found
     requires { IsSought worker.old.view row form i }
     ensures known { Knows worker.old.view row result }
     ensures there { IsAhead result i }
     ensures few { FetchedAtMost 12 worker.old worker.new }
 {
-    let part = named_part(worker, row, form, i);
-    let behind = name_or_end(worker, row, form, i, part.index + 1);
-    part_between(form, part.index, part.name, behind)
+    let index = likely_index(form, i);
+    if index < entries_of(form) && entries_of(form) < FEW_PARTS {
+        let name = name_or_end(worker, row, form, i, index);
+        let behind = name_or_end(worker, row, form, i, index + 1);
+        if part_start(name) <= i && i < part_start(behind) {
+            return part_between(form, index, name, behind);
+        }
+    }
+    searched_part(worker, row, form, i)
 }
 
 // The part behind the one that is kept, whose first word is word i.
@@ -188,19 +186,20 @@ fn next_part(worker: &mut Worker, row: usize, found: Found, i: usize) -> Found
     }
 }
 
-/// Finds the part that holds word `i`, of the programs.
+/// Finds the part that holds word `i`, of the programs, which is seldom another one than that behind the part that is kept.
 #[inline(always)]
-pub(crate) fn part_with(worker: &mut Worker, row: usize, found: Found, i: usize) -> Found
-    requires known { Knows worker.old.view row found }
-    requires sought { IsSought worker.old.view row found.form i }
-    ensures known { Knows worker.old.view row result }
+pub(crate) fn part_with(worker: &mut Worker, kept: Kept, i: usize) -> Found
+    requires known { Knows worker.old.view kept.row kept.found }
+    requires reaches { Reaches kept }
+    requires sought { IsSought worker.old.view kept.row kept.found.form i }
+    ensures known { Knows worker.old.view kept.row result }
     ensures there { IsAhead result i }
     ensures few { FetchedAtMost 12 worker.old worker.new }
 {
-    if 0 < found.len && found.at <= i && i - found.at == found.len {
-        next_part(worker, row, found, i)
+    if kept.ends_at(i) {
+        next_part(worker, kept.row, kept.found, i)
     } else {
-        find_part(worker, row, found.form, i)
+        searched_part(worker, kept.row, kept.found.form, i)
     }
 }
 

@@ -1,9 +1,9 @@
 //! Read-side critical sections.
 
-ghost use Rattle.read_section.specs.body.Found.{Knows, KnowsIn-prop};
+ghost use Rattle.read_section.specs.body.Found.{Knows, KnowsIn-prop, Reaches, Reaches-prop};
 
 use crate::found::{Found, Kept, NOTHING_FOUND};
-use crate::reading::{heads_of, length_of, part_with, read_by_row, read_from_form};
+use crate::reading::{find_part, heads_of, length_of, part_with, read_by_row, read_from_form};
 use crate::worker::Worker;
 use bpf_insn::Words;
 use config_image::ROW_WORDS;
@@ -18,20 +18,23 @@ pub struct Section<'a> {
     worker: &'a mut Worker,
     kept: Kept,
     ghost known: { Knows worker.now.view kept.row kept.found } by { KnowsIn-prop worker.now.view.stage worker.now.view.seen worker.now.view.pages kept.row kept.found },
+    ghost reaches: { Reaches kept } by { Reaches-prop kept },
 }
 
 /// The words of the section's row, `ROW_WORDS` of them: the image of the configuration, and then zeros. Each is read by a few
 /// fetches, of which the last tells it. A word of a program in the part that was found last takes one.
 impl Words for Section<'_> {
-    ghost use Rattle.std.specs.Prelude.{◌≡◌, ◌<◌, Some, length, slice_get};
-    ghost use Rattle.read_section.specs.Reads.{FewFetches};
-    ghost use Rattle.read_section.specs.Section.{SectionRest, borrow_of, held_words, section_rest, worker_of};
+    ghost use Rattle.std.specs.Prelude.{◌≡◌, ◌<◌, ◌≤◌, Some, length, slice_get};
+    ghost use Rattle.read_section.specs.Reads.{FetchedAtMost, FewFetches};
+    ghost use Rattle.read_section.specs.Section.{SectionRest, borrow_of, held_words, ready_from, section_rest, worker_of};
 
     ghost Rest = { SectionRest };
 
     ghost words = { λ section. held_words (worker_of section) };
 
     ghost rest = { λ section. section_rest section };
+
+    ghost ready_from = { λ section. ready_from section };
 
     fn count(&self) -> usize {
         if self.worker.is_inside() {
@@ -50,24 +53,26 @@ impl Words for Section<'_> {
         ensures words_kept { held_words (worker_of self.new) ≡ held_words (worker_of self.old) }
         ensures rest_kept { section_rest self.new ≡ section_rest self.old }
     {
-        let ahead = i.wrapping_sub(self.kept.found.at);
-        if ahead < self.kept.found.len {
-            return self.worker.fetch(self.kept.found.begin + ahead);
-        }
+        let Kept {
+            found,
+            end,
+            shift,
+            ..
+        } = self.kept;
         if i == 0 {
             let form = self.worker.fetch(ROWS_BEGIN + self.kept.row * ROW_WORDS);
             return length_of(form) as u64;
         }
-        if i < heads_of(self.kept.found.form) {
+        if i < heads_of(found.form) {
             return self
                 .worker
                 .fetch(ROWS_BEGIN + self.kept.row * ROW_WORDS + i);
         }
-        if i < length_of(self.kept.found.form) {
-            self.kept.found = part_with(self.worker, self.kept.row, self.kept.found, i);
-            return self
-                .worker
-                .fetch(self.kept.found.begin + (i - self.kept.found.at));
+        if found.at <= i && i < end {
+            return self.worker.fetch(shift + i);
+        }
+        if i < length_of(found.form) {
+            return self.word_of_another_part(i);
         }
         let read = read_from_form(self.worker, self.kept.row, i);
         if !self.kept.is_formed {
@@ -77,34 +82,63 @@ impl Words for Section<'_> {
         read.word
     }
 
+    // The part with the program's first word is found here, before the loop over the program, where that word is in a part.
+    #[inline(always)]
+    fn begin_program(&mut self, from: usize)
+        requires { from < length (held_words (worker_of self.old)) }
+        ensures ready { ready_from self.new ≤ from }
+        ensures few_fetches { FetchedAtMost 12 (worker_of self.old) (worker_of self.new) }
+        ensures same_worker { borrow_of self.new ≡ borrow_of self.old }
+        ensures words_kept { held_words (worker_of self.new) ≡ held_words (worker_of self.old) }
+        ensures rest_kept { section_rest self.new ≡ section_rest self.old }
+    {
+        if self.kept.found.at <= from && from < self.kept.end {
+            return;
+        }
+        let form = self.kept.found.form;
+        if heads_of(form) <= from && from < length_of(form) {
+            let found = find_part(self.worker, self.kept.row, form, from);
+            self.kept = self.kept.with_part(found);
+        } else {
+            self.kept = self.kept.with_part(Found {
+                form,
+                ..NOTHING_FOUND
+            });
+        }
+    }
+
     // What a program seldom reads stands behind calls that are not inlined: they leave the registers to its run, and the word goes
     // straight on to what it does. Nothing is kept of the row's first word here: `word` does that, for a place above 0, as the look-up
     // of a group reads it before a program. Without that each word is searched for.
     #[inline(always)]
     fn program_word(&mut self, i: usize) -> u64
-        requires { i < length (held_words (worker_of self.old)) }
+        requires within { i < length (held_words (worker_of self.old)) }
+        requires ahead { ready_from self.old ≤ i }
         ensures value { slice_get (held_words (worker_of self.old)) i ≡ Some result }
         ensures few_fetches { FewFetches i result (worker_of self.old) (worker_of self.new) }
+        ensures ready { ready_from self.new ≤ i }
         ensures same_worker { borrow_of self.new ≡ borrow_of self.old }
         ensures words_kept { held_words (worker_of self.new) ≡ held_words (worker_of self.old) }
         ensures rest_kept { section_rest self.new ≡ section_rest self.old }
     {
-        let past = i.wrapping_sub(self.kept.found.at);
-        if past < self.kept.found.len {
-            return self.worker.fetch(self.kept.found.begin + past);
+        if i < self.kept.end {
+            return self.worker.fetch(self.kept.shift + i);
         }
-        if i == 0 || i < heads_of(self.kept.found.form) || length_of(self.kept.found.form) <= i {
-            return read_by_row(self.worker, self.kept.row, i);
+        let form = self.kept.found.form;
+        if !self.kept.ends_at(i) || length_of(form) <= i {
+            if i == 0 || i < heads_of(form) || length_of(form) <= i {
+                return read_by_row(self.worker, self.kept.row, i);
+            }
         }
-        self.kept.found = part_with(self.worker, self.kept.row, self.kept.found, i);
-        self.worker
-            .fetch(self.kept.found.begin + (i - self.kept.found.at))
+        self.word_of_another_part(i)
     }
 }
 
 impl<'a> Section<'a> {
-    ghost use Rattle.std.specs.Prelude.{◌≡◌, ◌<◌};
-    ghost use Rattle.read_section.specs.Section.{EndsInFetches, HoldsLastSeen, borrow_of, held_version, worker_of};
+    ghost use Rattle.std.specs.Prelude.{◌≡◌, ◌<◌, ◌≤◌, Some, length, slice_get};
+    ghost use Rattle.read_section.specs.Reads.{FewFetches};
+    ghost use Rattle.read_section.specs.Section.{EndsInFetches, HoldsLastSeen, borrow_of, held_version, held_words, ready_from, section_rest, worker_of};
+    ghost use Rattle.read_section.specs.body.Sought.{IsSought};
     ghost use Rattle.read_section.specs.Worker.{IsInside, left, steps};
 
     pub(crate) fn of(worker: &'a mut Worker, version: u64, row: usize) -> Section<'a>
@@ -120,8 +154,27 @@ impl<'a> Section<'a> {
                 row,
                 is_formed: false,
                 found: NOTHING_FOUND,
+                end: 0,
+                shift: 0,
             },
         }
+    }
+
+    // Word i of the programs, of another part than the one that is kept. It is kept then.
+    #[inline(always)]
+    fn word_of_another_part(&mut self, i: usize) -> u64
+        requires held { i < length (held_words (worker_of self.old)) }
+        requires sought { IsSought self.old.worker.now.view self.old.kept.row self.old.kept.found.form i }
+        ensures value { slice_get (held_words (worker_of self.old)) i ≡ Some result }
+        ensures few_fetches { FewFetches i result (worker_of self.old) (worker_of self.new) }
+        ensures ready { ready_from self.new ≤ i }
+        ensures same_worker { borrow_of self.new ≡ borrow_of self.old }
+        ensures words_kept { held_words (worker_of self.new) ≡ held_words (worker_of self.old) }
+        ensures rest_kept { section_rest self.new ≡ section_rest self.old }
+    {
+        let found = part_with(self.worker, self.kept, i);
+        self.kept = self.kept.with_part(found);
+        self.worker.fetch(self.kept.shift + i)
     }
 
     /// Tells the number of the section's version, counted from 0.

@@ -11,6 +11,7 @@ use Rattle.versions.specs.declared.view.WorkerView.{WorkerView}
 use Rattle.versions.specs.Layout.{page_begin}
 use Rattle.versions.specs.Table.{the_shape}
 use Rattle.read_section.specs.declared.found.Found.{Found}
+use Rattle.read_section.specs.declared.found.Kept.{Kept}
 
 -- each part has a page of the table
 abbrev pub HasPages : List Group → List ℕ → Type 0
@@ -45,6 +46,10 @@ form_alone form = record { form = form; at = 0; len = 0; begin = 0; index = 0; n
 abbrev pub KnowsForm : WorkerView (List Group) → ℕ → ℕ → Type 0
 KnowsForm view row form = Knows view row (form_alone form)
 
+-- the part that is kept ends where it is said, and its words stand so much further in the table than in the image
+abbrev pub Reaches : Kept → Type 0
+Reaches kept = (kept.end ≡ kept.found.at + kept.found.len) × (kept.shift + kept.found.at ≡ kept.found.begin)
+
 equal_prop : (a b : ℕ) → IsProp (a ≡ b)
 equal_prop a b = Coded-set coded_ℕ a b
 
@@ -69,3 +74,6 @@ KnowsIn-prop Outside seen pages row found = Unit-prop
 KnowsIn-prop (Peeked n) seen pages row found = Unit-prop
 KnowsIn-prop (Announced k) seen pages row found = Unit-prop
 KnowsIn-prop (Inside k n r) seen pages row found = ×_prop (le_prop {n = suc n} {m = length seen}) (KnowsAt-prop (slice_index_or seen n []) pages r row found)
+
+pub Reaches-prop : (kept : Kept) → IsProp (Reaches kept)
+Reaches-prop kept = ×_prop (equal_prop kept.end (kept.found.at + kept.found.len)) (equal_prop (kept.shift + kept.found.at) kept.found.begin)

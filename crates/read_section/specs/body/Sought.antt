@@ -1,17 +1,14 @@
 -- What the search for a part needs, and what it finds.
-use Rattle.std.specs.Prelude.{◌≡◌, ◌+◌, ◌++◌, ◌/◌, ◌%◌, ◌<◌, ◌≤◌, List, [], drop, length, slice_index, slice_index_or, take, ℕ}
+use Rattle.std.specs.Prelude.{◌≡◌, ◌+◌, ◌/◌, ◌%◌, ◌<◌, ◌≤◌, List, [], drop, length, slice_index, slice_index_or, take, ℕ}
 use Rattle.config_image.specs.declared.TheConstants.{ROW_WORDS}
 use Rattle.config_image.specs.Image.{Group, image, programs_begin}
 use Rattle.config_image.specs.Pooled.{form_word, part_begin, parts, pooled_row}
 use Rattle.part_search.specs.Names.{HoldsPlace}
 use Rattle.versions.specs.declared.layout.TheConstants.{ROWS}
-use Rattle.versions.specs.declared.step.Entry.{Entry}
 use Rattle.versions.specs.declared.view.Stage.TheVariants.{Inside}
 use Rattle.versions.specs.declared.view.WorkerView.{WorkerView}
 use Rattle.read_section.specs.declared.found.Found.{Found}
 use Rattle.read_section.specs.declared.found.NamedPart.{NamedPart}
-use Rattle.read_section.specs.Reads.{AreFetchesIn, with_log}
-use Rattle.read_section.specs.Worker.{WorkerValue}
 use Rattle.read_section.specs.body.Found.{HasPages}
 
 -- word i is one of the programs of a configuration, whose row is known
@@ -41,13 +38,3 @@ TellsName view index x = (k n r : ℕ) → view.stage ≡ Inside k n r
 -- word i is in the part that is kept
 abbrev pub IsAhead : Found → ℕ → Type 0
 IsAhead found i = (0 < found.len) × (found.at ≤ i) × (i < found.at + found.len)
-
--- so many fetches of words of the version that is held, and nothing else
-pub record Fetched (n : ℕ) (before after : WorkerValue) : Type 0 where
-  pub fetches : List Entry
-  pub counted : length fetches ≡ n
-  pub only : after ≡ with_log (fetches ++ before.view.log) before
-  pub each : AreFetchesIn before.view fetches
-
-abbrev pub FetchedAtMost : ℕ → WorkerValue → WorkerValue → Type 0
-FetchedAtMost most before after = (n : ℕ) × (n ≤ most) × Fetched n before after

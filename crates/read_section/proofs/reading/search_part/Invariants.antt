@@ -2,7 +2,8 @@ use Rattle.std.proofs.Common.{◌≡◌, ◌+◌, ◌/◌, ◌%◌, ◌^◌, ◌
 use Rattle.part_search.specs.Search.{IsSearchOf, reads_left}
 use Rattle.versions.specs.declared.view.Stage.TheVariants.{Inside}
 use Rattle.read_section.specs.declared.reading.TheConstants.{FEW_PARTS}
-use Rattle.read_section.specs.body.Sought.{Fetched, names_of}
+use Rattle.read_section.specs.Reads.{Fetched}
+use Rattle.read_section.specs.body.Sought.{names_of}
 use Rattle.read_section.proofs.reading.search_part.Given as goal
 
 abbrev pub invariant-loop-index : goal.invariant-loop-index
