@@ -1,5 +1,5 @@
 -- How many words the parts of an image have.
-use Rattle.std.proofs.Common.{◌≡◌, ◌∷◌, ◌+◌, ◌++◌, ◌*◌, ◌≤◌, IfSome, List, None, Option, Some, [], ap, arith, drop, length, length-append, refl, suc, take, zero, ℕ}
+use Rattle.std.proofs.Common.{◌≡◌, ◌∙◌, ◌∷◌, ◌+◌, ◌++◌, ◌*◌, ◌≤◌, IfSome, List, None, Option, Some, [], ap, arith, drop, length, length-append, refl, suc, sym, take, zero, ℕ}
 use Rattle.std.specs.List.{All, cons_option, filter_map, slice_get, sum_by}
 use Rattle.std.specs.Option.{option_to_list}
 use Rattle.std.proofs.lemmas.List.{at_drop_all}
@@ -41,6 +41,33 @@ length_image config =
     let members = length-all_member_records (programs_begin config) config in
     let records = length-append (group_records (members_begin config) (programs_begin config) config) (all_member_records (programs_begin config) config) in
     let all = length-append (group_records (members_begin config) (programs_begin config) config ++ all_member_records (programs_begin config) config) (program_words config) in
+    omega arith
+
+-- ---- a group's programs have as many words as they have in all
+
+abbrev sizes : List ProgramValue → ℕ
+sizes programs = sum_by (λ program. length program.words) programs
+
+one_counted : (program : Option ProgramValue) → length (words_of program) ≡ sizes (option_to_list program)
+one_counted None = refl
+one_counted (Some program) = sym (sum_by-cons (λ (p : ProgramValue). length p.words) program [] ∙ (let g : length program.words + 0 ≡ length program.words = omega arith in g))
+
+first_counted : (filter : Option ProgramValue) (rest : List ProgramValue) → sizes (cons_option filter rest) ≡ length (words_of filter) + sizes rest
+first_counted None rest = omega arith
+first_counted (Some program) rest = sum_by-cons (λ (p : ProgramValue). length p.words) program rest
+
+filters_counted : (members : List (Member ProgramValue)) → length (filter_words members) ≡ sizes (filter_map (λ member. member.filter) members)
+filters_counted [] = refl
+filters_counted (member ∷ rest) =
+    length-append (words_of member.filter) (filter_words rest) ∙ (ap (λ (n : ℕ). length (words_of member.filter) + n) (filters_counted rest)
+    ∙ sym (first_counted member.filter (filter_map (λ member. member.filter) rest)))
+
+pub group_counted : (group : Group) → length (group_program_words group) ≡ sum_by (λ program. length program.words) (programs_of_group group)
+group_counted group =
+    let selector = one_counted group.selector in
+    let filters = filters_counted group.members in
+    let words = length-append (words_of group.selector) (filter_words group.members) in
+    let sum = sum_by-append (λ (program : ProgramValue). length program.words) (option_to_list group.selector) (filter_map (λ (member : Member ProgramValue). member.filter) group.members) in
     omega arith
 
 -- ---- no more words than are charged

@@ -5,11 +5,11 @@ ghost use Rattle.std.specs.List.{All};
 ghost use Rattle.std.specs.Option.{option_map};
 ghost use Rattle.member_group.specs.Charge.{charge_of, members_of};
 ghost use Rattle.member_group.specs.Group.{IsConfig, IsGroup};
-ghost use Rattle.config_image.specs.Image.{filter_words, group_program_words, image, words_of};
+ghost use Rattle.config_image.specs.Image.{group_program_words, image, words_of};
 
 use bpf_verify::{MAX_INSTRUCTIONS, Program};
 use member_group::{
-    Config, GROUP_LIMIT, GROUP_WORDS, Group, HEAD_WORDS, MEMBER_LIMIT, MEMBER_WORDS, Member,
+    Config, GROUP_LIMIT, GROUP_WORDS, Group, HEAD_WORDS, MEMBER_LIMIT, MEMBER_WORDS,
 };
 use std::alloc::Allocator;
 
@@ -24,25 +24,12 @@ pub(crate) fn words<A: Allocator>(program: Option<&Program<A>>) -> &[u64]
     }
 }
 
-fn filters_len<A: Allocator>(members: &[Member<Program<A>>]) -> usize
-    requires { length members.now ≤ MEMBER_LIMIT }
-    ensures words { result ≡ length (filter_words members.now) }
-    ensures limited { result ≤ MEMBER_LIMIT * MAX_INSTRUCTIONS }
-{
-    let mut len = 0;
-    for member in members {
-        len += words(member.filter.as_ref()).len();
-    }
-    len
-}
-
 // How many words the programs of a group have.
 pub(crate) fn programs_len<A: Allocator>(group: &Group<A>) -> usize
-    requires { IsGroup group.now }
     ensures words { result ≡ length (group_program_words group.now) }
     ensures limited { result ≤ (1 + MEMBER_LIMIT) * MAX_INSTRUCTIONS }
 {
-    words(group.selector()).len() + filters_len(group.members())
+    group.program_words()
 }
 
 // How many members the groups have in all.

@@ -1,10 +1,12 @@
 //! Groups, and what the commands change in one of them.
 
-ghost use Rattle.std.specs.Prelude.{◌≡◌, ◌<◌, ◌≤◌, ◌^◌, IfOk, None, Some, [], length, slice_set, ℕ};
+ghost use Rattle.std.specs.Prelude.{◌≡◌, ◌+◌, ◌*◌, ◌<◌, ◌≤◌, ◌^◌, IfOk, None, Some, [], length, slice_set, ℕ};
 ghost use Rattle.std.specs.List.{sum_by};
 ghost use Rattle.std.specs.Option.{option_map, option_to_list};
 ghost use Rattle.bpf_verify.specs.declared.TheConstants.{MAX_INSTRUCTIONS};
-ghost use Rattle.member_group.specs.Charge.{charge_of_group};
+ghost use Rattle.ipv4_fields.specs.declared.endpoint.Endpoint.{Endpoint};
+ghost use Rattle.member_group.specs.Charge.{charge_of_group, programs_of_group};
+ghost use Rattle.member_group.specs.declared.TheConstants.{MEMBER_LIMIT};
 ghost use Rattle.member_group.specs.Command.{joined, left, locked, with_filter, with_selector};
 ghost use Rattle.member_group.specs.Group.{IsGroup, has_id};
 ghost use Rattle.member_group.specs.Place.{IsOnlyAt, last_in_gap};
@@ -23,21 +25,43 @@ use std::alloc::Allocator;
 use std::marker::Model;
 use std::sync::Arc;
 
-// What a group is made of.
+// What a group is made of, its charge, and how many words its programs have. The two numbers are counted once: a publication asks
+// each group for them.
 #[derive(Drop)]
 struct Parts<A: Allocator> {
     key: Endpoint,
     selector: Option<Program<A>>,
     members: Vec<Member<Program<A>>, A>,
+    charge: u64,
+    words: usize,
 }
 
 impl<A: Allocator> Model for Parts<A> {
     ghost use Rattle.bpf_verify.specs.Program.{ProgramValue};
     ghost use Rattle.member_group.specs.Group.{GroupOf};
+    ghost use Rattle.member_group.specs.body.Counted.{IsCounted};
 
     ghost Value = { GroupOf ProgramValue };
 
     ghost view = { λ g. record { key = g.key; selector = g.selector; members = g.members.items } };
+
+    ghost invariant = { λ g. IsCounted (record { key = g.key; selector = g.selector; members = g.members.items }) g.charge g.words };
+}
+
+impl<A: Allocator> Parts<A> {
+    fn charge(&self) -> u64
+        ensures charge { result ≡ charge_of_group self.now }
+        ensures bounded { result < 2 ^ 32 }
+    {
+        self.charge
+    }
+
+    fn words(&self) -> usize
+        ensures words { result ≡ sum_by (λ program. length program.words) (programs_of_group self.now) }
+        ensures limited { result ≤ (1 + MEMBER_LIMIT) * MAX_INSTRUCTIONS }
+    {
+        self.words
+    }
 }
 
 /// A group: its key, its selector or none, and its members in the order of their indexes.
@@ -79,6 +103,21 @@ impl<A: Allocator> Group<A> {
     {
         self.parts.members.as_slice()
     }
+
+    /// Tells how many words its programs have in all. It was counted when the group was made.
+    pub fn program_words(&self) -> usize
+        ensures words { result ≡ sum_by (λ program. length program.words) (programs_of_group self.now) }
+        ensures limited { result ≤ (1 + MEMBER_LIMIT) * MAX_INSTRUCTIONS }
+    {
+        self.parts.words()
+    }
+
+    pub(crate) fn charge(&self) -> u64
+        ensures charge { result ≡ charge_of_group self.now }
+        ensures bounded { result < 2 ^ 32 }
+    {
+        self.parts.charge()
+    }
 }
 
 fn charge_of_program<A: Allocator>(program: &Option<Program<A>>) -> u64
@@ -91,18 +130,46 @@ fn charge_of_program<A: Allocator>(program: &Option<Program<A>>) -> u64
     }
 }
 
-impl<A: Allocator> Group<A> {
-    pub(crate) fn charge(&self) -> u64
-        requires group { IsGroup self.now }
-        ensures charge { result ≡ charge_of_group self.now }
-        ensures bounded { result < 2 ^ 32 }
-    {
-        let mut charge = GROUP_WORDS as u64 + charge_of_program(&self.parts.selector);
-        for member in self.members() {
-            charge += MEMBER_WORDS as u64 + charge_of_program(&member.filter);
-        }
-        charge
+fn words_of_program<A: Allocator>(program: &Option<Program<A>>) -> usize
+    ensures words { result ≡ sum_by (λ one. length one.words) (option_to_list program.now) }
+    ensures bounded { result ≤ MAX_INSTRUCTIONS }
+{
+    match program {
+        Some(program) => program.words().len(),
+        None => 0,
     }
+}
+
+// The charge of a group of such parts, whatever its key.
+fn charge_of_parts<A: Allocator>(
+    selector: &Option<Program<A>>,
+    members: &[Member<Program<A>>],
+) -> u64
+    requires few { length members.now ≤ MEMBER_LIMIT }
+    ensures charge { (key : Endpoint) → result ≡ charge_of_group (record { key = key; selector = selector.now; members = members.now }) }
+    ensures bounded { result < 2 ^ 32 }
+{
+    let mut charge = GROUP_WORDS as u64 + charge_of_program(selector);
+    for member in members {
+        charge += MEMBER_WORDS as u64 + charge_of_program(&member.filter);
+    }
+    charge
+}
+
+// How many words the programs of such a group have.
+fn words_of_parts<A: Allocator>(
+    selector: &Option<Program<A>>,
+    members: &[Member<Program<A>>],
+) -> usize
+    requires few { length members.now ≤ MEMBER_LIMIT }
+    ensures words { (key : Endpoint) → result ≡ sum_by (λ program. length program.words) (programs_of_group (record { key = key; selector = selector.now; members = members.now })) }
+    ensures limited { result ≤ (1 + MEMBER_LIMIT) * MAX_INSTRUCTIONS }
+{
+    let mut words = words_of_program(selector);
+    for member in members {
+        words += words_of_program(&member.filter);
+    }
+    words
 }
 
 // What the commands make of a group: another group, with copies of the programs that it keeps.
@@ -116,13 +183,18 @@ impl<A: Allocator + Clone> Group<A> {
         selector: Option<Program<A>>,
         members: Vec<Member<Program<A>>, A>,
     ) -> Result<Group<A>, OutOfMemory>
+        requires few { length members.items ≤ MEMBER_LIMIT }
         ensures parts { IfOk result (λ group. group ≡ record { key = key; selector = selector; members = members.items }) }
     {
+        let charge = charge_of_parts(&selector, &members);
+        let words = words_of_parts(&selector, &members);
         let alloc = members.allocator().clone()?;
         let parts = Parts {
             key,
             selector,
             members,
+            charge,
+            words,
         };
         Ok(Group {
             parts: Arc::new(alloc, parts)?,
@@ -143,6 +215,7 @@ impl<A: Allocator + Clone> Group<A> {
 
     // This group's key and selector, with other members.
     fn with_members(&self, members: Vec<Member<Program<A>>, A>) -> Result<Group<A>, OutOfMemory>
+        requires few { length members.items ≤ MEMBER_LIMIT }
         ensures changed { IfOk result (λ group. group ≡ record { key = self.now.key; selector = self.now.selector; members = members.items }) }
     {
         let selector = copy_program(&self.parts.selector, self.allocator())?;
@@ -151,6 +224,7 @@ impl<A: Allocator + Clone> Group<A> {
 
     // This group's key and members, with another selector, or none.
     fn with_selector(&self, selector: Option<Program<A>>) -> Result<Group<A>, OutOfMemory>
+        requires few { length self.now.members ≤ MEMBER_LIMIT }
         ensures changed { IfOk result (λ group. group ≡ with_selector selector self.now) }
     {
         let mut members = self.room_for_members(self.members().len())?;
@@ -184,6 +258,7 @@ impl<A: Allocator + Clone> Group<A> {
 
     // The last member stands in the gap of the member at a place.
     fn without_member(&self, at: usize) -> Result<Group<A>, OutOfMemory>
+        requires few { length self.now.members ≤ MEMBER_LIMIT }
         requires inside { at < length self.now.members }
         ensures changed { IfOk result (λ group. group ≡ record { key = self.now.key; selector = self.now.selector; members = last_in_gap at self.now.members }) }
     {
@@ -194,6 +269,7 @@ impl<A: Allocator + Clone> Group<A> {
 
     // Another member at a place.
     fn with_member_at(&self, at: usize, member: Member<Program<A>>) -> Result<Group<A>, OutOfMemory>
+        requires few { length self.now.members ≤ MEMBER_LIMIT }
         requires inside { at < length self.now.members }
         ensures changed { IfOk result (λ group. group ≡ record { key = self.now.key; selector = self.now.selector; members = slice_set self.now.members at member }) }
     {
@@ -204,6 +280,7 @@ impl<A: Allocator + Clone> Group<A> {
 
     // Another filter, or none, for the member at a place.
     fn with_filter(&self, at: usize, filter: Option<Program<A>>) -> Result<Group<A>, OutOfMemory>
+        requires few { length self.now.members ≤ MEMBER_LIMIT }
         requires inside { at < length self.now.members }
         ensures changed { (id : ℕ) → IsOnlyAt (has_id id) self.now.members at → IfOk result (λ group. group ≡ with_filter id filter self.now) }
     {
@@ -221,6 +298,7 @@ impl<A: Allocator + Clone> Group<A> {
 
     // The member at a place, locked.
     fn with_lock(&self, at: usize) -> Result<Group<A>, OutOfMemory>
+        requires few { length self.now.members ≤ MEMBER_LIMIT }
         requires inside { at < length self.now.members }
         ensures changed { (id : ℕ) → IsOnlyAt (has_id id) self.now.members at → IfOk result (λ group. group ≡ locked id self.now) }
     {

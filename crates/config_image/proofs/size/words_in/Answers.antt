@@ -4,10 +4,6 @@ use Rattle.config_image.proofs.LengthLemmas.{counted_all}
 use Rattle.config_image.proofs.WordLemmas.{item_of_all, members_of-split, programs_len-split}
 use Rattle.config_image.proofs.size.words_in.Goals as goal
 
-pub programs_len-requires : goal.programs_len-requires
-programs_len-requires g c =
-    item_of_all IsGroup c.args.groups.now c.loop-group.group-index c.group-item.result c.loop-group-test.true c.group-item.is c.requires.groups
-
 pub loop-group-preserved : goal.loop-group-preserved
 loop-group-preserved g c =
     let own : length c.members.result.now ≡ length c.group-item.result.members = ap length c.members.ensures.members in

@@ -3,10 +3,6 @@ use Rattle.member_group.specs.Group.{IsGroup}
 use Rattle.config_image.proofs.WordLemmas.{group_records_more, item_of_all}
 use Rattle.config_image.proofs.word.group_word.Goals as goal
 
-pub programs_len-place-requires : goal.programs_len-place-requires
-programs_len-place-requires g c =
-    item_of_all IsGroup c.args.groups.now c.loop-group.group-index c.group-item.result c.loop-group-test.true c.group-item.is c.requires.groups
-
 pub loop-group-preserved : goal.loop-group-preserved
 loop-group-preserved g c =
     let members : c.members-in-loop-group.result.now ≡ c.group-item.result.members = c.members-in-loop-group.ensures.members in

@@ -4,10 +4,6 @@ use Rattle.config_image.specs.Image.{words_of}
 use Rattle.config_image.proofs.WordLemmas.{item_of_all, member_word_here, member_word_later, members_of-split}
 use Rattle.config_image.proofs.word.members_word.Goals as goal
 
-pub programs_len-place-requires : goal.programs_len-place-requires
-programs_len-place-requires g c =
-    item_of_all IsGroup c.args.groups.now c.loop-group.group-index c.group-item.result c.loop-group-test.true c.group-item.is c.requires.groups
-
 pub member_word-requires-clause-few : goal.member_word-requires-clause-few
 member_word-requires-clause-few g c =
     rw c.members-then-left-records.ensures.members (item_of_all IsGroup c.args.groups.now c.loop-group.group-index c.group-item.result c.loop-group-test.true c.group-item.is c.requires.groups).limited

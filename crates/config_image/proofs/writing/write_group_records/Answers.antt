@@ -11,10 +11,6 @@ write_words-requires g c =
     let split = group_records-split c.args.groups.now c.loop-group.group-index c.group-item.result c.loop-group-test.true c.group-item.is c.loop-group.members c.loop-group.place in
     record { room = writing_room _ _ _ _ _ _ c.loop-group.invariant.0 (group_record c.group-item.result c.loop-group.members c.loop-group.place) _ split }
 
-pub programs_len-place-requires : goal.programs_len-place-requires
-programs_len-place-requires g c =
-    item_of_all IsGroup c.args.groups.now c.loop-group.group-index c.group-item.result c.loop-group-test.true c.group-item.is c.requires.groups
-
 pub loop-group-preserved : goal.loop-group-preserved
 loop-group-preserved g c =
     let split = group_records-split c.args.groups.now c.loop-group.group-index c.group-item.result c.loop-group-test.true c.group-item.is c.loop-group.members c.loop-group.place in

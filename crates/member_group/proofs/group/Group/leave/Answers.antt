@@ -9,7 +9,7 @@ place_of_member-requires g c = record { distinct = rw c.members.ensures.members 
 pub without_member-requires : goal.without_member-requires
 without_member-requires g c =
     let only = rw c.members.ensures.members at c.in-Some.ensures.found in
-    record { inside = only.inside }
+    record { few = c.requires.group.limited; inside = only.inside }
 
 pub returns-in_default-clause-answer : goal.returns-in_default-clause-answer
 returns-in_default-clause-answer g c =

@@ -8,7 +8,7 @@ place_of_member-requires g c = record { distinct = rw c.members.ensures.members 
 pub with_lock-requires : goal.with_lock-requires
 with_lock-requires g c =
     let only = rw c.members.ensures.members at c.in-Some.ensures.found in
-    record { inside = only.inside }
+    record { few = c.requires.group.limited; inside = only.inside }
 
 pub returns-in_default-clause-answer : goal.returns-in_default-clause-answer
 returns-in_default-clause-answer g c =

@@ -20,7 +20,7 @@ bounds-members-at g c =
 pub with_filter-requires : goal.with_filter-requires
 with_filter-requires g c =
     let only = rw c.members.ensures.members at c.in-Some.ensures.found in
-    record { inside = only.inside }
+    record { few = c.requires.group.limited; inside = only.inside }
 
 pub returns-in_default-clause-answer : goal.returns-in_default-clause-answer
 returns-in_default-clause-answer g c =
