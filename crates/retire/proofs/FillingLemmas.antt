@@ -19,7 +19,7 @@ use Rattle.versions.specs.Free.{IsFreeRow}
 use Rattle.versions.specs.Table.{the_shape}
 use Rattle.read_section.specs.Operator.{OperatorValue}
 use Rattle.read_section.proofs.FilledLemmas.{pool_word_kept, word_at, word_filled, word_kept}
-use Rattle.retire.specs.body.Filling.{Fills, FillsFrom, FillsFront, FillsOther, FillsRow, HoldsRow, KeepsPool}
+use Rattle.retire.specs.body.Filling.{Fills, FillsFrom, FillsFront, FillsOther, FillsRow, HoldsFront, HoldsRow, KeepsPool}
 use Rattle.retire.specs.Publish.{IsFillOf, KeepsOtherRows}
 use Rattle.retire.specs.body.Sink.{IsFilling, SinkValue, front_of, taken_of}
 use Rattle.retire.proofs.RowLemmas.{contains_append, contains_first}
@@ -220,10 +220,7 @@ front_is_filled sink lent before after last is borrow r words took h =
 
 -- ---- the row's first words are written: the others are zeros then
 
--- the first words of a row are the list's, and the words behind a place zeros
-abbrev pub HoldsFront : OperatorValue → ℕ → List ℕ → ℕ → Type 0
-HoldsFront o r words n = (i : ℕ) → i < n → word_at o r i ≡ slice_index words i
-
+-- the words of a row behind a place are zeros
 abbrev pub ZerosBehind : OperatorValue → ℕ → ℕ → Type 0
 ZerosBehind o r from = (i : ℕ) → from ≤ i → i < ROW_WORDS → word_at o r i ≡ 0
 

@@ -1,7 +1,12 @@
 pub mod RowLemmas
+pub mod AlikeLemmas
 pub mod FillingLemmas
+pub mod CarriedLemmas
 pub mod SharingLemmas
 pub mod PageLemmas
 pub mod TakingLemmas
+pub mod RunLemmas
+pub mod OneNewLemmas
 pub mod ReadyLemmas
+pub mod LikeRowLemmas
 pub mod PublishLemmas

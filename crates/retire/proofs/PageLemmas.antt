@@ -20,9 +20,9 @@ use Rattle.versions.proofs.OpenedLemmas.{part_word, slice_get-front_or_back}
 use Rattle.versions.proofs.WorldLemmas.{slice_get-front}
 use Rattle.read_section.specs.Operator.{OperatorValue, filled_page}
 use Rattle.read_section.proofs.FilledLemmas.{page_word_filled, page_word_kept, row_word_kept}
-use Rattle.retire.specs.body.Filling.{AreFreePages, AreReady, BeginsIn, EachIsReady, Fills, FillsNew, FillsPages, FillsParts, IsFillOfPart, IsReady, PartsAre, StandsThere}
-use Rattle.retire.specs.body.Taking.{AllFree, IsCounted}
-use Rattle.retire.proofs.SharingLemmas.{slice_get-back}
+use Rattle.retire.specs.body.Filling.{AreFreeBelow, AreFreePages, AreReady, BeginsIn, EachIsReady, Fills, FillsNew, FillsPages, FillsParts, IsFillOfPart, IsReady, PartsAre, StandsThere}
+use Rattle.retire.specs.body.Taking.{AllFree, IsCounted, NoneFree}
+use Rattle.retire.proofs.SharingLemmas.{further_on, in_front, slice_get-back}
 use Rattle.retire.proofs.FillingLemmas.{no_steps, one_step_more, steps_on, steps_then}
 
 -- ---- places in lists
@@ -343,3 +343,42 @@ stays operator after words [] h none counted e = inr (
   e,
 )
 stays operator after words (page ∷ own) h none counted e = ⊎_elim (λ free. absurd (none page refl (free 0 page refl))) (λ stands. inr (stands, e)) h.ready
+
+-- ---- no page is free that is left
+
+-- the programs that are left stand in their pages
+pub rest_stands : (before now : OperatorValue) (pages left : List ℕ) (all rest : List (List ℕ)) → AreReady before all pages → IsCounted all pages → FillsSome before now pages left all rest → NoneFree before.view left → FillsParts before now pages (flat_map parts_of all)
+rest_stands before now pages left all [] ready counted h none = all_filled before now pages left all [] h refl counted
+rest_stands before now pages left all (words ∷ others) ready counted h none = rest_stands before now pages (drop n left) all others ready counted
+    (one_program_more before now pages left all (words ∷ others) ready h words others refl counted now (drop n left) refl
+    (stays now now words (take n left) (left_ready before now pages left all (words ∷ others) ready h words others refl) first (length-take-le n left (left_counted before now pages left all (words ∷ others) ready h words others refl counted)) refl))
+    (λ index page at. none (length (take n left) + index) page (further_on n left index page at))
+  where
+    n : ℕ
+    n = pages_for (length words)
+
+    first : (page : ℕ) → slice_get (take n left) 0 ≡ Some page → IsFreePage the_shape now.view page → ⊥
+    first page at free = none 0 page (in_front n left 0 page at) (h.filled.fills.steps.were_free page free)
+
+-- nothing is to be filled
+pub none_to_fill : (operator : OperatorValue) (pages : List ℕ) (all : List (List ℕ)) → AreReady operator all pages → IsCounted all pages → AreFreeBelow operator.view pages 0 → FillsParts operator operator pages (flat_map parts_of all)
+none_to_fill operator pages all ready counted below =
+    rest_stands operator operator pages pages all all ready counted (none_filled operator pages all all ready refl) (λ index page at free. let low = below index page at free in omega arith)
+
+-- the last page that is free was among those of the program that was filled
+module _ (before now after : OperatorValue) (pages left : List ℕ) (all rest : List (List ℕ)) (ready : AreReady before all pages) (h : FillsSome before now pages left all rest)
+    (words : List ℕ) (others : List (List ℕ)) (next : rest ≡ words ∷ others) (counted : IsCounted all pages) (behind : List ℕ) (left_is : behind ≡ drop (pages_for (length words)) left) (new : FillsNew now after words (take (pages_for (length words)) left))
+    (end : ℕ) (below : AreFreeBelow before.view pages end) (index page : ℕ) (at : slice_get left index ≡ Some page) (inside : index < pages_for (length words)) (free : IsFreePage the_shape now.view page) (last : page + 1 ≡ end) where
+  pub last_filled : FillsParts before after pages (flat_map parts_of all)
+  last_filled = rest_stands before after pages behind all others ready counted (one_program_more before now pages left all rest ready h words others next counted after behind left_is new) none
+    where
+      in_pages : (i q : ℕ) → slice_get left i ≡ Some q → slice_get pages (length h.done + i) ≡ Some q
+      in_pages i q at' = ap (λ l. slice_get l (length h.done + i)) h.pages_are ∙ slice_get-back h.done left i (length h.done) q at' refl
+
+      none : NoneFree before.view behind
+      none j q there free' =
+          let here = further_on (pages_for (length words)) left j q (ap (λ l. slice_get l j) (sym left_is) ∙ there) in
+          let long = length-take-le (pages_for (length words)) left (left_counted before now pages left all rest ready h words others next counted) in
+          let later = in_pages (length (take (pages_for (length words)) left) + j) q here in
+          let up = ready.rise (length h.done + index) (length h.done + (length (take (pages_for (length words)) left) + j)) page q (omega (arith, long, inside)) (in_pages index page at) later (h.filled.fills.steps.were_free page free) free' in
+          let low = below (length h.done + (length (take (pages_for (length words)) left) + j)) q later free' in omega arith

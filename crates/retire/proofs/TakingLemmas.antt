@@ -108,8 +108,8 @@ module _ (view : OperatorView (List Group)) where
   module _ (earlier : List (List ℕ)) (standing : List ℕ) (all rest : List (List ℕ)) (taken : TakenValue) (h : SomeTaken earlier standing all rest taken) where
     module _ (words : List ℕ) (others : List (List ℕ)) (next : rest ≡ words ∷ others) where
       -- there is room for the pages of the next program
-      pub room_for_next : length (flat_map parts_of all) ≤ PAGE_LIMIT → length taken.pages + pages_for (length words) ≤ PAGE_LIMIT
-      room_for_next few = omega (arith, few, h.counted, ap length (ap (flat_map parts_of) h.all_are ∙ flat_map-append parts_of h.done rest), length-append (flat_map parts_of h.done) (flat_map parts_of rest), ap length (ap (flat_map parts_of) next), length-parts words others)
+      pub room_for_next : (most : ℕ) → length (flat_map parts_of all) ≤ most → length taken.pages + pages_for (length words) ≤ most
+      room_for_next most few = omega (arith, few, h.counted, ap length (ap (flat_map parts_of) h.all_are ∙ flat_map-append parts_of h.done rest), length-append (flat_map parts_of h.done) (flat_map parts_of rest), ap length (ap (flat_map parts_of) next), length-parts words others)
 
       pub taken_for_next : (after : TakenValue) → AreTaken view after → TakesOneMore view earlier standing words taken after → SomeTaken earlier standing all others after
       taken_for_next after are more = record {

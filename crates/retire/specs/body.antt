@@ -1,3 +1,4 @@
 pub mod Filling
 pub mod Sink
 pub mod Taking
+pub mod Alike

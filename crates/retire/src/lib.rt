@@ -11,6 +11,8 @@ ghost use Rattle.read_section.specs.Operator.{OperatorValue};
 ghost use Rattle.retire.specs.Publish.{IsBusy, IsRefusedAs, Publishes, SharesEqualPrograms, StandsInRow};
 ghost use Rattle.retire.specs.Sweep.{Sweeps};
 
+mod alike;
+mod carried;
 mod fault;
 mod pages;
 mod row;
@@ -61,7 +63,8 @@ impl Retire for Operator {
     ghost operator = { λ operator. operator };
 
     fn publish(&mut self, config: Config) -> Result<u64, (PublishFault, Config)> {
-        if config.charge() > CHARGE_LIMIT {
+        let charge = config.charge();
+        if charge > CHARGE_LIMIT {
             return Err((PublishFault::TooBig, config));
         }
         if self.number() == LAST_NUMBER {
@@ -70,7 +73,7 @@ impl Retire for Operator {
         let Some(row) = row::look_for_row(self) else {
             return Err((PublishFault::Busy, config));
         };
-        version::fill_version(self, row, &config);
+        version::fill_version(self, row, &config, charge);
         self.put(row, config);
         Ok(self.number())
     }

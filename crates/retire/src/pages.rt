@@ -1,16 +1,16 @@
 //! Pages of the pool: which are taken for a configuration's programs, and how they are filled.
 
-ghost use Rattle.std.specs.Prelude.{◌≡◌, ◌+◌, ◌<◌, ◌≤◌, ◌↔◌, IsTrue, Some, [], drop, length, slice_get, take, ℕ};
+ghost use Rattle.std.specs.Prelude.{◌≡◌, ◌+◌, ◌<◌, ◌≤◌, ◌↔◌, IfSome, IsTrue, Some, [], drop, length, slice_get, take, ℕ};
 ghost use Rattle.std.specs.List.{flat_map};
 ghost use Rattle.config_image.specs.declared.TheConstants.{PAGE_LIMIT};
-ghost use Rattle.config_image.specs.Pooled.{pages_for, parts_of};
+ghost use Rattle.config_image.specs.Pooled.{pages_for, parts, parts_of};
 ghost use Rattle.config_image.specs.Walk.{words_of_programs};
 ghost use Rattle.versions.specs.Free.{IsFreePage};
 ghost use Rattle.versions.specs.Table.{the_shape};
 ghost use Rattle.read_section.specs.Layout.{IsPublishable};
 ghost use Rattle.read_section.specs.Operator.{HasFreeRow};
-ghost use Rattle.retire.specs.body.Filling.{AreFreePages, AreReady, FillsNew, FillsParts, IsReady};
-ghost use Rattle.retire.specs.body.Taking.{AreTaken, ChoosesPages, IsCounted, IsPassing, NoneFree, TakesOneMore};
+ghost use Rattle.retire.specs.body.Filling.{AreFreeBelow, AreFreePages, AreReady, FillsLast, FillsNew, FillsParts, IsReady};
+ghost use Rattle.retire.specs.body.Taking.{AreTaken, ChoosesPages, IsBehindNoneFree, IsCounted, IsPassing, NoneFree, TakesOneMore};
 
 use crate::standing::{Current, pages_of_len};
 use crate::taken::TakenPages;
@@ -20,11 +20,17 @@ use read_section::Operator;
 use std::alloc::Global;
 
 // Takes the pages of an equal program of the current version, or free ones.
-fn take_for(operator: &Operator, current: &mut Current<'_>, taken: &mut TakenPages, words: &[u64])
+fn take_for<const N: usize>(
+    operator: &Operator,
+    current: &mut Current<'_>,
+    taken: &mut TakenPages<N>,
+    words: &[u64],
+)
     requires row { HasFreeRow operator.now.view }
     requires passing { IsPassing (words_of_programs current.old.config.now) current.old.pages.now current.old.left.programs current.old.left.pages.now }
     requires held { NoneFree operator.now.view current.old.pages.now }
-    requires room { length taken.old.pages + pages_for (length words.now) ≤ PAGE_LIMIT }
+    requires room { length taken.old.pages + pages_for (length words.now) ≤ N }
+    requires limit { N ≤ PAGE_LIMIT }
     requires taken { AreTaken operator.now.view taken.old }
     ensures same { (current.new.config ≡ current.old.config) × (current.new.pages ≡ current.old.pages) }
     ensures passing { IsPassing (words_of_programs current.old.config.now) current.old.pages.now current.new.left.programs current.new.left.pages.now }
@@ -38,17 +44,32 @@ fn take_for(operator: &Operator, current: &mut Current<'_>, taken: &mut TakenPag
 }
 
 // The pages of the next version's programs: those of equal programs of the current version, else the least free ones, in order. They
-// are put where the caller has room for them: as an answer they would be copied.
-pub(crate) fn choose_pages(operator: &Operator, config: &Config, taken: &mut TakenPages)
+// are put where the caller has room for them: as an answer they would be copied. Gives a program, and how many pages are before its
+// own, of which none is free: where one program is new it is that one.
+pub(crate) fn choose_pages<'a, const N: usize>(
+    operator: &Operator,
+    config: &'a Config,
+    taken: &mut TakenPages<N>,
+) -> Option<(&'a [u64], usize)>
     requires row { HasFreeRow operator.now.view }
     requires publishable { IsPublishable config.now }
+    requires enough { length (parts config.now) ≤ N }
+    requires limit { N ≤ PAGE_LIMIT }
     requires none { taken.old ≡ record { pages = []; from = 0 } }
-    ensures { ChoosesPages operator.now.view config.now taken.new.pages }
+    ensures chosen { ChoosesPages operator.now.view config.now taken.new.pages }
+    ensures below { AreFreeBelow operator.now.view taken.new.pages taken.new.from }
+    ensures first { IfSome result (λ first. IsBehindNoneFree operator.now.view (words_of_programs config.now) taken.new.pages first.0.now first.1) }
 {
     let mut current = Current::of(operator);
-    for words in Programs::of(config) {
+    let mut programs = Programs::of(config);
+    let mut first = None;
+    while let Some(words) = current.share_equal(&mut programs, taken) {
+        if taken.end() == 0 {
+            first = Some((words, taken.count()));
+        }
         take_for(operator, &mut current, taken, words);
     }
+    first
 }
 
 // Fills free pages by the words of a program.
@@ -73,36 +94,85 @@ fn begins_free(operator: &Operator, own: &[u32]) -> bool
     operator.page_is_free(own[0] as usize)
 }
 
-// Fills the first pages by the words of a program, unless it stands there, and gives the pages that are left.
-fn fill_new<'a>(operator: &mut Operator, words: &[u64], pages: &'a [u32]) -> &'a [u32]
+// Fills the first pages by the words of a program, unless it stands there. Gives these pages where they were filled, and none where
+// they were not, and the pages that are left.
+fn fill_new<'a>(operator: &mut Operator, words: &[u64], pages: &'a [u32]) -> (&'a [u32], &'a [u32])
     requires enough { pages_for (length words.now) ≤ length pages.now }
     requires ready { IsReady operator.old words.now (take (pages_for (length words.now)) pages.now) }
     ensures fills { FillsNew operator.old operator.new words.now (take (pages_for (length words.now)) pages.now) }
-    ensures left { result.now ≡ drop (pages_for (length words.now)) pages.now }
+    ensures filled { (index page : ℕ) → slice_get result.0.now index ≡ Some page → (slice_get pages.now index ≡ Some page) × (index < pages_for (length words.now)) × IsFreePage the_shape operator.old.view page }
+    ensures left { result.1.now ≡ drop (pages_for (length words.now)) pages.now }
 {
     let (own, left) = pages.split_at(pages_of_len(words.len()));
     if begins_free(operator, own) {
         fill_program(operator, words, own);
+        return (own, left);
     }
-    left
+    (&[], left)
 }
 
-fn fill_programs(operator: &mut Operator, programs: Programs<'_, Global>, pages: &[u32])
+// Tests whether the last of these pages is the one before `end`.
+fn ends_before(own: &[u32], end: usize) -> bool
+    ensures { IsTrue result → (index : ℕ) × (page : ℕ) × (slice_get own.now index ≡ Some page) × (page + 1 ≡ end) }
+{
+    let len = own.len();
+    len > 0 && own[len - 1] as usize + 1 == end
+}
+
+// Stops behind the last of the pages that were free, which is the one before `end`.
+fn fill_programs(operator: &mut Operator, programs: Programs<'_, Global>, pages: &[u32], end: usize)
     requires ready { AreReady operator.old programs pages.now }
     requires counted { IsCounted programs pages.now }
+    requires below { AreFreeBelow operator.old.view pages.now end }
     ensures { FillsParts operator.old operator.new pages.now (flat_map parts_of programs.entry) }
 {
     let mut left = pages;
     for words in programs {
-        left = fill_new(operator, words, left);
+        let (filled, others) = fill_new(operator, words, left);
+        left = others;
+        if ends_before(filled, end) {
+            return;
+        }
     }
 }
 
-// Fills those pages that are free by the words of a configuration's programs, each program from the first word of a page on.
-pub(crate) fn fill_pages(operator: &mut Operator, config: &Config, pages: &[u32])
+// Fills a program into its pages where these have the last page that is free, and tells whether it did.
+fn fill_last(operator: &mut Operator, words: &[u64], own: &[u32], end: usize) -> bool
+    requires counted { length own.now ≡ pages_for (length words.now) }
+    requires ready { IsReady operator.old words.now own.now }
+    ensures filled { IsTrue result → FillsLast operator.old operator.new words.now own.now end }
+    ensures kept { (IsTrue result → ⊥) → operator.new ≡ operator.old }
+{
+    if !begins_free(operator, own) || !ends_before(own, end) {
+        return false;
+    }
+    fill_program(operator, words, own);
+    true
+}
+
+// Fills those pages that are free by the words of a configuration's programs, each program from the first word of a page on. No free
+// page is `end` or behind it, and none is before those of the program that is told first.
+pub(crate) fn fill_pages(
+    operator: &mut Operator,
+    config: &Config,
+    pages: &[u32],
+    end: usize,
+    first: Option<(&[u64], usize)>,
+)
     requires ready { AreReady operator.old (words_of_programs config.now) pages.now }
     requires counted { IsCounted (words_of_programs config.now) pages.now }
+    requires below { AreFreeBelow operator.old.view pages.now end }
+    requires first { IfSome first (λ first. IsBehindNoneFree operator.old.view (words_of_programs config.now) pages.now first.0.now first.1) }
     ensures { FillsParts operator.old operator.new pages.now (flat_map parts_of (words_of_programs config.now)) }
 {
-    fill_programs(operator, Programs::of(config), pages);
+    if end == 0 {
+        return;
+    }
+    if let Some((words, at)) = first {
+        let own = &pages[at..at + pages_of_len(words.len())];
+        if fill_last(operator, words, own, end) {
+            return;
+        }
+    }
+    fill_programs(operator, Programs::of(config), pages, end);
 }

@@ -1,14 +1,17 @@
 //! The programs of the current version, and the pages where they stand.
 
-ghost use Rattle.std.specs.Prelude.{◌≡◌, ◌+◌, ◌-◌, ◌<◌, ◌^◌, ◌↔◌, IfNone, IfSome, IsTrue, List, [], length};
-ghost use Rattle.std.specs.List.{Contains};
-ghost use Rattle.config_image.specs.declared.TheConstants.{PAGE_WORDS};
-ghost use Rattle.config_image.specs.Pooled.{pages_for};
+ghost use Rattle.std.specs.Prelude.{◌≡◌, ◌+◌, ◌-◌, ◌<◌, ◌≤◌, ◌^◌, ◌↔◌, ◌∷◌, IfNone, IfSome, IsTrue, List, [], length, slice_index, ℕ};
+ghost use Rattle.std.specs.List.{Contains, flat_map};
+ghost use Rattle.config_image.specs.declared.TheConstants.{PAGE_LIMIT, PAGE_WORDS};
+ghost use Rattle.config_image.specs.Pooled.{pages_for, parts_of};
 ghost use Rattle.config_image.specs.Walk.{words_of_programs};
 ghost use Rattle.retire.specs.Publish.{HasPages};
 ghost use Rattle.read_section.specs.Operator.{IsCurrent, StandsIn};
-ghost use Rattle.retire.specs.body.Taking.{IsBehind, IsCounted, IsNext, IsPassing};
+ghost use Rattle.retire.specs.body.Alike.{AreAlike};
+ghost use Rattle.retire.specs.body.Taking.{IsBehind, IsCounted, IsNext, IsPassing, Passes, SharesRun};
 
+use crate::alike::are_alike;
+use crate::taken::TakenPages;
 use config_image::{PAGE_WORDS, Programs};
 use member_group::Config;
 use read_section::Operator;
@@ -29,10 +32,50 @@ pub(crate) fn pages_of_len(len: usize) -> usize
     (len + (PAGE_WORDS - 1)) / PAGE_WORDS
 }
 
+// Tests up to three words.
+fn same_few(words: &[u64], other: &[u64]) -> bool
+    requires same { length words.now ≡ length other.now }
+    requires few { length words.now < 4 }
+    ensures { IsTrue result ↔ (words.now ≡ other.now) }
+{
+    let len = words.len();
+    (len < 1 || words[0] == other[0])
+        && (len < 2 || words[1] == other[1])
+        && (len < 3 || words[2] == other[2])
+}
+
+// Tests four words.
+fn same_four(words: &[u64], other: &[u64], at: usize) -> bool
+    requires words { at + 4 ≤ length words.now }
+    requires other { at + 4 ≤ length other.now }
+    ensures { IsTrue result ↔ ((i : ℕ) → at ≤ i → i < at + 4 → slice_index words.now i ≡ slice_index other.now i) }
+{
+    words[at] == other[at]
+        && words[at + 1] == other[at + 1]
+        && words[at + 2] == other[at + 2]
+        && words[at + 3] == other[at + 3]
+}
+
+// Most programs are short, and equal: so four words are tested at once, without a call. The last four of them may have been tested
+// before in part.
 fn same_words(words: &[u64], other: &[u64]) -> bool
     ensures { IsTrue result ↔ (words.now ≡ other.now) }
 {
-    words == other
+    if words.len() != other.len() {
+        return false;
+    }
+    if words.len() < 4 {
+        return same_few(words, other);
+    }
+    let last = words.len() - 4;
+    let mut at = 0;
+    while at < last {
+        if !same_four(words, other, at) {
+            return false;
+        }
+        at += 4;
+    }
+    same_four(words, other, last)
 }
 
 impl<'a> PagedPrograms<'a> {
@@ -64,7 +107,7 @@ impl<'a> PagedPrograms<'a> {
     // Passes the next program, and gives its pages if it has these words.
     fn next_equal(&mut self, words: &[u64]) -> Option<&'a [u32]>
         requires counted { IsCounted self.old.programs self.old.pages.now }
-        ensures some { IfSome result (λ own. HasPages self.old.programs self.old.pages.now words.now own.now) }
+        ensures some { IfSome result (λ own. IsNext self.old.programs self.old.pages.now words.now own.now self.new.programs self.new.pages.now) }
         ensures behind { IsBehind self.old.programs self.old.pages.now self.new.programs self.new.pages.now }
         ensures counted { IsCounted self.new.programs self.new.pages.now }
     {
@@ -75,6 +118,29 @@ impl<'a> PagedPrograms<'a> {
             return Some(own);
         }
         None
+    }
+
+    // Passes programs as long as they have the words of the next ones here, and gives the pages of these. Gives the first program that
+    // differs, too: it was passed, and so was the next one here.
+    fn pass_equal<'b>(
+        &mut self,
+        programs: &mut Programs<'b, Global>,
+    ) -> (&'a [u32], Option<&'b [u64]>)
+        requires counted { IsCounted self.old.programs self.old.pages.now }
+        ensures some { IfSome result.1 (λ words. Passes programs.old self.old.programs self.old.pages.now result.0.now (words.now ∷ programs.new)) }
+        ensures none { IfNone result.1 (Passes programs.old self.old.programs self.old.pages.now result.0.now []) }
+        ensures behind { IsBehind self.old.programs self.old.pages.now self.new.programs self.new.pages.now }
+        ensures counted { IsCounted self.new.programs self.new.pages.now }
+    {
+        let pages = self.pages;
+        let mut count = 0;
+        while let Some(words) = programs.next() {
+            let Some(own) = self.next_equal(words) else {
+                return (&pages[..count], Some(words));
+            };
+            count += own.len();
+        }
+        (&pages[..count], None)
     }
 
     // Passes programs up to the first one that has these words, and gives its pages.
@@ -118,10 +184,35 @@ impl<'a> Current<'a> {
         }
     }
 
+    /// Tests whether another configuration is like the current one.
+    pub(crate) fn is_like(&self, config: &Config) -> bool
+        ensures { IsTrue result → AreAlike config.now self.now.config.now }
+    {
+        are_alike(config, self.config)
+    }
+
+    /// Takes the pages of programs as long as they have the words of those of the current version that come next. Gives the first
+    /// program that differs: where few programs change, nearly all are passed at once.
+    pub(crate) fn share_equal<'b, const N: usize>(
+        &mut self,
+        programs: &mut Programs<'b, Global>,
+        taken: &mut TakenPages<N>,
+    ) -> Option<&'b [u64]>
+        requires passing { IsPassing (words_of_programs self.old.config.now) self.old.pages.now self.old.left.programs self.old.left.pages.now }
+        requires room { length taken.old.pages + length (flat_map parts_of programs.old) ≤ N }
+        ensures some { IfSome result (λ words. SharesRun (words_of_programs self.old.config.now) self.old.pages.now programs.old (words.now ∷ programs.new) taken.old taken.new) }
+        ensures none { IfNone result (SharesRun (words_of_programs self.old.config.now) self.old.pages.now programs.old [] taken.old taken.new) }
+        ensures same { (self.new.config ≡ self.old.config) × (self.new.pages ≡ self.old.pages) }
+        ensures passing { IsPassing (words_of_programs self.old.config.now) self.old.pages.now self.new.left.programs self.new.left.pages.now }
+    {
+        let (own, differs) = self.left.pass_equal(programs);
+        taken.share(own);
+        differs
+    }
+
     /// The pages of a program of the current version that has these words, `None` where there is none.
     ///
-    /// The next program that was not passed is compared first, and all of them only where that one differs: where few programs
-    /// change, nearly each is found at once.
+    /// It is looked for among all of them, and what follows it is compared next.
     pub(crate) fn find_equal(&mut self, words: &[u64]) -> Option<&'a [u32]>
         requires passing { IsPassing (words_of_programs self.old.config.now) self.old.pages.now self.old.left.programs self.old.left.pages.now }
         ensures some { IfSome result (λ own. HasPages (words_of_programs self.old.config.now) self.old.pages.now words.now own.now) }
@@ -129,9 +220,6 @@ impl<'a> Current<'a> {
         ensures same { (self.new.config ≡ self.old.config) × (self.new.pages ≡ self.old.pages) }
         ensures passing { IsPassing (words_of_programs self.old.config.now) self.old.pages.now self.new.left.programs self.new.left.pages.now }
     {
-        if let Some(own) = self.left.next_equal(words) {
-            return Some(own);
-        }
         let mut all = PagedPrograms::of(self.config, self.pages);
         let Some(own) = all.find(words) else {
             return None;

@@ -5,44 +5,42 @@ ghost use Rattle.config_image.specs.declared.TheConstants.{PAGE_LIMIT};
 ghost use Rattle.read_section.specs.Operator.{HasFreeRow};
 ghost use Rattle.retire.specs.body.Taking.{AreTaken, TakesFree};
 
-use config_image::PAGE_LIMIT;
 use read_section::Operator;
 use std::marker::Model;
 
-/// The pages that were taken so far, and where the next free page is looked for.
+/// The pages that were taken so far, at most `N` of them, and where the next free page is looked for.
 #[derive(Drop)]
-pub(crate) struct TakenPages {
-    pages: [u32; PAGE_LIMIT],
+pub(crate) struct TakenPages<const N: usize> {
+    pages: [u32; N],
     len: usize,
     from: usize,
 }
 
-impl Model for TakenPages {
+impl<const N: usize> Model for TakenPages<N> {
     ghost use Rattle.std.specs.Prelude.{◌≡◌, ◌≤◌, length, take};
-    ghost use Rattle.config_image.specs.declared.TheConstants.{PAGE_LIMIT};
     ghost use Rattle.retire.specs.body.Taking.{TakenValue};
 
     ghost Value = { TakenValue };
 
     ghost view = { λ taken. record { pages = take taken.len taken.pages; from = taken.from } };
 
-    ghost invariant = { λ taken. taken.len ≤ PAGE_LIMIT };
+    ghost invariant = { λ taken. taken.len ≤ N };
 }
 
-impl TakenPages {
+impl<const N: usize> TakenPages<N> {
     #[inline(always)]
-    pub(crate) fn none() -> TakenPages
+    pub(crate) fn none() -> TakenPages<N>
         ensures { result ≡ record { pages = []; from = 0 } }
     {
         TakenPages {
-            pages: [0; PAGE_LIMIT],
+            pages: [0; N],
             len: 0,
             from: 0,
         }
     }
 
     fn push(&mut self, page: u32, from: usize)
-        requires { length self.old.pages < PAGE_LIMIT }
+        requires { length self.old.pages < N }
         ensures { self.new ≡ record { pages = self.old.pages ++ page ∷ []; from = from } }
     {
         self.pages[self.len] = page;
@@ -52,19 +50,20 @@ impl TakenPages {
 
     /// Takes pages that a program of the current version has.
     pub(crate) fn share(&mut self, own: &[u32])
-        requires room { length self.old.pages + length own.now ≤ PAGE_LIMIT }
+        requires room { length self.old.pages + length own.now ≤ N }
         ensures { self.new ≡ record { pages = self.old.pages ++ own.now; from = self.old.from } }
     {
-        for page in own {
-            let from = self.from;
-            self.push(*page, from);
-        }
+        let end = self.len + own.len();
+        let pages = &mut self.pages[..];
+        pages[self.len..end].copy_from_slice(own);
+        self.len = end;
     }
 
     /// Takes so many free pages, the least ones that were not taken yet.
     pub(crate) fn take_free(&mut self, operator: &Operator, count: usize)
         requires row { HasFreeRow operator.now.view }
-        requires room { length self.old.pages + count ≤ PAGE_LIMIT }
+        requires room { length self.old.pages + count ≤ N }
+        requires limit { N ≤ PAGE_LIMIT }
         requires taken { AreTaken operator.now.view self.old }
         ensures taken { AreTaken operator.now.view self.new }
         ensures free { TakesFree operator.now.view self.old self.new count }
@@ -75,6 +74,20 @@ impl TakenPages {
             };
             self.push(page as u32, page + 1);
         }
+    }
+
+    /// Tells how many pages were taken.
+    pub(crate) fn count(&self) -> usize
+        ensures { result ≡ length self.now.pages }
+    {
+        self.len
+    }
+
+    /// Tells the page behind the last free page that was taken, 0 where none was.
+    pub(crate) fn end(&self) -> usize
+        ensures { result ≡ self.now.from }
+    {
+        self.from
     }
 
     pub(crate) fn as_slice(&self) -> &[u32]

@@ -1,6 +1,9 @@
 //! A version, as it is made: its pages and then its row are filled.
 
-ghost use Rattle.std.specs.Prelude.{List, ℕ};
+ghost use Rattle.std.specs.Prelude.{◌≡◌, ◌≤◌, List, length, ℕ};
+ghost use Rattle.member_group.specs.Charge.{charge_of};
+ghost use Rattle.config_image.specs.declared.TheConstants.{PAGE_LIMIT};
+ghost use Rattle.config_image.specs.Pooled.{parts};
 ghost use Rattle.versions.specs.Free.{IsFreeRow};
 ghost use Rattle.versions.specs.Table.{the_shape};
 ghost use Rattle.read_section.specs.Layout.{IsPublishable};
@@ -9,18 +12,41 @@ ghost use Rattle.retire.specs.body.Filling.{FillsVersion};
 use crate::pages::{choose_pages, fill_pages};
 use crate::row::fill_row;
 use crate::taken::TakenPages;
+use config_image::PAGE_LIMIT;
 use member_group::Config;
 use read_section::Operator;
 
-// Chooses pages, fills those that are free, and a free row, so that they hold the configuration.
-pub(crate) fn fill_version(operator: &mut Operator, row: usize, config: &Config)
+// Most configurations take no more pages than these. Room for them is made ready in less time than room for all.
+const FEW_PAGES: usize = 400;
+
+// Where no more is charged the pages are few, since each page costs four words of the image at least.
+const FEW_CHARGE: u64 = 4 * FEW_PAGES as u64;
+
+// Chooses pages, of which there are at most N, fills those that are free, and a free row, so that they hold the configuration.
+fn fill_by<const N: usize>(operator: &mut Operator, row: usize, config: &Config)
     requires free { IsFreeRow the_shape operator.old.view row }
     requires publishable { IsPublishable config.now }
+    requires enough { length (parts config.now) ≤ N }
+    requires limit { N ≤ PAGE_LIMIT }
     ensures { (pages : List ℕ) × FillsVersion operator.old operator.new row config.now pages }
 {
-    let mut taken = TakenPages::none();
-    choose_pages(operator, config, &mut taken);
+    let mut taken = TakenPages::<N>::none();
+    let first = choose_pages(operator, config, &mut taken);
     let pages = taken.as_slice();
-    fill_pages(operator, config, pages);
+    fill_pages(operator, config, pages, taken.end(), first);
     fill_row(operator, row, config, pages);
+}
+
+// The same, of a configuration with this charge.
+pub(crate) fn fill_version(operator: &mut Operator, row: usize, config: &Config, charge: u64)
+    requires free { IsFreeRow the_shape operator.old.view row }
+    requires publishable { IsPublishable config.now }
+    requires charge { charge ≡ charge_of config.now }
+    ensures { (pages : List ℕ) × FillsVersion operator.old operator.new row config.now pages }
+{
+    if charge <= FEW_CHARGE {
+        fill_by::<FEW_PAGES>(operator, row, config)
+    } else {
+        fill_by::<PAGE_LIMIT>(operator, row, config)
+    }
 }

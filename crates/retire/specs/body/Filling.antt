@@ -6,6 +6,7 @@ use Rattle.config_image.specs.Image.{Group}
 use Rattle.config_image.specs.Pooled.{ArePages, pages_for, parts, parts_of, pooled_row}
 use Rattle.versions.specs.declared.layout.TheConstants.{PAGES, ROWS}
 use Rattle.versions.specs.declared.step.Entry.{Entry}
+use Rattle.versions.specs.declared.view.OperatorView.{OperatorView}
 use Rattle.versions.specs.declared.step.Step.TheVariants.{Fill}
 use Rattle.versions.specs.Step.{entry}
 use Rattle.versions.specs.Free.{IsFreePage, IsFreeRow, number_after}
@@ -72,6 +73,24 @@ pub record FillsFront (before after : OperatorValue) (r : ℕ) (words : List ℕ
   pub fills : FillsFrom before after r words
   pub front : (i : ℕ) → i < length words → slice_index after.view.stored (r * ROW_WORDS + i) ≡ slice_index words i
 
+-- the first n words of a row are the list's
+abbrev pub HoldsFront : OperatorValue → ℕ → List ℕ → ℕ → Type 0
+HoldsFront operator r words n = (i : ℕ) → i < n → slice_index operator.view.stored (r * ROW_WORDS + i) ≡ slice_index words i
+
+-- the first n words of row r are those of another row, which begins as a list of the words of a row does
+abbrev pub CopiesFront : OperatorValue → OperatorValue → ℕ → ℕ → ℕ → Type 0
+CopiesFront before after r from n = (words : List ℕ) → length words ≡ ROW_WORDS → HoldsFront before from words n → FillsFrom before after r words × HoldsFront after r words n
+
+-- the other row's names from a place on are the list's, but for their pages, which are these
+abbrev pub HasNames : OperatorValue → ℕ → ℕ → List ℕ → List ℕ → Type 0
+HasNames operator from begin pages words = (index page : ℕ) → slice_get pages index ≡ Some page
+    → slice_index operator.view.stored (from * ROW_WORDS + (begin + index)) / 65536 * 65536 + page ≡ slice_index words (begin + index)
+
+-- where row r was filled by a list's words up to that place, it is filled by its names, too
+abbrev pub FillsNames : OperatorValue → OperatorValue → ℕ → ℕ → ℕ → List ℕ → Type 0
+FillsNames before after r from begin pages = (first : OperatorValue) (words : List ℕ) → length words ≡ ROW_WORDS → HasNames before from begin pages words
+    → FillsFrom first before r words → HoldsFront before r words begin → FillsFrom first after r words × HoldsFront after r words (begin + length pages)
+
 -- ---- pages
 
 -- pages that are free and rise
@@ -131,11 +150,24 @@ EachIsReady operator (words ∷ rest) pages =
     (AllFree operator.view (take (pages_for (length words)) pages) ⊎ StandsThere operator words (take (pages_for (length words)) pages))
     × EachIsReady operator rest (drop (pages_for (length words)) pages)
 
+-- those of the pages that are free are below this one
+abbrev pub AreFreeBelow : OperatorView (List Group) → List ℕ → ℕ → Type 0
+AreFreeBelow view pages end = (index page : ℕ) → slice_get pages index ≡ Some page → IsFreePage the_shape view page → page < end
+
 -- and their free pages rise
 pub record AreReady (operator : OperatorValue) (programs : List (List ℕ)) (pages : List ℕ) : Type 0 where
   pub each : EachIsReady operator programs pages
   pub rise : RiseWhereFree operator.view pages
   pub low : (index page : ℕ) → slice_get pages index ≡ Some page → page < PAGES
+
+-- a program is filled into its free pages, and this is the page behind one of them
+pub record FillsLast (before after : OperatorValue) (words own : List ℕ) (end : ℕ) : Type 0 where
+  pub free : AllFree before.view own
+  pub filled : FillsParts before after own (parts_of words)
+  pub index : ℕ
+  pub page : ℕ
+  pub at : slice_get own index ≡ Some page
+  pub last : page + 1 ≡ end
 
 -- a program is filled into its free pages, or it stands there and nothing is done
 abbrev pub FillsNew : OperatorValue → OperatorValue → List ℕ → List ℕ → Type 0

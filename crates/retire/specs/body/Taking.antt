@@ -1,5 +1,5 @@
 -- Which pages are taken for the programs of a version: those of equal programs of the version before, or free ones.
-use Rattle.std.specs.Prelude.{◌≡◌, ◌++◌, ◌<◌, ◌∷◌, List, Some, drop, flat_map, length, slice_get, take, ℕ}
+use Rattle.std.specs.Prelude.{◌≡◌, ◌++◌, ◌<◌, ◌≤◌, ◌∷◌, List, Some, drop, flat_map, length, slice_get, take, ℕ}
 use Rattle.config_image.specs.Image.{Group}
 use Rattle.config_image.specs.Pooled.{pages_for, parts_of}
 use Rattle.config_image.specs.Walk.{words_of_programs}
@@ -7,7 +7,7 @@ use Rattle.versions.specs.declared.view.OperatorView.{OperatorView}
 use Rattle.versions.specs.Free.{IsFreePage}
 use Rattle.versions.specs.Table.{the_shape}
 use Rattle.read_section.specs.Operator.{IsCurrent, StandsIn}
-use Rattle.retire.specs.Publish.{HasPages, RiseWhereFree, TakesFor, TakesPages}
+use Rattle.retire.specs.Publish.{HasPages, RiseWhereFree, TakesFor, TakesPages, pages_of_each}
 
 -- there is a page for each part of the programs
 abbrev pub IsCounted : List (List ℕ) → List ℕ → Type 0
@@ -29,6 +29,15 @@ pub record IsPassing (programs : List (List ℕ)) (pages : List ℕ) (others : L
   pub left_counted : IsCounted others left
   pub behind : IsBehind programs pages others left
 
+-- programs begin as those do that stand in these pages, and these are the pages of the first ones; the others are left
+pub record Passes (programs standing : List (List ℕ)) (pages own : List ℕ) (rest : List (List ℕ)) : Type 0 where
+  pub same : List (List ℕ)
+  pub left : List (List ℕ)
+  pub programs_are : programs ≡ same ++ rest
+  pub standing_are : standing ≡ same ++ left
+  pub fits : length (flat_map parts_of same) ≤ length pages
+  pub own_is : own ≡ take (length (flat_map parts_of same)) pages
+
 -- ---- pages that are taken one after the other
 
 -- pages that were taken so far, and where the next free page is looked for
@@ -48,6 +57,15 @@ AllFree view pages = (index page : ℕ) → slice_get pages index ≡ Some page 
 abbrev pub NoneFree : OperatorView (List Group) → List ℕ → Type 0
 NoneFree view pages = (index page : ℕ) → slice_get pages index ≡ Some page → IsFreePage the_shape view page → ⊥
 
+-- a program, with so many pages before its own, of which none is free
+pub record IsBehindNoneFree (view : OperatorView (List Group)) (programs : List (List ℕ)) (pages words : List ℕ) (at : ℕ) : Type 0 where
+  pub done : List (List ℕ)
+  pub rest : List (List ℕ)
+  pub programs_are : programs ≡ done ++ words ∷ rest
+  pub counted : at ≡ length (flat_map parts_of done)
+  pub inside : at ≤ length pages
+  pub none : NoneFree view (take at pages)
+
 -- so many free pages more
 pub record TakesFree (view : OperatorView (List Group)) (before after : TakenValue) (count : ℕ) : Type 0 where
   pub own : List ℕ
@@ -61,6 +79,15 @@ pub record TakesOneMore (view : OperatorView (List Group)) (earlier : List (List
   pub counted : length own ≡ pages_for (length words)
   pub takes : TakesFor view earlier standing words own
   pub pages : after.pages ≡ before.pages ++ own
+
+-- the first of the programs take the pages of programs that have the same words; the others are left
+pub record SharesRun (earlier : List (List ℕ)) (standing : List ℕ) (programs rest : List (List ℕ)) (before after : TakenValue) : Type 0 where
+  pub same : List (List ℕ)
+  pub own : List ℕ
+  pub programs_are : programs ≡ same ++ rest
+  pub counted : IsCounted same own
+  pub each : (index : ℕ) (words o : List ℕ) → slice_get same index ≡ Some words → slice_get (pages_of_each same own) index ≡ Some o → HasPages earlier standing words o
+  pub taken : after ≡ record { pages = before.pages ++ own; from = before.from }
 
 -- pages are taken for all programs of a configuration, beside those of the current version
 pub record ChoosesPages (view : OperatorView (List Group)) (config : List Group) (pages : List ℕ) : Type 0 where

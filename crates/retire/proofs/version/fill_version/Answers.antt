@@ -1,33 +1,17 @@
-use Rattle.std.proofs.Common.{subst, sym}
-use Rattle.config_image.proofs.ProgramLemmas.{parts-by_words}
-use Rattle.versions.proofs.FormLemmas.{are_pages}
-use Rattle.retire.specs.body.Filling.{FillsParts}
-use Rattle.retire.specs.body.Taking.{ChoosesPages}
-use Rattle.retire.proofs.ReadyLemmas.{chosen_counted, chosen_ready}
+use Rattle.std.proofs.Common.{arith}
+use Rattle.config_image.proofs.LengthLemmas.{within_charge}
+use Rattle.config_image.proofs.PooledLemmas.{few_pages, pages_cost}
 use Rattle.retire.proofs.version.fill_version.Goals as goal
 
-pub fill_pages-requires-clause-ready : goal.fill_pages-requires-clause-ready
-fill_pages-requires-clause-ready c =
-    chosen_ready c.args.operator.now c.args.config.now c.as_slice-pages.result.now (subst (ChoosesPages c.args.operator.now.view c.args.config.now) (sym c.as_slice-pages.ensures) c.choose_pages.ensures)
+pub fill_by-requires-clause-enough : goal.fill_by-requires-clause-enough
+fill_by-requires-clause-enough c =
+    let config = c.args.config.now in
+    omega (arith, pages_cost config, within_charge config c.requires.publishable.0, c.requires.charge)
 
-pub fill_row-requires-clause-free : goal.fill_row-requires-clause-free
-fill_row-requires-clause-free c = c.fill_pages.ensures.fills.steps.free_rows c.args.row c.requires.free
+pub fill_by-requires-clause-limit : goal.fill_by-requires-clause-limit
+fill_by-requires-clause-limit c = omega arith
 
-pub fill_row-requires-clause-pages : goal.fill_row-requires-clause-pages
-fill_row-requires-clause-pages c = let pages = c.as_slice-pages.result.now in let chosen = subst (ChoosesPages c.args.operator.now.view c.args.config.now) (sym c.as_slice-pages.ensures) c.choose_pages.ensures in
-    are_pages c.args.config.now pages (chosen_counted c.args.operator.now c.args.config.now pages chosen) (chosen_ready c.args.operator.now c.args.config.now pages chosen).low
-
-pub returns : goal.returns
-returns c = let pages = c.as_slice-pages.result.now in let chosen = subst (ChoosesPages c.args.operator.now.view c.args.config.now) (sym c.as_slice-pages.ensures) c.choose_pages.ensures in
-    let low = (chosen_ready c.args.operator.now c.args.config.now pages chosen).low in (
-      pages,
-      record {
-        chosen = chosen;
-        low = low;
-        middle = c.fill_pages.new.operator;
-        parts_filled = subst (FillsParts c.args.operator.now c.fill_pages.new.operator pages) (sym (parts-by_words c.args.config.now)) c.fill_pages.ensures;
-        row_filled = c.fill_row.ensures.fills;
-        row_held = c.fill_row.ensures.holds;
-        are = are_pages c.args.config.now pages (chosen_counted c.args.operator.now c.args.config.now pages chosen) low;
-      },
-    )
+pub fill_by-requires-else-charge-le-FEW_CHARGE-clause-enough : goal.fill_by-requires-else-charge-le-FEW_CHARGE-clause-enough
+fill_by-requires-else-charge-le-FEW_CHARGE-clause-enough c =
+    let config = c.args.config.now in
+    few_pages config c.requires.publishable.0 (omega (arith, c.requires.publishable.1))

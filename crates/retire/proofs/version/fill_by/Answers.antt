@@ -1,0 +1,40 @@
+use Rattle.std.proofs.Common.{arith, subst, sym}
+use Rattle.config_image.proofs.ProgramLemmas.{parts-by_words}
+use Rattle.versions.proofs.FormLemmas.{are_pages}
+use Rattle.retire.specs.body.Filling.{FillsParts}
+use Rattle.retire.specs.body.Taking.{ChoosesPages}
+use Rattle.retire.proofs.ReadyLemmas.{chosen_counted, chosen_ready}
+use Rattle.retire.proofs.version.fill_by.Goals as goal
+
+pub fill_pages-requires-clause-ready : goal.fill_pages-requires-clause-ready
+fill_pages-requires-clause-ready g c =
+    chosen_ready c.args.operator.now c.args.config.now c.as_slice-pages.result.now (subst (ChoosesPages c.args.operator.now.view c.args.config.now) (sym c.as_slice-pages.ensures) c.choose_pages-first.ensures.chosen)
+
+pub fill_pages-requires-clause-below : goal.fill_pages-requires-clause-below
+fill_pages-requires-clause-below g c = rw (c.as_slice-pages.ensures, c.end.ensures) c.choose_pages-first.ensures.below
+
+pub fill_row-requires-clause-free : goal.fill_row-requires-clause-free
+fill_row-requires-clause-free g c = c.fill_pages.ensures.fills.steps.free_rows c.args.row c.requires.free
+
+pub fill_row-requires-clause-pages : goal.fill_row-requires-clause-pages
+fill_row-requires-clause-pages g c = let pages = c.as_slice-pages.result.now in let chosen = subst (ChoosesPages c.args.operator.now.view c.args.config.now) (sym c.as_slice-pages.ensures) c.choose_pages-first.ensures.chosen in
+    are_pages c.args.config.now pages (chosen_counted c.args.operator.now c.args.config.now pages chosen) (chosen_ready c.args.operator.now c.args.config.now pages chosen).low
+
+pub fill_row-requires-clause-low : goal.fill_row-requires-clause-low
+fill_row-requires-clause-low g c = let chosen = subst (ChoosesPages c.args.operator.now.view c.args.config.now) (sym c.as_slice-pages.ensures) c.choose_pages-first.ensures.chosen in
+    λ index page at. omega (arith, (chosen_ready c.args.operator.now c.args.config.now c.as_slice-pages.result.now chosen).low index page at)
+
+pub returns : goal.returns
+returns g c = let pages = c.as_slice-pages.result.now in let chosen = subst (ChoosesPages c.args.operator.now.view c.args.config.now) (sym c.as_slice-pages.ensures) c.choose_pages-first.ensures.chosen in
+    let low = (chosen_ready c.args.operator.now c.args.config.now pages chosen).low in (
+      pages,
+      record {
+        chosen = chosen;
+        low = low;
+        middle = c.fill_pages.new.operator;
+        parts_filled = subst (FillsParts c.args.operator.now c.fill_pages.new.operator pages) (sym (parts-by_words c.args.config.now)) c.fill_pages.ensures;
+        row_filled = c.fill_row.ensures.fills;
+        row_held = c.fill_row.ensures.holds;
+        are = are_pages c.args.config.now pages (chosen_counted c.args.operator.now c.args.config.now pages chosen) low;
+      },
+    )
