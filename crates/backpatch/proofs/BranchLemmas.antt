@@ -48,7 +48,7 @@ abbrev IsWay : Hole → Hole → List ℕ → ℕ → ℕ → Side → ℕ → �
 IsWay hy hn code p until side skip by hole = IsNear p side by hole ⊎ IsFar hy hn code p until side skip by hole
 
 -- a check that goes to its targets by ways that change nothing
-through : (check : ℕ → ℕ → Bool) (at_yes at_no near_yes near_no words : List ℕ) → ComesTo at_yes near_yes → ComesTo at_no near_no → Checks (λ a. a) check near_yes near_no words → Checks (λ a. a) check at_yes at_no words
+pub through : (check : ℕ → ℕ → Bool) (at_yes at_no near_yes near_no words : List ℕ) → ComesTo at_yes near_yes → ComesTo at_no near_no → Checks (λ a. a) check near_yes near_no words → Checks (λ a. a) check at_yes at_no words
 through check at_yes at_no near_yes near_no words yes_comes no_comes h = record {
   loads_stored = λ d y n. h.loads_stored d (yes_comes.loads_stored d y) (no_comes.loads_stored d n);
   goes = λ packet a x cells. h.goes packet a x cells ∙ either (check a x) packet a x cells;
@@ -219,6 +219,10 @@ closed_by hy hn p side yes_other no_other waits = ⊎_elim (λ y. yes_other (ap 
 noted_words : (far : Bool) (place : ℕ) (side : Side) (code later : List ℕ) (old new : Open) → IsNoted far place side code later old new → length later ≡ length code + (if far then 1 else 0)
 noted_words false place side code later old new h = omega (arith, ap length h.0)
 noted_words true place side code later old new h = appended_long (Jump 0) code later h.0
+
+pub pass_words : (far : Bool) (p : ℕ) (side : Side) (insn : Insn) (before mid after : List ℕ) (old new : Open) → p ≡ length before → IsAppended insn before mid → Tells p old.by far → IsNoted far p side mid after old new
+    → length after ≡ p + 1 + far_words p old.by
+pass_words far p side insn before mid after old new begins does told noted = omega (arith, begins, appended_long insn before mid does, noted_words far p side mid after old new noted, told_words p old.by far told)
 
 pub branch_words : (far_yes far_no : Bool) (p : ℕ) (insn : Insn) (before c1 c2 c3 : List ℕ) (yes_old yes_new no_old no_new : Open) → p ≡ length before → IsAppended insn before c1
     → Tells p yes_old.by far_yes → Tells p no_old.by far_no → IsNoted far_yes p WhenTrue c1 c2 yes_old yes_new → IsNoted far_no p WhenFalse c2 c3 no_old no_new → length c3 ≡ p + 1 + far_words p yes_old.by + far_words p no_old.by

@@ -13,7 +13,8 @@ use Rattle.backpatch.specs.declared.hole.Hole.{Hole}
 use Rattle.backpatch.specs.Holes.{AreOpen, IsAppended, IsFilled, IsLanded, IsLonger, Open}
 use Rattle.backpatch.specs.Pieces.{Behind, HasFarJumpsOnly, IsJump, Meaning, Writes}
 use Rattle.backpatch.specs.Runs.{IsPushed}
-use Rattle.backpatch.specs.body.Guards.{Extends, Guards, IsGuard, NeverFaults, Next, Step}
+use Rattle.backpatch.specs.Guards.{Guards, IsGuard, Next}
+use Rattle.backpatch.specs.body.Straight.{Extends, NeverFaults, Step}
 use Rattle.backpatch.proofs.LandLemmas.{appended_at, appended_long, appended_longer, each_both, far_both, far_landed, longer_both, longer_landed, open_landed, open_longer}
 use Rattle.backpatch.proofs.PartLemmas.{IsGuard-landed, IsPart-behind, IsPart-means, no_hole}
 use Rattle.backpatch.proofs.PushedLemmas.{pushed_at}

@@ -10,5 +10,6 @@ pub mod FieldLemmas
 pub mod CheckLemmas
 pub mod JumpLemmas
 pub mod BranchLemmas
+pub mod PassLemmas
 pub mod LeaveLemmas
 pub mod FinishLemmas

@@ -7,7 +7,7 @@ use Rattle.backpatch.specs.declared.hole.Hole.{Hole}
 use Rattle.backpatch.specs.declared.hole.Side.{Side}
 use Rattle.backpatch.specs.Holes.{IsFilled, IsHole, IsLanded, IsLonger, LeadsTo, StandsAt}
 use Rattle.backpatch.specs.Pieces.{IsPart, IsPiece, Meaning, Targets}
-use Rattle.backpatch.specs.body.Guards.{IsGuard}
+use Rattle.backpatch.specs.Guards.{IsGuard}
 
 pub no_hole : {A : Type 0} → (hole : Hole) → Contains [] hole → A
 no_hole hole is = let inside = is.1 in absurd (omega arith)

@@ -2,4 +2,5 @@ pub mod Holes
 pub mod Pieces
 pub mod Runs
 pub mod Checks
+pub mod Guards
 pub mod body

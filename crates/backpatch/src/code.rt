@@ -9,6 +9,7 @@ ghost use Rattle.backpatch.specs.declared.hole.Side.TheVariants.{Always};
 ghost use Rattle.backpatch.specs.Pieces.{Writes, far_words};
 ghost use Rattle.backpatch.specs.Runs.{GoesToYes};
 ghost use Rattle.backpatch.specs.Checks.{Checks, asks};
+ghost use Rattle.backpatch.specs.Guards.{Guards};
 ghost use Rattle.backpatch.specs.body.Filling.{IsFilledIn, SkipFits, with_jf, with_jt, with_k, with_skip};
 ghost use Rattle.backpatch.specs.body.Noting.{IsNoted};
 
@@ -105,6 +106,48 @@ impl<'a, A: Allocator> Code<'a, A> {
         self.push(Insn::JumpIf(test, operand, Offsets { jt: 0, jf }))?;
         self.note(far_yes, place, Side::WhenTrue, yes)?;
         self.note(far_no, place, Side::WhenFalse, no)?;
+        Ok(())
+    }
+
+    /// Writes a test that falls through where it holds, and goes to `no` where it does not: as `branch`, without an exit for what
+    /// stands behind it. Fails where an allocation is refused.
+    #[inline(always)]
+    pub fn pass(
+        &mut self,
+        test: Test,
+        operand: Operand,
+        no: &mut Exit<'a, A>,
+    ) -> Result<(), AllocError>
+        requires room { length self.old + 2 ≤ MAX_INSTRUCTIONS }
+        ensures guards { OnOk result (Guards (Checks (λ a. a) (asks test operand)) 2 self.old self.new no.old no.new) }
+        ensures words { OnOk result (length self.new ≡ length self.old + 1 + far_words (length self.old) no.old.by) }
+    {
+        let place = self.len();
+        let far = is_far(place, no.by());
+        // Where the exit is far, the test leads over the JA to it.
+        let jt = if far { 1 } else { 0 };
+        self.push(Insn::JumpIf(test, operand, Offsets { jt, jf: 0 }))?;
+        self.note(far, place, Side::WhenFalse, no)?;
+        Ok(())
+    }
+
+    /// Writes a test that goes to `yes` where it holds, and falls through where it does not. Fails where an allocation is refused.
+    #[inline(always)]
+    pub fn divert(
+        &mut self,
+        test: Test,
+        operand: Operand,
+        yes: &mut Exit<'a, A>,
+    ) -> Result<(), AllocError>
+        requires room { length self.old + 2 ≤ MAX_INSTRUCTIONS }
+        ensures guards { OnOk result (Guards (λ at_no at_yes words. Checks (λ a. a) (asks test operand) at_yes at_no words) 2 self.old self.new yes.old yes.new) }
+        ensures words { OnOk result (length self.new ≡ length self.old + 1 + far_words (length self.old) yes.old.by) }
+    {
+        let place = self.len();
+        let far = is_far(place, yes.by());
+        let jf = if far { 1 } else { 0 };
+        self.push(Insn::JumpIf(test, operand, Offsets { jt: 0, jf }))?;
+        self.note(far, place, Side::WhenTrue, yes)?;
         Ok(())
     }
 

@@ -4,7 +4,7 @@ use Rattle.std.proofs.Common.{◌≡◌, ◌∙◌, ◌+◌, ◌≤◌, Bool, Li
 use Rattle.std.specs.Prelude.{◌⊎◌, ◌&&◌, if◌then◌else◌, not}
 use Rattle.backpatch.specs.Holes.{Open}
 use Rattle.backpatch.specs.Pieces.{Writes}
-use Rattle.backpatch.specs.body.Guards.{Guards}
+use Rattle.backpatch.specs.Guards.{Guards}
 use Rattle.backpatch.proofs.WritesLemmas.{Writes-means, Writes-weight}
 use Rattle.ipv4_fields.specs.declared.header.Field.TheVariants.{Protocol}
 use Rattle.ipv4_fields.specs.Field.{field_of}

@@ -1,10 +1,10 @@
 -- Guards: a test that is left out, and one that falls through where it is true.
-use Rattle.std.proofs.Common.{◌≡◌, ◌∙◌, ◌+◌, ◌≤◌, Bool, List, None, Option, Some, [], arith, false, refl, subst, sym, true, ℕ}
+use Rattle.std.proofs.Common.{◌≡◌, ◌∙◌, ◌+◌, ◌≤◌, Bool, List, None, Option, Some, arith, false, refl, subst, sym, true, ℕ}
 use Rattle.std.specs.Prelude.{◌≢◌, ◌&&◌}
-use Rattle.backpatch.specs.Holes.{IsLanded, Open}
+use Rattle.backpatch.specs.Holes.{Open}
 use Rattle.backpatch.specs.Pieces.{Meaning, Writes}
-use Rattle.backpatch.specs.body.Guards.{Guards}
-use Rattle.backpatch.proofs.GuardLemmas.{Guards-guards, Guards-landed, Guards-none, Guards-weight, Guards-writes}
+use Rattle.backpatch.specs.Guards.{Guards}
+use Rattle.backpatch.proofs.GuardLemmas.{Guards-guards, Guards-means, Guards-none, Guards-weight, Guards-writes}
 use Rattle.backpatch.proofs.WritesLemmas.{Writes-means, Writes-not, Writes-weight}
 use Rattle.ipv4_fields.specs.declared.header.Field.TheVariants.{Protocol}
 use Rattle.ipv4_fields.specs.Field.{field_of}
@@ -19,8 +19,9 @@ use Rattle.packet_facts.specs.Known.{Holds}
 use Rattle.packet_facts.specs.Told.{first_fragment_of, transport_of}
 use Rattle.packet_facts.proofs.FactLemmas.{first_fragment_yes, ip_by_fragment, ip_yes, transport_yes}
 use Rattle.filter_compile.specs.body.Piece.{Decides, Tests}
+use Rattle.filter_compile.specs.declared.sides.Passed.{Passed}
 use Rattle.filter_compile.specs.declared.sides.Sides.{Sides}
-use Rattle.filter_compile.specs.body.Sides.{HoldsWhere, Leaves}
+use Rattle.filter_compile.specs.body.Sides.{Adds, HoldsWhere, Leaves}
 use Rattle.filter_compile.specs.body.Weight.{is_yes, leads_to_ports}
 use Rattle.filter_compile.proofs.TestLemmas.{Tests-and, Tests-decided, Tests-no, Tests-none, Tests-yes}
 
@@ -72,12 +73,45 @@ pub Guards-left_out : (known on : Known) (if_no : Option Known) (truth : List �
 Guards-left_out known on if_no truth weight code n same if_yes = Guards-weight weight (omega arith)
     (Guards-none code n (λ at_no words. Tests-none (Holds known) (Holds on) (HoldsWhere if_no) truth at_no words (λ packet x h. subst (λ k. Holds k packet x) (sym same) h) if_yes))
 
--- a test that is landed behind itself
-module _ (known on if_no : Known) (truth : List ℕ → Truth) (weight : ℕ) {c0 c1 c2 : List ℕ} {e e' n n' : Open} (empty : e.holes ≡ []) (near : e.by ≤ n.by) (writes : Writes (Decides false truth) weight c0 c1 e e' n n') (landed : IsLanded e'.holes c1 c2)
-    (on_yes : (packet : List ℕ) (x : ℕ) → Holds known packet x → truth packet ≡ Yes → Holds on packet x) (on_no : (packet : List ℕ) (x : ℕ) → Holds known packet x → truth packet ≡ No → Holds if_no packet x) where
-  pub Guards-asked : Guards (Tests (Holds known) (Holds on) (HoldsWhere (Some if_no)) truth) weight c0 c2 n n'
-  Guards-asked = Guards-landed empty near
-      (Writes-means (λ at_yes at_no words h. Tests-decided false (Holds known) (Holds on) (HoldsWhere (Some if_no)) truth at_yes at_no words (λ packet x g. tt) on_yes on_no h) writes) landed
+-- a guard in front of a guard
+pub Guards-both : (known on on' last : Known) (one two if_no : Option Known) (first second : List ℕ → Truth) {v w : ℕ} {c0 c1 c2 : List ℕ} {n n' n'' : Open} → last ≡ on' → ((packet : List ℕ) (x : ℕ) → HoldsWhere one packet x → HoldsWhere if_no packet x)
+    → ((packet : List ℕ) (x : ℕ) → HoldsWhere two packet x → HoldsWhere if_no packet x) → Guards (Tests (Holds known) (Holds on) (HoldsWhere one) first) v c0 c1 n n' → Guards (Tests (Holds on) (Holds on') (HoldsWhere two) second) w c1 c2 n' n''
+    → Guards (Tests (Holds known) (Holds last) (HoldsWhere if_no) (λ packet. first packet and_then second packet)) (v + w) c0 c2 n n''
+Guards-both known on on' last one two if_no first second {v = v} {w = w} {c0 = c0} {c2 = c2} {n = n} {n'' = n''} same of_one of_two guards guards' =
+    subst (λ k. Guards (Tests (Holds known) (Holds k) (HoldsWhere if_no) (λ packet. first packet and_then second packet)) (v + w) c0 c2 n n'') (sym same)
+    (Guards-guards (λ at_yes at_no mid words h k. Tests-and (Holds known) (Holds on) (Holds on') (HoldsWhere one) (HoldsWhere two) (HoldsWhere if_no) first second of_one of_two at_yes at_no mid words k h) guards guards')
+
+-- ---- guards one behind the other
+
+pub Adds-none : (passed : Passed) (truth : List ℕ → Truth) (weight : ℕ) (code : List ℕ) (n : Open) → ((packet : List ℕ) (x : ℕ) → Holds passed.on packet x → truth packet ≡ Yes) → Adds truth weight code code passed passed n n
+Adds-none passed truth weight code n if_yes = record { guards = Guards-left_out passed.on passed.on passed.no truth weight code n refl if_yes; missed = λ packet x m. m }
+
+-- a test, and what it tells
+pub Adds-asked : (old new : Passed) (on if_no : Known) (truth : List ℕ → Truth) (weight : ℕ) {c0 c1 : List ℕ} {n n' : Open} → new.on ≡ on → ((packet : List ℕ) (x : ℕ) → HoldsWhere old.no packet x → HoldsWhere new.no packet x)
+    → ((packet : List ℕ) (x : ℕ) → Holds if_no packet x → HoldsWhere new.no packet x)
+    → ((packet : List ℕ) (x : ℕ) → Holds old.on packet x → truth packet ≡ Yes → Holds on packet x) → ((packet : List ℕ) (x : ℕ) → Holds old.on packet x → truth packet ≡ No → Holds if_no packet x)
+    → Guards (Decides false truth) weight c0 c1 n n' → Adds truth weight c0 c1 old new n n'
+Adds-asked old new on if_no truth weight same of_self of_no on_yes on_no guards = record {
+  guards = Guards-means
+      (λ at_yes at_no words h. Tests-decided false (Holds old.on) (Holds new.on) (HoldsWhere new.no) truth at_yes at_no words (λ packet x g. tt) (λ packet x h is. subst (λ k. Holds k packet x) (sym same) (on_yes packet x h is))
+      (λ packet x h is. of_no packet x (on_no packet x h is)) h) guards;
+  missed = of_self;
+}
+
+-- one guard behind another
+pub Adds-both : {first second : List ℕ → Truth} {v w : ℕ} {c0 c1 c2 : List ℕ} {a b c : Passed} {n n' n'' : Open} → Adds first v c0 c1 a b n n' → Adds second w c1 c2 b c n' n'' → Adds (λ packet. first packet and_then second packet) (v + w) c0 c2 a c n n''
+Adds-both {first = first} {second = second} {a = a} {b = b} {c = c} one two = record {
+  guards = Guards-both a.on b.on c.on c.on b.no c.no c.no first second refl two.missed (λ packet x m. m) one.guards two.guards;
+  missed = λ packet x m. two.missed packet x (one.missed packet x m);
+}
+
+pub Adds-weight : {truth : List ℕ → Truth} {v : ℕ} {c0 c1 : List ℕ} {a b : Passed} {n n' : Open} (w : ℕ) → v ≤ w → Adds truth v c0 c1 a b n n' → Adds truth w c0 c1 a b n n'
+Adds-weight w more adds = record { guards = Guards-weight w more adds.guards; missed = adds.missed }
+
+-- the guards behind what is known, with which they begin
+pub Guards-added : (known : Known) (truth : List ℕ → Truth) (weight : Known → ℕ) {c0 c1 : List ℕ} (old new : Passed) {n n' : Open} → old.on ≡ known → Adds truth (weight old.on) c0 c1 old new n n'
+    → Guards (Tests (Holds known) (Holds new.on) (HoldsWhere new.no) truth) (weight known) c0 c1 n n'
+Guards-added known truth weight {c0 = c0} {c1 = c1} old new {n = n} {n' = n'} same adds = subst (λ k. Guards (Tests (Holds k) (Holds new.on) (HoldsWhere new.no) truth) (weight k) c0 c1 n n') same adds.guards
 
 -- ---- pieces
 
@@ -114,11 +148,3 @@ Guards-writes_no {one = one} {two = two} {both = both} or guards writes =
     let turned : Writes (λ at_no at_yes words. both at_yes at_no words) _ _ _ _ _ _ _ = Guards-writes {one = λ at_no at_yes words. one at_yes at_no words} {two = λ at_no at_yes words. two at_yes at_no words} (λ at_no at_yes mid words h k. or at_yes at_no mid words h k)
     guards (Writes-not (λ at_no at_yes words m. m) writes) in
     Writes-not (λ at_yes at_no words m. m) turned
-
--- a guard in front of a guard
-pub Guards-both : (known on on' last : Known) (one two if_no : Option Known) (first second : List ℕ → Truth) {v w : ℕ} {c0 c1 c2 : List ℕ} {n n' n'' : Open} → last ≡ on' → ((packet : List ℕ) (x : ℕ) → HoldsWhere one packet x → HoldsWhere if_no packet x)
-    → ((packet : List ℕ) (x : ℕ) → HoldsWhere two packet x → HoldsWhere if_no packet x) → Guards (Tests (Holds known) (Holds on) (HoldsWhere one) first) v c0 c1 n n' → Guards (Tests (Holds on) (Holds on') (HoldsWhere two) second) w c1 c2 n' n''
-    → Guards (Tests (Holds known) (Holds last) (HoldsWhere if_no) (λ packet. first packet and_then second packet)) (v + w) c0 c2 n n''
-Guards-both known on on' last one two if_no first second {v = v} {w = w} {c0 = c0} {c2 = c2} {n = n} {n'' = n''} same of_one of_two guards guards' =
-    subst (λ k. Guards (Tests (Holds known) (Holds k) (HoldsWhere if_no) (λ packet. first packet and_then second packet)) (v + w) c0 c2 n n'') (sym same)
-    (Guards-guards (λ at_yes at_no mid words h k. Tests-and (Holds known) (Holds on) (Holds on') (HoldsWhere one) (HoldsWhere two) (HoldsWhere if_no) first second of_one of_two at_yes at_no mid words k h) guards guards')

@@ -4,7 +4,8 @@ use Rattle.bpf_insn.specs.declared.instruction.Insn.TheVariants.{LoadXLength}
 use Rattle.backpatch.specs.Checks.{Checks}
 use Rattle.backpatch.specs.Holes.{IsAppended, Open}
 use Rattle.backpatch.specs.Pieces.{Writes}
-use Rattle.backpatch.specs.body.Guards.{Extends, Guards}
+use Rattle.backpatch.specs.Guards.{Guards}
+use Rattle.backpatch.specs.body.Straight.{Extends}
 use Rattle.backpatch.proofs.GuardLemmas.{Extends-pushed, Extends-writes}
 use Rattle.backpatch.proofs.WritesLemmas.{Writes-means, Writes-weight}
 use Rattle.filter_tree.specs.declared.expression.Relation.{Relation}
@@ -21,8 +22,9 @@ use Rattle.packet_facts.specs.declared.known.Known.{Known}
 use Rattle.packet_facts.specs.Known.{Holds, Knows}
 use Rattle.filter_compile.specs.declared.arithmetic.Simple.TheVariants.{Length}
 use Rattle.filter_compile.specs.body.Arithmetic.{simple_value}
-use Rattle.filter_compile.specs.body.Piece.{Compares, Computes, Facts, Pairs, Tests, compared_with}
-use Rattle.filter_compile.specs.body.Sides.{HoldsWhere}
+use Rattle.filter_compile.specs.body.Piece.{Compares, Computes, Pairs, Tests, compared_with}
+use Rattle.filter_compile.specs.declared.sides.Passed.{Passed}
+use Rattle.filter_compile.specs.body.Sides.{Adds, HoldsWhere}
 use Rattle.filter_compile.specs.body.Weight.{version_weight_under, weight_of_guards_under, weight_under}
 use Rattle.filter_compile.proofs.ArithmeticLemmas.{Pairs-length}
 use Rattle.filter_compile.proofs.GuardLemmas.{Writes-guarded}
@@ -31,15 +33,15 @@ use Rattle.filter_compile.proofs.TestLemmas.{Compares-checks, Compares-pair, Com
 -- ---- guards
 
 -- what the guards test, with what was told of all protocols
-pub Guards-told : (known : Known) (used : Accesses) (given when_yes when_no : Facts) (any transport : Bool) {c0 c1 : List ℕ} {n n' : Open} → any ≡ any_accessor (used_by used) → transport ≡ any_transport (used_by used)
-    → Guards (Tests given when_yes when_no (λ packet. where_so any (is_ip packet) and_then where_so used.tcp (is_protocol 6 packet) and_then where_so used.udp (is_protocol 17 packet) and_then where_so used.icmp (is_protocol 1 packet) and_then where_so transport (is_first_fragment packet)))
-    (weight_where any (version_weight_under known) + weight_where used.tcp 4 + weight_where used.udp 4 + weight_where used.icmp 4 + weight_where transport 4) c0 c1 n n'
-    → Guards (Tests given when_yes when_no (guards (used_by used))) (weight_of_guards_under known (used_by used)) c0 c1 n n'
-Guards-told known used given when_yes when_no any transport {c0 = c0} {c1 = c1} {n = n} {n' = n'} any_is transport_is h =
-    subst (λ (t : Bool). Guards (Tests given when_yes when_no (λ packet. where_so (any_accessor (used_by used)) (is_ip packet) and_then where_so used.tcp (is_protocol 6 packet) and_then where_so used.udp (is_protocol 17 packet) and_then where_so used.icmp (is_protocol 1 packet) and_then where_so t (is_first_fragment packet)))
-    (weight_where (any_accessor (used_by used)) (version_weight_under known) + weight_where used.tcp 4 + weight_where used.udp 4 + weight_where used.icmp 4 + weight_where t 4) c0 c1 n n') transport_is
-    (subst (λ (b : Bool). Guards (Tests given when_yes when_no (λ packet. where_so b (is_ip packet) and_then where_so used.tcp (is_protocol 6 packet) and_then where_so used.udp (is_protocol 17 packet) and_then where_so used.icmp (is_protocol 1 packet) and_then where_so transport (is_first_fragment packet)))
-    (weight_where b (version_weight_under known) + weight_where used.tcp 4 + weight_where used.udp 4 + weight_where used.icmp 4 + weight_where transport 4) c0 c1 n n') any_is h)
+pub Adds-told : (known : Known) (used : Accesses) (old new : Passed) (any transport : Bool) {c0 c1 : List ℕ} {n n' : Open} → any ≡ any_accessor (used_by used) → transport ≡ any_transport (used_by used)
+    → Adds (λ packet. where_so any (is_ip packet) and_then where_so used.tcp (is_protocol 6 packet) and_then where_so used.udp (is_protocol 17 packet) and_then where_so used.icmp (is_protocol 1 packet) and_then where_so transport (is_first_fragment packet))
+    (weight_where any (version_weight_under known) + weight_where used.tcp 4 + weight_where used.udp 4 + weight_where used.icmp 4 + weight_where transport 4) c0 c1 old new n n'
+    → Adds (guards (used_by used)) (weight_of_guards_under known (used_by used)) c0 c1 old new n n'
+Adds-told known used old new any transport {c0 = c0} {c1 = c1} {n = n} {n' = n'} any_is transport_is h =
+    subst (λ (t : Bool). Adds (λ packet. where_so (any_accessor (used_by used)) (is_ip packet) and_then where_so used.tcp (is_protocol 6 packet) and_then where_so used.udp (is_protocol 17 packet) and_then where_so used.icmp (is_protocol 1 packet) and_then where_so t (is_first_fragment packet))
+    (weight_where (any_accessor (used_by used)) (version_weight_under known) + weight_where used.tcp 4 + weight_where used.udp 4 + weight_where used.icmp 4 + weight_where t 4) c0 c1 old new n n') transport_is
+    (subst (λ (b : Bool). Adds (λ packet. where_so b (is_ip packet) and_then where_so used.tcp (is_protocol 6 packet) and_then where_so used.udp (is_protocol 17 packet) and_then where_so used.icmp (is_protocol 1 packet) and_then where_so transport (is_first_fragment packet))
+    (weight_where b (version_weight_under known) + weight_where used.tcp 4 + weight_where used.udp 4 + weight_where used.icmp 4 + weight_where transport 4) c0 c1 old new n n') any_is h)
 
 -- ---- comparisons
 

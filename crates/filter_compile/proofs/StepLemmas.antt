@@ -10,7 +10,7 @@ use Rattle.bpf_verify.specs.declared.TheConstants.{CELLS}
 use Rattle.bpf_verify.specs.declared.fault.Fault.TheVariants.{BadCell}
 use Rattle.backpatch.specs.Holes.{IsAppended}
 use Rattle.backpatch.specs.Runs.{IsPushed}
-use Rattle.backpatch.specs.body.Guards.{Extends}
+use Rattle.backpatch.specs.body.Straight.{Extends}
 use Rattle.backpatch.proofs.GuardLemmas.{Extends-extends, Extends-means, Extends-pushed, Extends-weight}
 use Rattle.filter_tree.specs.declared.arithmetic.Operator.{Operator}
 use Rattle.filter_tree.specs.declared.arithmetic.Protocol.{Protocol}

@@ -2,7 +2,7 @@
 
 ghost use Rattle.std.specs.Prelude.{◌≡◌, ◌+◌, ◌<◌, ◌≤◌, IfOk, IfSome, IsTrue, List, OnOk, ℕ};
 ghost use Rattle.bpf_verify.specs.declared.TheConstants.{CELLS};
-ghost use Rattle.backpatch.specs.body.Guards.{Extends};
+ghost use Rattle.backpatch.specs.body.Straight.{Extends};
 ghost use Rattle.filter_tree.specs.Arithmetic.{value_of_arith};
 ghost use Rattle.filter_tree.specs.Measure.{cells_of_arith, weight_of_arith};
 ghost use Rattle.filter_tree.specs.Tree.{accessor as accessor_tree, number};

@@ -3,7 +3,7 @@
 ghost use Rattle.std.specs.Prelude.{◌+◌, ◌≤◌, OnOk, length};
 ghost use Rattle.bpf_verify.specs.declared.TheConstants.{MAX_INSTRUCTIONS};
 ghost use Rattle.backpatch.specs.Pieces.{Writes};
-ghost use Rattle.backpatch.specs.body.Guards.{NeverFaults};
+ghost use Rattle.backpatch.specs.body.Straight.{NeverFaults};
 ghost use Rattle.filter_tree.specs.Outcome.{tested};
 ghost use Rattle.filter_compile.specs.body.Header.{by_header, end_of, ends_pass, passes, weight_of_check, weight_of_ends};
 ghost use Rattle.filter_compile.specs.body.Piece.{Decides, IsPlain, LoadsAs};

@@ -4,7 +4,7 @@
 ghost use Rattle.std.specs.Prelude.{◌≡◌, ◌+◌, ◌≤◌, IfOk, Some, length};
 ghost use Rattle.bpf_verify.specs.declared.TheConstants.{CELLS, MAX_INSTRUCTIONS};
 ghost use Rattle.backpatch.specs.Pieces.{Writes};
-ghost use Rattle.backpatch.specs.body.Guards.{Guards};
+ghost use Rattle.backpatch.specs.Guards.{Guards};
 ghost use Rattle.filter_tree.specs.Measure.{cells_of, weight_of};
 ghost use Rattle.filter_tree.specs.Tree.{conjunction as conjunction_tree, disjunction as disjunction_tree};
 ghost use Rattle.filter_tree.specs.Truth.{truth_of};
@@ -38,10 +38,36 @@ fn first_end<B: Allocator>(end: u32, right: &Expr<B>) -> u32
     end - right.weight()
 }
 
-/// Writes the code of an expression, which ends at the place `end` at last. Where it has one truth on all packets that fail the
-/// tests with which it begins, these stand once before it.
+/// Writes the code of an expression, which ends at the place `end` at last. A primitive or a relation asks for no test in front.
 #[cycle(expression)]
 pub(crate) fn expression<'a, A: Allocator, B: Allocator>(
+    code: &mut Code<'a, A>,
+    expr: &Expr<B>,
+    known: Known,
+    end: u32,
+    yes: &mut Exit<'a, A>,
+    no: &mut Exit<'a, A>,
+) -> Result<Sides, AllocError>
+    requires cells { cells_of (tree_of expr.now) ≤ CELLS }
+    requires room { length code.old + weight_under known (tree_of expr.now) ≤ end }
+    requires limit { end ≤ MAX_INSTRUCTIONS }
+    requires yes_behind { end ≤ yes.old.by }
+    requires no_behind { end ≤ no.old.by }
+    ensures writes { IfOk result (λ sides. Writes (Tests (Holds known) (Holds sides.yes) (Holds sides.no) (truth_of (tree_of expr.now))) (weight_under known (tree_of expr.now)) code.old code.new yes.old yes.new no.old no.new) }
+{
+    match expr {
+        Expr::Primitive(one) => primitive(code, *one, known, yes, no),
+        Expr::Relation(left, relator, right) => {
+            relation(code, left, *relator, right, known, yes, no)
+        }
+        _ => compound(code, expr, known, end, yes, no),
+    }
+}
+
+// Where the expression has one truth on all packets that fail the tests with which it begins, these stand once before it.
+#[inline(never)]
+#[cycle(expression)]
+fn compound<'a, A: Allocator, B: Allocator>(
     code: &mut Code<'a, A>,
     expr: &Expr<B>,
     known: Known,
@@ -101,7 +127,9 @@ fn behind_guard<'a, A: Allocator, B: Allocator>(
     })
 }
 
-// Writes the code of the parts, of which the first begins with what is known.
+// Writes the code of the parts, of which the first begins with what is known. What joins two parts stands apart, since it needs
+// more room.
+#[inline(always)]
 #[cycle(expression)]
 fn parts<'a, A: Allocator, B: Allocator>(
     code: &mut Code<'a, A>,
@@ -135,6 +163,7 @@ fn parts<'a, A: Allocator, B: Allocator>(
     }
 }
 
+#[inline(never)]
 #[cycle(expression)]
 fn conjunction<'a, A: Allocator, B: Allocator>(
     code: &mut Code<'a, A>,
@@ -160,6 +189,7 @@ fn conjunction<'a, A: Allocator, B: Allocator>(
     })
 }
 
+#[inline(never)]
 #[cycle(expression)]
 fn disjunction<'a, A: Allocator, B: Allocator>(
     code: &mut Code<'a, A>,

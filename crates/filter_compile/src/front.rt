@@ -3,7 +3,7 @@
 
 ghost use Rattle.std.specs.Prelude.{◌≡◌, ◌≢◌, ◌+◌, ◌≤◌, IfOk, IfSome, Some, false, length, true};
 ghost use Rattle.bpf_verify.specs.declared.TheConstants.{MAX_INSTRUCTIONS};
-ghost use Rattle.backpatch.specs.body.Guards.{Guards};
+ghost use Rattle.backpatch.specs.Guards.{Guards};
 ghost use Rattle.filter_tree.specs.View.{tree_of};
 ghost use Rattle.packet_facts.specs.Known.{Holds};
 ghost use Rattle.packet_facts.specs.Told.{ip_of, transport_of};
@@ -154,8 +154,10 @@ pub(crate) fn ask<'a, A: Allocator>(
     ensures guards { IfOk result (λ passed. Guards (Tests (Holds known) (Holds passed.on) (HoldsWhere passed.no) (guard_truth guard)) (guard_weight guard known) code.old code.new no.old no.new) }
     ensures learned { IfOk result (λ passed. MayAsk guard known → IsLearned guard passed.on) }
 {
+    let mut passed = Passed::at_once(known);
     match guard {
-        Guard::Version => ask_ip(code, known, no),
-        Guard::Ports(transport) => guard_ports(code, transport, known, no),
+        Guard::Version => ask_ip(code, &mut passed, no)?,
+        Guard::Ports(transport) => guard_ports(code, transport, &mut passed, no)?,
     }
+    Ok(passed)
 }

@@ -1,12 +1,11 @@
 //! Tests of the IPv4 header: its version, its protocol, whether it is the first fragment's (RFC 791, section 3.1).
 
-ghost use Rattle.std.specs.Prelude.{◌==◌, ◌+◌, ◌≤◌, OnOk, false, length};
+ghost use Rattle.std.specs.Prelude.{◌+◌, ◌≤◌, OnOk, false, length};
 ghost use Rattle.ipv4_fields.specs.declared.header.Field.TheVariants.{Protocol};
 ghost use Rattle.ipv4_fields.specs.Field.{field_of};
 ghost use Rattle.bpf_verify.specs.declared.TheConstants.{MAX_INSTRUCTIONS};
-ghost use Rattle.backpatch.specs.Checks.{Checks};
 ghost use Rattle.backpatch.specs.Pieces.{Writes};
-ghost use Rattle.backpatch.specs.body.Guards.{Guards};
+ghost use Rattle.backpatch.specs.Guards.{Guards};
 ghost use Rattle.filter_tree.specs.declared.primitive.Transport.TheVariants.{Unnamed};
 ghost use Rattle.filter_tree.specs.Outcome.{tested};
 ghost use Rattle.filter_tree.specs.Primitive.{has_ports, is_first_fragment, is_ip, is_protocol};
@@ -19,6 +18,7 @@ use filter_tree::Transport;
 use std::alloc::{AllocError, Allocator};
 
 /// Writes the test that the version is 4.
+#[inline(always)]
 pub(crate) fn is_ip<'a, A: Allocator>(
     code: &mut Code<'a, A>,
     yes: &mut Exit<'a, A>,
@@ -33,6 +33,7 @@ pub(crate) fn is_ip<'a, A: Allocator>(
 }
 
 /// Writes the test that the protocol has this number.
+#[inline(always)]
 pub(crate) fn is_protocol<'a, A: Allocator>(
     code: &mut Code<'a, A>,
     n: u8,
@@ -46,22 +47,6 @@ pub(crate) fn is_protocol<'a, A: Allocator>(
     code.branch(Test::Equal, Operand::K(n as u32), yes, no)
 }
 
-// Goes to `yes` where A is the number, and falls through where it is not.
-fn leave_where_equal<'a, A: Allocator>(
-    code: &mut Code<'a, A>,
-    n: u32,
-    yes: &mut Exit<'a, A>,
-) -> Result<(), AllocError>
-    requires room { length code.old + 3 ≤ MAX_INSTRUCTIONS }
-    requires behind { length code.old + 3 ≤ yes.old.by }
-    ensures guards { OnOk result (Guards (λ at_no at_yes words. Checks (λ a. a) (λ a x. a == n) at_yes at_no words) 3 code.old code.new yes.old yes.new) }
-{
-    let mut on = code.exit(code.len() + 3);
-    code.branch(Test::Equal, Operand::K(n), yes, &mut on)?;
-    code.land(&on);
-    Ok(())
-}
-
 // Writes the test that the protocol is TCP, UDP or SCTP.
 fn is_any_transport<'a, A: Allocator>(
     code: &mut Code<'a, A>,
@@ -69,42 +54,82 @@ fn is_any_transport<'a, A: Allocator>(
     no: &mut Exit<'a, A>,
 ) -> Result<(), AllocError>
     requires room { length code.old + 10 ≤ MAX_INSTRUCTIONS }
-    requires behind { length code.old + 10 ≤ yes.old.by }
     ensures writes { OnOk result (Writes (Decides false (λ packet. tested (has_ports Unnamed) (field_of Protocol packet))) 10 code.old code.new yes.old yes.new no.old no.new) }
 {
     code.push(Insn::LoadAbsolute(Size::Byte, 9))?;
-    leave_where_equal(code, 6, yes)?;
-    leave_where_equal(code, 17, yes)?;
+    code.divert(Test::Equal, Operand::K(6), yes)?;
+    code.divert(Test::Equal, Operand::K(17), yes)?;
     code.branch(Test::Equal, Operand::K(132), yes, no)
 }
 
-/// Writes the test that the protocol has ports: the one that is named, else TCP, UDP or SCTP.
-pub(crate) fn has_ports<'a, A: Allocator>(
+// The same as guards: each falls through where it holds.
+
+#[inline(always)]
+pub(crate) fn pass_ip<'a, A: Allocator>(
     code: &mut Code<'a, A>,
-    transport: Transport,
-    yes: &mut Exit<'a, A>,
     no: &mut Exit<'a, A>,
 ) -> Result<(), AllocError>
-    requires room { length code.old + weight_of_transport transport ≤ MAX_INSTRUCTIONS }
-    requires behind { length code.old + weight_of_transport transport ≤ yes.old.by }
-    ensures writes { OnOk result (Writes (Decides false (λ packet. tested (has_ports transport) (field_of Protocol packet))) (weight_of_transport transport) code.old code.new yes.old yes.new no.old no.new) }
+    requires room { length code.old + 5 ≤ MAX_INSTRUCTIONS }
+    ensures guards { OnOk result (Guards (Decides false is_ip) 5 code.old code.new no.old no.new) }
 {
-    match transport {
-        Transport::Tcp => is_protocol(code, 6, yes, no),
-        Transport::Udp => is_protocol(code, 17, yes, no),
-        Transport::Unnamed => is_any_transport(code, yes, no),
-    }
+    code.push(Insn::LoadAbsolute(Size::Byte, 0))?;
+    code.push(Insn::Alu(Operation::And, Operand::K(0xf0)))?;
+    code.pass(Test::Equal, Operand::K(0x40), no)
 }
 
-/// Writes the test that the fragment offset is 0.
-pub(crate) fn is_first_fragment<'a, A: Allocator>(
+#[inline(always)]
+pub(crate) fn pass_protocol<'a, A: Allocator>(
     code: &mut Code<'a, A>,
-    yes: &mut Exit<'a, A>,
+    n: u8,
     no: &mut Exit<'a, A>,
 ) -> Result<(), AllocError>
     requires room { length code.old + 4 ≤ MAX_INSTRUCTIONS }
-    ensures writes { OnOk result (Writes (Decides false is_first_fragment) 4 code.old code.new yes.old yes.new no.old no.new) }
+    ensures guards { OnOk result (Guards (Decides false (is_protocol n)) 4 code.old code.new no.old no.new) }
+{
+    code.push(Insn::LoadAbsolute(Size::Byte, 9))?;
+    code.pass(Test::Equal, Operand::K(n as u32), no)
+}
+
+/// Writes the guard that the protocol has ports: the one that is named, else TCP, UDP or SCTP.
+pub(crate) fn pass_ports<'a, A: Allocator>(
+    code: &mut Code<'a, A>,
+    transport: Transport,
+    no: &mut Exit<'a, A>,
+) -> Result<(), AllocError>
+    requires room { length code.old + weight_of_transport transport ≤ MAX_INSTRUCTIONS }
+    requires behind { length code.old + weight_of_transport transport ≤ no.old.by }
+    ensures guards { OnOk result (Guards (Decides false (λ packet. tested (has_ports transport) (field_of Protocol packet))) (weight_of_transport transport) code.old code.new no.old no.new) }
+{
+    match transport {
+        Transport::Tcp => pass_protocol(code, 6, no),
+        Transport::Udp => pass_protocol(code, 17, no),
+        Transport::Unnamed => pass_any_transport(code, no),
+    }
+}
+
+fn pass_any_transport<'a, A: Allocator>(
+    code: &mut Code<'a, A>,
+    no: &mut Exit<'a, A>,
+) -> Result<(), AllocError>
+    requires room { length code.old + 10 ≤ MAX_INSTRUCTIONS }
+    requires behind { length code.old + 10 ≤ no.old.by }
+    ensures guards { OnOk result (Guards (Decides false (λ packet. tested (has_ports Unnamed) (field_of Protocol packet))) 10 code.old code.new no.old no.new) }
+{
+    let mut on = code.exit(code.len() + 10);
+    is_any_transport(code, &mut on, no)?;
+    code.land(&on);
+    Ok(())
+}
+
+/// Writes the guard that the fragment offset is 0.
+#[inline(always)]
+pub(crate) fn pass_first_fragment<'a, A: Allocator>(
+    code: &mut Code<'a, A>,
+    no: &mut Exit<'a, A>,
+) -> Result<(), AllocError>
+    requires room { length code.old + 4 ≤ MAX_INSTRUCTIONS }
+    ensures guards { OnOk result (Guards (Decides false is_first_fragment) 4 code.old code.new no.old no.new) }
 {
     code.push(Insn::LoadAbsolute(Size::Half, 6))?;
-    code.branch(Test::CommonBit, Operand::K(0x1fff), no, yes)
+    code.divert(Test::CommonBit, Operand::K(0x1fff), no)
 }

@@ -6,14 +6,13 @@ ghost use Rattle.ipv4_fields.specs.Field.{field_of};
 ghost use Rattle.bpf_verify.specs.declared.TheConstants.{MAX_INSTRUCTIONS};
 ghost use Rattle.bpf_machine.specs.Meaning.{holds};
 ghost use Rattle.backpatch.specs.Pieces.{Writes};
-ghost use Rattle.backpatch.specs.body.Guards.{Guards};
 ghost use Rattle.filter_tree.specs.Outcome.{◌and_then◌, answer, tested};
 ghost use Rattle.filter_tree.specs.Primitive.{address_passes, has_ports, is_first_fragment, is_ip, is_protocol, port_passes, truth_of_primitive};
 ghost use Rattle.packet_facts.specs.Known.{Holds};
 ghost use Rattle.packet_facts.specs.Told.{ip_of, transport_of};
 ghost use Rattle.filter_compile.specs.body.Header.{passes, weight_of_addresses, weight_of_ports};
 ghost use Rattle.filter_compile.specs.body.Piece.{Decides, Tests};
-ghost use Rattle.filter_compile.specs.body.Sides.{HoldsWhere};
+ghost use Rattle.filter_compile.specs.body.Sides.{Adds};
 ghost use Rattle.filter_compile.specs.body.Weight.{leads_to_ports, ports_weight_under, version_weight_under, weight_of_primitive_under};
 
 use crate::check::Check;
@@ -81,7 +80,8 @@ fn addresses<'a, A: Allocator>(
     requires behind { length code.old + weight_of_addresses (version_weight_under known) direction check.now ≤ no.old.by }
     ensures writes { IfOk result (λ sides. Writes (Tests (Holds known) (Holds sides.yes) (Holds sides.no) (address_passes direction (passes check.now))) (weight_of_addresses (version_weight_under known) direction check.now) code.old code.new yes.old yes.new no.old no.new) }
 {
-    let ip = guard_ip(code, true, known, no)?;
+    let mut ip = Passed::at_once(known);
+    guard_ip(code, true, &mut ip, no)?;
     ends(code, Part::Address, direction, check, yes, no)?;
     Ok(Sides {
         yes: ip.on,
@@ -93,22 +93,22 @@ fn addresses<'a, A: Allocator>(
 pub(crate) fn guard_ports<'a, A: Allocator>(
     code: &mut Code<'a, A>,
     transport: Transport,
-    known: Known,
+    passed: &mut Passed,
     no: &mut Exit<'a, A>,
-) -> Result<Passed, AllocError>
-    requires room { length code.old + ports_weight_under known transport ≤ MAX_INSTRUCTIONS }
-    requires behind { length code.old + ports_weight_under known transport ≤ no.old.by }
-    ensures guards { IfOk result (λ passed. Guards (Tests (Holds known) (Holds passed.on) (HoldsWhere passed.no)
-        (λ packet. is_ip packet and_then tested (has_ports transport) (field_of Protocol packet) and_then is_first_fragment packet)) (ports_weight_under known transport) code.old code.new no.old no.new) }
-    ensures learned { IfOk result (λ passed. ip_of known ≢ Some false → transport_of known transport ≢ Some false → leads_to_ports passed.on transport ≡ true) }
+) -> Result<(), AllocError>
+    requires room { length code.old + ports_weight_under passed.old.on transport ≤ MAX_INSTRUCTIONS }
+    requires behind { length code.old + ports_weight_under passed.old.on transport ≤ no.old.by }
+    ensures adds { OnOk result (Adds (λ packet. is_ip packet and_then tested (has_ports transport) (field_of Protocol packet) and_then is_first_fragment packet)
+        (ports_weight_under passed.old.on transport) code.old code.new passed.old passed.new no.old no.new) }
+    ensures learned { OnOk result (ip_of passed.old.on ≢ Some false → transport_of passed.old.on transport ≢ Some false → leads_to_ports passed.new.on transport ≡ true) }
 {
-    if leads_to_ports(known, transport) {
-        return Ok(Passed::at_once(known));
+    if leads_to_ports(passed.on, transport) {
+        return Ok(());
     }
-    let ip = guard_ip(code, true, known, no)?;
-    let protocol = guard_transport(code, transport, ip.on, no)?;
-    let first = guard_first_fragment(code, true, protocol.on, no)?;
-    Ok(ip.and_then(protocol).and_then(first))
+    guard_ip(code, true, passed, no)?;
+    guard_transport(code, transport, passed, no)?;
+    guard_first_fragment(code, true, passed, no)?;
+    Ok(())
 }
 
 fn ports<'a, A: Allocator>(
@@ -125,7 +125,8 @@ fn ports<'a, A: Allocator>(
     requires behind { length code.old + weight_of_ports (ports_weight_under known transport) direction check.now ≤ no.old.by }
     ensures writes { IfOk result (λ sides. Writes (Tests (Holds known) (Holds sides.yes) (Holds sides.no) (port_passes transport direction (passes check.now))) (weight_of_ports (ports_weight_under known transport) direction check.now) code.old code.new yes.old yes.new no.old no.new) }
 {
-    let before = guard_ports(code, transport, known, no)?;
+    let mut before = Passed::at_once(known);
+    guard_ports(code, transport, &mut before, no)?;
     load_header(code, before.on.header_in_x())?;
     ends(code, Part::Port, direction, check, yes, no)?;
     let on = before.on.with_header_in_x(true);
@@ -170,7 +171,8 @@ pub(crate) fn primitive<'a, A: Allocator>(
     match primitive {
         Primitive::Ip => version(code, known, yes, no),
         Primitive::Proto(n) => {
-            let ip = guard_ip(code, true, known, no)?;
+            let mut ip = Passed::at_once(known);
+            guard_ip(code, true, &mut ip, no)?;
             let sides = protocol(code, n, ip.on, yes, no)?;
             Ok(Sides {
                 yes: sides.yes,

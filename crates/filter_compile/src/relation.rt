@@ -4,7 +4,6 @@ ghost use Rattle.std.specs.Prelude.{◌≡◌, ◌+◌, ◌≤◌, IfOk, OnOk, O
 ghost use Rattle.bpf_verify.specs.declared.TheConstants.{CELLS, MAX_INSTRUCTIONS};
 ghost use Rattle.backpatch.specs.Checks.{Checks};
 ghost use Rattle.backpatch.specs.Pieces.{Writes};
-ghost use Rattle.backpatch.specs.body.Guards.{Guards};
 ghost use Rattle.bpf_machine.specs.Meaning.{operand_value};
 ghost use Rattle.filter_tree.specs.Arithmetic.{value_of_arith};
 ghost use Rattle.filter_tree.specs.Measure.{cells_of, cells_of_arith, weight_of_arith};
@@ -13,7 +12,7 @@ ghost use Rattle.filter_tree.specs.Truth.{guards, holds, truth_of, used_by};
 ghost use Rattle.filter_tree.specs.View.{arith_tree_of};
 ghost use Rattle.packet_facts.specs.Known.{Holds};
 ghost use Rattle.filter_compile.specs.body.Piece.{Compares, Tests, compared_with};
-ghost use Rattle.filter_compile.specs.body.Sides.{HoldsWhere};
+ghost use Rattle.filter_compile.specs.body.Sides.{Adds};
 ghost use Rattle.filter_compile.specs.body.Weight.{weight_of_guards_under, weight_under};
 
 use crate::arithmetic::{Simple, arithmetic, pair, simple_of};
@@ -29,24 +28,17 @@ use std::alloc::{AllocError, Allocator};
 fn guards<'a, A: Allocator>(
     code: &mut Code<'a, A>,
     used: Accesses,
-    known: Known,
+    passed: &mut Passed,
     no: &mut Exit<'a, A>,
-) -> Result<Passed, AllocError>
-    requires room { length code.old + weight_of_guards_under known (used_by used) ≤ MAX_INSTRUCTIONS }
-    requires behind { length code.old + weight_of_guards_under known (used_by used) ≤ no.old.by }
-    ensures guards { IfOk result (λ passed. Guards (Tests (Holds known) (Holds passed.on) (HoldsWhere passed.no) (guards (used_by used))) (weight_of_guards_under known (used_by used)) code.old code.new no.old no.new) }
+) -> Result<(), AllocError>
+    requires room { length code.old + weight_of_guards_under passed.old.on (used_by used) ≤ MAX_INSTRUCTIONS }
+    ensures adds { OnOk result (Adds (guards (used_by used)) (weight_of_guards_under passed.old.on (used_by used)) code.old code.new passed.old passed.new no.old no.new) }
 {
-    let ip = guard_ip(code, used.any(), known, no)?;
-    let tcp = guard_protocol(code, used.tcp, 6, ip.on, no)?;
-    let udp = guard_protocol(code, used.udp, 17, tcp.on, no)?;
-    let icmp = guard_protocol(code, used.icmp, 1, udp.on, no)?;
-    let first = guard_first_fragment(code, used.any_transport(), icmp.on, no)?;
-    Ok(
-        ip.and_then(tcp)
-            .and_then(udp)
-            .and_then(icmp)
-            .and_then(first),
-    )
+    guard_ip(code, used.any(), passed, no)?;
+    guard_protocol(code, used.tcp, 6, passed, no)?;
+    guard_protocol(code, used.udp, 17, passed, no)?;
+    guard_protocol(code, used.icmp, 1, passed, no)?;
+    guard_first_fragment(code, used.any_transport(), passed, no)
 }
 
 // A is the left value, and the operand the right one.
@@ -114,7 +106,6 @@ pub(crate) fn relation<'a, A: Allocator, B: Allocator>(
 ) -> Result<Sides, AllocError>
     requires cells { cells_of (relation_tree (arith_tree_of left.now) relation (arith_tree_of right.now)) ≤ CELLS }
     requires room { length code.old + weight_under known (relation_tree (arith_tree_of left.now) relation (arith_tree_of right.now)) ≤ MAX_INSTRUCTIONS }
-    requires behind { length code.old + weight_under known (relation_tree (arith_tree_of left.now) relation (arith_tree_of right.now)) ≤ no.old.by }
     ensures writes { IfOk result (λ sides. Writes (Tests (Holds known) (Holds sides.yes) (Holds sides.no) (truth_of (relation_tree (arith_tree_of left.now) relation (arith_tree_of right.now))))
         (weight_under known (relation_tree (arith_tree_of left.now) relation (arith_tree_of right.now))) code.old code.new yes.old yes.new no.old no.new) }
 {
@@ -122,7 +113,8 @@ pub(crate) fn relation<'a, A: Allocator, B: Allocator>(
     if known.excludes_guards(used) {
         return settled(code, known, no);
     }
-    let before = guards(code, used, known, no)?;
+    let mut before = Passed::at_once(known);
+    guards(code, used, &mut before, no)?;
     let held = arithmetic(code, left, 0, before.on.header_in_x())?;
     let held = compare_with(code, relation, right, held, yes, no)?;
     let on = before.on.with_header_in_x(held);

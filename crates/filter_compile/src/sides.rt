@@ -42,7 +42,7 @@ pub(crate) fn settled<'a, A: Allocator>(
     Ok(Sides::both(known))
 }
 
-/// What is known behind a guard, and where it goes to no, `None` where it never does.
+/// What is known behind guards, and where one of them goes to no, `None` where none ever does.
 #[derive(Clone, Copy)]
 pub(crate) struct Passed {
     pub(crate) on: Known,
@@ -61,18 +61,16 @@ impl Passed {
         }
     }
 
-    /// Behind this guard and then another.
-    pub(crate) fn and_then(self, next: Passed) -> Passed
-        ensures on { result.on ≡ next.on }
-        ensures of_self { (packet : List ℕ) (x : ℕ) → HoldsWhere self.no packet x → HoldsWhere result.no packet x }
-        ensures of_next { (packet : List ℕ) (x : ℕ) → HoldsWhere next.no packet x → HoldsWhere result.no packet x }
+    /// Adds a guard: from here on what is known behind it, and where it goes to no.
+    #[inline(always)]
+    pub(crate) fn learn(&mut self, on: Known, no: Known)
+        ensures on { self.new.on ≡ on }
+        ensures of_self { (packet : List ℕ) (x : ℕ) → HoldsWhere self.old.no packet x → HoldsWhere self.new.no packet x }
+        ensures of_no { (packet : List ℕ) (x : ℕ) → Holds no packet x → HoldsWhere self.new.no packet x }
     {
-        let no = match (self.no, next.no) {
-            (Some(one), Some(other)) => Some(one.join(other)),
-            (Some(one), None) => Some(one),
-            (None, other) => other,
-        };
-        Passed { on: next.on, no }
+        let no = self.or_no(no);
+        self.on = on;
+        self.no = Some(no);
     }
 
     /// Where the guard goes to no, or a test behind it does.

@@ -1,6 +1,7 @@
 -- Models of the code: what the contracts of private functions cite. No public clause stands on them.
 pub mod Parser
 pub mod Postfix
+pub mod Place
 pub mod Stack
 pub mod Scan
 pub mod Number

@@ -3,6 +3,7 @@
 ghost use Rattle.std.specs.Prelude.{◌≡◌, ◌<◌, ◌∷◌, IfOk, MatchOption, OnOk, length, reverse};
 ghost use Rattle.filter_tree.specs.View.{arith_tree_of, tree_of};
 ghost use Rattle.filter_parse.specs.declared.item.Item.TheVariants.{Number, Primitive as IsPrimitive, Relate};
+ghost use Rattle.filter_parse.specs.body.Place.{IsBlank, IsBlankArithmetic};
 ghost use Rattle.filter_parse.specs.body.Stack.{below_top, top_of};
 ghost use Rattle.filter_parse.specs.body.Postfix.{HasArithmetic, HasTree, arith_parts, tree_parts};
 
@@ -10,6 +11,7 @@ use crate::OutOfMemory;
 use crate::item::Item;
 use filter_tree::{Arith, Expr, Primitive, Relation};
 use std::alloc::Allocator;
+use std::mem;
 
 fn take_last(parts: &mut &[Item]) -> Option<Item>
     ensures top { result ≡ top_of (reverse parts.old.now) }
@@ -53,34 +55,62 @@ fn take_primitive(parts: &mut &[Item]) -> Option<Primitive>
     }
 }
 
+fn take_relator(parts: &mut &[Item]) -> Option<Relation>
+    ensures { MatchOption result
+        (parts.new.now ≡ parts.old.now)
+        (λ relator. reverse parts.old.now ≡ Relate relator ∷ reverse parts.new.now) }
+{
+    match parts.split_last() {
+        Some((Item::Relate(relator), others)) => {
+            *parts = others;
+            Some(*relator)
+        }
+        _ => None,
+    }
+}
+
 // Each part is made where it is to stand: else each turn of the recursions clears room for the whole parts that they answer.
 
-#[inline(never)]
-fn arithmetic_place<A: Allocator + Clone>(alloc: &A) -> Result<Box<Arith<A>, A>, OutOfMemory> {
+#[inline(always)]
+fn arithmetic_place<A: Allocator + Clone>(alloc: &A) -> Result<Box<Arith<A>, A>, OutOfMemory>
+    ensures blank { IfOk result (λ place. IsBlankArithmetic place.value) }
+{
     Ok(Box::new(alloc.clone()?, Arith::Length)?)
 }
 
-#[inline(never)]
-fn place<A: Allocator + Clone>(alloc: &A) -> Result<Box<Expr<A>, A>, OutOfMemory> {
+#[inline(always)]
+fn place<A: Allocator + Clone>(alloc: &A) -> Result<Box<Expr<A>, A>, OutOfMemory>
+    ensures blank { IfOk result (λ place. IsBlank place.value) }
+{
     Ok(Box::new(alloc.clone()?, Expr::Primitive(Primitive::Ip))?)
 }
 
-// These two drop what stood in the place, so the functions that call them need not.
+// A place is filled once. What stood in it has no parts, so nothing is read there to be dropped.
 
 #[inline(always)]
 fn put_arithmetic<A: Allocator>(to: &mut Arith<A>, made: Arith<A>)
+    requires { IsBlankArithmetic to.old }
     ensures { to.new ≡ made }
 {
-    *to = made;
+    match mem::replace(to, made) {
+        Arith::Length => {}
+        _ => unreachable!(),
+    }
 }
 
 #[inline(always)]
 fn put<A: Allocator>(to: &mut Expr<A>, made: Expr<A>)
+    requires { IsBlank to.old }
     ensures { to.new ≡ made }
 {
-    *to = made;
+    match mem::replace(to, made) {
+        Expr::Primitive(_) => {}
+        _ => unreachable!(),
+    }
 }
 
+// Mostly an operand is a number, which is made where it is asked for.
+#[inline(always)]
 #[cycle(arithmetic)]
 fn operand<A: Allocator + Clone>(
     alloc: &A,
@@ -104,7 +134,8 @@ fn arithmetic<A: Allocator + Clone>(
     parts: &mut &[Item],
     to: &mut Arith<A>,
 ) -> Result<(), OutOfMemory>
-    requires { HasArithmetic (reverse parts.old.now) }
+    requires parts { HasArithmetic (reverse parts.old.now) }
+    requires blank { IsBlankArithmetic to.old }
     ensures taken { OnOk result (reverse parts.old.now ≡ arith_parts (arith_tree_of to.new) (reverse parts.new.now)) }
     ensures fewer { OnOk result (length (reverse parts.new.now) < length (reverse parts.old.now)) }
 {
@@ -144,7 +175,8 @@ fn side<A: Allocator + Clone>(
     parts: &mut &[Item],
     to: &mut Arith<A>,
 ) -> Result<(), OutOfMemory>
-    requires { HasArithmetic (reverse parts.old.now) }
+    requires parts { HasArithmetic (reverse parts.old.now) }
+    requires blank { IsBlankArithmetic to.old }
     ensures taken { OnOk result (reverse parts.old.now ≡ arith_parts (arith_tree_of to.new) (reverse parts.new.now)) }
     ensures fewer { OnOk result (length (reverse parts.new.now) < length (reverse parts.old.now)) }
 {
@@ -163,7 +195,8 @@ fn relation<A: Allocator + Clone>(
     relator: Relation,
     to: &mut Expr<A>,
 ) -> Result<(), OutOfMemory>
-    requires { HasTree (Relate relator ∷ reverse parts.old.now) }
+    requires parts { HasTree (Relate relator ∷ reverse parts.old.now) }
+    requires blank { IsBlank to.old }
     ensures taken { OnOk result (Relate relator ∷ reverse parts.old.now ≡ tree_parts (tree_of to.new) (reverse parts.new.now)) }
     ensures fewer { OnOk result (length (reverse parts.new.now) < length (reverse parts.old.now)) }
 {
@@ -189,19 +222,40 @@ fn part<A: Allocator + Clone>(
     if let Some(primitive) = take_primitive(parts) {
         return Ok(Box::new(alloc.clone()?, Expr::Primitive(primitive))?);
     }
+    if let Some(relator) = take_relator(parts) {
+        let mut made = place(alloc)?;
+        relation(alloc, parts, relator, &mut made)?;
+        return Ok(made);
+    }
+    joined(alloc, parts)
+}
+
+// The other parts, which have parts of the same kind. Room for these is cleared here, and not for a primitive or a relation.
+#[inline(always)]
+#[cycle(build)]
+fn joined<A: Allocator + Clone>(
+    alloc: &A,
+    parts: &mut &[Item],
+) -> Result<Box<Expr<A>, A>, OutOfMemory>
+    requires { HasTree (reverse parts.old.now) }
+    ensures taken { IfOk result (λ made. reverse parts.old.now ≡ tree_parts (tree_of made.value) (reverse parts.new.now)) }
+    ensures fewer { OnOk result (length (reverse parts.new.now) < length (reverse parts.old.now)) }
+{
     let mut made = place(alloc)?;
     build(alloc, parts, &mut made)?;
     Ok(made)
 }
 
 /// Takes the last tree from some parts, and puts it to its place.
+#[inline(always)]
 #[cycle(build)]
 pub(crate) fn build<A: Allocator + Clone>(
     alloc: &A,
     parts: &mut &[Item],
     to: &mut Expr<A>,
 ) -> Result<(), OutOfMemory>
-    requires { HasTree (reverse parts.old.now) }
+    requires parts { HasTree (reverse parts.old.now) }
+    requires blank { IsBlank to.old }
     ensures taken { OnOk result (reverse parts.old.now ≡ tree_parts (tree_of to.new) (reverse parts.new.now)) }
     ensures fewer { OnOk result (length (reverse parts.new.now) < length (reverse parts.old.now)) }
 {

@@ -77,6 +77,7 @@ impl<'a, A: Allocator> Parser<'a, A> {
     }
 
     /// Leaves pending what the lookahead began, until its right side is whole.
+    #[inline(always)]
     pub(crate) fn push(&mut self, pending: Pending) -> Result<(), ParseFault>
         ensures pushed { MatchResult result
             (λ _. parsing_of self.new ≡ parsing Expects (pending ∷ from_top self.old.stack) self.old.output.entries.items)

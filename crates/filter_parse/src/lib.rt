@@ -4,13 +4,14 @@
 //! order. Only a whole expression whose depth is within the limit becomes a tree.
 #![tactic(auto)]
 
-ghost use Rattle.std.specs.Prelude.{◌≡◌, ◌⊎◌, IfErr, IfOk, []};
+ghost use Rattle.std.specs.Prelude.{◌≡◌, ◌⊎◌, IfErr, IfOk, OnOk, []};
 ghost use Rattle.filter_tree.specs.Tree.{Tree};
 ghost use Rattle.filter_tree.specs.View.{tree_of};
 ghost use Rattle.filter_parse.specs.declared.state.State.TheVariants.{Expects};
 ghost use Rattle.filter_parse.specs.Fault.{HasFault, HasTree};
 ghost use Rattle.filter_parse.specs.Laws.{ExcludesFaults, HasOneFault, IsUnambiguous, ReadsBack};
 ghost use Rattle.filter_parse.specs.body.Parser.{parsing, parsing_of};
+ghost use Rattle.filter_parse.specs.body.Place.{IsBlank};
 
 mod arithmetic;
 mod build;
@@ -60,18 +61,22 @@ pub fn parse<A: Allocator + Clone>(alloc: A, text: &[u8]) -> Result<Expr<A>, Par
     ensures every_tree { (tree : Tree) → HasTree text.now tree → IfErr result (λ fault. fault ≡ ParseFault.OutOfMemory) }
 {
     let mut parser = Parser::new(&alloc);
-    read_tree(&alloc, &mut parser, text)
+    let mut tree = Expr::Primitive(Primitive::Ip);
+    read_tree(&alloc, &mut parser, text, &mut tree)?;
+    Ok(tree)
 }
 
-// The same by a parser before the text, which `parse` drops at one place, and not where each test fails.
+// The same by a parser before the text and a place for the tree, which `parse` drops at one place, and not where each test fails.
 fn read_tree<'a, A: Allocator + Clone>(
     alloc: &'a A,
     parser: &mut Parser<'a, A>,
     text: &[u8],
-) -> Result<Expr<A>, ParseFault>
+    to: &mut Expr<A>,
+) -> Result<(), ParseFault>
     requires start { parsing_of parser.old ≡ parsing Expects [] [] }
     requires brackets { parser.old.brackets ≡ 0 }
-    ensures parses { IfOk result (λ e. HasTree text.now (tree_of e)) }
+    requires blank { IsBlank to.old }
+    ensures parses { OnOk result (HasTree text.now (tree_of to.new)) }
     ensures fault { IfErr result (λ fault. (fault ≡ ParseFault.OutOfMemory) ⊎ HasFault text.now fault) }
     ensures every_tree { (tree : Tree) → HasTree text.now tree → IfErr result (λ fault. fault ≡ ParseFault.OutOfMemory) }
 {
@@ -80,9 +85,8 @@ fn read_tree<'a, A: Allocator + Clone>(
     if is_too_deep(alloc, parts)? {
         return Err(ParseFault::TooDeep { at: text.len() });
     }
-    let mut tree = Expr::Primitive(Primitive::Ip);
-    build(alloc, &mut parts, &mut tree)?;
-    Ok(tree)
+    build(alloc, &mut parts, to)?;
+    Ok(())
 }
 
 /// No tokens spell two trees, so a text has at most one. A text with a tree has no fault, and each other text at most one.

@@ -2,7 +2,7 @@
 
 ghost use Rattle.std.specs.Prelude.{◌≡◌, ◌≤◌, ◌+◌, ◌*◌, ◌<◌, Some, None, MatchOption, drop, if◌then◌else◌, length, take};
 ghost use Rattle.std.specs.Char.{digit_value, is_ascii_digit, is_ascii_hexdigit};
-ghost use Rattle.std.specs.List.{list_all, list_any};
+ghost use Rattle.std.specs.List.{list_all, list_any, prefix_len};
 ghost use Rattle.filter_parse.specs.Token.{address_of, capped, first_dot, first_octet, is_decimal, is_dot, is_hexadecimal, number_or_address, number_token, octet_of, value_of};
 
 use crate::token::{TOO_BIG, Token};
@@ -35,6 +35,45 @@ pub(crate) fn value_of(base: u64, digits: &[u8]) -> u64
         n = (n * base + digit_value(*c)).min(TOO_BIG);
     }
     n
+}
+
+/// The digits that a text begins with: how many there are, and the number that they write, at most `TOO_BIG`.
+#[derive(Clone, Copy)]
+pub(crate) struct Digits {
+    pub(crate) len: usize,
+    pub(crate) worth: u64,
+}
+
+/// Reads the hexadecimal digits that a text begins with, in one pass, as `leading_digits` does decimal ones.
+#[inline(always)]
+pub(crate) fn leading_hexadecimal(text: &[u8]) -> Digits
+    ensures len { result.len ≡ prefix_len is_ascii_hexdigit text.now }
+    ensures within { result.len ≤ length text.now }
+    ensures worth { result.worth ≡ capped (value_of 16 (take result.len text.now)) }
+{
+    let mut len = 0;
+    let mut worth = 0;
+    while len < text.len() && text[len].is_ascii_hexdigit() {
+        worth = (worth * HEXADECIMAL + digit_value(text[len])).min(TOO_BIG);
+        len += 1;
+    }
+    Digits { len, worth }
+}
+
+/// Reads the decimal digits that a text begins with, in one pass.
+#[inline(always)]
+pub(crate) fn leading_digits(text: &[u8]) -> Digits
+    ensures len { result.len ≡ prefix_len is_ascii_digit text.now }
+    ensures within { result.len ≤ length text.now }
+    ensures worth { result.worth ≡ capped (value_of 10 (take result.len text.now)) }
+{
+    let mut len = 0;
+    let mut worth = 0;
+    while len < text.len() && text[len].is_ascii_digit() {
+        worth = (worth * DECIMAL + digit_value(text[len])).min(TOO_BIG);
+        len += 1;
+    }
+    Digits { len, worth }
 }
 
 fn all_decimal(text: &[u8]) -> bool

@@ -71,6 +71,7 @@ impl<'a, A: Allocator> Parser<'a, A> {
     }
 
     /// Appends a whole primitive to the output, and reduces what it is the right side of.
+    #[inline(always)]
     pub(crate) fn reduce_primitive(&mut self, primitive: Primitive) -> Result<(), OutOfMemory>
         ensures state { OnOk result (self.new.state ≡ Truth) }
         ensures put { OnOk result (parsing_of self.new
@@ -84,7 +85,7 @@ impl<'a, A: Allocator> Parser<'a, A> {
     }
 }
 
-// Mostly there is none to reduce, which is told without a call.
+// Mostly there is none to reduce, which is told first.
 #[inline(always)]
 fn reduce_operators<'a, A: Allocator>(
     stack: &mut Stack<'a, Pending, A>,
@@ -100,7 +101,7 @@ fn reduce_operators<'a, A: Allocator>(
     reduce_each_operator(stack, output, precedence)
 }
 
-#[inline(never)]
+#[inline(always)]
 fn reduce_each_operator<'a, A: Allocator>(
     stack: &mut Stack<'a, Pending, A>,
     output: &mut Stack<'a, Item, A>,

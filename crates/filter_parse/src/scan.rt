@@ -1,13 +1,12 @@
 //! Taking a text apart into its tokens (docs/EXPRESSIONS.md, "Tokens").
 
 ghost use Rattle.std.specs.Prelude.{◌≡◌, ◌≤◌, ◌+◌, ◌∷◌, ◌<◌, IfSome, IsTrue, MatchOption, [], drop, length};
-ghost use Rattle.std.specs.Char.{is_ascii_digit, is_ascii_hexdigit};
 ghost use Rattle.std.specs.List.{prefix_len};
 ghost use Rattle.filter_parse.specs.Token.{begins_word, is_blank, is_number_part, is_word_part};
 ghost use Rattle.filter_parse.specs.body.Number.{begins_hexadecimal, ends_number, is_plain, number_lexeme};
 ghost use Rattle.filter_parse.specs.body.Scan.{lexeme, sign_lexeme, tokens_from};
 
-use crate::number::{DECIMAL, HEXADECIMAL, number_or_address, value_of};
+use crate::number::{Digits, leading_digits, leading_hexadecimal, number_or_address};
 use crate::sign::{pair_sign, sign, word_token};
 use crate::token::{Lexeme, Token};
 
@@ -57,13 +56,6 @@ fn number_len(text: &[u8]) -> usize
     text.iter().take_while(|c| is_number_part(**c)).count()
 }
 
-fn digits_len(text: &[u8]) -> usize
-    ensures len { result ≡ prefix_len is_ascii_digit text.now }
-    ensures within { result ≤ length text.now }
-{
-    text.iter().take_while(|c| c.is_ascii_digit()).count()
-}
-
 // Tests whether digits have no leading zero, but for `0` alone.
 fn is_plain(digits: &[u8]) -> bool
     ensures { result ≡ is_plain digits.now }
@@ -89,12 +81,10 @@ fn number_lexeme(text: &[u8]) -> Lexeme
     ensures len { result.len ≡ prefix_len is_number_part text.now }
     ensures within { result.len ≤ length text.now }
 {
-    let len = digits_len(text);
-    let digits = &text[..len];
-    if is_plain(digits) && ends_number(&text[len..]) {
-        let n = value_of(DECIMAL, digits);
+    let Digits { len, worth } = leading_digits(text);
+    if is_plain(&text[..len]) && ends_number(&text[len..]) {
         return Lexeme {
-            token: Token::Number(n),
+            token: Token::Number(worth),
             len,
         };
     }
@@ -111,13 +101,6 @@ fn begins_hexadecimal(text: &[u8]) -> bool
     }
 }
 
-fn hexadecimal_len(text: &[u8]) -> usize
-    ensures len { result ≡ prefix_len is_ascii_hexdigit text.now }
-    ensures within { result ≤ length text.now }
-{
-    text.iter().take_while(|c| c.is_ascii_hexdigit()).count()
-}
-
 // A hexadecimal number, or what no digits alone tell.
 #[inline(never)]
 fn rare_number_lexeme(text: &[u8]) -> Lexeme
@@ -127,11 +110,10 @@ fn rare_number_lexeme(text: &[u8]) -> Lexeme
 {
     if begins_hexadecimal(text) {
         let rest = &text[2..];
-        let len = hexadecimal_len(rest);
+        let Digits { len, worth } = leading_hexadecimal(rest);
         if len > 0 && ends_number(&rest[len..]) {
-            let n = value_of(HEXADECIMAL, &rest[..len]);
             return Lexeme {
-                token: Token::Number(n),
+                token: Token::Number(worth),
                 len: len + 2,
             };
         }

@@ -1,11 +1,11 @@
 //! The measures of an expression (docs/EXPRESSIONS.md, "Measures").
 
 ghost use Rattle.std.specs.Prelude.{◌≡◌, ◌≤◌, min};
-ghost use Rattle.filter_tree.specs.Measure.{by_direction, cells_of, cells_of_arith, depth_of, depth_of_arith, size_of, weight_of, weight_of_arith, weight_of_guards, weight_of_primitive, weight_where};
+ghost use Rattle.filter_tree.specs.Measure.{by_direction, cells_of, cells_of_arith, depth_of, depth_of_arith, size_of, weight_of, weight_of_guards, weight_of_primitive, weight_where};
 ghost use Rattle.filter_tree.specs.Truth.{used_by};
 ghost use Rattle.filter_tree.specs.View.{arith_tree_of, tree_of};
 
-use crate::arithmetic::{Arith, Protocol};
+use crate::arithmetic::Arith;
 use crate::expression::Expr;
 use crate::primitive::{Direction, Primitive, Transport};
 use crate::sides::Accesses;
@@ -33,21 +33,6 @@ impl<A: Allocator> Arith<A> {
             Arith::Length => 0,
             Arith::Accessor(_, index, _) => index.cells(),
             Arith::Operation(left, _, right) => left.cells().max(right.cells().saturating_add(1)),
-        }
-    }
-
-    fn weight(&self) -> u32
-        ensures weight_exact { result ≡ min (weight_of_arith (arith_tree_of self.now)) u32.MAX }
-    {
-        match self {
-            Arith::Number(_) => 1,
-            Arith::Length => 1,
-            Arith::Accessor(Protocol::Ip, index, _) => index.weight().saturating_add(2),
-            Arith::Accessor(_, index, _) => index.weight().saturating_add(4),
-            Arith::Operation(left, _, right) => {
-                let both = left.weight().saturating_add(right.weight());
-                both.saturating_add(4)
-            }
         }
     }
 }
@@ -93,9 +78,8 @@ impl<A: Allocator> Expr<A> {
         match self {
             Expr::Primitive(primitive) => weight_of_primitive(*primitive),
             Expr::Relation(left, _, right) => {
-                let guards = weight_of_guards(Accesses::of_both(left, right));
-                let sides = left.weight().saturating_add(right.weight());
-                sides.saturating_add(6 + guards)
+                let (used, sides) = Accesses::weigh_both(left, right);
+                sides.saturating_add(6 + weight_of_guards(used))
             }
             Expr::Not(inner) => inner.weight(),
             Expr::And(left, right) => left.weight().saturating_add(right.weight()),

@@ -34,8 +34,12 @@ fn program_of_expression(alloc: Global, text: &[u8]) -> Result<Program<Global>, 
     ensures fault { IfErr result (λ fault. (fault ≡ OutOfMemory) ⊎ IsExpressionFault text.now fault) }
 {
     let arena = Bump::new(alloc);
-    let tree = parse(&arena, text)?;
-    Ok(compile(alloc, &tree)?)
+    // The tree stays where it was answered: it is large.
+    let parsed = parse(&arena, text);
+    match &parsed {
+        Ok(tree) => Ok(compile(alloc, tree)?),
+        Err(fault) => Err(TextFault::from(*fault)),
+    }
 }
 
 /// Makes the program of an assembly text, charged by its number of words.

@@ -27,8 +27,8 @@ returns-then-branch-clause-every_tree g c = λ tree t.
     absurd (tree-or-fault c.args.text.now tree (TooDeep (length c.args.text.now)) t
     (deep-says c.args.text.now c.read.new.self.output.entries.items c.entries-parts.result.now c.in_ok-read.ensures c.entries-parts.ensures (c.in_ok-is_too_deep.ensures.deep c.if-branch.true)))
 
-pub build-requires : goal.build-requires
-build-requires g c = (rw c.entries-parts.ensures (parts-tree c.args.text.now c.read.new.self.output.entries.items c.in_ok-read.ensures))
+pub build-requires-clause-parts : goal.build-requires-clause-parts
+build-requires-clause-parts g c = (rw c.entries-parts.ensures (parts-tree c.args.text.now c.read.new.self.output.entries.items c.in_ok-read.ensures))
 
 pub returns-clause-parses : goal.returns-clause-parses
 returns-clause-parses g c =

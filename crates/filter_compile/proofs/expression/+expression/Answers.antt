@@ -1,4 +1,4 @@
-use Rattle.std.proofs.Common.{◌≡◌, ◌∙◌, ◌+◌, ◌≤◌, Some, ap, arith, false, rules, true}
+use Rattle.std.proofs.Common.{◌∙◌, ◌+◌, ◌≤◌, Some, ap, arith, false, rules, true}
 use Rattle.backpatch.proofs.GuardLemmas.{Guards-landed, Guards-landed_no, Guards-writes}
 use Rattle.backpatch.proofs.WritesLemmas.{Writes-not, Writes-weight, landable, landable_no}
 use Rattle.filter_tree.specs.Measure.{weight_of}
@@ -52,6 +52,14 @@ behind_guard-returns g height c =
       writes = Writes-no_elsewhere guard tree c.args.known passed.on passed.no (c.in_ok-passed-2.ensures.learned c.requires.may_ask) sides.yes sides.no c.or_no-2.result
           (settled guard c.args.known tree false c.requires.may_ask c.requires.begins (c.requires.settled ∙ ap Some c.if-front.false)) c.or_no-2.ensures.of_self c.or_no-2.ensures.of_no c.in_ok-passed-2.ensures.guards c.in_ok-sides-2.ensures.writes;
     }
+
+-- ---- what has no parts
+
+pub expression-returns-in-Primitive : goal.expression-returns-in-Primitive
+expression-returns-in-Primitive g height c = record { writes = rw c.in-Primitive.is c.primitive.ensures.writes }
+
+pub expression-returns-in-Relation : goal.expression-returns-in-Relation
+expression-returns-in-Relation g height c = record { writes = rw c.in-Relation.is c.relation.ensures.writes }
 
 -- ---- the parts
 

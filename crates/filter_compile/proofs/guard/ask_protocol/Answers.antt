@@ -1,14 +1,8 @@
-use Rattle.std.proofs.Common.{arith}
 use Rattle.filter_tree.specs.Primitive.{is_protocol}
-use Rattle.backpatch.proofs.WritesLemmas.{landable}
-use Rattle.filter_compile.proofs.GuardLemmas.{Guards-asked}
+use Rattle.filter_compile.proofs.GuardLemmas.{Adds-asked}
 use Rattle.filter_compile.proofs.guard.ask_protocol.Goals as goal
-
-pub land-requires-clause-open : goal.land-requires-clause-open
-land-requires-clause-open g c = landable c.exit-on.ensures.empty c.in_ok-is_protocol.ensures.writes
 
 pub returns : goal.returns
 returns g c = record {
-  guards = let by = c.exit-on.ensures.by in let long = c.len.ensures.length in
-      Guards-asked c.args.known c.with_protocol.result c.without_protocol.result (is_protocol c.args.n) 4 c.exit-on.ensures.empty (let room = c.requires.behind in omega arith) c.in_ok-is_protocol.ensures.writes c.land.ensures.landed c.with_protocol.ensures.holds c.without_protocol.ensures.holds;
+  adds = Adds-asked c.args.passed.now c.learn.new.self c.with_protocol.result c.without_protocol.result (is_protocol c.args.n) 4 c.learn.ensures.on c.learn.ensures.of_self c.learn.ensures.of_no c.with_protocol.ensures.holds c.without_protocol.ensures.holds c.in_ok-pass_protocol.ensures.guards;
 }

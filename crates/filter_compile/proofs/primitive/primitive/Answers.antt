@@ -9,7 +9,7 @@ use Rattle.filter_tree.specs.Primitive.{is_ip, is_protocol, truth_of_primitive}
 use Rattle.packet_facts.specs.Known.{Holds}
 use Rattle.filter_compile.specs.body.Piece.{Decides}
 use Rattle.filter_compile.specs.body.Weight.{version_weight_under, weight_of_primitive_under}
-use Rattle.filter_compile.proofs.GuardLemmas.{Writes-decided, Writes-guarded, Writes-no}
+use Rattle.filter_compile.proofs.GuardLemmas.{Guards-added, Writes-decided, Writes-guarded, Writes-no}
 use Rattle.filter_compile.proofs.HeaderLemmas.{at_most}
 use Rattle.filter_compile.proofs.TestLemmas.{Decides-not, Decides-same}
 use Rattle.filter_compile.proofs.WeightLemmas.{port_range_weight, port_weight, primitive_weight}
@@ -26,8 +26,8 @@ returns-in-Ip g c = record { writes = rw c.in-Ip.is c.version.ensures.writes }
 
 pub returns-in_ok-sides-in-Proto : goal.returns-in_ok-sides-in-Proto
 returns-in_ok-sides-in-Proto g c =
-    let ip = c.in_ok-ip-in-Proto.ip in let sides = c.in_ok-sides-in-Proto.sides in record {
-      writes = rw c.in-Proto.is (Writes-guarded c.args.known ip.on sides.yes sides.no c.or_no.result ip.no is_ip (is_protocol c.in-Proto.n) (version_weight_under c.args.known + 4) (omega arith) c.or_no.ensures.of_self c.or_no.ensures.of_no c.in_ok-ip-in-Proto.ensures.guards c.in_ok-sides-in-Proto.ensures.writes);
+    let ip = c.guard_ip.new.passed in let sides = c.in_ok-sides-in-Proto.sides in record {
+      writes = rw c.in-Proto.is (Writes-guarded c.args.known ip.on sides.yes sides.no c.or_no.result ip.no is_ip (is_protocol c.in-Proto.n) (version_weight_under c.args.known + 4) (omega arith) c.or_no.ensures.of_self c.or_no.ensures.of_no (Guards-added c.args.known is_ip version_weight_under c.at_once-ip.result ip c.at_once-ip.ensures.on c.in_ok-guard_ip-in-Proto.ensures.adds) c.in_ok-sides-in-Proto.ensures.writes);
     }
 
 pub returns-in-Host : goal.returns-in-Host

@@ -1,12 +1,12 @@
 use Rattle.std.proofs.Common.{refl, subst, sym}
 use Rattle.std.proofs.lemmas.Result.{IfOk-weaker}
 use Rattle.filter_tree.specs.Tree.{relation}
-use Rattle.filter_tree.specs.Truth.{accesses_of_both, truth_of}
+use Rattle.filter_tree.specs.Truth.{accesses_of_both, guards, truth_of, used_by}
 use Rattle.filter_tree.specs.View.{arith_tree_of}
 use Rattle.packet_facts.specs.Known.{Knows}
 use Rattle.packet_facts.proofs.FactLemmas.{guards-used_by, x_known}
-use Rattle.filter_compile.specs.body.Weight.{weight_under}
-use Rattle.filter_compile.proofs.GuardLemmas.{Writes-no}
+use Rattle.filter_compile.specs.body.Weight.{weight_of_guards_under, weight_under}
+use Rattle.filter_compile.proofs.GuardLemmas.{Guards-added, Writes-no}
 use Rattle.filter_compile.proofs.RelationLemmas.{Writes-relation, excluded_relation, relation_weight}
 use Rattle.filter_compile.proofs.WeightLemmas.{guards_weight-used_by}
 use Rattle.filter_compile.proofs.relation.relation.Goals as goal
@@ -22,9 +22,9 @@ returns-then-excludes_guards g c =
 
 pub returns : goal.returns
 returns g c =
-    let left = arith_tree_of c.args.left.now in let right = arith_tree_of c.args.right.now in let used = c.of_both-used.result in let told = c.of_both-used.ensures in let before = c.in_ok-before.before in
+    let left = arith_tree_of c.args.left.now in let right = arith_tree_of c.args.right.now in let used = c.of_both-used.result in let told = c.of_both-used.ensures in let before = c.guards.new.passed in
     let same = guards-used_by used (accesses_of_both left right) told.ip told.tcp told.udp told.icmp in let known = c.args.known in let weight = guards_weight-used_by known used (accesses_of_both left right) told.ip told.tcp told.udp told.icmp in record {
       writes = Writes-relation c.args.relation left right used same known weight before.on c.with_header_in_x-on.result c.or_no.result before.no c.header_in_x.result c.in_ok-held.held c.in_ok-held-2.held
           (λ packet x k. subst (λ b. Knows b packet x) (sym c.header_in_x.ensures.exact) (x_known before.on packet x k)) c.with_header_in_x-on.ensures.holds c.or_no.ensures.of_self c.or_no.ensures.of_no
-          c.in_ok-before.ensures.guards c.in_ok-held.ensures.computes c.in_ok-held-2.ensures.writes;
+          (Guards-added known (guards (used_by used)) (λ k. weight_of_guards_under k (used_by used)) c.at_once-before.result before c.at_once-before.ensures.on c.in_ok-guards.ensures.adds) c.in_ok-held.ensures.computes c.in_ok-held-2.ensures.writes;
     }

@@ -1,0 +1,6 @@
+use Rattle.std.proofs.lemmas.Result.{err_from_is_err_and}
+use Rattle.filter_parse.proofs.parse.Goals as goal
+
+pub returns-in_err-read_tree-clause-every_tree : goal.returns-in_err-read_tree-clause-every_tree
+returns-in_err-read_tree-clause-every_tree g c = λ tree t.
+    let p = err_from_is_err_and c.from_residual.result c.from_residual.ensures.1 in rw (p.1, p.2) (c.in_err-read_tree.ensures.every_tree tree t)
