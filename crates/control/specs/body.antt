@@ -3,3 +3,4 @@ pub mod Switch
 pub mod ScriptSoFar
 pub mod Writing
 pub mod Waiting
+pub mod Packet

@@ -9,7 +9,7 @@ ghost use Rattle.control.specs.Script.{RepliesTo, Standing, at_start};
 ghost use Rattle.control.specs.body.Switch.{JudgesPacket};
 
 use crate::judged::judged_reply;
-use crate::packet_line::{PacketLine, read_packet_line};
+use crate::packet_line::{PacketSize, read_packet_into};
 use control_line::{Reason, Reply, line};
 use dispatch::judge;
 use member_group::Config;
@@ -21,6 +21,8 @@ use std::alloc::{AllocError, Global};
 pub(crate) struct Switch {
     pub(crate) operator: Operator,
     pub(crate) workers: Vec<Worker>,
+    // The bytes of a packet at hand. Its memory is used again.
+    packet: Vec<u8>,
 }
 
 // Each worker peeks, and the operator scans it.
@@ -54,7 +56,11 @@ impl Switch {
         match open(Config::new(alloc)) {
             Ok((mut operator, mut workers)) => {
                 meet_all(&mut operator, &mut workers);
-                Ok(Switch { operator, workers })
+                Ok(Switch {
+                    operator,
+                    workers,
+                    packet: Vec::new(alloc),
+                })
             }
             Err(OpenFault::OutOfMemory) => Err(AllocError),
             Err(OpenFault::TooBig) => unreachable!(),
@@ -68,10 +74,10 @@ impl Switch {
             (next : Standing) × RepliesTo now text.now reply next × IsReady self.new.operator self.new.workers.items next) }
         ensures outside { OnOk result (AreOutside self.new.operator.table self.new.workers.items) }
     {
-        let reply = match read_packet_line(alloc, text)? {
+        let reply = match read_packet_into(text, &mut self.packet)? {
             None => line(alloc, text, &mut self.operator)?,
-            Some(PacketLine::TooLong) => Reply::refused(Reason::PacketTooLong),
-            Some(PacketLine::Packet(packet)) => judge_packet(&mut self.workers[0], &packet),
+            Some(PacketSize::TooLong) => Reply::refused(Reason::PacketTooLong),
+            Some(PacketSize::Whole) => judge_packet(&mut self.workers[0], &self.packet),
         };
         meet_all(&mut self.operator, &mut self.workers);
         Ok(reply)

@@ -8,4 +8,5 @@ pub mod ChangeLemmas
 pub mod LineLemmas
 mod OneLineLemmas
 mod OneAnswerLemmas
+mod DigitLemmas
 mod StandardFacts

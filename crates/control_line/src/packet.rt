@@ -103,19 +103,34 @@ fn read_rest(digits: &[u8], packet: &mut [u8], from: usize) -> bool
     bits < NO_DIGIT
 }
 
+// Writes the bytes behind the whole blocks. Where there are enough bytes the last ones are read as a block, whose front was written
+// before.
+fn read_tail(digits: &[u8], packet: &mut [u8]) -> bool
+    requires pairs { length digits.now ≡ 2 * length packet.old }
+    requires read { ArePairs digits.now packet.old (length packet.old / BLOCK * BLOCK) }
+    ensures packet { IsTrue result → decode_of digits.now ≡ Ok packet.new }
+    ensures bad_digit { IsFalse result → AllPass is_hex_digit digits.now → ⊥ }
+{
+    let len = packet.len();
+    let from = len / BLOCK * BLOCK;
+    if from == len || len < BLOCK {
+        return read_rest(digits, packet, from);
+    }
+    read_block(digits, packet, len - BLOCK) && read_rest(digits, packet, len)
+}
+
 // Writes the bytes of pairs of digits, and tells whether all were digits.
 fn read_pairs(digits: &[u8], packet: &mut [u8]) -> bool
     requires { length digits.now ≡ 2 * length packet.old }
     ensures packet { IsTrue result → decode_of digits.now ≡ Ok packet.new }
     ensures no_packet { IsFalse result → AllPass is_hex_digit digits.now → ⊥ }
 {
-    let from = packet.len() / BLOCK * BLOCK;
-    read_blocks(digits, packet) && read_rest(digits, packet, from)
+    read_blocks(digits, packet) && read_tail(digits, packet)
 }
 
 /// Reads the packet that the digits write, two a byte, of either case, into a buffer that is used again: no more memory is taken
 /// than it lacks. The outer `Err` is want of memory. The inner one is `BadForm` where there is an odd number of characters or one is
-/// no digit, else `PacketTooLong` where there are more than 65,535 bytes. After either the buffer holds no packet.
+/// no digit, else `PacketTooLong` where there are more than 65,535 bytes. What the buffer holds after either is not promised.
 pub fn read_packet(digits: &[u8], packet: &mut Vec<u8>) -> Result<Result<(), Reason>, OutOfMemory>
     ensures packet { IfOk result (λ read. MatchResult read
         (λ done. SpellsPacket digits.now packet.new.items)
@@ -125,8 +140,9 @@ pub fn read_packet(digits: &[u8], packet: &mut Vec<u8>) -> Result<Result<(), Rea
         return Ok(Err(Reason::BadForm));
     }
     let len = digits.len() / 2;
-    packet.clear();
-    packet.reserve_exact(len)?;
+    if packet.len() < len {
+        packet.reserve_exact(len - packet.len())?;
+    }
     packet.resize(len, 0)?;
     if !read_pairs(digits, packet.as_mut_slice()) {
         return Ok(Err(Reason::BadForm));

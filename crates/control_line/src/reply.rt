@@ -7,6 +7,7 @@ ghost use Rattle.control_line.specs.declared.reply.LineAnswer.TheVariants as ans
 
 use crate::reason::Reason;
 use ipv4_fields::TextBuffer;
+use itoa::write_digits;
 use read_section::Reclaimed;
 use std::marker::Model;
 
@@ -54,6 +55,31 @@ impl Model for Reply {
     ghost invariant = { λ reply. reply.len ≤ REPLY_LIMIT };
 }
 
+// How many digits a number below 10,000 has.
+#[inline(always)]
+fn few_digits(number: u64) -> usize
+    requires { number < 10000 }
+    ensures { result ≡ length (decimal number) }
+{
+    if number < 100 {
+        return if number < 10 { 1 } else { 2 };
+    }
+    if number < 1000 { 3 } else { 4 }
+}
+
+// How many digits a number has, four at a step.
+fn digit_count(number: u64) -> usize
+    ensures { result ≡ length (decimal number) }
+{
+    let mut left = number;
+    let mut count = 0;
+    while left >= 10_000 {
+        left /= 10_000;
+        count += 4;
+    }
+    count + few_digits(left)
+}
+
 impl Reply {
     /// Lends the line.
     pub fn bytes(&self) -> &[u8]
@@ -74,6 +100,7 @@ impl Reply {
     }
 
     /// Appends a text, for which there must be room.
+    #[inline(always)]
     pub fn push(&mut self, text: &str)
         requires room { length self.old + length text.now ≤ REPLY_LIMIT }
         ensures appended { self.new ≡ self.old ++ text.now }
@@ -97,18 +124,29 @@ impl Reply {
         requires { length self.old + length (decimal number) ≤ REPLY_LIMIT }
         ensures { self.new ≡ self.old ++ decimal number }
     {
-        if number >= 10 {
-            self.push_digits(number / 10);
+        if number < 10 {
+            self.push_digit(b'0' + number as u8);
+        } else {
+            self.push_long(number);
         }
-        self.push_digit(b'0' + (number % 10) as u8);
     }
 
+    #[inline(always)]
     fn push_digit(&mut self, digit: u8)
         requires { length self.old < REPLY_LIMIT }
         ensures { self.new ≡ self.old ++ digit ∷ [] }
     {
         self.bytes[self.len] = digit;
         self.len += 1;
+    }
+
+    fn push_long(&mut self, number: u64)
+        requires { length self.old + length (decimal number) ≤ REPLY_LIMIT }
+        ensures { self.new ≡ self.old ++ decimal number }
+    {
+        let end = self.len + digit_count(number);
+        write_digits(number, &mut self.bytes, end);
+        self.len = end;
     }
 }
 
@@ -119,6 +157,7 @@ impl TextBuffer for Reply {
 
     ghost limit = { REPLY_LIMIT };
 
+    #[inline(always)]
     fn append(&mut self, piece: &str) {
         self.push(piece);
     }

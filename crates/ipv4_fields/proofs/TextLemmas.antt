@@ -1,12 +1,10 @@
 -- Pieces of texts: a text is cut at a separator in one way, and a number is spelled in one way.
-use Rattle.std.proofs.Common.{◌≡◌, ◌≢◌, ◌∙◌, ◌/◌, ◌%◌, ◌^◌, ◌<◌, ◌≤◌, ◌⊎◌, ◌∷◌, ◌++◌, List, Ok, Result, [], ap, arith, decimal, get_or, inl, inr, length, refl, subst, suc, sym, zero, ℕ}
+use Rattle.std.proofs.Common.{◌≡◌, ◌≢◌, ◌∙◌, ◌/◌, ◌%◌, ◌^◌, ◌<◌, ◌≤◌, ◌⊎◌, ◌∷◌, ◌++◌, List, [], ap, arith, decimal, get_or, inl, inr, length, refl, suc, sym, zero, ℕ}
 use Rattle.std.specs.Int.{IsInRange}
-use Rattle.std.specs.Str.{IsUtf8}
-use Rattle.std.specs.Str.Parse.{AllDigits, ParsesUnsigned, digits_value}
+use Rattle.std.specs.Str.Parse.{AllDigits, digits_value}
 use Rattle.std.proofs.lemmas.Bool.{cases_lt}
-use Rattle.std.proofs.lemmas.Fmt.{IsAscii-decimal, decimal-digits_value, decimal_digit, decimal_injective, decimal_nonempty, digits_decimal, first_decimal, parse-decimal}
-use Rattle.std.proofs.lemmas.Str.{IsUtf8-from_ascii}
-use Rattle.std.proofs.lemmas.Str.Parse.{IsNumeralModel, not_in_digits, numerals_by_value, parse_plain, tells_digits}
+use Rattle.std.proofs.lemmas.Fmt.{decimal-digits_value, decimal_digit, decimal_injective, decimal_nonempty, digits_decimal, digits_value-decimal, first_decimal, length-decimal-le}
+use Rattle.std.proofs.lemmas.Str.Parse.{IsNumeralModel, digits_value_short, not_in_digits, numerals_by_value, tells_digits}
 use Rattle.ipv4_fields.specs.declared.endpoint.Endpoint.{Endpoint}
 use Rattle.ipv4_fields.specs.Endpoint.{IsEndpoint, endpoint_text}
 use Rattle.ipv4_fields.specs.Cut.{IsSplitAt, Lacks}
@@ -56,30 +54,28 @@ lacks-decimal s n none small k inside =
     outside (inl below) range = omega arith
     outside (inr above) range = omega arith
 
-pub plain-decimal : (n : ℕ) → n < 2 ^ 64 → IsPlain (decimal n)
+pub plain-decimal : (n : ℕ) → n < 2 ^ 32 → IsPlain (decimal n)
 plain-decimal n small = record {
-  not_empty = decimal_nonempty n small;
-  no_sign = lacks-decimal 43 n (inl (omega arith)) small 0 (decimal_nonempty n small);
+  not_empty = decimal_nonempty n (omega arith);
+  few = length-decimal-le 10 n (omega arith) (omega arith) (omega arith);
   no_leading_zero = λ zero_first. by_value zero_first (cases_lt 0 n);
 }
   where
     by_value : get_or (decimal n) 0 0 ≡ 48 → (0 < n) ⊎ (n ≤ 0) → length (decimal n) ≡ 1
-    by_value zero_first (inl above) = let first = first_decimal n above small in absurd (omega arith)
+    by_value zero_first (inl above) = let first = first_decimal n above (omega arith) in absurd (omega arith)
     by_value zero_first (inr none) = ap length (decimal_digit n (omega arith))
 
--- what is parsed of a plain field is the number that it spells
-pub parsed_number : {E : Type 0} (field : List ℕ) (n : ℕ) (r : Result ℕ E) → IsPlain field → r ≡ Ok n → ParsesUnsigned 32 10 field r → field ≡ decimal n
-parsed_number {E} field n r plain is parses =
-    let ok : Result ℕ E = Ok n in
-    let read = parse_plain decimals 32 field ok (subst (ParsesUnsigned {E = E} 32 10 field) is parses) plain.no_sign in
-    let spelled = decimal-digits_value decimals field read.0.0 read.0.1 plain.no_leading_zero (omega (arith, read.0.2)) in
-    sym spelled ∙ ap decimal (sym read.1)
+-- the digits of a number have its value
+pub digits_of_decimal : (n : ℕ) → n < 2 ^ 32 → AllDigits 10 (decimal n) × (digits_value 10 (decimal n) ≡ n)
+digits_of_decimal n small = (digits_decimal decimals n (omega arith), digits_value-decimal decimals n (omega arith))
 
-pub parsed_decimal : {E : Type 0} (field : List ℕ) (n : ℕ) (r : Result ℕ E) → n < 2 ^ 32 → field ≡ decimal n → ParsesUnsigned 32 10 field r → r ≡ Ok n
-parsed_decimal field n r small is parses = parse-decimal 32 n field r small (omega arith) is parses
+-- a plain field of digits spells their value
+pub spelled_value : (field : List ℕ) → IsPlain field → AllDigits 10 field → digits_value 10 field < 2 ^ 32 → field ≡ decimal (digits_value 10 field)
+spelled_value field plain digits small = sym (decimal-digits_value decimals field digits plain.not_empty plain.no_leading_zero (omega arith))
 
-pub ascii-decimal : (field : List ℕ) (n : ℕ) → n < 2 ^ 64 → field ≡ decimal n → IsUtf8 field
-ascii-decimal field n small is = subst IsUtf8 (sym is) (IsUtf8-from_ascii (decimal n) (IsAscii-decimal n small))
+-- few digits have a value of less than 64 bits, also with a digit more behind them
+pub value_small : (field : List ℕ) (k : ℕ) → AllDigits 10 field → length field ≤ k → digits_value 10 field < 10 ^ k
+value_small field k digits few = digits_value_short decimals field k digits few
 
 -- a part in front of a separator is the number that it spells
 pub one_part : (s n : ℕ) (text part left rest : List ℕ) → IsNoDigit s → n < 2 ^ 64 → IsSplitAt s text part left → text ≡ decimal n ++ s ∷ rest → (part ≡ decimal n) × (left ≡ rest)

@@ -3,10 +3,10 @@
 ghost use Rattle.std.specs.Prelude.{◌≡◌, ◌≢◌, ◌+◌, ◌≤◌, ◌<◌, ◌↔◌, IsTrue, MatchOption, List, ◌++◌, ◌∷◌, decimal, length, ℕ};
 ghost use Rattle.ipv4_fields.specs.Endpoint.{IsEndpoint, endpoint_text};
 ghost use Rattle.ipv4_fields.specs.Cut.{IsSplitAt, Lacks};
+ghost use Rattle.std.specs.Str.Parse.{AllDigits, digits_value};
 ghost use Rattle.ipv4_fields.specs.body.Number.{IsNoDigit, IsPlain};
 
 use crate::endpoint::Endpoint;
-use std::str::from_utf8;
 
 /// Cuts a text at the first separator in it.
 pub fn split_at(separator: u8, text: &[u8]) -> Option<(&[u8], &[u8])>
@@ -20,10 +20,30 @@ pub fn split_at(separator: u8, text: &[u8]) -> Option<(&[u8], &[u8])>
     None
 }
 
+// The most digits of a number of 32 bits.
+const NUMBER_LIMIT: usize = 10;
+
 fn is_plain(field: &[u8]) -> bool
     ensures { IsTrue result ↔ IsPlain field.now }
 {
-    !field.is_empty() && field[0] != b'+' && (field.len() == 1 || field[0] != b'0')
+    !field.is_empty() && field.len() <= NUMBER_LIMIT && (field.len() == 1 || field[0] != b'0')
+}
+
+// The number that few digits write, `None` where a byte is no digit.
+#[inline(always)]
+fn number_of(field: &[u8]) -> Option<u64>
+    requires { length field.now ≤ NUMBER_LIMIT }
+    ensures { MatchOption result (AllDigits 10 field.now → ⊥) (λ n. AllDigits 10 field.now × (n ≡ digits_value 10 field.now)) }
+{
+    let mut number = 0;
+    for byte in field {
+        let digit = byte.wrapping_sub(b'0');
+        if digit > 9 {
+            return None;
+        }
+        number = number * 10 + u64::from(digit);
+    }
+    Some(number)
 }
 
 /// Reads a number up to a limit, decimal and without leading zeros.
@@ -35,16 +55,11 @@ pub fn read_number(limit: u32, field: &[u8]) -> Option<u32>
     if !is_plain(field) {
         return None;
     }
-    let Ok(text) = from_utf8(field) else {
-        return None;
-    };
-    let Ok(number) = text.parse::<u32>() else {
-        return None;
-    };
-    if number > limit {
+    let number = number_of(field)?;
+    if number > u64::from(limit) {
         return None;
     }
-    Some(number)
+    Some(number as u32)
 }
 
 // A part of an address and what stands behind its separator.
