@@ -104,7 +104,7 @@ fn read_rest(digits: &[u8], packet: &mut [u8], from: usize) -> bool
 }
 
 // Writes the bytes behind the whole blocks. Where there are enough bytes the last ones are read as a block, whose front was written
-// before.
+// before. Nothing is left to read then: the last call only tells that the packet is whole.
 fn read_tail(digits: &[u8], packet: &mut [u8]) -> bool
     requires pairs { length digits.now ≡ 2 * length packet.old }
     requires read { ArePairs digits.now packet.old (length packet.old / BLOCK * BLOCK) }

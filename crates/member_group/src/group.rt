@@ -2,9 +2,8 @@
 
 ghost use Rattle.std.specs.Prelude.{◌≡◌, ◌+◌, ◌*◌, ◌<◌, ◌≤◌, ◌^◌, IfOk, None, Some, [], length, slice_set, ℕ};
 ghost use Rattle.std.specs.List.{sum_by};
-ghost use Rattle.std.specs.Option.{option_map, option_to_list};
+ghost use Rattle.std.specs.Option.{option_map};
 ghost use Rattle.bpf_verify.specs.declared.TheConstants.{MAX_INSTRUCTIONS};
-ghost use Rattle.ipv4_fields.specs.declared.endpoint.Endpoint.{Endpoint};
 ghost use Rattle.member_group.specs.Charge.{charge_of_group, programs_of_group};
 ghost use Rattle.member_group.specs.declared.TheConstants.{MEMBER_LIMIT};
 ghost use Rattle.member_group.specs.Command.{joined, left, locked, with_filter, with_selector};
@@ -12,13 +11,14 @@ ghost use Rattle.member_group.specs.Group.{IsGroup, has_id};
 ghost use Rattle.member_group.specs.Place.{IsOnlyAt, last_in_gap};
 ghost use Rattle.member_group.specs.Refusal.{IsAnswer, clear_filter_causes, clear_selector_causes, first_of, join_causes, member_causes, set_filter_causes};
 
+use crate::MEMBER_LIMIT;
+use crate::counted::{charge_of_parts, words_of_parts};
 use crate::member::{
     Member, append_members, append_with_last_in_gap, append_with_member_at, copy_member,
     copy_program,
 };
 use crate::place::place_of_member;
 use crate::refusal::Refusal;
-use crate::{GROUP_WORDS, MEMBER_LIMIT, MEMBER_WORDS};
 use bpf_verify::{OutOfMemory, Program};
 use ipv4_fields::Endpoint;
 use std::alloc::Allocator;
@@ -118,58 +118,6 @@ impl<A: Allocator> Group<A> {
     {
         self.parts.charge()
     }
-}
-
-fn charge_of_program<A: Allocator>(program: &Option<Program<A>>) -> u64
-    ensures charge { result ≡ sum_by (λ one. one.charge) (option_to_list program.now) }
-    ensures bounded { result ≤ MAX_INSTRUCTIONS }
-{
-    match program {
-        Some(program) => u64::from(program.charge()),
-        None => 0,
-    }
-}
-
-fn words_of_program<A: Allocator>(program: &Option<Program<A>>) -> usize
-    ensures words { result ≡ sum_by (λ one. length one.words) (option_to_list program.now) }
-    ensures bounded { result ≤ MAX_INSTRUCTIONS }
-{
-    match program {
-        Some(program) => program.words().len(),
-        None => 0,
-    }
-}
-
-// The charge of a group of such parts, whatever its key.
-fn charge_of_parts<A: Allocator>(
-    selector: &Option<Program<A>>,
-    members: &[Member<Program<A>>],
-) -> u64
-    requires few { length members.now ≤ MEMBER_LIMIT }
-    ensures charge { (key : Endpoint) → result ≡ charge_of_group (record { key = key; selector = selector.now; members = members.now }) }
-    ensures bounded { result < 2 ^ 32 }
-{
-    let mut charge = GROUP_WORDS as u64 + charge_of_program(selector);
-    for member in members {
-        charge += MEMBER_WORDS as u64 + charge_of_program(&member.filter);
-    }
-    charge
-}
-
-// How many words the programs of such a group have.
-fn words_of_parts<A: Allocator>(
-    selector: &Option<Program<A>>,
-    members: &[Member<Program<A>>],
-) -> usize
-    requires few { length members.now ≤ MEMBER_LIMIT }
-    ensures words { (key : Endpoint) → result ≡ sum_by (λ program. length program.words) (programs_of_group (record { key = key; selector = selector.now; members = members.now })) }
-    ensures limited { result ≤ (1 + MEMBER_LIMIT) * MAX_INSTRUCTIONS }
-{
-    let mut words = words_of_program(selector);
-    for member in members {
-        words += words_of_program(&member.filter);
-    }
-    words
 }
 
 // What the commands make of a group: another group, with copies of the programs that it keeps.

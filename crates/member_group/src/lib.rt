@@ -8,6 +8,7 @@ ghost use Rattle.std.specs.Prelude.{◌≡◌};
 
 mod command;
 mod config;
+mod counted;
 mod group;
 mod member;
 mod place;

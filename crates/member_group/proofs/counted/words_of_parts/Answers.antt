@@ -4,7 +4,7 @@ use Rattle.std.specs.Option.{option_to_list}
 use Rattle.bpf_verify.specs.Program.{ProgramValue}
 use Rattle.member_group.specs.Group.{GroupOf}
 use Rattle.member_group.proofs.ChargeLemmas.{sum_of_group-all, sum_of_group-more}
-use Rattle.member_group.proofs.group.words_of_parts.Goals as goal
+use Rattle.member_group.proofs.counted.words_of_parts.Goals as goal
 
 pub returns-clause-words : goal.returns-clause-words
 returns-clause-words g c = λ key.

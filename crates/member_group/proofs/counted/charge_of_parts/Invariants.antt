@@ -1,7 +1,7 @@
 use Rattle.std.proofs.Common.{◌*◌, ◌+◌, ◌≡◌, ◌≤◌, take}
 use Rattle.ipv4_fields.specs.declared.endpoint.Endpoint.{Endpoint}
 use Rattle.member_group.specs.Charge.{charge_of_group}
-use Rattle.member_group.proofs.group.charge_of_parts.Given as goal
+use Rattle.member_group.proofs.counted.charge_of_parts.Given as goal
 
 abbrev pub invariant-loop-member : goal.invariant-loop-member
 invariant-loop-member g l = record {

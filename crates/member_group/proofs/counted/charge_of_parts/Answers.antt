@@ -4,7 +4,7 @@ use Rattle.std.specs.Option.{option_to_list}
 use Rattle.member_group.specs.Group.{GroupOf}
 use Rattle.bpf_verify.specs.Program.{ProgramValue}
 use Rattle.member_group.proofs.ChargeLemmas.{charge_of_group-all, charge_of_group-more}
-use Rattle.member_group.proofs.group.charge_of_parts.Goals as goal
+use Rattle.member_group.proofs.counted.charge_of_parts.Goals as goal
 
 pub returns-clause-charge : goal.returns-clause-charge
 returns-clause-charge g c = λ key.

@@ -3,7 +3,7 @@ use Rattle.std.specs.List.{sum_by}
 use Rattle.bpf_verify.specs.declared.TheConstants.{MAX_INSTRUCTIONS}
 use Rattle.ipv4_fields.specs.declared.endpoint.Endpoint.{Endpoint}
 use Rattle.member_group.specs.Charge.{programs_of_group}
-use Rattle.member_group.proofs.group.words_of_parts.Given as goal
+use Rattle.member_group.proofs.counted.words_of_parts.Given as goal
 
 abbrev pub invariant-loop-member : goal.invariant-loop-member
 invariant-loop-member g l = record {
