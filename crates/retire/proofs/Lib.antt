@@ -1,5 +1,6 @@
 pub mod RowLemmas
 pub mod AlikeLemmas
+pub mod ChangeLemmas
 pub mod FillingLemmas
 pub mod CarriedLemmas
 pub mod SharingLemmas
@@ -7,6 +8,7 @@ pub mod PageLemmas
 pub mod TakingLemmas
 pub mod RunLemmas
 pub mod OneNewLemmas
+pub mod ReplacedLemmas
 pub mod ReadyLemmas
 pub mod LikeRowLemmas
 pub mod PublishLemmas

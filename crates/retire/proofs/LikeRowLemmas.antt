@@ -29,6 +29,10 @@ module _ (operator : OperatorValue) (config other : List Group) (pages standing 
   others = row_tells_with_room other standing (omega (arith, same_length config other alike, room))
       (are_pages other standing (stands.holds.counted ∙ ap length (parts_is other)) (λ index page at. omega (arith, stands.holds.below index page at, pages_is)))
 
+  -- both have as many pages
+  pub as_many_pages : length pages ≡ length standing
+  as_many_pages = omega (arith, stands.holds.counted ∙ ap length (parts_is other), same_count config other alike, are.counted)
+
   -- the current row holds the current configuration's words
   in_row : (i : ℕ) → i < ROW_WORDS → word_at operator stands.row i ≡ slice_index (pooled_row other standing) i
   unfolding the_shape

@@ -2,3 +2,4 @@ pub mod Filling
 pub mod Sink
 pub mod Taking
 pub mod Alike
+pub mod Change

@@ -11,8 +11,8 @@ ghost use Rattle.read_section.specs.Operator.{OperatorValue};
 ghost use Rattle.retire.specs.Publish.{IsBusy, IsRefusedAs, Publishes, SharesEqualPrograms, StandsInRow};
 ghost use Rattle.retire.specs.Sweep.{Sweeps};
 
-mod alike;
 mod carried;
+mod change;
 mod fault;
 mod pages;
 mod row;

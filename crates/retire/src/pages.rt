@@ -1,16 +1,16 @@
 //! Pages of the pool: which are taken for a configuration's programs, and how they are filled.
 
-ghost use Rattle.std.specs.Prelude.{◌≡◌, ◌+◌, ◌<◌, ◌≤◌, ◌↔◌, IfSome, IsTrue, Some, [], drop, length, slice_get, take, ℕ};
+ghost use Rattle.std.specs.Prelude.{◌≡◌, ◌+◌, ◌<◌, ◌≤◌, ◌↔◌, IfNone, IfSome, IsTrue, Some, [], drop, length, slice_get, take, ℕ};
 ghost use Rattle.std.specs.List.{flat_map};
 ghost use Rattle.config_image.specs.declared.TheConstants.{PAGE_LIMIT};
 ghost use Rattle.config_image.specs.Pooled.{pages_for, parts, parts_of};
 ghost use Rattle.config_image.specs.Walk.{words_of_programs};
 ghost use Rattle.versions.specs.Free.{IsFreePage};
 ghost use Rattle.versions.specs.Table.{the_shape};
-ghost use Rattle.read_section.specs.Layout.{IsPublishable};
 ghost use Rattle.read_section.specs.Operator.{HasFreeRow};
 ghost use Rattle.retire.specs.body.Filling.{AreFreeBelow, AreFreePages, AreReady, FillsLast, FillsNew, FillsParts, IsReady};
-ghost use Rattle.retire.specs.body.Taking.{AreTaken, ChoosesPages, IsBehindNoneFree, IsCounted, IsPassing, NoneFree, TakesOneMore};
+ghost use Rattle.retire.specs.body.Alike.{IsLikeCurrent};
+ghost use Rattle.retire.specs.body.Taking.{AreTaken, ChoosesPages, IsBehindNoneFree, IsCounted, IsPassing, NoneFree, ReplacesOne, TakesOneMore};
 
 use crate::standing::{Current, pages_of_len};
 use crate::taken::TakenPages;
@@ -43,16 +43,14 @@ fn take_for<const N: usize>(
     }
 }
 
-// The pages of the next version's programs: those of equal programs of the current version, else the least free ones, in order. They
-// are put where the caller has room for them: as an answer they would be copied. Gives a program, and how many pages are before its
-// own, of which none is free: where one program is new it is that one.
-pub(crate) fn choose_pages<'a, const N: usize>(
+// Chooses pages program by program. Gives a program, and how many pages are before its own, of which none is free: where one program
+// is new it is that one.
+fn choose_each<'a, const N: usize>(
     operator: &Operator,
     config: &'a Config,
     taken: &mut TakenPages<N>,
 ) -> Option<(&'a [u64], usize)>
     requires row { HasFreeRow operator.now.view }
-    requires publishable { IsPublishable config.now }
     requires enough { length (parts config.now) ≤ N }
     requires limit { N ≤ PAGE_LIMIT }
     requires none { taken.old ≡ record { pages = []; from = 0 } }
@@ -70,6 +68,94 @@ pub(crate) fn choose_pages<'a, const N: usize>(
         take_for(operator, &mut current, taken, words);
     }
     first
+}
+
+// Takes the pages of the current version for all programs but one. This one has so many pages before its own there, and as many words
+// as the program in its place.
+fn replace_one<const N: usize>(
+    operator: &Operator,
+    current: &mut Current<'_>,
+    taken: &mut TakenPages<N>,
+    words: &[u64],
+    at: usize,
+)
+    requires row { HasFreeRow operator.now.view }
+    requires passing { IsPassing (words_of_programs current.old.config.now) current.old.pages.now current.old.left.programs current.old.left.pages.now }
+    requires held { NoneFree operator.now.view current.old.pages.now }
+    requires room { length current.old.pages.now ≤ N }
+    requires limit { N ≤ PAGE_LIMIT }
+    requires inside { at + pages_for (length words.now) ≤ length current.old.pages.now }
+    requires none { taken.old ≡ record { pages = []; from = 0 } }
+    ensures replaced { ReplacesOne operator.now.view (words_of_programs current.old.config.now) current.old.pages.now words.now at taken.new }
+{
+    let pages = current.pages();
+    taken.share(&pages[..at]);
+    take_for(operator, current, taken, words);
+    taken.share(&pages[at + pages_of_len(words.len())..]);
+}
+
+/// What was found where the pages of a version were chosen.
+#[derive(Drop)]
+pub(crate) struct Chosen<'a> {
+    /// A program, and how many pages are before its own, of which none is free: where one program is new it is that one.
+    pub(crate) first: Option<(&'a [u64], usize)>,
+    /// The configuration is like the current one.
+    pub(crate) is_like: bool,
+}
+
+// Chooses pages where the configuration is like the current one, and one program at most has other words. Elsewhere nothing is taken.
+fn choose_alike<'a, const N: usize>(
+    operator: &Operator,
+    config: &'a Config,
+    taken: &mut TakenPages<N>,
+) -> Option<Chosen<'a>>
+    requires row { HasFreeRow operator.now.view }
+    requires enough { length (parts config.now) ≤ N }
+    requires limit { N ≤ PAGE_LIMIT }
+    requires none { taken.old ≡ record { pages = []; from = 0 } }
+    ensures chosen { IfSome result (λ chosen. ChoosesPages operator.now.view config.now taken.new.pages) }
+    ensures below { IfSome result (λ chosen. AreFreeBelow operator.now.view taken.new.pages taken.new.from) }
+    ensures first { IfSome result (λ chosen. IfSome chosen.first (λ first. IsBehindNoneFree operator.now.view (words_of_programs config.now) taken.new.pages first.0.now first.1)) }
+    ensures like { IfSome result (λ chosen. IsLikeCurrent operator.now.view config.now) }
+    ensures none { IfNone result (taken.new ≡ taken.old) }
+{
+    let mut current = Current::of(operator);
+    let Some(walk) = current.compare(config) else {
+        return None;
+    };
+    match walk.differs {
+        Some((words, at)) => replace_one(operator, &mut current, taken, words, at),
+        None => taken.share(current.pages()),
+    }
+    Some(Chosen {
+        first: walk.differs,
+        is_like: true,
+    })
+}
+
+// The pages of the next version's programs: those of equal programs of the current version, else the least free ones, in order. They
+// are put where the caller has room for them: as an answer they would be copied.
+pub(crate) fn choose_pages<'a, const N: usize>(
+    operator: &Operator,
+    config: &'a Config,
+    taken: &mut TakenPages<N>,
+) -> Chosen<'a>
+    requires row { HasFreeRow operator.now.view }
+    requires enough { length (parts config.now) ≤ N }
+    requires limit { N ≤ PAGE_LIMIT }
+    requires none { taken.old ≡ record { pages = []; from = 0 } }
+    ensures chosen { ChoosesPages operator.now.view config.now taken.new.pages }
+    ensures below { AreFreeBelow operator.now.view taken.new.pages taken.new.from }
+    ensures first { IfSome result.first (λ first. IsBehindNoneFree operator.now.view (words_of_programs config.now) taken.new.pages first.0.now first.1) }
+    ensures like { IsTrue result.is_like → IsLikeCurrent operator.now.view config.now }
+{
+    match choose_alike(operator, config, taken) {
+        Some(chosen) => chosen,
+        None => Chosen {
+            first: choose_each(operator, config, taken),
+            is_like: false,
+        },
+    }
 }
 
 // Fills free pages by the words of a program.

@@ -1,6 +1,6 @@
 //! Free rows: how one is found, and how it is filled.
 
-ghost use Rattle.std.specs.Prelude.{◌≡◌, ◌+◌, ◌<◌, ◌≤◌, IfNone, IfSome, Some, length, slice_get, ℕ};
+ghost use Rattle.std.specs.Prelude.{◌≡◌, ◌+◌, ◌<◌, ◌≤◌, IfNone, IfSome, IsTrue, Some, length, slice_get, ℕ};
 ghost use Rattle.config_image.specs.Image.{programs_begin};
 ghost use Rattle.config_image.specs.Pooled.{ArePages, parts, pooled_row};
 ghost use Rattle.versions.specs.Free.{IsFreeRow};
@@ -8,11 +8,11 @@ ghost use Rattle.versions.specs.Table.{the_shape};
 ghost use Rattle.read_section.specs.Layout.{IsPublishable};
 ghost use Rattle.read_section.specs.Operator.{HasFreeRow};
 ghost use Rattle.retire.specs.Publish.{IsBusy, IsLeastFreeRow, LooksForRow, ScansEach};
+ghost use Rattle.retire.specs.body.Alike.{IsLikeCurrent};
 ghost use Rattle.retire.specs.body.Filling.{FillsRow, HoldsFront, HoldsRow};
 
 use crate::carried::{copy_front, fill_names, names_begin};
 use crate::sink::{fill_front, fill_other};
-use crate::standing::Current;
 use member_group::Config;
 use read_section::Operator;
 use std::marker::Brand;
@@ -52,36 +52,51 @@ pub(crate) fn look_for_row(operator: &mut Operator) -> Option<usize>
 }
 
 // Fills the words of a row before its last zeros, and tells how many there are. Where the configuration is like the current one they
-// are carried over from the current row, and are made anew where it is not.
-fn fill_words(operator: &mut Operator, row: usize, config: &Config, pages: &[u32]) -> usize
+// are carried over from the current row, which has as many names, and are made anew where it is not.
+fn fill_words(
+    operator: &mut Operator,
+    row: usize,
+    config: &Config,
+    pages: &[u32],
+    is_like: bool,
+) -> usize
     requires free { IsFreeRow the_shape operator.old.view row }
     requires publishable { IsPublishable config.now }
     requires pages { ArePages config.now pages.now }
     requires low { (index page : ℕ) → slice_get pages.now index ≡ Some page → page < 65536 }
+    requires like { IsTrue is_like → IsLikeCurrent operator.old.view config.now }
     ensures fills { FillsRow operator.old operator.new row config.now pages.now }
     ensures front { HoldsFront operator.new row (pooled_row config.now pages.now) result }
     ensures len { result ≡ programs_begin config.now + length (parts config.now) }
 {
-    if !Current::of(operator).is_like(config) {
+    if !is_like {
         return fill_front::<Brand>(operator, row, config, pages);
     }
+    let names = operator.current_pages().len();
     let from = operator.current_row();
     let begin = names_begin(operator.row_word(from, 0));
     copy_front(operator, row, from, begin);
     fill_names(operator, row, from, begin, pages);
-    begin + pages.len()
+    begin + names
 }
 
 // Fills a row until it is the configuration's, where its parts stand in these pages; words that stand already are left alone.
-pub(crate) fn fill_row(operator: &mut Operator, row: usize, config: &Config, pages: &[u32])
+pub(crate) fn fill_row(
+    operator: &mut Operator,
+    row: usize,
+    config: &Config,
+    pages: &[u32],
+    is_like: bool,
+)
     requires free { IsFreeRow the_shape operator.old.view row }
     requires publishable { IsPublishable config.now }
     requires pages { ArePages config.now pages.now }
     requires low { (index page : ℕ) → slice_get pages.now index ≡ Some page → page < 65536 }
+    requires like { IsTrue is_like → IsLikeCurrent operator.old.view config.now }
     ensures fills { FillsRow operator.old operator.new row config.now pages.now }
     ensures holds { HoldsRow operator.new row (pooled_row config.now pages.now) }
 {
-    let len = fill_words(operator, row, config, pages);
+    let len = fill_words(operator, row, config, pages, is_like);
     let end = operator.zeros_from(row);
     for place in len..end {
         fill_other(operator, row, end - 1 - (place - len), 0);

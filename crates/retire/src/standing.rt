@@ -8,9 +8,10 @@ ghost use Rattle.config_image.specs.Walk.{words_of_programs};
 ghost use Rattle.retire.specs.Publish.{HasPages};
 ghost use Rattle.read_section.specs.Operator.{IsCurrent, StandsIn};
 ghost use Rattle.retire.specs.body.Alike.{AreAlike};
+ghost use Rattle.retire.specs.body.Change.{IsPassed, pages_in};
 ghost use Rattle.retire.specs.body.Taking.{IsBehind, IsCounted, IsNext, IsPassing, Passes, SharesRun};
 
-use crate::alike::are_alike;
+use crate::change::{Walk, compare};
 use crate::taken::TakenPages;
 use config_image::{PAGE_WORDS, Programs};
 use member_group::Config;
@@ -58,7 +59,7 @@ fn same_four(words: &[u64], other: &[u64], at: usize) -> bool
 
 // Most programs are short, and equal: so four words are tested at once, without a call. The last four of them may have been tested
 // before in part.
-fn same_words(words: &[u64], other: &[u64]) -> bool
+pub(crate) fn same_words(words: &[u64], other: &[u64]) -> bool
     ensures { IsTrue result ↔ (words.now ≡ other.now) }
 {
     if words.len() != other.len() {
@@ -184,11 +185,20 @@ impl<'a> Current<'a> {
         }
     }
 
-    /// Tests whether another configuration is like the current one.
-    pub(crate) fn is_like(&self, config: &Config) -> bool
-        ensures { IsTrue result → AreAlike config.now self.now.config.now }
+    /// Lends its pages.
+    pub(crate) fn pages(&self) -> &'a [u32]
+        ensures { result.now ≡ self.now.pages.now }
     {
-        are_alike(config, self.config)
+        self.pages
+    }
+
+    /// Compares another configuration with the current one, as `change::compare` does.
+    pub(crate) fn compare<'b>(&self, config: &'b Config) -> Option<Walk<'b>>
+        requires room { pages_in (words_of_programs config.now) ≤ PAGE_LIMIT }
+        ensures alike { IfSome result (λ walk. AreAlike config.now self.now.config.now) }
+        ensures passed { IfSome result (λ walk. IsPassed walk (words_of_programs config.now) (words_of_programs self.now.config.now)) }
+    {
+        compare(config, self.config)
     }
 
     /// Takes the pages of programs as long as they have the words of those of the current version that come next. Gives the first

@@ -31,10 +31,10 @@ fn fill_by<const N: usize>(operator: &mut Operator, row: usize, config: &Config)
     ensures { (pages : List ℕ) × FillsVersion operator.old operator.new row config.now pages }
 {
     let mut taken = TakenPages::<N>::none();
-    let first = choose_pages(operator, config, &mut taken);
+    let chosen = choose_pages(operator, config, &mut taken);
     let pages = taken.as_slice();
-    fill_pages(operator, config, pages, taken.end(), first);
-    fill_row(operator, row, config, pages);
+    fill_pages(operator, config, pages, taken.end(), chosen.first);
+    fill_row(operator, row, config, pages, chosen.is_like);
 }
 
 // The same, of a configuration with this charge.

@@ -4,6 +4,8 @@ use Rattle.bpf_verify.specs.Program.{ProgramValue}
 use Rattle.ipv4_fields.specs.Endpoint.{endpoint_number}
 use Rattle.member_group.specs.declared.member.Member.{Member}
 use Rattle.config_image.specs.Image.{Group}
+use Rattle.versions.specs.declared.view.OperatorView.{OperatorView}
+use Rattle.read_section.specs.Operator.{IsCurrent}
 
 -- there is a program on both sides, of as many words, or on neither
 abbrev pub AreOfOneLength : Option ProgramValue → Option ProgramValue → Type 0
@@ -34,3 +36,7 @@ pub record AreAlikeGroups (group other : Group) : Type 0 where
 
 abbrev pub AreAlike : List Group → List Group → Type 0
 AreAlike config other = AllAlike AreAlikeGroups config other
+
+-- a configuration is like the current one
+abbrev pub IsLikeCurrent : OperatorView (List Group) → List Group → Type 0
+IsLikeCurrent view config = (current : List Group) × IsCurrent view current × AreAlike config current

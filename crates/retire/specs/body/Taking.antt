@@ -1,5 +1,5 @@
 -- Which pages are taken for the programs of a version: those of equal programs of the version before, or free ones.
-use Rattle.std.specs.Prelude.{◌≡◌, ◌++◌, ◌<◌, ◌≤◌, ◌∷◌, List, Some, drop, flat_map, length, slice_get, take, ℕ}
+use Rattle.std.specs.Prelude.{◌≡◌, ◌+◌, ◌++◌, ◌<◌, ◌≤◌, ◌∷◌, List, Some, drop, flat_map, length, slice_get, take, ℕ}
 use Rattle.config_image.specs.Image.{Group}
 use Rattle.config_image.specs.Pooled.{pages_for, parts_of}
 use Rattle.config_image.specs.Walk.{words_of_programs}
@@ -79,6 +79,14 @@ pub record TakesOneMore (view : OperatorView (List Group)) (earlier : List (List
   pub counted : length own ≡ pages_for (length words)
   pub takes : TakesFor view earlier standing words own
   pub pages : after.pages ≡ before.pages ++ own
+
+-- all programs but one take the pages that they had; so many pages are before those of this one
+pub record ReplacesOne (view : OperatorView (List Group)) (earlier : List (List ℕ)) (standing words : List ℕ) (at : ℕ) (after : TakenValue) : Type 0 where
+  pub own : List ℕ
+  pub counted : length own ≡ pages_for (length words)
+  pub takes : TakesFor view earlier standing words own
+  pub pages : after.pages ≡ (take at standing ++ own) ++ drop (at + pages_for (length words)) standing
+  pub taken : AreTaken view (record { pages = take at standing ++ own; from = after.from })
 
 -- the first of the programs take the pages of programs that have the same words; the others are left
 pub record SharesRun (earlier : List (List ℕ)) (standing : List ℕ) (programs rest : List (List ℕ)) (before after : TakenValue) : Type 0 where

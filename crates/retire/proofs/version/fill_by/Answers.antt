@@ -1,4 +1,6 @@
-use Rattle.std.proofs.Common.{arith, subst, sym}
+use Rattle.std.proofs.Common.{◌≡◌, ◌++◌, ◌∷◌, List, [], arith, subst, sym}
+use Rattle.config_image.specs.Image.{Group}
+use Rattle.retire.specs.body.Alike.{AreAlike}
 use Rattle.config_image.proofs.ProgramLemmas.{parts-by_words}
 use Rattle.versions.proofs.FormLemmas.{are_pages}
 use Rattle.retire.specs.body.Filling.{FillsParts}
@@ -8,24 +10,24 @@ use Rattle.retire.proofs.version.fill_by.Goals as goal
 
 pub fill_pages-requires-clause-ready : goal.fill_pages-requires-clause-ready
 fill_pages-requires-clause-ready g c =
-    chosen_ready c.args.operator.now c.args.config.now c.as_slice-pages.result.now (subst (ChoosesPages c.args.operator.now.view c.args.config.now) (sym c.as_slice-pages.ensures) c.choose_pages-first.ensures.chosen)
+    chosen_ready c.args.operator.now c.args.config.now c.as_slice-pages.result.now (subst (ChoosesPages c.args.operator.now.view c.args.config.now) (sym c.as_slice-pages.ensures) c.choose_pages-chosen.ensures.chosen)
 
 pub fill_pages-requires-clause-below : goal.fill_pages-requires-clause-below
-fill_pages-requires-clause-below g c = rw (c.as_slice-pages.ensures, c.end.ensures) c.choose_pages-first.ensures.below
+fill_pages-requires-clause-below g c = rw (c.as_slice-pages.ensures, c.end.ensures) c.choose_pages-chosen.ensures.below
 
 pub fill_row-requires-clause-free : goal.fill_row-requires-clause-free
 fill_row-requires-clause-free g c = c.fill_pages.ensures.fills.steps.free_rows c.args.row c.requires.free
 
 pub fill_row-requires-clause-pages : goal.fill_row-requires-clause-pages
-fill_row-requires-clause-pages g c = let pages = c.as_slice-pages.result.now in let chosen = subst (ChoosesPages c.args.operator.now.view c.args.config.now) (sym c.as_slice-pages.ensures) c.choose_pages-first.ensures.chosen in
+fill_row-requires-clause-pages g c = let pages = c.as_slice-pages.result.now in let chosen = subst (ChoosesPages c.args.operator.now.view c.args.config.now) (sym c.as_slice-pages.ensures) c.choose_pages-chosen.ensures.chosen in
     are_pages c.args.config.now pages (chosen_counted c.args.operator.now c.args.config.now pages chosen) (chosen_ready c.args.operator.now c.args.config.now pages chosen).low
 
 pub fill_row-requires-clause-low : goal.fill_row-requires-clause-low
-fill_row-requires-clause-low g c = let chosen = subst (ChoosesPages c.args.operator.now.view c.args.config.now) (sym c.as_slice-pages.ensures) c.choose_pages-first.ensures.chosen in
+fill_row-requires-clause-low g c = let chosen = subst (ChoosesPages c.args.operator.now.view c.args.config.now) (sym c.as_slice-pages.ensures) c.choose_pages-chosen.ensures.chosen in
     λ index page at. omega (arith, (chosen_ready c.args.operator.now c.args.config.now c.as_slice-pages.result.now chosen).low index page at)
 
 pub returns : goal.returns
-returns g c = let pages = c.as_slice-pages.result.now in let chosen = subst (ChoosesPages c.args.operator.now.view c.args.config.now) (sym c.as_slice-pages.ensures) c.choose_pages-first.ensures.chosen in
+returns g c = let pages = c.as_slice-pages.result.now in let chosen = subst (ChoosesPages c.args.operator.now.view c.args.config.now) (sym c.as_slice-pages.ensures) c.choose_pages-chosen.ensures.chosen in
     let low = (chosen_ready c.args.operator.now c.args.config.now pages chosen).low in (
       pages,
       record {
@@ -38,3 +40,7 @@ returns g c = let pages = c.as_slice-pages.result.now in let chosen = subst (Cho
         are = are_pages c.args.config.now pages (chosen_counted c.args.operator.now c.args.config.now pages chosen) low;
       },
     )
+
+pub fill_row-requires-clause-like : goal.fill_row-requires-clause-like
+fill_row-requires-clause-like g c = λ like. let h = c.choose_pages-chosen.ensures.like like in
+    subst (λ l. (current : List Group) × ((older : List (List Group)) × (l ≡ older ++ current ∷ [])) × AreAlike c.args.config.now current) (sym c.fill_pages.ensures.fills.steps.published) h

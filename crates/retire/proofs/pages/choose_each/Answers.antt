@@ -4,8 +4,8 @@ use Rattle.config_image.proofs.ProgramLemmas.{parts-by_words}
 use Rattle.retire.specs.body.Taking.{IsBehindNoneFree, IsPassing, NoneFree, TakenValue, TakesOneMore}
 use Rattle.retire.proofs.RunLemmas.{if_some, none_before_more, none_free_yet, room_for_run, run_beside}
 use Rattle.retire.proofs.TakingLemmas.{all_taken, current_held, room_for_next, taken_for_next}
-use Rattle.retire.proofs.pages.choose_pages.Goals.{else-end-eq0, then-end-eq0}
-use Rattle.retire.proofs.pages.choose_pages.Goals as goal
+use Rattle.retire.proofs.pages.choose_each.Goals.{else-end-eq0, then-end-eq0}
+use Rattle.retire.proofs.pages.choose_each.Goals as goal
 
 pub share_equal-requires : goal.share_equal-requires
 share_equal-requires g c = let view = c.args.operator.now.view in let of = c.of-current.result in let config = c.args.config.now in let h = c.loop-words.invariant in

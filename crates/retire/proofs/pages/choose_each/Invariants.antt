@@ -2,7 +2,7 @@ use Rattle.std.proofs.Common.{◌≡◌, IfSome, length}
 use Rattle.config_image.specs.Walk.{words_of_programs}
 use Rattle.retire.specs.body.Taking.{IsBehindNoneFree, IsPassing}
 use Rattle.retire.proofs.TakingLemmas.{SomeTaken}
-use Rattle.retire.proofs.pages.choose_pages.Given as goal
+use Rattle.retire.proofs.pages.choose_each.Given as goal
 
 abbrev pub invariant-loop-words : goal.invariant-loop-words
 invariant-loop-words g l = SomeTaken l.operator.view (words_of_programs l.initial.current.config.now) l.initial.current.pages.now (words_of_programs l.config) l.programs l.taken
