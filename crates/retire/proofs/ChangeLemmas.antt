@@ -61,18 +61,18 @@ module _ (before after : Walk) (words other : List ℕ) (more : after.pages ≡ 
   goes_on_other one none some words_are at_is sized = record {
     counted = omega (arith, more, pages-one words);
     passed = λ done others h.
-      let same : done ≡ others = subst (λ o. MatchOption o (done ≡ others) (λ one. DifferInOne done others one.0.now one.1)) none h.differ in record {
-        counted = counted_more done others h;
-        differ = subst (λ o. MatchOption o (done ++ words ∷ [] ≡ others ++ other ∷ []) (λ one. DifferInOne (done ++ words ∷ []) (others ++ other ∷ []) one.0.now one.1)) (sym some) (record {
-          done = done;
-          old = other;
-          rest = [];
-          programs_are = ap (λ w. done ++ w ∷ []) (sym words_are);
-          others_are = ap (λ l. l ++ other ∷ []) (sym same);
-          sized = ap length words_are ∙ sized;
-          before = at_is ∙ h.counted;
-        });
-      };
+        let same : done ≡ others = subst (λ o. MatchOption o (done ≡ others) (λ one. DifferInOne done others one.0.now one.1)) none h.differ in record {
+          counted = counted_more done others h;
+          differ = subst (λ o. MatchOption o (done ++ words ∷ [] ≡ others ++ other ∷ []) (λ one. DifferInOne (done ++ words ∷ []) (others ++ other ∷ []) one.0.now one.1)) (sym some) (record {
+            done = done;
+            old = other;
+            rest = [];
+            programs_are = ap (λ w. done ++ w ∷ []) (sym words_are);
+            others_are = ap (λ l. l ++ other ∷ []) (sym same);
+            sized = ap length words_are ∙ sized;
+            before = at_is ∙ h.counted;
+          });
+        };
   }
 
 pub goes_nowhere : (walk : Walk) → GoesOn walk walk [] []

@@ -45,20 +45,22 @@ fn same_few(words: &[u64], other: &[u64]) -> bool
         && (len < 3 || words[2] == other[2])
 }
 
-// Tests four words.
+// Tests four words, without a jump between them: the compiler tests two at once then.
+#[inline(always)]
 fn same_four(words: &[u64], other: &[u64], at: usize) -> bool
     requires words { at + 4 ≤ length words.now }
     requires other { at + 4 ≤ length other.now }
     ensures { IsTrue result ↔ ((i : ℕ) → at ≤ i → i < at + 4 → slice_index words.now i ≡ slice_index other.now i) }
 {
-    words[at] == other[at]
-        && words[at + 1] == other[at + 1]
-        && words[at + 2] == other[at + 2]
-        && words[at + 3] == other[at + 3]
+    (words[at] == other[at])
+        & (words[at + 1] == other[at + 1])
+        & (words[at + 2] == other[at + 2])
+        & (words[at + 3] == other[at + 3])
 }
 
 // Most programs are short, and equal: so four words are tested at once, without a call. The last four of them may have been tested
 // before in part.
+#[inline(always)]
 pub(crate) fn same_words(words: &[u64], other: &[u64]) -> bool
     ensures { IsTrue result ↔ (words.now ≡ other.now) }
 {

@@ -21,8 +21,7 @@ replace_one-requires g c = let view = c.args.operator.now.view in let of = c.of-
 
 pub share-requires : goal.share-requires
 share-requires g c = let of = c.of-current.result in let programs = words_of_programs c.args.config.now in let earlier = words_of_programs of.config.now in
-    let same : programs ≡ earlier = subst (λ o. MatchOption o (programs ≡ earlier) (λ one. DifferInOne programs earlier one.0.now one.1)) c.in-None.is c.in-Some.ensures.passed.differ in
-    (
+    let same : programs ≡ earlier = subst (λ o. MatchOption o (programs ≡ earlier) (λ one. DifferInOne programs earlier one.0.now one.1)) c.in-None.is c.in-Some.ensures.passed.differ in (
       omega (arith, c.requires.limit),
       omega (
         arith,
