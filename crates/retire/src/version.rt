@@ -17,7 +17,7 @@ use member_group::Config;
 use read_section::Operator;
 
 // Most configurations take no more pages than these. Room for them is made ready in less time than room for all.
-const FEW_PAGES: usize = 700;
+const FEW_PAGES: usize = 800;
 
 // Where no more is charged the pages are few, since each page costs four words of the image at least.
 const FEW_CHARGE: u64 = 4 * FEW_PAGES as u64;
