@@ -1,4 +1,4 @@
--- What holds of a packet and of X where the facts hold: the truth of each test that they settle, and the loads that were made.
+-- What holds of a packet, of A and of X where the facts hold: the truth of each test that they settle, and the loads that were made.
 use Rattle.std.proofs.Common.{◌≡◌, ◌∙◌, ◌*◌, Bool, List, None, Option, Some, ap, false, refl, subst, sym, true, ℕ, ⊎_elim}
 use Rattle.std.specs.Prelude.{◌==◌, if◌then◌else◌}
 use Rattle.std.proofs.lemmas.Bool.{cases_eq, eq-eqb, ne_eqb}
@@ -19,8 +19,8 @@ use Rattle.packet_facts.specs.declared.header.Header.TheVariants as header_is
 use Rattle.packet_facts.specs.declared.header.Protocol.{Protocol}
 use Rattle.packet_facts.specs.declared.header.Protocol.TheVariants.{Any, Is, IsNot}
 use Rattle.packet_facts.specs.declared.known.Known.{Known}
-use Rattle.packet_facts.specs.Known.{HasPorts, Holds, IsFirst, IsHeader, IsProtocol, Knows, Settles}
-use Rattle.packet_facts.specs.Told.{first_fragment_of, first_in, header_in_x_of, ip_of, ip_told, named_told, number_told, ports_in, ports_told, protocol_in, protocol_of, transport_of}
+use Rattle.packet_facts.specs.Known.{HasPorts, Holds, IsFirst, IsHeader, IsInA, IsProtocol, Knows, Settles}
+use Rattle.packet_facts.specs.Told.{first_fragment_of, first_in, header_in_x_of, in_a_of, ip_of, ip_told, named_told, number_told, ports_in, ports_told, protocol_in, protocol_of, transport_of}
 
 -- ---- what is settled
 
@@ -72,7 +72,7 @@ settles_named Tcp header packet is = settles_number (protocol_in header) 6 packe
 settles_named Udp header packet is = settles_number (protocol_in header) 17 packet (protocol_is header packet is)
 settles_named Unnamed header packet is = settles_header_ports header packet is
 
-module _ (known : Known) (packet : List ℕ) (x : ℕ) (holds : Holds known packet x) where
+module _ (known : Known) (packet : List ℕ) (a x : ℕ) (holds : Holds known packet a x) where
   -- the truth of each test, as far as the facts tell it
   pub ip_settled : Settles (ip_of known) (is_ip packet)
   ip_settled = settles_ip known.header packet holds.0
@@ -112,12 +112,9 @@ module _ (known : Known) (packet : List ℕ) (x : ℕ) (holds : Holds known pack
   pub header_known : header_in_x_of known ≡ true → (ihl : ℕ) × (ihl_of packet ≡ Some ihl) × (x ≡ 4 * ihl)
   header_known told = subst (λ b. Knows b packet x) told holds.1
 
-  -- another value of X, of which as much is known
-  pub Holds-x : (x' : ℕ) → Knows (header_in_x_of known) packet x' → Holds known packet x'
-  Holds-x x' knows = (holds.0, knows)
-
-  pub Holds-any_x : header_in_x_of known ≡ false → (x' : ℕ) → Holds known packet x'
-  Holds-any_x told x' = (holds.0, subst (λ b. Knows b packet x') (sym told) tt)
+  -- what is known of A
+  pub a_known : IsInA (in_a_of known) packet a
+  a_known = holds.2
 
 -- ---- loads that were made
 
@@ -126,21 +123,21 @@ loaded_settled check None true is = cc
 loaded_settled check None false is = cc
 loaded_settled check (Some value) b is = (value, refl)
 
-module _ (known : Known) (packet : List ℕ) (x : ℕ) (holds : Holds known packet x) where
+module _ (known : Known) (packet : List ℕ) (a x : ℕ) (holds : Holds known packet a x) where
   pub version_loaded : (b : Bool) → ip_of known ≡ Some b → (version : ℕ) × (field_of field_is.Version packet ≡ Some version)
-  version_loaded b told = loaded_settled (λ version. version == 4) (field_of field_is.Version packet) b (subst (λ o. Settles o (is_ip packet)) told (ip_settled known packet x holds))
+  version_loaded b told = loaded_settled (λ version. version == 4) (field_of field_is.Version packet) b (subst (λ o. Settles o (is_ip packet)) told (ip_settled known packet a x holds))
 
   pub protocol_loaded : (n : ℕ) (b : Bool) → protocol_of known n ≡ Some b → (number : ℕ) × (field_of field_is.Protocol packet ≡ Some number)
   protocol_loaded n b told =
-      loaded_settled (λ number. number == n) (field_of field_is.Protocol packet) b (subst (λ o. Settles o (is_protocol n packet)) told (protocol_settled known packet x holds n))
+      loaded_settled (λ number. number == n) (field_of field_is.Protocol packet) b (subst (λ o. Settles o (is_protocol n packet)) told (protocol_settled known packet a x holds n))
 
   pub transport_loaded : (transport : Transport) (b : Bool) → transport_of known transport ≡ Some b → (number : ℕ) × (field_of field_is.Protocol packet ≡ Some number)
   transport_loaded transport b told =
       loaded_settled (has_ports transport) (field_of field_is.Protocol packet) b
-      (subst (λ o. Settles o (tested (has_ports transport) (field_of field_is.Protocol packet))) told (transport_settled known packet x holds transport))
+      (subst (λ o. Settles o (tested (has_ports transport) (field_of field_is.Protocol packet))) told (transport_settled known packet a x holds transport))
 
   pub fragment_loaded : first_fragment_of known ≡ true → (offset : ℕ) × (field_of field_is.FragmentOffset packet ≡ Some offset)
-  fragment_loaded told = loaded_settled (λ offset. offset == 0) (field_of field_is.FragmentOffset packet) true (first_fragment_yes known packet x holds told)
+  fragment_loaded told = loaded_settled (λ offset. offset == 0) (field_of field_is.FragmentOffset packet) true (first_fragment_yes known packet a x holds told)
 
 -- ---- protocol and fragment are told of packets of IPv4 alone
 

@@ -1,4 +1,4 @@
--- What the facts say of a packet and of X. Each says that the packet has the bytes, and what they are or are not.
+-- What the facts say of a packet, of A and of X. Each says that the packet has the bytes, and what they are or are not.
 use Rattle.std.specs.Prelude.{◌≡◌, ◌≢◌, ◌*◌, List, None, Option, Some, Bool, false, true, ℕ}
 use Rattle.ipv4_fields.specs.declared.header.Field.TheVariants as field_is
 use Rattle.ipv4_fields.specs.Field.{field_of, ihl_of}
@@ -12,6 +12,8 @@ use Rattle.packet_facts.specs.declared.header.Header.TheVariants as header_is
 use Rattle.packet_facts.specs.declared.header.Protocol.{Protocol}
 use Rattle.packet_facts.specs.declared.header.Protocol.TheVariants.{Any, Is, IsNot}
 use Rattle.packet_facts.specs.declared.known.Known.{Known}
+use Rattle.packet_facts.specs.declared.load.Loaded.{Loaded}
+use Rattle.packet_facts.specs.declared.load.Loaded.TheVariants as loaded_is
 
 -- what is known of a truth, if anything is
 abbrev pub Settles : Option Bool → Truth → Type 0
@@ -46,6 +48,19 @@ abbrev pub Knows : Bool → List ℕ → ℕ → Type 0
 Knows false packet x = Unit {0}
 Knows true packet x = (ihl : ℕ) × (ihl_of packet ≡ Some ihl) × (x ≡ 4 * ihl)
 
--- the packet and X are as known
-abbrev pub Holds : Known → List ℕ → ℕ → Type 0
-Holds known packet x = IsHeader known.header packet × Knows known.header_in_x packet x
+-- what is loaded of a packet, none where it lacks a byte of it
+abbrev pub loaded_of : Loaded → List ℕ → Option ℕ
+loaded_of loaded_is.Protocol packet = field_of field_is.Protocol packet
+loaded_of loaded_is.Source packet = field_of field_is.Source packet
+loaded_of loaded_is.Destination packet = field_of field_is.Destination packet
+loaded_of loaded_is.SourcePort packet = field_of field_is.SourcePort packet
+loaded_of loaded_is.DestinationPort packet = field_of field_is.DestinationPort packet
+
+-- A is as known: it holds what was loaded of the packet, or nothing is known of it
+abbrev pub IsInA : Option Loaded → List ℕ → ℕ → Type 0
+IsInA None packet a = Unit {0}
+IsInA (Some loaded) packet a = loaded_of loaded packet ≡ Some a
+
+-- the packet, A and X are as known
+abbrev pub Holds : Known → List ℕ → ℕ → ℕ → Type 0
+Holds known packet a x = IsHeader known.header packet × Knows known.header_in_x packet x × IsInA known.in_a packet a

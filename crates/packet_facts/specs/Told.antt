@@ -14,6 +14,7 @@ use Rattle.packet_facts.specs.declared.header.Header.TheVariants as header_is
 use Rattle.packet_facts.specs.declared.header.Protocol.{Protocol}
 use Rattle.packet_facts.specs.declared.header.Protocol.TheVariants.{Any, Is, IsNot}
 use Rattle.packet_facts.specs.declared.known.Known.{Known}
+use Rattle.packet_facts.specs.declared.load.Loaded.{Loaded}
 
 -- what two agree on
 abbrev pub agreed : Option Bool → Option Bool → Option Bool
@@ -89,6 +90,14 @@ first_fragment_of known = first_in known.header
 -- whether X is known to hold the length of the header
 abbrev pub header_in_x_of : Known → Bool
 header_in_x_of known = known.header_in_x
+
+-- what A is known to hold, if anything
+abbrev pub in_a_of : Known → Option Loaded
+in_a_of known = known.in_a
+
+-- what is known of the packet
+abbrev pub header_of : Known → Header
+header_of known = known.header
 
 -- an answer that is no
 abbrev pub is_no : Option Bool → Bool

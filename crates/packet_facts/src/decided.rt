@@ -15,21 +15,21 @@ use filter_tree::{Accesses, Primitive, Transport};
 impl Known {
     fn is_not_ip(self) -> bool
         ensures exact { result ≡ is_no (ip_of self) }
-        ensures known { IsTrue result → (packet : List ℕ) (x : ℕ) → Holds self packet x → IsNotIp packet }
+        ensures known { IsTrue result → (packet : List ℕ) (a x : ℕ) → Holds self packet a x → IsNotIp packet }
     {
         matches!(self.ip(), Some(false))
     }
 
     fn is_not_protocol(self, n: u8) -> bool
         ensures exact { result ≡ is_no (protocol_of self n) }
-        ensures known { IsTrue result → (packet : List ℕ) (x : ℕ) → Holds self packet x → IsNotProtocol n packet }
+        ensures known { IsTrue result → (packet : List ℕ) (a x : ℕ) → Holds self packet a x → IsNotProtocol n packet }
     {
         matches!(self.protocol(n), Some(false))
     }
 
     fn is_not_transport(self, transport: Transport) -> bool
         ensures exact { result ≡ is_no (transport_of self transport) }
-        ensures known { IsTrue result → (packet : List ℕ) (x : ℕ) → Holds self packet x → IsNotTransport transport packet }
+        ensures known { IsTrue result → (packet : List ℕ) (a x : ℕ) → Holds self packet a x → IsNotTransport transport packet }
     {
         matches!(self.transport(transport), Some(false))
     }
@@ -38,7 +38,7 @@ impl Known {
     /// protocol is known to be no.
     pub fn excludes(self, primitive: &Primitive) -> bool
         ensures exact { result ≡ excludes_of self primitive.now }
-        ensures excluded { IsTrue result → (packet : List ℕ) (x : ℕ) → Holds self packet x → truth_of_primitive primitive.now packet ≡ No }
+        ensures excluded { IsTrue result → (packet : List ℕ) (a x : ℕ) → Holds self packet a x → truth_of_primitive primitive.now packet ≡ No }
     {
         match primitive {
             Primitive::Ip => self.is_not_ip(),
@@ -54,7 +54,7 @@ impl Known {
 
     fn excludes_ports(self, transport: Transport) -> bool
         ensures exact { result ≡ has_no_ports self transport }
-        ensures known { IsTrue result → (packet : List ℕ) (x : ℕ) → Holds self packet x → IsWithoutPorts transport packet }
+        ensures known { IsTrue result → (packet : List ℕ) (a x : ℕ) → Holds self packet a x → IsWithoutPorts transport packet }
     {
         self.is_not_ip() || self.is_not_transport(transport)
     }
@@ -62,7 +62,7 @@ impl Known {
     /// Tests whether the guards of a relation whose accessors read these protocols' data are known to be false.
     pub fn excludes_guards(self, used: Accesses) -> bool
         ensures exact { result ≡ excludes_guards_of self (used_by used) }
-        ensures excluded { IsTrue result → (packet : List ℕ) (x : ℕ) → Holds self packet x → guards (used_by used) packet ≡ No }
+        ensures excluded { IsTrue result → (packet : List ℕ) (a x : ℕ) → Holds self packet a x → guards (used_by used) packet ≡ No }
     {
         let tcp = used.tcp && self.is_not_protocol(6);
         let udp = used.udp && self.is_not_protocol(17);

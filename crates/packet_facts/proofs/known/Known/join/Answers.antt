@@ -42,3 +42,9 @@ returns-then-self-clause-of_self c = search rules
 
 pub returns-then-self-clause-protocol : goal.returns-then-self-clause-protocol
 returns-then-self-clause-protocol c = search rules
+
+pub returns-then-self-clause-in_a : goal.returns-then-self-clause-in_a
+returns-then-self-clause-in_a c = search rules
+
+pub returns-else-self-clause-in_a : goal.returns-else-self-clause-in_a
+returns-else-self-clause-in_a c = search rules
