@@ -291,20 +291,20 @@ yes_first guard tree is Fails packet first = sym (is.fails packet first)
 
 module _ (guard : Guard) (tree : Tree) (known on : Known) (missed : Option Known) (learned : IsLearned guard on) {c0 c1 c2 : List ℕ} where
   -- packets that fail it go to no
-  pub Writes-no_elsewhere : (if_yes second_no if_no : Known) {y y' n n' n'' : Open} → IsSettled guard known tree false → ((packet : List ℕ) (x : ℕ) → HoldsWhere missed packet x → Holds if_no packet x) → ((packet : List ℕ) (x : ℕ) → Holds second_no packet x → Holds if_no packet x)
+  pub Writes-no_elsewhere : (if_yes second_no if_no : Known) {y y' n n' n'' : Open} → IsSettled guard known tree false → ((packet : List ℕ) (a x : ℕ) → HoldsWhere missed packet a x → Holds if_no packet a x) → ((packet : List ℕ) (a x : ℕ) → Holds second_no packet a x → Holds if_no packet a x)
       → Guards (Tests (Holds known) (Holds on) (HoldsWhere missed) (guard_truth guard)) (guard_weight guard known) c0 c1 n n' → Writes (Tests (Holds on) (Holds if_yes) (Holds second_no) (truth_of tree)) (weight_under on tree) c1 c2 y y' n' n''
       → Writes (Tests (Holds known) (Holds if_yes) (Holds if_no) (truth_of tree)) (weight_under known tree) c0 c2 y y' n n''
   Writes-no_elsewhere if_yes second_no if_no is of_self of_no guards writes = Writes-means
-      (λ at_yes at_no words h. Tests-same (Holds known) (Holds if_yes) (Holds if_no) (λ packet. guard_truth guard packet and_then truth_of tree packet) (truth_of tree) at_yes at_no words (λ packet x ok g. no_first guard tree is.said (guard_truth guard packet) packet refl) h)
+      (λ at_yes at_no words h. Tests-same (Holds known) (Holds if_yes) (Holds if_no) (λ packet. guard_truth guard packet and_then truth_of tree packet) (truth_of tree) at_yes at_no words (λ packet a x ok g. no_first guard tree is.said (guard_truth guard packet) packet refl) h)
       (Writes-guarded known on if_yes second_no if_no missed (guard_truth guard) (truth_of tree) (weight_under known tree) (is.room.rest on learned) of_self of_no guards writes)
 
   -- they go to yes
-  pub Writes-yes_elsewhere : (second_yes if_yes if_no : Known) {y y' y'' n n' : Open} → IsSettled guard known tree true → ((packet : List ℕ) (x : ℕ) → HoldsWhere missed packet x → Holds if_yes packet x) → ((packet : List ℕ) (x : ℕ) → Holds second_yes packet x → Holds if_yes packet x)
+  pub Writes-yes_elsewhere : (second_yes if_yes if_no : Known) {y y' y'' n n' : Open} → IsSettled guard known tree true → ((packet : List ℕ) (a x : ℕ) → HoldsWhere missed packet a x → Holds if_yes packet a x) → ((packet : List ℕ) (a x : ℕ) → Holds second_yes packet a x → Holds if_yes packet a x)
       → Guards (Tests (Holds known) (Holds on) (HoldsWhere missed) (guard_truth guard)) (guard_weight guard known) c0 c1 y y' → Writes (Tests (Holds on) (Holds second_yes) (Holds if_no) (truth_of tree)) (weight_under on tree) c1 c2 y' y'' n n'
       → Writes (Tests (Holds known) (Holds if_yes) (Holds if_no) (truth_of tree)) (weight_under known tree) c0 c2 y y'' n n'
   Writes-yes_elsewhere second_yes if_yes if_no is of_self of_yes guards writes = Writes-weight (weight_under known tree) (is.room.rest on learned)
       (Guards-writes_no {one = λ at_yes at_no words. Tests (Holds known) (Holds on) (HoldsWhere missed) (guard_truth guard) at_no at_yes words} {both = Tests (Holds known) (Holds if_yes) (Holds if_no) (truth_of tree)}
-      (λ at_yes at_no mid words h k. Tests-same (Holds known) (Holds if_yes) (Holds if_no) (λ packet. opposite (guard_truth guard packet) or_else truth_of tree packet) (truth_of tree) at_yes at_no words (λ packet x ok g. yes_first guard tree is.said (guard_truth guard packet) packet refl)
+      (λ at_yes at_no mid words h k. Tests-same (Holds known) (Holds if_yes) (Holds if_no) (λ packet. opposite (guard_truth guard packet) or_else truth_of tree packet) (truth_of tree) at_yes at_no words (λ packet a x ok g. yes_first guard tree is.said (guard_truth guard packet) packet refl)
       (Tests-or (Holds known) (Holds on) (Holds if_no) (HoldsWhere missed) (Holds second_yes) (Holds if_yes) (λ packet. opposite (guard_truth guard packet)) (truth_of tree) of_self of_yes at_yes at_no mid words k
       (Tests-not (Holds known) (HoldsWhere missed) (Holds on) (guard_truth guard) at_yes mid words h)))
       guards writes)

@@ -15,7 +15,8 @@ use Rattle.filter_tree.specs.Measure.{weight_where}
 use Rattle.filter_tree.specs.Outcome.{◌and_then◌, tested, where_so}
 use Rattle.filter_tree.specs.Primitive.{has_ports, is_first_fragment, is_ip}
 use Rattle.packet_facts.specs.declared.known.Known.{Known}
-use Rattle.packet_facts.specs.Known.{Holds}
+use Rattle.packet_facts.specs.declared.load.Loaded.{Loaded}
+use Rattle.packet_facts.specs.Known.{Holds, IsInA}
 use Rattle.packet_facts.specs.Told.{first_fragment_of, transport_of}
 use Rattle.packet_facts.proofs.FactLemmas.{first_fragment_yes, ip_by_fragment, ip_yes, transport_yes}
 use Rattle.filter_compile.specs.body.Piece.{Decides, Tests}
@@ -58,24 +59,24 @@ led_both true None is = cc
 led_both false told is = cc
 
 -- what comes before ports is true where it is known to be
-pub led_truth : (known : Known) (transport : Transport) → leads_to_ports known transport ≡ true → (packet : List ℕ) (x : ℕ) → Holds known packet x
+pub led_truth : (known : Known) (transport : Transport) → leads_to_ports known transport ≡ true → (packet : List ℕ) (a x : ℕ) → Holds known packet a x
     → (is_ip packet and_then tested (has_ports transport) (field_of Protocol packet) and_then is_first_fragment packet) ≡ Yes
-led_truth known transport led packet x h =
+led_truth known transport led packet a x h =
     let told = led_both (first_fragment_of known) (transport_of known transport) led in
-    rw (ip_yes known packet x h (ip_by_fragment known told.0), transport_yes known packet x h transport told.1, first_fragment_yes known packet x h told.0) refl
+    rw (ip_yes known packet a x h (ip_by_fragment known told.0), transport_yes known packet a x h transport told.1, first_fragment_yes known packet a x h told.0) refl
 
 pub leads : (known : Known) (transport : Transport) → first_fragment_of known ≡ true → transport_of known transport ≡ Some true → leads_to_ports known transport ≡ true
 leads known transport first told = rw (first, told) refl
 
 -- nothing is written
-pub Guards-left_out : (known on : Known) (if_no : Option Known) (truth : List ℕ → Truth) (weight : ℕ) (code : List ℕ) (n : Open) → on ≡ known → ((packet : List ℕ) (x : ℕ) → Holds known packet x → truth packet ≡ Yes)
+pub Guards-left_out : (known on : Known) (if_no : Option Known) (truth : List ℕ → Truth) (weight : ℕ) (code : List ℕ) (n : Open) → on ≡ known → ((packet : List ℕ) (a x : ℕ) → Holds known packet a x → truth packet ≡ Yes)
     → Guards (Tests (Holds known) (Holds on) (HoldsWhere if_no) truth) weight code code n n
 Guards-left_out known on if_no truth weight code n same if_yes = Guards-weight weight (omega arith)
-    (Guards-none code n (λ at_no words. Tests-none (Holds known) (Holds on) (HoldsWhere if_no) truth at_no words (λ packet x h. subst (λ k. Holds k packet x) (sym same) h) if_yes))
+    (Guards-none code n (λ at_no words. Tests-none (Holds known) (Holds on) (HoldsWhere if_no) truth at_no words (λ packet a x h. subst (λ k. Holds k packet a x) (sym same) h) if_yes))
 
 -- a guard in front of a guard
-pub Guards-both : (known on on' last : Known) (one two if_no : Option Known) (first second : List ℕ → Truth) {v w : ℕ} {c0 c1 c2 : List ℕ} {n n' n'' : Open} → last ≡ on' → ((packet : List ℕ) (x : ℕ) → HoldsWhere one packet x → HoldsWhere if_no packet x)
-    → ((packet : List ℕ) (x : ℕ) → HoldsWhere two packet x → HoldsWhere if_no packet x) → Guards (Tests (Holds known) (Holds on) (HoldsWhere one) first) v c0 c1 n n' → Guards (Tests (Holds on) (Holds on') (HoldsWhere two) second) w c1 c2 n' n''
+pub Guards-both : (known on on' last : Known) (one two if_no : Option Known) (first second : List ℕ → Truth) {v w : ℕ} {c0 c1 c2 : List ℕ} {n n' n'' : Open} → last ≡ on' → ((packet : List ℕ) (a x : ℕ) → HoldsWhere one packet a x → HoldsWhere if_no packet a x)
+    → ((packet : List ℕ) (a x : ℕ) → HoldsWhere two packet a x → HoldsWhere if_no packet a x) → Guards (Tests (Holds known) (Holds on) (HoldsWhere one) first) v c0 c1 n n' → Guards (Tests (Holds on) (Holds on') (HoldsWhere two) second) w c1 c2 n' n''
     → Guards (Tests (Holds known) (Holds last) (HoldsWhere if_no) (λ packet. first packet and_then second packet)) (v + w) c0 c2 n n''
 Guards-both known on on' last one two if_no first second {v = v} {w = w} {c0 = c0} {c2 = c2} {n = n} {n'' = n''} same of_one of_two guards guards' =
     subst (λ k. Guards (Tests (Holds known) (Holds k) (HoldsWhere if_no) (λ packet. first packet and_then second packet)) (v + w) c0 c2 n n'') (sym same)
@@ -83,26 +84,27 @@ Guards-both known on on' last one two if_no first second {v = v} {w = w} {c0 = c
 
 -- ---- guards one behind the other
 
-pub Adds-none : (passed : Passed) (truth : List ℕ → Truth) (weight : ℕ) (code : List ℕ) (n : Open) → ((packet : List ℕ) (x : ℕ) → Holds passed.on packet x → truth packet ≡ Yes) → Adds truth weight code code passed passed n n
-Adds-none passed truth weight code n if_yes = record { guards = Guards-left_out passed.on passed.on passed.no truth weight code n refl if_yes; missed = λ packet x m. m }
+pub Adds-none : (passed : Passed) (truth : List ℕ → Truth) (weight : ℕ) (code : List ℕ) (n : Open) → ((packet : List ℕ) (a x : ℕ) → Holds passed.on packet a x → truth packet ≡ Yes) → Adds truth weight code code passed passed n n
+Adds-none passed truth weight code n if_yes = record { guards = Guards-left_out passed.on passed.on passed.no truth weight code n refl if_yes; missed = λ packet a x m. m }
 
--- a test, and what it tells
-pub Adds-asked : (old new : Passed) (on if_no : Known) (truth : List ℕ → Truth) (weight : ℕ) {c0 c1 : List ℕ} {n n' : Open} → new.on ≡ on → ((packet : List ℕ) (x : ℕ) → HoldsWhere old.no packet x → HoldsWhere new.no packet x)
-    → ((packet : List ℕ) (x : ℕ) → Holds if_no packet x → HoldsWhere new.no packet x)
-    → ((packet : List ℕ) (x : ℕ) → Holds old.on packet x → truth packet ≡ Yes → Holds on packet x) → ((packet : List ℕ) (x : ℕ) → Holds old.on packet x → truth packet ≡ No → Holds if_no packet x)
-    → Guards (Decides false truth) weight c0 c1 n n' → Adds truth weight c0 c1 old new n n'
-Adds-asked old new on if_no truth weight same of_self of_no on_yes on_no guards = record {
+-- a test, and what it tells where A holds what the test leaves there
+pub Adds-asked : (old new : Passed) (asked on if_no : Known) (given after : Option Loaded) (truth : List ℕ → Truth) (weight : ℕ) {c0 c1 : List ℕ} {n n' : Open} → new.on ≡ on → ((packet : List ℕ) (a x : ℕ) → HoldsWhere old.no packet a x → HoldsWhere new.no packet a x)
+    → ((packet : List ℕ) (a x : ℕ) → Holds if_no packet a x → HoldsWhere new.no packet a x) → ((packet : List ℕ) (a x : ℕ) → Holds old.on packet a x → IsInA given packet a)
+    → ((packet : List ℕ) (a a' x : ℕ) → Holds old.on packet a x → IsInA after packet a' → Holds asked packet a' x)
+    → ((packet : List ℕ) (a x : ℕ) → Holds asked packet a x → truth packet ≡ Yes → Holds on packet a x) → ((packet : List ℕ) (a x : ℕ) → Holds asked packet a x → truth packet ≡ No → Holds if_no packet a x)
+    → Guards (Decides false given after truth) weight c0 c1 n n' → Adds truth weight c0 c1 old new n n'
+Adds-asked old new asked on if_no given after truth weight same of_self of_no in_a left on_yes on_no guards = record {
   guards = Guards-means
-      (λ at_yes at_no words h. Tests-decided false (Holds old.on) (Holds new.on) (HoldsWhere new.no) truth at_yes at_no words (λ packet x g. tt) (λ packet x h is. subst (λ k. Holds k packet x) (sym same) (on_yes packet x h is))
-      (λ packet x h is. of_no packet x (on_no packet x h is)) h) guards;
+      (λ at_yes at_no words h. Tests-decided false given after (Holds old.on) (Holds new.on) (HoldsWhere new.no) truth at_yes at_no words (λ packet a x g. tt) in_a
+      (λ packet a a' x g is yes. subst (λ k. Holds k packet a' x) (sym same) (on_yes packet a' x (left packet a a' x g is) yes)) (λ packet a a' x g is no. of_no packet a' x (on_no packet a' x (left packet a a' x g is) no)) h) guards;
   missed = of_self;
 }
 
 -- one guard behind another
 pub Adds-both : {first second : List ℕ → Truth} {v w : ℕ} {c0 c1 c2 : List ℕ} {a b c : Passed} {n n' n'' : Open} → Adds first v c0 c1 a b n n' → Adds second w c1 c2 b c n' n'' → Adds (λ packet. first packet and_then second packet) (v + w) c0 c2 a c n n''
 Adds-both {first = first} {second = second} {a = a} {b = b} {c = c} one two = record {
-  guards = Guards-both a.on b.on c.on c.on b.no c.no c.no first second refl two.missed (λ packet x m. m) one.guards two.guards;
-  missed = λ packet x m. two.missed packet x (one.missed packet x m);
+  guards = Guards-both a.on b.on c.on c.on b.no c.no c.no first second refl two.missed (λ packet a x m. m) one.guards two.guards;
+  missed = λ packet a x m. two.missed packet a x (one.missed packet a x m);
 }
 
 pub Adds-weight : {truth : List ℕ → Truth} {v : ℕ} {c0 c1 : List ℕ} {a b : Passed} {n n' : Open} (w : ℕ) → v ≤ w → Adds truth v c0 c1 a b n n' → Adds truth w c0 c1 a b n n'
@@ -116,26 +118,29 @@ Guards-added known truth weight {c0 = c0} {c1 = c1} old new {n = n} {n' = n'} sa
 -- ---- pieces
 
 -- what is known to be true goes there at once
-pub Writes-yes : (known : Known) (sides : Sides) (truth : List ℕ → Truth) (weight : ℕ) {c0 c1 : List ℕ} {y y' : Open} (n : Open) → 1 ≤ weight → ((packet : List ℕ) (x : ℕ) → Holds known packet x → truth packet ≡ Yes)
+pub Writes-yes : (known : Known) (sides : Sides) (truth : List ℕ → Truth) (weight : ℕ) {c0 c1 : List ℕ} {y y' : Open} (n : Open) → 1 ≤ weight → ((packet : List ℕ) (a x : ℕ) → Holds known packet a x → truth packet ≡ Yes)
     → Leaves known sides c0 c1 y y' → Writes (Tests (Holds known) (Holds sides.yes) (Holds sides.no) truth) weight c0 c1 y y' n n
 Writes-yes known sides truth weight n few if_yes leaves = Writes-weight weight few
-    (Writes-means (λ at_yes at_no words h. Tests-yes (Holds known) (Holds sides.yes) (Holds sides.no) truth at_yes at_no words (λ packet x g. subst (λ k. Holds k packet x) (sym leaves.yes) g) if_yes h) (leaves.writes n))
+    (Writes-means (λ at_yes at_no words h. Tests-yes (Holds known) (Holds sides.yes) (Holds sides.no) truth at_yes at_no words (λ packet a x g. subst (λ k. Holds k packet a x) (sym leaves.yes) g) if_yes h) (leaves.writes n))
 
-pub Writes-no : (known : Known) (sides : Sides) (truth : List ℕ → Truth) (weight : ℕ) {c0 c1 : List ℕ} {n n' : Open} (y : Open) → 1 ≤ weight → ((packet : List ℕ) (x : ℕ) → Holds known packet x → truth packet ≡ No)
+pub Writes-no : (known : Known) (sides : Sides) (truth : List ℕ → Truth) (weight : ℕ) {c0 c1 : List ℕ} {n n' : Open} (y : Open) → 1 ≤ weight → ((packet : List ℕ) (a x : ℕ) → Holds known packet a x → truth packet ≡ No)
     → Leaves known sides c0 c1 n n' → Writes (Tests (Holds known) (Holds sides.yes) (Holds sides.no) truth) weight c0 c1 y y n n'
 Writes-no known sides truth weight y few is_no leaves = Writes-weight weight few
     (Writes-not {other = Tests (Holds known) (Holds sides.yes) (Holds sides.no) truth}
-    (λ at_yes at_no words h. Tests-no (Holds known) (Holds sides.yes) (Holds sides.no) truth at_yes at_no words (λ packet x g. subst (λ k. Holds k packet x) (sym leaves.no) g) is_no h) (leaves.writes y))
+    (λ at_yes at_no words h. Tests-no (Holds known) (Holds sides.yes) (Holds sides.no) truth at_yes at_no words (λ packet a x g. subst (λ k. Holds k packet a x) (sym leaves.no) g) is_no h) (leaves.writes y))
 
--- a decision, and what it tells
-pub Writes-decided : (known if_yes if_no : Known) (truth : List ℕ → Truth) {weight : ℕ} {c0 c1 : List ℕ} {y y' n n' : Open} → ((packet : List ℕ) (x : ℕ) → Holds known packet x → truth packet ≡ Yes → Holds if_yes packet x)
-    → ((packet : List ℕ) (x : ℕ) → Holds known packet x → truth packet ≡ No → Holds if_no packet x) → Writes (Decides false truth) weight c0 c1 y y' n n' → Writes (Tests (Holds known) (Holds if_yes) (Holds if_no) truth) weight c0 c1 y y' n n'
-Writes-decided known if_yes if_no truth on_yes on_no writes =
-    Writes-means (λ at_yes at_no words h. Tests-decided false (Holds known) (Holds if_yes) (Holds if_no) truth at_yes at_no words (λ packet x g. tt) on_yes on_no h) writes
+-- a decision, and what it tells where A holds what the decision leaves there
+pub Writes-decided : (known asked if_yes if_no : Known) (given after : Option Loaded) (truth : List ℕ → Truth) {weight : ℕ} {c0 c1 : List ℕ} {y y' n n' : Open} → ((packet : List ℕ) (a x : ℕ) → Holds known packet a x → IsInA given packet a)
+    → ((packet : List ℕ) (a a' x : ℕ) → Holds known packet a x → IsInA after packet a' → Holds asked packet a' x)
+    → ((packet : List ℕ) (a x : ℕ) → Holds asked packet a x → truth packet ≡ Yes → Holds if_yes packet a x) → ((packet : List ℕ) (a x : ℕ) → Holds asked packet a x → truth packet ≡ No → Holds if_no packet a x)
+    → Writes (Decides false given after truth) weight c0 c1 y y' n n' → Writes (Tests (Holds known) (Holds if_yes) (Holds if_no) truth) weight c0 c1 y y' n n'
+Writes-decided known asked if_yes if_no given after truth in_a left on_yes on_no writes = Writes-means
+    (λ at_yes at_no words h. Tests-decided false given after (Holds known) (Holds if_yes) (Holds if_no) truth at_yes at_no words (λ packet a x g. tt) in_a (λ packet a a' x g is yes. on_yes packet a' x (left packet a a' x g is) yes)
+    (λ packet a a' x g is no. on_no packet a' x (left packet a a' x g is) no) h) writes
 
 -- a guard in front of a piece
 pub Writes-guarded : (known on if_yes second_no if_no : Known) (missed : Option Known) (first second : List ℕ → Truth) (weight : ℕ) {v w : ℕ} {c0 c1 c2 : List ℕ} {y y' n n' n'' : Open} → v + w ≤ weight
-    → ((packet : List ℕ) (x : ℕ) → HoldsWhere missed packet x → Holds if_no packet x) → ((packet : List ℕ) (x : ℕ) → Holds second_no packet x → Holds if_no packet x)
+    → ((packet : List ℕ) (a x : ℕ) → HoldsWhere missed packet a x → Holds if_no packet a x) → ((packet : List ℕ) (a x : ℕ) → Holds second_no packet a x → Holds if_no packet a x)
     → Guards (Tests (Holds known) (Holds on) (HoldsWhere missed) first) v c0 c1 n n' → Writes (Tests (Holds on) (Holds if_yes) (Holds second_no) second) w c1 c2 y y' n' n''
     → Writes (Tests (Holds known) (Holds if_yes) (Holds if_no) (λ packet. first packet and_then second packet)) weight c0 c2 y y' n n''
 Writes-guarded known on if_yes second_no if_no missed first second weight few of_self of_no guards writes = Writes-weight weight few

@@ -3,6 +3,7 @@ use Rattle.std.proofs.Common.{◌≡◌, ◌∙◌, ◌+◌, ◌-◌, ◌*◌, �
 use Rattle.std.specs.Prelude.{◌&&◌, ◌==◌, ◌||◌, max, min, nat_le, nat_lt, not, option_and_then, option_map}
 use Rattle.std.proofs.lemmas.Nat.{and_mask}
 use Rattle.std.proofs.lemmas.Bool.{cases_eq, cases_lt, eq-eqb, le-leb, le-ltb, lt-leb, lt-ltb, ne_eqb}
+use Rattle.bpf_insn.specs.declared.instruction.Insn.{Insn}
 use Rattle.bpf_insn.specs.declared.instruction.Insn.TheVariants.{LoadAbsolute, LoadIndexed, LoadLength}
 use Rattle.bpf_insn.specs.declared.instruction.Operand.TheVariants.{K}
 use Rattle.bpf_insn.specs.declared.instruction.Operation.TheVariants.{Rsh}
@@ -12,7 +13,7 @@ use Rattle.bpf_machine.specs.Meaning.{Cells, a_or_end, computed, holds, mean}
 use Rattle.bpf_machine.specs.Packet.{packet_number}
 use Rattle.backpatch.specs.Checks.{Checks, asks}
 use Rattle.backpatch.specs.Runs.{IsPushed}
-use Rattle.backpatch.proofs.PushedLemmas.{mean_pushed}
+use Rattle.backpatch.proofs.PushedLemmas.{after_effect, mean_pushed}
 use Rattle.ipv4_fields.specs.declared.header.Field.TheVariants.{Protocol}
 use Rattle.ipv4_fields.specs.Field.{behind_header, bits_from, field_of, ihl_of, number_at}
 use Rattle.filter_tree.specs.declared.truth.Truth.{Truth}
@@ -22,20 +23,24 @@ use Rattle.filter_tree.specs.declared.primitive.Direction.TheVariants.{Both, Des
 use Rattle.filter_tree.specs.Outcome.{◌and_then◌, ◌or_else◌, answer, opposite, tested}
 use Rattle.filter_tree.specs.Prefix.{NetworkPrefix, covers}
 use Rattle.filter_tree.specs.Primitive.{at_ends, is_between, is_first_fragment, is_ip}
-use Rattle.packet_facts.specs.Known.{Knows}
+use Rattle.packet_facts.specs.declared.known.Known.{Known}
+use Rattle.packet_facts.specs.declared.load.Loaded.{Loaded}
+use Rattle.packet_facts.specs.declared.load.Loaded.TheVariants as loaded_is
+use Rattle.packet_facts.specs.Known.{Holds, IsHeader, IsInA, Knows, loaded_of}
+use Rattle.packet_facts.specs.Told.{header_in_x_of, in_a_of}
+use Rattle.packet_facts.proofs.FactLemmas.{x_known}
 use Rattle.filter_compile.specs.Answer.{IsPacket}
 use Rattle.filter_compile.specs.declared.check.Check.{Check}
 use Rattle.filter_compile.specs.declared.check.Check.TheVariants.{Between, Covered, Equal}
-use Rattle.filter_compile.specs.declared.ends.End.{End}
-use Rattle.filter_compile.specs.declared.ends.End.TheVariants as end_is
 use Rattle.filter_compile.specs.declared.ends.Part.{Part}
 use Rattle.filter_compile.specs.declared.ends.Part.TheVariants.{Address, Port}
-use Rattle.filter_compile.specs.body.Header.{end_of, ends_pass, passes, weight_of_check}
-use Rattle.filter_compile.specs.body.Piece.{Asks, ComesWith, Computes, DecidedBy, Decides, Facts, GoesBy, LoadsAs, Tests, behind}
+use Rattle.filter_compile.specs.body.Header.{by_header, destination_of, ends_pass, passes, source_of, weight_of_check}
+use Rattle.filter_compile.specs.body.Piece.{Asks, Brings, BringsTo, ComesWith, Computes, DecidedBy, Decides, Facts, GoesBy, IsPlain, LoadsAs, Tests, behind}
+use Rattle.filter_compile.specs.body.Sides.{IsSameButA}
 use Rattle.filter_compile.proofs.PacketLemmas.{and-high_bits, and-low_bits, number_at-below, packet_number-number_at}
 use Rattle.filter_compile.proofs.ValueLemmas.{plain_loads}
 use Rattle.filter_compile.proofs.ArithmeticLemmas.{absolute_plain, length_plain}
-use Rattle.filter_compile.proofs.TestLemmas.{Decides-loaded, Decides-same, on_from}
+use Rattle.filter_compile.proofs.TestLemmas.{Decides-brought, Decides-loaded, Decides-same, Tests-and, Tests-or, Tests-same, on_from}
 
 -- ---- numbers and what is asked of them
 
@@ -74,13 +79,17 @@ byte_loads k packet a x cells knows = ap (λ o. a_or_end o x cells) (packet_numb
 pub half_loads : (k : ℕ) → LoadsAs false (LoadAbsolute Half k) (λ packet. number_at 2 packet k)
 half_loads k packet a x cells knows = ap (λ o. a_or_end o x cells) (packet_number-number_at packet Half k)
 
--- ---- the ends of a packet
+-- ---- numbers that A may hold
 
-pub source_address_loads : LoadsAs false (LoadAbsolute Word 12) (end_of Address end_is.Source)
+pub protocol_loads : LoadsAs false (LoadAbsolute Byte 9) (loaded_of loaded_is.Protocol)
+unfolding field_of
+protocol_loads packet a x cells knows = ap (λ o. a_or_end o x cells) (packet_number-number_at packet Byte 9)
+
+pub source_address_loads : LoadsAs false (LoadAbsolute Word 12) (loaded_of loaded_is.Source)
 unfolding field_of
 source_address_loads packet a x cells knows = ap (λ o. a_or_end o x cells) (packet_number-number_at packet Word 12)
 
-pub destination_address_loads : LoadsAs false (LoadAbsolute Word 16) (end_of Address end_is.Destination)
+pub destination_address_loads : LoadsAs false (LoadAbsolute Word 16) (loaded_of loaded_is.Destination)
 unfolding field_of
 destination_address_loads packet a x cells knows = ap (λ o. a_or_end o x cells) (packet_number-number_at packet Word 16)
 
@@ -88,11 +97,11 @@ port_at : (packet : List ℕ) (k x ihl : ℕ) → ihl_of packet ≡ Some ihl →
 port_at packet k x ihl is length =
     packet_number-number_at packet Half (x + k) ∙ (ap (λ n. number_at 2 packet (n + k)) length ∙ sym (ap (option_and_then (λ i. number_at 2 packet (4 * i + k))) is))
 
-pub source_port_loads : LoadsAs true (LoadIndexed Half 0) (end_of Port end_is.Source)
+pub source_port_loads : LoadsAs true (LoadIndexed Half 0) (loaded_of loaded_is.SourcePort)
 unfolding field_of
 source_port_loads packet a x cells knows = ap (λ o. a_or_end o x cells) (port_at packet 0 x knows.0 knows.1 knows.2)
 
-pub destination_port_loads : LoadsAs true (LoadIndexed Half 2) (end_of Port end_is.Destination)
+pub destination_port_loads : LoadsAs true (LoadIndexed Half 2) (loaded_of loaded_is.DestinationPort)
 unfolding field_of
 destination_port_loads packet a x cells knows = ap (λ o. a_or_end o x cells) (port_at packet 2 x knows.0 knows.1 knows.2)
 
@@ -100,63 +109,96 @@ behind-below : (packet : List ℕ) (k v : ℕ) (ihl : Option ℕ) → IsPacket p
 behind-below packet k v None ok is = cc
 behind-below packet k v (Some i) ok is = number_at-below 2 packet (4 * i + k) v (omega arith) ok.bytes is
 
-pub end-below : (part : Part) (end : End) (packet : List ℕ) (v : ℕ) → IsPacket packet → end_of part end packet ≡ Some v → v < 2 ^ 32
+pub loaded-below : (loaded : Loaded) (packet : List ℕ) (v : ℕ) → IsPacket packet → loaded_of loaded packet ≡ Some v → v < 2 ^ 32
 unfolding field_of
-end-below Address end_is.Source packet v ok is = number_at-below 4 packet 12 v (omega arith) ok.bytes is
-end-below Address end_is.Destination packet v ok is = number_at-below 4 packet 16 v (omega arith) ok.bytes is
-end-below Port end_is.Source packet v ok is = behind-below packet 0 v (ihl_of packet) ok is
-end-below Port end_is.Destination packet v ok is = behind-below packet 2 v (ihl_of packet) ok is
+loaded-below loaded_is.Protocol packet v ok is = number_at-below 1 packet 9 v (omega arith) ok.bytes is
+loaded-below loaded_is.Source packet v ok is = number_at-below 4 packet 12 v (omega arith) ok.bytes is
+loaded-below loaded_is.Destination packet v ok is = number_at-below 4 packet 16 v (omega arith) ok.bytes is
+loaded-below loaded_is.SourcePort packet v ok is = behind-below packet 0 v (ihl_of packet) ok is
+loaded-below loaded_is.DestinationPort packet v ok is = behind-below packet 2 v (ihl_of packet) ok is
+
+-- nothing is written where A holds the number
+brought : (loaded : Loaded) (words packet : List ℕ) (a x : ℕ) (cells : Cells) (found : Option ℕ) → found ≡ Some a → BringsTo found words words packet a x cells
+brought loaded words packet a x cells None is = cc
+brought loaded words packet a x cells (Some v) is = let same : v ≡ a = cc in ap (λ b. mean words b x cells packet) (sym same)
+
+pub Brings-held : (loaded : Loaded) (words : List ℕ) → Brings (Some loaded) loaded words words
+Brings-held loaded words = record { loads_stored = λ d ok. ok; brings = λ packet a x cells knows is. brought loaded words packet a x cells (loaded_of loaded packet) is }
+
+loaded_on : (found : Option ℕ) (later words packet : List ℕ) (a x : ℕ) (cells : Cells) → mean words a x cells packet ≡ after_effect (a_or_end found x cells) later packet → BringsTo found later words packet a x cells
+loaded_on None later words packet a x cells on = on
+loaded_on (Some v) later words packet a x cells on = on
+
+pub Brings-load : (insn : Insn) (given : Option Loaded) (loaded : Loaded) (later words : List ℕ) → IsPlain insn → LoadsAs (by_header loaded) insn (loaded_of loaded) → IsPushed insn later words → Brings given loaded later words
+Brings-load insn given loaded later words plain loads pushed = record {
+  loads_stored = λ d. plain_loads insn plain later words d pushed;
+  brings = λ packet a x cells knows in_a.
+      loaded_on (loaded_of loaded packet) later words packet a x cells (mean_pushed insn later words pushed a x cells packet ∙ ap (λ e. after_effect e later packet) (loads packet a x cells knows));
+}
+
+-- ports are loaded by X
+pub source_header : (part : Part) → by_header (source_of part) ≡ true → part ≡ Port
+source_header Address is = cc
+source_header Port is = refl
+
+pub destination_header : (part : Part) → by_header (destination_of part) ≡ true → part ≡ Port
+destination_header Address is = cc
+destination_header Port is = refl
+
+known_if : (needed held : Bool) → (needed ≡ true → held ≡ true) → (packet : List ℕ) (x : ℕ) → Knows held packet x → Knows needed packet x
+known_if false held is packet x knows = tt
+known_if true held is packet x knows = subst (λ b. Knows b packet x) (is refl) knows
+
+pub header_there : (loaded : Loaded) (known : Known) → (by_header loaded ≡ true → header_in_x_of known ≡ true) → (packet : List ℕ) (a x : ℕ) → Holds known packet a x → Knows (by_header loaded) packet x
+header_there loaded known is packet a x h = known_if (by_header loaded) (header_in_x_of known) is packet x (x_known known packet a x h)
 
 -- ---- the tests
 
 module _ (at_yes at_no mid words : List ℕ) where
-  pub Decides-version : IsPushed (LoadAbsolute Byte 0) mid words → Asks (λ a. bits_from 4 4 a == 4) at_yes at_no mid → Decides false is_ip at_yes at_no words
+  pub Decides-version : IsPushed (LoadAbsolute Byte 0) mid words → Asks false (λ a. bits_from 4 4 a == 4) at_yes at_no mid → Decides false None None is_ip at_yes at_no words
   unfolding field_of
   Decides-version pushed asks =
-      Decides-same false (λ packet. tested (λ a. bits_from 4 4 a == 4) (number_at 1 packet 0)) is_ip at_yes at_no words (λ packet ok. tested_map (λ version. version == 4) (bits_from 4 4) (number_at 1 packet 0))
-      (Decides-loaded false (LoadAbsolute Byte 0) (λ packet. number_at 1 packet 0) (λ a. bits_from 4 4 a == 4) at_yes at_no mid words pushed (absolute_plain Byte 0) (byte_loads 0)
+      Decides-same false None None (λ packet. tested (λ a. bits_from 4 4 a == 4) (number_at 1 packet 0)) is_ip at_yes at_no words (λ packet ok. tested_map (λ version. version == 4) (bits_from 4 4) (number_at 1 packet 0))
+      (Decides-loaded false (LoadAbsolute Byte 0) (λ packet. number_at 1 packet 0) false (λ a. bits_from 4 4 a == 4) at_yes at_no mid words pushed (absolute_plain Byte 0) (byte_loads 0)
       (λ packet v ok is. number_at-below 1 packet 0 v (omega arith) ok.bytes is) asks)
 
-  pub Decides-offset : IsPushed (LoadAbsolute Half 6) mid words → Asks (λ a. bits_from 0 13 a == 0) at_yes at_no mid → Decides false is_first_fragment at_yes at_no words
+  pub Decides-offset : IsPushed (LoadAbsolute Half 6) mid words → Asks false (λ a. bits_from 0 13 a == 0) at_yes at_no mid → Decides false None None is_first_fragment at_yes at_no words
   unfolding field_of
   Decides-offset pushed asks =
-      Decides-same false (λ packet. tested (λ a. bits_from 0 13 a == 0) (number_at 2 packet 6)) is_first_fragment at_yes at_no words (λ packet ok. tested_map (λ offset. offset == 0) (bits_from 0 13) (number_at 2 packet 6))
-      (Decides-loaded false (LoadAbsolute Half 6) (λ packet. number_at 2 packet 6) (λ a. bits_from 0 13 a == 0) at_yes at_no mid words pushed (absolute_plain Half 6) (half_loads 6)
+      Decides-same false None None (λ packet. tested (λ a. bits_from 0 13 a == 0) (number_at 2 packet 6)) is_first_fragment at_yes at_no words (λ packet ok. tested_map (λ offset. offset == 0) (bits_from 0 13) (number_at 2 packet 6))
+      (Decides-loaded false (LoadAbsolute Half 6) (λ packet. number_at 2 packet 6) false (λ a. bits_from 0 13 a == 0) at_yes at_no mid words pushed (absolute_plain Half 6) (half_loads 6)
       (λ packet v ok is. number_at-below 2 packet 6 v (omega arith) ok.bytes is) asks)
 
-  pub Decides-protocol : (check : ℕ → Bool) → IsPushed (LoadAbsolute Byte 9) mid words → Asks check at_yes at_no mid → Decides false (λ packet. tested check (field_of Protocol packet)) at_yes at_no words
-  unfolding field_of
-  Decides-protocol check pushed asks =
-      Decides-loaded false (LoadAbsolute Byte 9) (λ packet. number_at 1 packet 9) check at_yes at_no mid words pushed (absolute_plain Byte 9) (byte_loads 9)
-      (λ packet v ok is. number_at-below 1 packet 9 v (omega arith) ok.bytes is) asks
+  pub Decides-protocol : (given : Option Loaded) (check : ℕ → Bool) → Brings given loaded_is.Protocol mid words → Asks true check at_yes at_no mid → Decides false given (Some loaded_is.Protocol) (λ packet. tested check (field_of Protocol packet)) at_yes at_no words
+  Decides-protocol given check brings asks = Decides-brought given loaded_is.Protocol true check at_yes at_no mid words (loaded-below loaded_is.Protocol) brings asks
 
 -- the number of bytes
 module _ (test : Test) (k : ℕ) (at_yes at_no mid words : List ℕ) (pushed : IsPushed LoadLength mid words) (h : Checks (λ a. a) (asks test (K k)) at_yes at_no mid) where
-  length_decided : (holding : Bool) (packet : List ℕ) (a x : ℕ) (cells : Cells) → mean words a x cells packet ≡ mean (cond holding at_yes at_no) (length packet) x cells packet → DecidedBy (answer holding) at_yes at_no words packet a x cells
-  length_decided true packet a x cells on = (length packet, on)
-  length_decided false packet a x cells on = (length packet, on)
+  length_decided : (holding : Bool) (packet : List ℕ) (a x : ℕ) (cells : Cells) → mean words a x cells packet ≡ mean (cond holding at_yes at_no) (length packet) x cells packet → DecidedBy (answer holding) None at_yes at_no words packet a x cells
+  length_decided true packet a x cells on = (length packet, tt, on)
+  length_decided false packet a x cells on = (length packet, tt, on)
 
-  pub Decides-length : Decides false (λ packet. answer (holds test (length packet) k)) at_yes at_no words
+  pub Decides-length : Decides false None None (λ packet. answer (holds test (length packet) k)) at_yes at_no words
   Decides-length = record {
     loads_stored = λ yes_ok no_ok. plain_loads LoadLength length_plain mid words 0 pushed (h.loads_stored 0 yes_ok no_ok);
-    goes = λ packet ok a x cells knows.
+    goes = λ packet ok a x cells knows in_a.
         length_decided (holds test (length packet) k) packet a x cells (mean_pushed LoadLength mid words pushed a x cells packet ∙ h.goes packet (length packet) x cells);
   }
 
 -- the length of the header is loaded in front of tests that need it
-module _ (given given' when_yes when_no : Facts) (held : Bool) (truth : List ℕ → Truth) (at_yes at_no mid words : List ℕ) (knows : (packet : List ℕ) (x : ℕ) → given packet x → Knows held packet x)
-    (tells : (packet : List ℕ) (x x' : ℕ) → given packet x → Knows true packet x' → given' packet x') (fails : (packet : List ℕ) → ihl_of packet ≡ None → truth packet ≡ Fails)
+module _ (given given' when_yes when_no : Facts) (held : Bool) (truth : List ℕ → Truth) (at_yes at_no mid words : List ℕ) (knows : (packet : List ℕ) (a x : ℕ) → given packet a x → Knows held packet x)
+    (tells : (packet : List ℕ) (a x x' : ℕ) → given packet a x → Knows true packet x' → given' packet a x') (fails : (packet : List ℕ) → ihl_of packet ≡ None → truth packet ≡ Fails)
     (loads : Computes behind held true 0 mid words) (h : Tests given' when_yes when_no truth at_yes at_no mid) where
-  header_goes : (packet : List ℕ) → IsPacket packet → (a x : ℕ) (cells : Cells) → given packet x → (ihl : Option ℕ) → ihl_of packet ≡ ihl → ComesWith (option_map (λ i. a) ihl) true 0 mid words packet a x cells
+  header_goes : (packet : List ℕ) → IsPacket packet → (a x : ℕ) (cells : Cells) → given packet a x → (ihl : Option ℕ) → ihl_of packet ≡ ihl → ComesWith (option_map (λ i. a) ihl) true 0 mid words packet a x cells
       → GoesBy (truth packet) when_yes when_no at_yes at_no words packet a x cells
   header_goes packet ok a x cells g None is on = subst (λ t. GoesBy t when_yes when_no at_yes at_no words packet a x cells) (sym (fails packet is)) on
   header_goes packet ok a x cells g (Some i) is on =
-      on_from (truth packet) when_yes when_yes when_no when_no (λ packet x f. f) (λ packet x f. f) at_yes at_no mid words packet a a x on.0 cells on.1 on.4 (h.goes packet ok a on.0 on.1 (tells packet x on.0 g on.3))
+      on_from (truth packet) when_yes when_yes when_no when_no (λ packet a x f. f) (λ packet a x f. f) at_yes at_no mid words packet a a x on.0 cells on.1 on.4 (h.goes packet ok a on.0 on.1 (tells packet a x on.0 g on.3))
 
   pub Tests-header : Tests given when_yes when_no truth at_yes at_no words
   Tests-header = record {
     loads_stored = λ yes_ok no_ok. loads.loads_stored (h.loads_stored yes_ok no_ok);
-    goes = λ packet ok a x cells g. header_goes packet ok a x cells g (ihl_of packet) refl (loads.comes packet ok a x cells (knows packet x g));
+    goes = λ packet ok a x cells g. header_goes packet ok a x cells g (ihl_of packet) refl (loads.comes packet ok a x cells (knows packet a x g));
   }
 
 -- ---- what the answers of the tests come to
@@ -178,6 +220,44 @@ ends_fail direction check packet none =
     let source : behind_header packet 0 ≡ None = ap (option_and_then (λ ihl. number_at 2 packet (4 * ihl + 0))) none in
     let destination : behind_header packet 2 ≡ None = ap (option_and_then (λ ihl. number_at 2 packet (4 * ihl + 2))) none in
     fails_at direction (tested (passes check) (behind_header packet 0)) (tested (passes check) (behind_header packet 2)) (ap (tested (passes check)) source) (ap (tested (passes check)) destination)
+
+-- ---- the ends one behind the other
+
+-- what holds of a packet and of X holds beside what else is known of A
+forgets_a : (known one other : Known) → IsSameButA known one → IsSameButA known other → in_a_of other ≡ None → (packet : List ℕ) (a x : ℕ) → Holds one packet a x → Holds other packet a x
+forgets_a known one other of_one of_other none packet a x h =
+    (subst (λ header. IsHeader header packet) (of_one.packet ∙ sym of_other.packet) h.0, subst (λ b. Knows b packet x) (of_one.x ∙ sym of_other.x) h.1, subst (λ held. IsInA held packet a) (sym none) tt)
+
+module _ (check : Check) (known : Known) where
+  abbrev end_passes : Loaded → List ℕ → Truth
+  end_passes end packet = tested (passes check) (loaded_of end packet)
+
+  -- one end alone
+  pub Tests-end : (end other : Loaded) (behind if_yes if_no : Known) (at_yes at_no words : List ℕ) → end ≡ other → if_yes ≡ behind → if_no ≡ behind → Tests (Holds known) (Holds behind) (Holds behind) (end_passes end) at_yes at_no words
+      → Tests (Holds known) (Holds if_yes) (Holds if_no) (end_passes other) at_yes at_no words
+  Tests-end end other behind if_yes if_no at_yes at_no words same yes_is no_is h =
+      subst (λ k. Tests (Holds known) (Holds k) (Holds if_no) (end_passes other) at_yes at_no words) (sym yes_is)
+      (subst (λ k. Tests (Holds known) (Holds behind) (Holds k) (end_passes other) at_yes at_no words) (sym no_is)
+      (subst (λ e. Tests (Holds known) (Holds behind) (Holds behind) (end_passes e) at_yes at_no words) same h))
+
+  -- both
+  module _ (part : Part) (source destination : Loaded) (source_is : source ≡ source_of part) (destination_is : destination ≡ destination_of part) (first second forgot : Known) (of_first : IsSameButA known first) (of_second : IsSameButA first second)
+      (of_forgot : IsSameButA known forgot) (none : in_a_of forgot ≡ None) (at_yes at_no mid words : List ℕ) (later : Tests (Holds first) (Holds second) (Holds second) (end_passes destination) at_yes at_no mid) where
+    first_forgets : (packet : List ℕ) (a x : ℕ) → Holds first packet a x → Holds forgot packet a x
+    first_forgets = forgets_a known first forgot of_first of_forgot none
+
+    second_forgets : (packet : List ℕ) (a x : ℕ) → Holds second packet a x → Holds forgot packet a x
+    second_forgets = forgets_a known second forgot record { packet = of_second.packet ∙ of_first.packet; x = of_second.x ∙ of_first.x } of_forgot none
+
+    pub Tests-either : Tests (Holds known) (Holds first) (Holds first) (end_passes source) at_yes mid words → Tests (Holds known) (Holds forgot) (Holds second) (ends_pass part Either check) at_yes at_no words
+    Tests-either h = Tests-same (Holds known) (Holds forgot) (Holds second) (λ packet. end_passes source packet or_else end_passes destination packet) (ends_pass part Either check) at_yes at_no words
+        (λ packet a x ok g. ap (λ s. end_passes s packet or_else end_passes destination packet) source_is ∙ ap (λ d. end_passes (source_of part) packet or_else end_passes d packet) destination_is)
+        (Tests-or (Holds known) (Holds first) (Holds second) (Holds first) (Holds second) (Holds forgot) (end_passes source) (end_passes destination) first_forgets second_forgets at_yes at_no mid words later h)
+
+    pub Tests-both : Tests (Holds known) (Holds first) (Holds first) (end_passes source) mid at_no words → Tests (Holds known) (Holds second) (Holds forgot) (ends_pass part Both check) at_yes at_no words
+    Tests-both h = Tests-same (Holds known) (Holds second) (Holds forgot) (λ packet. end_passes source packet and_then end_passes destination packet) (ends_pass part Both check) at_yes at_no words
+        (λ packet a x ok g. ap (λ s. end_passes s packet and_then end_passes destination packet) source_is ∙ ap (λ d. end_passes (source_of part) packet and_then end_passes d packet) destination_is)
+        (Tests-and (Holds known) (Holds first) (Holds second) (Holds first) (Holds second) (Holds forgot) (end_passes source) (end_passes destination) first_forgets second_forgets at_yes at_no mid words later h)
 
 pub and_then_assoc : (t u v : Truth) → (t and_then (u and_then v)) ≡ ((t and_then u) and_then v)
 and_then_assoc Yes u v = refl

@@ -38,8 +38,8 @@ module _ (tree : Tree) (known if_yes if_no : Known) (yes_by no_by : ℕ) (progra
   answered No packet h = h.4 ∙ mean_pushed (ReturnConstant 0) _ whole.at_no whole.rejects h.0 h.1 h.2 packet
   answered Fails packet h = h
 
-  program_answers : ((packet : List ℕ) (x : ℕ) → Holds known packet x) → AnswersFor tree program
-  program_answers nothing packet ok = answered (truth_of tree packet) packet (whole.meant.goes packet ok 0 0 no_cells (nothing packet 0))
+  program_answers : ((packet : List ℕ) (a x : ℕ) → Holds known packet a x) → AnswersFor tree program
+  program_answers nothing packet ok = answered (truth_of tree packet) packet (whole.meant.goes packet ok 0 0 no_cells (nothing packet 0 0))
 
   -- a JA has room for 255 instructions behind it
   program_far_jumps : yes_by ≡ size_of tree - 2 → no_by ≡ size_of tree - 1 → HasFarJumpsOnly (size_of tree) program
@@ -48,7 +48,7 @@ module _ (tree : Tree) (known if_yes if_no : Known) (yes_by no_by : ℕ) (progra
   program_jumpless : yes_by ≡ size_of tree - 2 → no_by ≡ size_of tree - 1 → size_of tree ≤ SHORT → HasNoFarJump program
   program_jumpless yes_is no_is short pc k at = let far = (whole.far_jumps (size_of tree - 1) (omega arith) (omega arith) pc k at).far in omega arith
 
-  pub is_program : size_of tree ≤ MAX_INSTRUCTIONS → yes_by ≡ size_of tree - 2 → no_by ≡ size_of tree - 1 → ((packet : List ℕ) (x : ℕ) → Holds known packet x) → IsCompiledTo tree program
+  pub is_program : size_of tree ≤ MAX_INSTRUCTIONS → yes_by ≡ size_of tree - 2 → no_by ≡ size_of tree - 1 → ((packet : List ℕ) (a x : ℕ) → Holds known packet a x) → IsCompiledTo tree program
   is_program fits yes_is no_is nothing = record {
     answer = program_answers nothing;
     within_size = program_within;

@@ -82,14 +82,14 @@ module _ (relator : Relation) (left right : ArithTree) (used : Accesses) (same_g
   pub relation_weight : 1 ≤ weight_under known (relation left relator right)
   relation_weight = omega arith
 
-  module _ (on last if_no : Known) (missed : Option Known) (held between after : Bool) {c0 c1 c2 c3 : List ℕ} {y y' n n' n'' : Open} (knows : (packet : List ℕ) (x : ℕ) → Holds on packet x → Knows held packet x)
-      (tells : (packet : List ℕ) (x x' : ℕ) → Holds on packet x → Knows after packet x' → Holds last packet x') (of_self : (packet : List ℕ) (x : ℕ) → HoldsWhere missed packet x → Holds if_no packet x) (of_no : (packet : List ℕ) (x : ℕ) → Holds last packet x → Holds if_no packet x)
+  module _ (on last if_no : Known) (missed : Option Known) (held between after : Bool) {c0 c1 c2 c3 : List ℕ} {y y' n n' n'' : Open} (knows : (packet : List ℕ) (a x : ℕ) → Holds on packet a x → Knows held packet x)
+      (tells : (packet : List ℕ) (a a' x x' : ℕ) → Holds on packet a x → Knows after packet x' → Holds last packet a' x') (of_self : (packet : List ℕ) (a x : ℕ) → HoldsWhere missed packet a x → Holds if_no packet a x) (of_no : (packet : List ℕ) (a x : ℕ) → Holds last packet a x → Holds if_no packet a x)
       (guarded : Guards (Tests (Holds known) (Holds on) (HoldsWhere missed) (guards (used_by used))) (weight_of_guards_under known (used_by used)) c0 c1 n n')
       (computes : Extends (Computes (λ packet a. value_of_arith left packet) held between 0) (weight_of_arith left) c1 c2)
       (compares : Writes (Compares (compared_with relator (value_of_arith right)) between after) (weight_of_arith right + 6) c2 c3 y y' n' n'') where
     pub Writes-relation : Writes (Tests (Holds known) (Holds last) (Holds if_no) (truth_of (relation left relator right))) (weight_under known (relation left relator right)) c0 c3 y y' n n''
     Writes-relation = Writes-means
         (λ at_yes at_no words h. Tests-same (Holds known) (Holds last) (Holds if_no) (λ packet. guards (used_by used) packet and_then sides relator left right packet) (truth_of (relation left relator right)) at_yes at_no words
-        (λ packet x ok g. ap (λ t. t and_then sides relator left right packet) (same_guards packet) ∙ ap (λ t. guards (accesses_of_both left right) packet and_then t) (compared_same relator (value_of_arith left packet) (value_of_arith right packet))) h)
+        (λ packet a x ok g. ap (λ t. t and_then sides relator left right packet) (same_guards packet) ∙ ap (λ t. guards (accesses_of_both left right) packet and_then t) (compared_same relator (value_of_arith left packet) (value_of_arith right packet))) h)
         (Writes-guarded known on last last if_no missed (guards (used_by used)) (sides relator left right) (weight_under known (relation left relator right)) (let e = same_weight in omega arith) of_self of_no guarded
         (Extends-writes (λ at_yes at_no mid words one two. Tests-value (Holds on) held between after (value_of_arith left) (compared_with relator (value_of_arith right)) (Holds last) at_yes at_no mid words knows tells one two) computes compares))

@@ -10,7 +10,7 @@ ghost use Rattle.filter_tree.specs.View.{arith_tree_of};
 ghost use Rattle.filter_compile.specs.body.Arithmetic.{Applies, DoesAs, IsDirect, IsTaken, Loads, LoadsAt, LoadsDirectly, ReadsAs, Restores, simple_value, weight_of_access};
 ghost use Rattle.filter_compile.specs.body.Piece.{Computes, Pairs};
 
-use crate::guard::load_header;
+use crate::load::load_header;
 use backpatch::Code;
 use bpf_insn::{Insn, Operand, Operation};
 use filter_tree::{Arith, Operator, Protocol, Size};

@@ -1,16 +1,17 @@
 //! What a number from a packet is asked.
 
-ghost use Rattle.std.specs.Prelude.{◌+◌, ◌≤◌, OnOk, length};
+ghost use Rattle.std.specs.Prelude.{◌≡◌, ◌+◌, ◌≤◌, OnOk, false, length, true};
 ghost use Rattle.bpf_verify.specs.declared.TheConstants.{MAX_INSTRUCTIONS};
 ghost use Rattle.backpatch.specs.Pieces.{Writes};
 ghost use Rattle.filter_tree.specs.Prefix.{covers};
 ghost use Rattle.filter_tree.specs.Primitive.{is_between};
-ghost use Rattle.filter_compile.specs.body.Header.{passes, weight_of_check};
+ghost use Rattle.filter_compile.specs.body.Header.{keeps_a, passes, weight_of_check, where_kept};
 ghost use Rattle.filter_compile.specs.body.Piece.{Asks};
 
 use backpatch::{Code, Exit};
 use bpf_insn::{Insn, Operand, Operation, Test};
 use filter_tree::Prefix;
+use packet_facts::Loaded;
 use std::alloc::{AllocError, Allocator};
 
 /// A question to a number.
@@ -32,7 +33,7 @@ fn covered<'a, A: Allocator>(
     no: &mut Exit<'a, A>,
 ) -> Result<(), AllocError>
     requires room { length code.old + 4 ≤ MAX_INSTRUCTIONS }
-    ensures writes { OnOk result (Writes (Asks (covers prefix)) 4 code.old code.new yes.old yes.new no.old no.new) }
+    ensures writes { OnOk result (Writes (Asks false (covers prefix)) 4 code.old code.new yes.old yes.new no.old no.new) }
 {
     let address = prefix.address();
     // The verifier refuses a shift by 32.
@@ -54,7 +55,7 @@ fn between<'a, A: Allocator>(
 ) -> Result<(), AllocError>
     requires room { length code.old + 6 ≤ MAX_INSTRUCTIONS }
     requires behind { length code.old + 6 ≤ no.old.by }
-    ensures writes { OnOk result (Writes (Asks (is_between n m)) 6 code.old code.new yes.old yes.new no.old no.new) }
+    ensures writes { OnOk result (Writes (Asks true (is_between n m)) 6 code.old code.new yes.old yes.new no.old no.new) }
 {
     let mut on = code.exit(code.len() + 3);
     code.branch(
@@ -76,11 +77,23 @@ pub(crate) fn ask<'a, A: Allocator>(
 ) -> Result<(), AllocError>
     requires room { length code.old + weight_of_check check.now ≤ MAX_INSTRUCTIONS }
     requires behind { length code.old + weight_of_check check.now ≤ no.old.by }
-    ensures writes { OnOk result (Writes (Asks (passes check.now)) (weight_of_check check.now) code.old code.new yes.old yes.new no.old no.new) }
+    ensures writes { OnOk result (Writes (Asks (keeps_a check.now) (passes check.now)) (weight_of_check check.now) code.old code.new yes.old yes.new no.old no.new) }
 {
     match check {
         Check::Equal(n) => code.branch(Test::Equal, Operand::K(*n), yes, no),
         Check::Covered(prefix) => covered(code, *prefix, yes, no),
         Check::Between(n, m) => between(code, *n, *m, yes, no),
+    }
+}
+
+/// Tells what A holds behind a question to what was loaded, `None` where that is not known.
+pub(crate) fn left_in_a(check: &Check, loaded: Loaded) -> Option<Loaded>
+    ensures { result ≡ where_kept (keeps_a check.now) loaded }
+{
+    match check {
+        Check::Equal(_) => Some(loaded),
+        // It is shifted.
+        Check::Covered(_) => None,
+        Check::Between(_, _) => Some(loaded),
     }
 }

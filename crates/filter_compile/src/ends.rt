@@ -1,17 +1,22 @@
 //! The two ends of a packet: their addresses and ports.
 
-ghost use Rattle.std.specs.Prelude.{◌+◌, ◌≤◌, OnOk, length};
+ghost use Rattle.std.specs.Prelude.{◌≡◌, ◌+◌, ◌≤◌, IfOk, length, true};
 ghost use Rattle.bpf_verify.specs.declared.TheConstants.{MAX_INSTRUCTIONS};
 ghost use Rattle.backpatch.specs.Pieces.{Writes};
-ghost use Rattle.backpatch.specs.body.Straight.{NeverFaults};
 ghost use Rattle.filter_tree.specs.Outcome.{tested};
-ghost use Rattle.filter_compile.specs.body.Header.{by_header, end_of, ends_pass, passes, weight_of_check, weight_of_ends};
-ghost use Rattle.filter_compile.specs.body.Piece.{Decides, IsPlain, LoadsAs};
+ghost use Rattle.packet_facts.specs.Known.{Holds, loaded_of};
+ghost use Rattle.packet_facts.specs.Told.{header_in_x_of};
+ghost use Rattle.filter_compile.specs.declared.ends.Part.TheVariants.{Port};
+ghost use Rattle.filter_compile.specs.body.Header.{by_header, destination_of, ends_pass, passes, source_of, weight_of_check, weight_of_ends};
+ghost use Rattle.filter_compile.specs.body.Piece.{Tests};
+ghost use Rattle.filter_compile.specs.body.Sides.{IsSameButA};
 
-use crate::check::{Check, ask};
+use crate::check::{Check, ask, left_in_a};
+use crate::load::load;
+use crate::sides::Sides;
 use backpatch::{Code, Exit};
-use bpf_insn::{Insn, Size};
 use filter_tree::Direction;
+use packet_facts::{Known, Loaded};
 use std::alloc::{AllocError, Allocator};
 
 /// What is loaded of an end.
@@ -22,39 +27,44 @@ pub(crate) enum Part {
     Port,
 }
 
-#[derive(Clone, Copy)]
-pub(crate) enum End {
-    Source,
-    Destination,
-}
+impl Part {
+    fn source(self) -> Loaded
+        ensures { result ≡ source_of self }
+    {
+        match self {
+            Part::Address => Loaded::Source,
+            Part::Port => Loaded::SourcePort,
+        }
+    }
 
-fn load(part: Part, end: End) -> Insn
-    ensures loads { LoadsAs (by_header part) result (end_of part end) }
-    ensures plain { IsPlain result }
-    ensures no_fault { NeverFaults result }
-{
-    match (part, end) {
-        (Part::Address, End::Source) => Insn::LoadAbsolute(Size::Word, 12),
-        (Part::Address, End::Destination) => Insn::LoadAbsolute(Size::Word, 16),
-        (Part::Port, End::Source) => Insn::LoadIndexed(Size::Half, 0),
-        (Part::Port, End::Destination) => Insn::LoadIndexed(Size::Half, 2),
+    fn destination(self) -> Loaded
+        ensures { result ≡ destination_of self }
+    {
+        match self {
+            Part::Address => Loaded::Destination,
+            Part::Port => Loaded::DestinationPort,
+        }
     }
 }
 
+// Tells what is known behind the test of one end, on both sides.
 fn test_end<'a, A: Allocator>(
     code: &mut Code<'a, A>,
-    part: Part,
-    end: End,
+    end: Loaded,
     check: &Check,
+    known: Known,
     yes: &mut Exit<'a, A>,
     no: &mut Exit<'a, A>,
-) -> Result<(), AllocError>
+) -> Result<Known, AllocError>
+    requires header { by_header end ≡ true → header_in_x_of known ≡ true }
     requires room { length code.old + (weight_of_check check.now + 1) ≤ MAX_INSTRUCTIONS }
     requires behind { length code.old + (weight_of_check check.now + 1) ≤ no.old.by }
-    ensures writes { OnOk result (Writes (Decides (by_header part) (λ packet. tested (passes check.now) (end_of part end packet))) (weight_of_check check.now + 1) code.old code.new yes.old yes.new no.old no.new) }
+    ensures writes { IfOk result (λ on. Writes (Tests (Holds known) (Holds on) (Holds on) (λ packet. tested (passes check.now) (loaded_of end packet))) (weight_of_check check.now + 1) code.old code.new yes.old yes.new no.old no.new) }
+    ensures same { IfOk result (IsSameButA known) }
 {
-    code.push(load(part, end))?;
-    ask(code, check, yes, no)
+    load(code, end, known.in_a())?;
+    ask(code, check, yes, no)?;
+    Ok(known.with_in_a(left_in_a(check, end)))
 }
 
 // The most instructions of the test of one end.
@@ -66,28 +76,44 @@ pub(crate) fn ends<'a, A: Allocator>(
     part: Part,
     direction: Direction,
     check: &Check,
+    known: Known,
     yes: &mut Exit<'a, A>,
     no: &mut Exit<'a, A>,
-) -> Result<(), AllocError>
+) -> Result<Sides, AllocError>
+    requires header { part ≡ Port → header_in_x_of known ≡ true }
     requires room { length code.old + weight_of_ends direction check.now ≤ MAX_INSTRUCTIONS }
     requires yes_behind { length code.old + weight_of_ends direction check.now ≤ yes.old.by }
     requires behind { length code.old + weight_of_ends direction check.now ≤ no.old.by }
-    ensures writes { OnOk result (Writes (Decides (by_header part) (ends_pass part direction check.now)) (weight_of_ends direction check.now) code.old code.new yes.old yes.new no.old no.new) }
+    ensures writes { IfOk result (λ sides. Writes (Tests (Holds known) (Holds sides.yes) (Holds sides.no) (ends_pass part direction check.now)) (weight_of_ends direction check.now) code.old code.new yes.old yes.new no.old no.new) }
 {
     match direction {
-        Direction::Source => test_end(code, part, End::Source, check, yes, no),
-        Direction::Destination => test_end(code, part, End::Destination, check, yes, no),
+        Direction::Source => {
+            let behind = test_end(code, part.source(), check, known, yes, no)?;
+            Ok(Sides::both(behind))
+        }
+        Direction::Destination => {
+            let behind = test_end(code, part.destination(), check, known, yes, no)?;
+            Ok(Sides::both(behind))
+        }
         Direction::Either => {
             let mut on = code.exit(code.len() + ONE_END);
-            test_end(code, part, End::Source, check, yes, &mut on)?;
+            let first = test_end(code, part.source(), check, known, yes, &mut on)?;
             code.land(&on);
-            test_end(code, part, End::Destination, check, yes, no)
+            let second = test_end(code, part.destination(), check, first, yes, no)?;
+            Ok(Sides {
+                yes: known.with_in_a(None),
+                no: second,
+            })
         }
         Direction::Both => {
             let mut on = code.exit(code.len() + ONE_END);
-            test_end(code, part, End::Source, check, &mut on, no)?;
+            let first = test_end(code, part.source(), check, known, &mut on, no)?;
             code.land(&on);
-            test_end(code, part, End::Destination, check, yes, no)
+            let second = test_end(code, part.destination(), check, first, yes, no)?;
+            Ok(Sides {
+                yes: second,
+                no: known.with_in_a(None),
+            })
         }
     }
 }

@@ -4,7 +4,6 @@ ghost use Rattle.std.specs.Prelude.{◌≡◌, ◌≢◌, ◌+◌, ◌≤◌, No
 ghost use Rattle.ipv4_fields.specs.declared.header.Field.TheVariants.{Protocol};
 ghost use Rattle.ipv4_fields.specs.Field.{field_of};
 ghost use Rattle.bpf_verify.specs.declared.TheConstants.{MAX_INSTRUCTIONS};
-ghost use Rattle.backpatch.specs.body.Straight.{Extends};
 ghost use Rattle.filter_tree.specs.declared.primitive.Transport.{Transport};
 ghost use Rattle.filter_tree.specs.declared.truth.Truth.{Truth};
 ghost use Rattle.filter_tree.specs.declared.truth.Truth.TheVariants.{Yes};
@@ -14,16 +13,14 @@ ghost use Rattle.filter_tree.specs.Primitive.{has_ports, is_first_fragment, is_i
 ghost use Rattle.packet_facts.specs.Known.{Settles};
 ghost use Rattle.packet_facts.specs.Told.{first_fragment_of, ip_of, transport_of};
 ghost use Rattle.filter_compile.specs.body.Header.{weight_of_transport};
-ghost use Rattle.filter_compile.specs.body.Piece.{LoadsHeader};
 ghost use Rattle.filter_compile.specs.body.Sides.{Adds};
 ghost use Rattle.filter_compile.specs.body.Weight.{leads_to_ports, version_weight_under};
 
 use crate::header::{pass_first_fragment, pass_ip, pass_ports, pass_protocol};
 use crate::sides::Passed;
 use backpatch::{Code, Exit};
-use bpf_insn::Insn;
 use filter_tree::Transport;
-use packet_facts::Known;
+use packet_facts::{Known, Loaded};
 use std::alloc::{AllocError, Allocator};
 
 /// Tests whether a test has to be written: there is cause, and what is known does not tell that it is true.
@@ -73,7 +70,8 @@ pub(crate) fn ask_ip<'a, A: Allocator>(
     ensures same_transport { OnOk result ((transport : Transport) → transport_of passed.new.on transport ≡ transport_of passed.old.on transport) }
 {
     pass_ip(code, no)?;
-    passed.learn(passed.on.with_ip(), passed.on.without_ip());
+    let asked = passed.on.with_in_a(None);
+    passed.learn(asked.with_ip(), asked.without_ip());
     Ok(())
 }
 
@@ -107,8 +105,9 @@ fn ask_protocol<'a, A: Allocator>(
     requires room { length code.old + 4 ≤ MAX_INSTRUCTIONS }
     ensures adds { OnOk result (Adds (is_protocol n) 4 code.old code.new passed.old passed.new no.old no.new) }
 {
-    pass_protocol(code, n, no)?;
-    passed.learn(passed.on.with_protocol(n), passed.on.without_protocol(n));
+    pass_protocol(code, n, passed.on.in_a(), no)?;
+    let asked = passed.on.with_in_a(Some(Loaded::Protocol));
+    passed.learn(asked.with_protocol(n), asked.without_protocol(n));
     Ok(())
 }
 
@@ -133,10 +132,11 @@ pub(crate) fn guard_transport<'a, A: Allocator>(
     if !must_ask(true, passed.on.transport(transport)) {
         return Ok(());
     }
-    pass_ports(code, transport, no)?;
+    pass_ports(code, transport, passed.on.in_a(), no)?;
+    let asked = passed.on.with_in_a(Some(Loaded::Protocol));
     passed.learn(
-        passed.on.with_transport(transport),
-        passed.on.without_transport(transport),
+        asked.with_transport(transport),
+        asked.without_transport(transport),
     );
     Ok(())
 }
@@ -174,19 +174,7 @@ fn ask_first_fragment<'a, A: Allocator>(
     ensures same_transport { OnOk result ((transport : Transport) → transport_of passed.new.on transport ≡ transport_of passed.old.on transport) }
 {
     pass_first_fragment(code, no)?;
-    passed.learn(passed.on.with_first_fragment(), passed.on);
+    let asked = passed.on.with_in_a(None);
+    passed.learn(asked.with_first_fragment(), asked);
     Ok(())
-}
-
-/// Writes the load of the header's length into X where X does not hold it.
-pub(crate) fn load_header<'a, A: Allocator>(
-    code: &mut Code<'a, A>,
-    held: bool,
-) -> Result<(), AllocError>
-    ensures extends { OnOk result (Extends (LoadsHeader held) 1 code.old code.new) }
-{
-    if held {
-        return Ok(());
-    }
-    code.push(Insn::LoadXHeader(0))
 }

@@ -1,6 +1,6 @@
 //! Tests of the IPv4 header: its version, its protocol, whether it is the first fragment's (RFC 791, section 3.1).
 
-ghost use Rattle.std.specs.Prelude.{◌+◌, ◌≤◌, OnOk, false, length};
+ghost use Rattle.std.specs.Prelude.{◌+◌, ◌≤◌, None, OnOk, Some, false, length};
 ghost use Rattle.ipv4_fields.specs.declared.header.Field.TheVariants.{Protocol};
 ghost use Rattle.ipv4_fields.specs.Field.{field_of};
 ghost use Rattle.bpf_verify.specs.declared.TheConstants.{MAX_INSTRUCTIONS};
@@ -9,12 +9,15 @@ ghost use Rattle.backpatch.specs.Guards.{Guards};
 ghost use Rattle.filter_tree.specs.declared.primitive.Transport.TheVariants.{Unnamed};
 ghost use Rattle.filter_tree.specs.Outcome.{tested};
 ghost use Rattle.filter_tree.specs.Primitive.{has_ports, is_first_fragment, is_ip, is_protocol};
+ghost use Rattle.packet_facts.specs.declared.load.Loaded.TheVariants.{Protocol as LoadedProtocol};
 ghost use Rattle.filter_compile.specs.body.Header.{weight_of_transport};
 ghost use Rattle.filter_compile.specs.body.Piece.{Decides};
 
+use crate::load::load;
 use backpatch::{Code, Exit};
 use bpf_insn::{Insn, Operand, Operation, Size, Test};
 use filter_tree::Transport;
+use packet_facts::Loaded;
 use std::alloc::{AllocError, Allocator};
 
 /// Writes the test that the version is 4.
@@ -25,7 +28,7 @@ pub(crate) fn is_ip<'a, A: Allocator>(
     no: &mut Exit<'a, A>,
 ) -> Result<(), AllocError>
     requires room { length code.old + 5 ≤ MAX_INSTRUCTIONS }
-    ensures writes { OnOk result (Writes (Decides false is_ip) 5 code.old code.new yes.old yes.new no.old no.new) }
+    ensures writes { OnOk result (Writes (Decides false None None is_ip) 5 code.old code.new yes.old yes.new no.old no.new) }
 {
     code.push(Insn::LoadAbsolute(Size::Byte, 0))?;
     code.push(Insn::Alu(Operation::And, Operand::K(0xf0)))?;
@@ -37,26 +40,28 @@ pub(crate) fn is_ip<'a, A: Allocator>(
 pub(crate) fn is_protocol<'a, A: Allocator>(
     code: &mut Code<'a, A>,
     n: u8,
+    in_a: Option<Loaded>,
     yes: &mut Exit<'a, A>,
     no: &mut Exit<'a, A>,
 ) -> Result<(), AllocError>
     requires room { length code.old + 4 ≤ MAX_INSTRUCTIONS }
-    ensures writes { OnOk result (Writes (Decides false (is_protocol n)) 4 code.old code.new yes.old yes.new no.old no.new) }
+    ensures writes { OnOk result (Writes (Decides false in_a (Some LoadedProtocol) (is_protocol n)) 4 code.old code.new yes.old yes.new no.old no.new) }
 {
-    code.push(Insn::LoadAbsolute(Size::Byte, 9))?;
+    load(code, Loaded::Protocol, in_a)?;
     code.branch(Test::Equal, Operand::K(n as u32), yes, no)
 }
 
 // Writes the test that the protocol is TCP, UDP or SCTP.
 fn is_any_transport<'a, A: Allocator>(
     code: &mut Code<'a, A>,
+    in_a: Option<Loaded>,
     yes: &mut Exit<'a, A>,
     no: &mut Exit<'a, A>,
 ) -> Result<(), AllocError>
     requires room { length code.old + 10 ≤ MAX_INSTRUCTIONS }
-    ensures writes { OnOk result (Writes (Decides false (λ packet. tested (has_ports Unnamed) (field_of Protocol packet))) 10 code.old code.new yes.old yes.new no.old no.new) }
+    ensures writes { OnOk result (Writes (Decides false in_a (Some LoadedProtocol) (λ packet. tested (has_ports Unnamed) (field_of Protocol packet))) 10 code.old code.new yes.old yes.new no.old no.new) }
 {
-    code.push(Insn::LoadAbsolute(Size::Byte, 9))?;
+    load(code, Loaded::Protocol, in_a)?;
     code.divert(Test::Equal, Operand::K(6), yes)?;
     code.divert(Test::Equal, Operand::K(17), yes)?;
     code.branch(Test::Equal, Operand::K(132), yes, no)
@@ -70,7 +75,7 @@ pub(crate) fn pass_ip<'a, A: Allocator>(
     no: &mut Exit<'a, A>,
 ) -> Result<(), AllocError>
     requires room { length code.old + 5 ≤ MAX_INSTRUCTIONS }
-    ensures guards { OnOk result (Guards (Decides false is_ip) 5 code.old code.new no.old no.new) }
+    ensures guards { OnOk result (Guards (Decides false None None is_ip) 5 code.old code.new no.old no.new) }
 {
     code.push(Insn::LoadAbsolute(Size::Byte, 0))?;
     code.push(Insn::Alu(Operation::And, Operand::K(0xf0)))?;
@@ -81,12 +86,13 @@ pub(crate) fn pass_ip<'a, A: Allocator>(
 pub(crate) fn pass_protocol<'a, A: Allocator>(
     code: &mut Code<'a, A>,
     n: u8,
+    in_a: Option<Loaded>,
     no: &mut Exit<'a, A>,
 ) -> Result<(), AllocError>
     requires room { length code.old + 4 ≤ MAX_INSTRUCTIONS }
-    ensures guards { OnOk result (Guards (Decides false (is_protocol n)) 4 code.old code.new no.old no.new) }
+    ensures guards { OnOk result (Guards (Decides false in_a (Some LoadedProtocol) (is_protocol n)) 4 code.old code.new no.old no.new) }
 {
-    code.push(Insn::LoadAbsolute(Size::Byte, 9))?;
+    load(code, Loaded::Protocol, in_a)?;
     code.pass(Test::Equal, Operand::K(n as u32), no)
 }
 
@@ -94,29 +100,31 @@ pub(crate) fn pass_protocol<'a, A: Allocator>(
 pub(crate) fn pass_ports<'a, A: Allocator>(
     code: &mut Code<'a, A>,
     transport: Transport,
+    in_a: Option<Loaded>,
     no: &mut Exit<'a, A>,
 ) -> Result<(), AllocError>
     requires room { length code.old + weight_of_transport transport ≤ MAX_INSTRUCTIONS }
     requires behind { length code.old + weight_of_transport transport ≤ no.old.by }
-    ensures guards { OnOk result (Guards (Decides false (λ packet. tested (has_ports transport) (field_of Protocol packet))) (weight_of_transport transport) code.old code.new no.old no.new) }
+    ensures guards { OnOk result (Guards (Decides false in_a (Some LoadedProtocol) (λ packet. tested (has_ports transport) (field_of Protocol packet))) (weight_of_transport transport) code.old code.new no.old no.new) }
 {
     match transport {
-        Transport::Tcp => pass_protocol(code, 6, no),
-        Transport::Udp => pass_protocol(code, 17, no),
-        Transport::Unnamed => pass_any_transport(code, no),
+        Transport::Tcp => pass_protocol(code, 6, in_a, no),
+        Transport::Udp => pass_protocol(code, 17, in_a, no),
+        Transport::Unnamed => pass_any_transport(code, in_a, no),
     }
 }
 
 fn pass_any_transport<'a, A: Allocator>(
     code: &mut Code<'a, A>,
+    in_a: Option<Loaded>,
     no: &mut Exit<'a, A>,
 ) -> Result<(), AllocError>
     requires room { length code.old + 10 ≤ MAX_INSTRUCTIONS }
     requires behind { length code.old + 10 ≤ no.old.by }
-    ensures guards { OnOk result (Guards (Decides false (λ packet. tested (has_ports Unnamed) (field_of Protocol packet))) 10 code.old code.new no.old no.new) }
+    ensures guards { OnOk result (Guards (Decides false in_a (Some LoadedProtocol) (λ packet. tested (has_ports Unnamed) (field_of Protocol packet))) 10 code.old code.new no.old no.new) }
 {
     let mut on = code.exit(code.len() + 10);
-    is_any_transport(code, &mut on, no)?;
+    is_any_transport(code, in_a, &mut on, no)?;
     code.land(&on);
     Ok(())
 }
@@ -128,7 +136,7 @@ pub(crate) fn pass_first_fragment<'a, A: Allocator>(
     no: &mut Exit<'a, A>,
 ) -> Result<(), AllocError>
     requires room { length code.old + 4 ≤ MAX_INSTRUCTIONS }
-    ensures guards { OnOk result (Guards (Decides false is_first_fragment) 4 code.old code.new no.old no.new) }
+    ensures guards { OnOk result (Guards (Decides false None None is_first_fragment) 4 code.old code.new no.old no.new) }
 {
     code.push(Insn::LoadAbsolute(Size::Half, 6))?;
     code.divert(Test::CommonBit, Operand::K(0x1fff), no)

@@ -20,6 +20,7 @@ mod fault;
 mod front;
 mod guard;
 mod header;
+mod load;
 mod primitive;
 mod relation;
 mod sides;

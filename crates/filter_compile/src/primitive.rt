@@ -1,6 +1,6 @@
 //! The code of a primitive without arithmetic (pcap-filter(7), "Primitives").
 
-ghost use Rattle.std.specs.Prelude.{◌≡◌, ◌≢◌, ◌+◌, ◌≤◌, IfOk, OnOk, Some, false, length, true};
+ghost use Rattle.std.specs.Prelude.{◌≡◌, ◌≢◌, ◌+◌, ◌≤◌, IfOk, None, OnOk, Some, false, length, true};
 ghost use Rattle.ipv4_fields.specs.declared.header.Field.TheVariants.{Protocol};
 ghost use Rattle.ipv4_fields.specs.Field.{field_of};
 ghost use Rattle.bpf_verify.specs.declared.TheConstants.{MAX_INSTRUCTIONS};
@@ -18,14 +18,15 @@ ghost use Rattle.filter_compile.specs.body.Weight.{leads_to_ports, ports_weight_
 use crate::check::Check;
 use crate::ends::{Part, ends};
 use crate::guard::{
-    guard_first_fragment, guard_ip, guard_transport, leads_to_ports, load_header, must_ask,
+    guard_first_fragment, guard_ip, guard_transport, leads_to_ports, must_ask,
 };
 use crate::header::{is_ip, is_protocol};
+use crate::load::load_header;
 use crate::sides::{Passed, Sides, settled};
 use backpatch::{Code, Exit};
 use bpf_insn::{Insn, Operand, Test};
 use filter_tree::{Direction, Primitive, Transport};
-use packet_facts::Known;
+use packet_facts::{Known, Loaded};
 use std::alloc::{AllocError, Allocator};
 
 fn version<'a, A: Allocator>(
@@ -41,9 +42,10 @@ fn version<'a, A: Allocator>(
         return settled(code, known, yes);
     }
     is_ip(code, yes, no)?;
+    let asked = known.with_in_a(None);
     Ok(Sides {
-        yes: known.with_ip(),
-        no: known.without_ip(),
+        yes: asked.with_ip(),
+        no: asked.without_ip(),
     })
 }
 
@@ -60,10 +62,11 @@ fn protocol<'a, A: Allocator>(
     if !must_ask(true, known.protocol(n)) {
         return settled(code, known, yes);
     }
-    is_protocol(code, n, yes, no)?;
+    is_protocol(code, n, known.in_a(), yes, no)?;
+    let asked = known.with_in_a(Some(Loaded::Protocol));
     Ok(Sides {
-        yes: known.with_protocol(n),
-        no: known.without_protocol(n),
+        yes: asked.with_protocol(n),
+        no: asked.without_protocol(n),
     })
 }
 
@@ -82,10 +85,10 @@ fn addresses<'a, A: Allocator>(
 {
     let mut ip = Passed::at_once(known);
     guard_ip(code, true, &mut ip, no)?;
-    ends(code, Part::Address, direction, check, yes, no)?;
+    let sides = ends(code, Part::Address, direction, check, ip.on, yes, no)?;
     Ok(Sides {
-        yes: ip.on,
-        no: ip.or_no(ip.on),
+        yes: sides.yes,
+        no: ip.or_no(sides.no),
     })
 }
 
@@ -128,11 +131,11 @@ fn ports<'a, A: Allocator>(
     let mut before = Passed::at_once(known);
     guard_ports(code, transport, &mut before, no)?;
     load_header(code, before.on.header_in_x())?;
-    ends(code, Part::Port, direction, check, yes, no)?;
     let on = before.on.with_header_in_x(true);
+    let sides = ends(code, Part::Port, direction, check, on, yes, no)?;
     Ok(Sides {
-        yes: on,
-        no: before.or_no(on),
+        yes: sides.yes,
+        no: before.or_no(sides.no),
     })
 }
 
@@ -145,7 +148,7 @@ fn bytes<'a, A: Allocator>(
     no: &mut Exit<'a, A>,
 ) -> Result<(), AllocError>
     requires room { length code.old + 4 ≤ MAX_INSTRUCTIONS }
-    ensures writes { OnOk result (Writes (Decides false (λ packet. answer (holds test (length packet) n))) 4 code.old code.new yes.old yes.new no.old no.new) }
+    ensures writes { OnOk result (Writes (Decides false None None (λ packet. answer (holds test (length packet) n))) 4 code.old code.new yes.old yes.new no.old no.new) }
 {
     code.push(Insn::LoadLength)?;
     code.branch(test, Operand::K(n), yes, no)
@@ -205,11 +208,11 @@ pub(crate) fn primitive<'a, A: Allocator>(
         ),
         Primitive::AtMost(n) => {
             bytes(code, Test::Greater, n, no, yes)?;
-            Ok(Sides::both(known))
+            Ok(Sides::both(known.with_in_a(None)))
         }
         Primitive::AtLeast(n) => {
             bytes(code, Test::GreaterOrEqual, n, yes, no)?;
-            Ok(Sides::both(known))
+            Ok(Sides::both(known.with_in_a(None)))
         }
     }
 }

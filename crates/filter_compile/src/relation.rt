@@ -117,7 +117,7 @@ pub(crate) fn relation<'a, A: Allocator, B: Allocator>(
     guards(code, used, &mut before, no)?;
     let held = arithmetic(code, left, 0, before.on.header_in_x())?;
     let held = compare_with(code, relation, right, held, yes, no)?;
-    let on = before.on.with_header_in_x(held);
+    let on = before.on.with_header_in_x(held).with_in_a(None);
     Ok(Sides {
         yes: on,
         no: before.or_no(on),

@@ -65,8 +65,8 @@ impl Passed {
     #[inline(always)]
     pub(crate) fn learn(&mut self, on: Known, no: Known)
         ensures on { self.new.on ≡ on }
-        ensures of_self { (packet : List ℕ) (x : ℕ) → HoldsWhere self.old.no packet x → HoldsWhere self.new.no packet x }
-        ensures of_no { (packet : List ℕ) (x : ℕ) → Holds no packet x → HoldsWhere self.new.no packet x }
+        ensures of_self { (packet : List ℕ) (a x : ℕ) → HoldsWhere self.old.no packet a x → HoldsWhere self.new.no packet a x }
+        ensures of_no { (packet : List ℕ) (a x : ℕ) → Holds no packet a x → HoldsWhere self.new.no packet a x }
     {
         let no = self.or_no(no);
         self.on = on;
@@ -75,8 +75,8 @@ impl Passed {
 
     /// Where the guard goes to no, or a test behind it does.
     pub(crate) fn or_no(self, no: Known) -> Known
-        ensures of_self { (packet : List ℕ) (x : ℕ) → HoldsWhere self.no packet x → Holds result packet x }
-        ensures of_no { (packet : List ℕ) (x : ℕ) → Holds no packet x → Holds result packet x }
+        ensures of_self { (packet : List ℕ) (a x : ℕ) → HoldsWhere self.no packet a x → Holds result packet a x }
+        ensures of_no { (packet : List ℕ) (a x : ℕ) → Holds no packet a x → Holds result packet a x }
     {
         match self.no {
             Some(missed) => missed.join(no),

@@ -7,20 +7,26 @@ use Rattle.backpatch.specs.Guards.{Guards}
 use Rattle.filter_tree.specs.declared.truth.Truth.{Truth}
 use Rattle.packet_facts.specs.declared.known.Known.{Known}
 use Rattle.packet_facts.specs.Known.{Holds}
+use Rattle.packet_facts.specs.Told.{header_in_x_of, header_of}
 use Rattle.filter_compile.specs.declared.sides.Passed.{Passed}
 use Rattle.filter_compile.specs.declared.sides.Sides.{Sides}
 use Rattle.filter_compile.specs.body.Piece.{Tests}
 
 -- no packet comes there, or the facts hold
-abbrev pub HoldsWhere : Option Known → List ℕ → ℕ → Type 0
-HoldsWhere None packet x = ⊥
-HoldsWhere (Some known) packet x = Holds known packet x
+abbrev pub HoldsWhere : Option Known → List ℕ → ℕ → ℕ → Type 0
+HoldsWhere None packet a x = ⊥
+HoldsWhere (Some known) packet a x = Holds known packet a x
+
+-- the same is known of the packet and of X
+pub record IsSameButA (known other : Known) : Type 0 where
+  pub packet : header_of other ≡ header_of known
+  pub x : header_in_x_of other ≡ header_in_x_of known
 
 -- a guard adds its test to those that were passed: behind it the new facts hold, and where it goes to no, or one before it does,
 -- the new ones there
 pub record Adds (truth : List ℕ → Truth) (weight : ℕ) (before after : List ℕ) (old new : Passed) (no_old no_new : Open) : Type 0 where
   pub guards : Guards (Tests (Holds old.on) (Holds new.on) (HoldsWhere new.no) truth) weight before after no_old no_new
-  pub missed : (packet : List ℕ) (x : ℕ) → HoldsWhere old.no packet x → HoldsWhere new.no packet x
+  pub missed : (packet : List ℕ) (a x : ℕ) → HoldsWhere old.no packet a x → HoldsWhere new.no packet a x
 
 -- a word that goes to the exit always, and the same is known on both sides
 pub record Leaves (known : Known) (sides : Sides) (before after : List ℕ) (old new : Open) : Type 0 where

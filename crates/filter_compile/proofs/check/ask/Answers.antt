@@ -1,4 +1,4 @@
-use Rattle.std.proofs.Common.{◌==◌, refl}
+use Rattle.std.proofs.Common.{◌==◌, refl, true}
 use Rattle.std.proofs.lemmas.Result.{on_ok_weaker}
 use Rattle.backpatch.proofs.WritesLemmas.{Writes-means}
 use Rattle.filter_compile.proofs.TestLemmas.{Asks-checks}
@@ -6,7 +6,7 @@ use Rattle.filter_compile.proofs.check.ask.Goals as goal
 
 pub returns-in-Equal : goal.returns-in-Equal
 returns-in-Equal g c = record {
-  writes = rw c.in-Equal.is (on_ok_weaker c.branch-code.result (λ w. Writes-means (λ at_yes at_no words h. Asks-checks (λ a. a == c.in-Equal.n) (λ a x fits. refl) h) w) c.branch-code.ensures.writes);
+  writes = rw c.in-Equal.is (on_ok_weaker c.branch-code.result (λ w. Writes-means (λ at_yes at_no words h. Asks-checks true (λ a. a == c.in-Equal.n) (λ a x fits. refl) (λ a kept. refl) h) w) c.branch-code.ensures.writes);
 }
 
 pub returns-in-Covered : goal.returns-in-Covered

@@ -7,14 +7,14 @@ use Rattle.filter_compile.proofs.guard.guard_first_fragment.Goals as goal
 
 pub returns-then-first_fragment : goal.returns-then-first_fragment
 returns-then-first_fragment g c = record {
-  adds = Adds-none c.args.passed.now (λ packet. where_so c.args.used (is_first_fragment packet)) _ c.args.code.now c.args.no.now (λ packet x h. yes_where c.args.used (is_first_fragment packet) (c.if-first_fragment.ensures.known refl packet x h));
+  adds = Adds-none c.args.passed.now (λ packet. where_so c.args.used (is_first_fragment packet)) _ c.args.code.now c.args.no.now (λ packet a x h. yes_where c.args.used (is_first_fragment packet) (c.if-first_fragment.ensures.known refl packet a x h));
   learned = λ used ip. sym c.if-first_fragment.ensures.exact;
   same_transport = λ transport. refl;
 }
 
 pub returns-then-not-used : goal.returns-then-not-used
 returns-then-not-used g c = record {
-  adds = Adds-none c.args.passed.now (λ packet. where_so c.args.used (is_first_fragment packet)) _ c.args.code.now c.args.no.now (λ packet x h. unused c.args.used (is_first_fragment packet) c.if-not-used.true);
+  adds = Adds-none c.args.passed.now (λ packet. where_so c.args.used (is_first_fragment packet)) _ c.args.code.now c.args.no.now (λ packet a x h. unused c.args.used (is_first_fragment packet) c.if-not-used.true);
   learned = λ used ip. absurd cc;
   same_transport = λ transport. refl;
 }

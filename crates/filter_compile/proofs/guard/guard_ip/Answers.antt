@@ -9,7 +9,7 @@ use Rattle.filter_compile.proofs.guard.guard_ip.Goals as goal
 
 pub returns-then-not-must_ask : goal.returns-then-not-must_ask
 returns-then-not-must_ask g c = record {
-  adds = Adds-none c.args.passed.now (λ packet. where_so c.args.used (is_ip packet)) _ c.args.code.now c.args.no.now (λ packet x h. c.must_ask.ensures.left_out c.if-not-must_ask.true (is_ip packet) (c.ip.ensures.known packet x h));
+  adds = Adds-none c.args.passed.now (λ packet. where_so c.args.used (is_ip packet)) _ c.args.code.now c.args.no.now (λ packet a x h. c.must_ask.ensures.left_out c.if-not-must_ask.true (is_ip packet) (c.ip.ensures.known packet a x h));
   learned = λ used not_no. sym c.ip.ensures.exact ∙ c.must_ask.ensures.known c.if-not-must_ask.true used;
   same_transport = λ transport. refl;
 }

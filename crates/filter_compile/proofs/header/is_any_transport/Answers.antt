@@ -1,9 +1,9 @@
-use Rattle.std.proofs.Common.{arith, refl, ◌==◌}
+use Rattle.std.proofs.Common.{arith, refl, true, ◌==◌}
 use Rattle.std.specs.Prelude.{◌||◌}
 use Rattle.std.proofs.lemmas.Result.{on_ok_weaker}
 use Rattle.backpatch.specs.Checks.{Checks}
 use Rattle.backpatch.proofs.CheckLemmas.{Checks-or}
-use Rattle.backpatch.proofs.GuardLemmas.{Extends-pushed, Extends-writes}
+use Rattle.backpatch.proofs.GuardLemmas.{Extends-writes}
 use Rattle.backpatch.proofs.WritesLemmas.{Writes-weight}
 use Rattle.filter_tree.specs.declared.primitive.Transport.TheVariants.{Unnamed}
 use Rattle.filter_tree.specs.Primitive.{has_ports}
@@ -17,7 +17,7 @@ returns g c = record {
   writes = on_ok_weaker c.branch-code.result
       (λ w. let later = Guards-writes_no {both = Checks (λ a. a) (λ a x. a == 17 || a == 132)} (λ at_yes at_no mid words h k. Checks-or h k) c.in_ok-divert-2.ensures.guards w in
       let all = Guards-writes_no {both = Checks (λ a. a) (λ a x. a == 6 || (a == 17 || a == 132))} (λ at_yes at_no mid words h k. Checks-or h k) c.in_ok-divert.ensures.guards later in
-      Writes-weight 10 (omega arith) (Extends-writes (λ at_yes at_no mid words pushed checks. Decides-protocol at_yes at_no mid words (has_ports Unnamed) pushed (Asks-checks (has_ports Unnamed) (λ a x fits. or_same (a == 6) (a == 17) (a == 132)) checks))
-      (Extends-pushed (λ len pc. refl) c.in_ok-push.ensures.appended) all))
+      Writes-weight 10 (omega arith) (Extends-writes (λ at_yes at_no mid words brings checks. Decides-protocol at_yes at_no mid words c.args.in_a (has_ports Unnamed) brings (Asks-checks true (has_ports Unnamed) (λ a x fits. or_same (a == 6) (a == 17) (a == 132)) (λ a kept. refl) checks))
+      c.in_ok-load.ensures.extends all))
       c.branch-code.ensures.writes;
 }

@@ -1,4 +1,4 @@
-use Rattle.std.proofs.Common.{◌==◌, bit_and, refl}
+use Rattle.std.proofs.Common.{◌==◌, bit_and, false, refl}
 use Rattle.std.proofs.lemmas.Result.{on_ok_weaker}
 use Rattle.bpf_insn.specs.declared.instruction.Operation.TheVariants.{And}
 use Rattle.backpatch.proofs.CheckLemmas.{Checks-alu}
@@ -12,9 +12,9 @@ use Rattle.filter_compile.proofs.header.is_ip.Goals as goal
 pub returns : goal.returns
 returns g c = record {
   writes = on_ok_weaker c.branch-code.result
-      (λ w. Extends-writes {two = Asks (λ a. bits_from 4 4 a == 4)} (λ at_yes at_no mid words pushed asks. Decides-version at_yes at_no mid words pushed asks)
+      (λ w. Extends-writes {two = Asks false (λ a. bits_from 4 4 a == 4)} (λ at_yes at_no mid words pushed asks. Decides-version at_yes at_no mid words pushed asks)
       (Extends-pushed (λ len pc. refl) c.in_ok-push.ensures.appended)
-      (Extends-writes (λ at_yes at_no mid words pushed checks. Asks-checks (λ a. bits_from 4 4 a == 4) (λ a x fits. version_asked a) (Checks-alu (λ a. bit_and a 0xf0) And 0xf0 (λ a. refl) pushed checks))
+      (Extends-writes (λ at_yes at_no mid words pushed checks. Asks-checks false (λ a. bits_from 4 4 a == 4) (λ a x fits. version_asked a) (λ a kept. absurd cc) (Checks-alu (λ a. bit_and a 0xf0) And 0xf0 (λ a. refl) pushed checks))
       (Extends-pushed (λ len pc. refl) c.in_ok-push-2.ensures.appended) w))
       c.branch-code.ensures.writes;
 }

@@ -1,4 +1,4 @@
-use Rattle.std.proofs.Common.{◌+◌, arith, false, length, refl, subst, sym}
+use Rattle.std.proofs.Common.{◌+◌, None, arith, false, length, refl, subst, sym}
 use Rattle.std.proofs.lemmas.Result.{IfOk-weaker}
 use Rattle.backpatch.proofs.WritesLemmas.{Writes-not, Writes-weight}
 use Rattle.bpf_insn.specs.declared.instruction.Test.TheVariants as test_is
@@ -56,17 +56,18 @@ returns-in-PortRange g c =
 
 pub returns-in_ok-bytes-in-AtMost : goal.returns-in_ok-bytes-in-AtMost
 returns-in_ok-bytes-in-AtMost g c =
-    let n = c.in-AtMost.n in let both = c.both in record {
-      writes = rw c.in-AtMost.is (Writes-decided c.args.known both.result.yes both.result.no (truth_of_primitive (AtMost n)) (λ packet x h is. subst (λ k. Holds k packet x) (sym both.ensures.yes) h) (λ packet x h is. subst (λ k. Holds k packet x) (sym both.ensures.no) h)
-          (Writes-not {other = Decides false (truth_of_primitive (AtMost n))}
-          (λ at_yes at_no words h. Decides-same false (λ packet. opposite (answer (holds test_is.Greater (length packet) n))) (truth_of_primitive (AtMost n)) at_yes at_no words (λ packet ok. at_most (length packet) n)
-          (Decides-not false (λ packet. answer (holds test_is.Greater (length packet) n)) at_yes at_no words h))
+    let n = c.in-AtMost.n in let both = c.both in let asked = c.with_in_a in record {
+      writes = rw c.in-AtMost.is (Writes-decided c.args.known asked.result both.result.yes both.result.no None None (truth_of_primitive (AtMost n)) (λ packet a x h. tt) asked.ensures.holds (λ packet a x h is. subst (λ k. Holds k packet a x) (sym both.ensures.yes) h)
+          (λ packet a x h is. subst (λ k. Holds k packet a x) (sym both.ensures.no) h)
+          (Writes-not {other = Decides false None None (truth_of_primitive (AtMost n))}
+          (λ at_yes at_no words h. Decides-same false None None (λ packet. opposite (answer (holds test_is.Greater (length packet) n))) (truth_of_primitive (AtMost n)) at_yes at_no words (λ packet ok. at_most (length packet) n)
+          (Decides-not false None None (λ packet. answer (holds test_is.Greater (length packet) n)) at_yes at_no words h))
           c.in_ok-bytes-in-AtMost.ensures.writes));
     }
 
 pub returns-in_ok-bytes-in-AtLeast : goal.returns-in_ok-bytes-in-AtLeast
 returns-in_ok-bytes-in-AtLeast g c =
-    let both = c.both-in-AtLeast in record {
-      writes = rw c.in-AtLeast.is (Writes-decided c.args.known both.result.yes both.result.no (truth_of_primitive (AtLeast c.in-AtLeast.n)) (λ packet x h is. subst (λ k. Holds k packet x) (sym both.ensures.yes) h)
-          (λ packet x h is. subst (λ k. Holds k packet x) (sym both.ensures.no) h) c.in_ok-bytes-in-AtLeast.ensures.writes);
+    let both = c.both-in-AtLeast in let asked = c.with_in_a-in-AtLeast in record {
+      writes = rw c.in-AtLeast.is (Writes-decided c.args.known asked.result both.result.yes both.result.no None None (truth_of_primitive (AtLeast c.in-AtLeast.n)) (λ packet a x h. tt) asked.ensures.holds
+          (λ packet a x h is. subst (λ k. Holds k packet a x) (sym both.ensures.yes) h) (λ packet a x h is. subst (λ k. Holds k packet a x) (sym both.ensures.no) h) c.in_ok-bytes-in-AtLeast.ensures.writes);
     }

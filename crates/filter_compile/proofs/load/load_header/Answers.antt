@@ -3,7 +3,7 @@ use Rattle.std.proofs.lemmas.Result.{on_ok_weaker}
 use Rattle.backpatch.proofs.GuardLemmas.{Extends-means, Extends-none, Extends-pushed, Extends-weight}
 use Rattle.filter_compile.specs.body.Piece.{LoadsHeader}
 use Rattle.filter_compile.proofs.ArithmeticLemmas.{Computes-header, Computes-held}
-use Rattle.filter_compile.proofs.guard.load_header.Goals as goal
+use Rattle.filter_compile.proofs.load.load_header.Goals as goal
 
 pub returns-then-held : goal.returns-then-held
 returns-then-held g c = record { extends = rw c.if-held.true (Extends-weight 1 (omega arith) (Extends-none {step = LoadsHeader true} c.args.code.now (λ words d. Computes-held d words))) }
