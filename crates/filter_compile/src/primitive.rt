@@ -17,9 +17,7 @@ ghost use Rattle.filter_compile.specs.body.Weight.{leads_to_ports, ports_weight_
 
 use crate::check::Check;
 use crate::ends::{Part, ends};
-use crate::guard::{
-    guard_first_fragment, guard_ip, guard_transport, leads_to_ports, must_ask,
-};
+use crate::guard::{guard_first_fragment, guard_ip, guard_transport, leads_to_ports, must_ask};
 use crate::header::{is_ip, is_protocol};
 use crate::load::load_header;
 use crate::sides::{Passed, Sides, settled};

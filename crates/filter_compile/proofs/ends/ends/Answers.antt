@@ -1,5 +1,4 @@
 use Rattle.std.proofs.Common.{◌+◌, ◌≤◌, arith, length, subst}
-use Rattle.std.proofs.lemmas.Result.{IfOk-weaker}
 use Rattle.backpatch.proofs.BothLemmas.{Writes-and, Writes-or}
 use Rattle.backpatch.proofs.WritesLemmas.{Writes-means, landable, landable_no}
 use Rattle.filter_compile.specs.body.Header.{destination_of, source_of, weight_of_ends}
