@@ -26,7 +26,7 @@ struct Row {
     steps: u32,
 }
 
-const ROWS: [Row; 12] = [
+const ROWS: [Row; 15] = [
     Row {
         text: "ip",
         charge: 7,
@@ -79,7 +79,7 @@ const ROWS: [Row; 12] = [
         text: "(src host 10.0.0.1 or src host 10.0.0.7 or src net 192.168.0.0/16) and udp \
                and (dst port 53 or dst portrange 9000-9100) and not (less 29 or greater 1400)",
         charge: 98,
-        instructions: 26,
+        instructions: 23,
         far_jumps: 0,
         packet: &LONGER_PACKET,
         steps: 17,
@@ -123,6 +123,30 @@ const ROWS: [Row; 12] = [
         far_jumps: 0,
         packet: &SAMPLE_PACKET,
         steps: 13,
+    },
+    Row {
+        text: "dst port 80 or dst port 443 or dst port 53",
+        charge: 74,
+        instructions: 16,
+        far_jumps: 0,
+        packet: &SAMPLE_PACKET,
+        steps: 14,
+    },
+    Row {
+        text: "tcp or udp[8] = 0x61",
+        charge: 36,
+        instructions: 13,
+        far_jumps: 0,
+        packet: &LONGER_PACKET,
+        steps: 12,
+    },
+    Row {
+        text: "src net 10.0.0.0/8 and src host 10.0.0.1",
+        charge: 21,
+        instructions: 10,
+        far_jumps: 0,
+        packet: &SAMPLE_PACKET,
+        steps: 9,
     },
 ];
 
