@@ -92,7 +92,7 @@ pub(crate) fn left_in_a(check: &Check, loaded: Loaded) -> Option<Loaded>
 {
     match check {
         Check::Equal(_) => Some(loaded),
-        // It is shifted.
+        // The address was shifted.
         Check::Covered(_) => None,
         Check::Between(_, _) => Some(loaded),
     }

@@ -47,7 +47,7 @@ impl Part {
     }
 }
 
-// Tells what is known behind the test of one end, on both sides.
+// Writes the test of one end, and tells what is known behind it, on both sides alike.
 fn test_end<'a, A: Allocator>(
     code: &mut Code<'a, A>,
     end: Loaded,
