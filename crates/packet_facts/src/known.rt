@@ -37,7 +37,6 @@ impl Known {
 
     /// Knows what holds where one or the other does: where two ways meet. Of two protocols none is known, but that both
     /// have ports is; a number that neither is stays known, unless both are known by theirs.
-    #[inline(always)]
     pub fn join(self, other: Known) -> Known
         ensures of_self { (packet : List ℕ) (a x : ℕ) → Holds self packet a x → Holds result packet a x }
         ensures of_other { (packet : List ℕ) (a x : ℕ) → Holds other packet a x → Holds result packet a x }
