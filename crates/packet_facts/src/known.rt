@@ -123,6 +123,7 @@ impl Known {
     {
         self.header_in_x
     }
+
     /// Tells what A is known to hold, `None` where that is not known.
     pub fn in_a(self) -> Option<Loaded>
         ensures exact { result ≡ in_a_of self }
