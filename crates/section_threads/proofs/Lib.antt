@@ -1,0 +1,3 @@
+pub mod JobLemmas
+pub mod MadeLemmas
+pub mod RequestLemmas

@@ -1,0 +1,41 @@
+//! The program `section_threads`: read sections in threads, on one table (docs/PERFORMANCE.md, "Sections in threads").
+//!
+//! Its words are the number of threads, how many rounds each makes, `spread` or `side-by-side`, and `--time` or nothing. It prints one
+//! line: the threads, the placing of their workers, how many sections were made in all and, with `--time`, the nanoseconds from the
+//! start of the first thread to the end of the last. It exits with 2 where its words are at fault, and with 3 where it failed.
+#![tactic(auto)]
+
+mod fault;
+mod jobs;
+mod line;
+mod placing;
+mod request;
+mod running;
+mod sections;
+mod threads;
+
+use fault::refuse_words;
+use running::run;
+use std::env::Env;
+use std::process::ExitCode;
+use std::{env, io};
+
+// The words after the program's name.
+fn arguments<R: Env + AllocGlobal>(rt: &R) -> io::Result<Vec<String>> {
+    Ok(env::args(rt)?.skip(1).collect(rt.alloc())?)
+}
+
+fn main(rt: HostRuntime) -> ExitCode {
+    let mut errs = rt.stderr();
+    let status = match arguments(&rt) {
+        Ok(words) => run(
+            &rt,
+            rt.alloc(),
+            words.as_slice(),
+            &mut rt.stdout(),
+            &mut errs,
+        ),
+        Err(_) => refuse_words(&mut errs),
+    };
+    ExitCode::from(status as u8)
+}

@@ -1,0 +1,49 @@
+//! Which workers the threads have: some whose read words lie far apart, or neighbours.
+
+ghost use Rattle.std.specs.Prelude.{◌≡◌, ◌+◌, ◌*◌, ◌<◌, ◌≤◌};
+ghost use Rattle.versions.specs.declared.layout.TheConstants.{WORKERS};
+ghost use Rattle.section_threads.specs.Placing.{distance, passed_over};
+
+use read_section::WORKERS;
+
+/// Which workers the threads have.
+#[derive(Clone, Copy, Debug, PartialEq, Eq)]
+pub enum Placing {
+    /// For up to eight threads workers 7, 15, 23 .. 63, which are those that `spread` of worker_threads lets be taken first. Their read
+    /// words are eight apart. More threads have workers that are as far apart as 64 workers allow.
+    Spread,
+    /// The last workers of the table, whose read words lie side by side.
+    SideBySide,
+}
+
+// Read words that are so many words apart never share a cache line of 64 bytes.
+const APART: usize = 8;
+
+impl Placing {
+    /// How many numbers the workers of two neighbouring threads are apart.
+    pub fn distance(self, threads: usize) -> usize
+        requires some { 0 < threads }
+        requires at_most { threads ≤ WORKERS }
+        ensures distance { result ≡ distance self threads }
+        ensures at_least_one { 1 ≤ result }
+        ensures within { result * threads ≤ WORKERS }
+    {
+        match self {
+            Placing::Spread => APART.min(WORKERS / threads),
+            Placing::SideBySide => 1,
+        }
+    }
+
+    /// The number above that of the first thread's worker, which has the highest.
+    pub fn above(self, threads: usize) -> usize
+        requires some { 0 < threads }
+        requires at_most { threads ≤ WORKERS }
+        ensures above { result ≡ passed_over self threads + distance self threads * threads }
+        ensures within { result ≤ WORKERS }
+    {
+        match self {
+            Placing::Spread => self.distance(threads) * threads,
+            Placing::SideBySide => WORKERS,
+        }
+    }
+}
