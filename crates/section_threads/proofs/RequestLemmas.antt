@@ -1,6 +1,5 @@
 -- Words that are a request.
 use Rattle.std.proofs.Common.{◌≡◌, ◌∙◌, ◌∷◌, ◌<◌, ◌≤◌, Bool, IfSome, List, None, Option, Some, [], ap₂, arith, get_or, length, map, sym, ℕ}
-use Rattle.section_threads.specs.declared.placing.Placing.{Placing}
 use Rattle.section_threads.specs.declared.request.Request.{Request}
 use Rattle.section_threads.specs.Request.{IsPlacingWord, IsRequest, IsRounds, IsThreads, time_words}
 

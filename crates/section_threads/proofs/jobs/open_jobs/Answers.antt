@@ -1,4 +1,4 @@
-use Rattle.std.proofs.Common.{◌≡◌, [], length, subst}
+use Rattle.std.proofs.Common.{◌≡◌, length, subst}
 use Rattle.read_section.specs.Operator.{AreOpenedWorkers}
 use Rattle.section_threads.specs.Jobs.{AreJobs, AreTaken}
 use Rattle.section_threads.proofs.JobLemmas.{IfOk-both, jobs-opened}

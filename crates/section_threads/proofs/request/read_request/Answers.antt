@@ -1,6 +1,5 @@
-use Rattle.std.proofs.Common.{◌≡◌, ◌∙◌, ◌∷◌, List, [], codes, map, string_bytes, sym, true, ℕ, rules}
+use Rattle.std.proofs.Common.{◌≡◌, ◌∙◌, List, codes, map, string_bytes, sym, true, ℕ, rules}
 use Rattle.section_threads.proofs.RequestLemmas.{four_words, is_request}
-use Rattle.section_threads.specs.Request.{time_words}
 use Rattle.section_threads.proofs.request.read_request.Goals as goal
 
 pub returns-in-len4 : goal.returns-in-len4
