@@ -21,7 +21,13 @@ pub record IsRounds (text : List ℕ) (rounds : ℕ) : Type 0 where
 abbrev pub IsPlacingWord : List ℕ → Placing → Type 0
 IsPlacingWord text placing = text ≡ word_of placing
 
--- what stands behind the three words
+-- the three words in front ask for these threads, rounds and placing
+pub record AreWordsOf (threads_text rounds_text placing_text : List ℕ) (request : Request) : Type 0 where
+  pub threads : IsThreads threads_text request.threads
+  pub rounds : IsRounds rounds_text request.rounds
+  pub placing : IsPlacingWord placing_text request.placing
+
+-- what stands behind them
 abbrev pub time_words : Bool → List (List ℕ)
 time_words false = []
 time_words true = codes "--time" ∷ []
@@ -30,6 +36,6 @@ time_words true = codes "--time" ∷ []
 pub record IsRequest (words : List (List ℕ)) (request : Request) : Type 0 where
   pub threads_text : List ℕ
   pub rounds_text : List ℕ
-  pub words_are : words ≡ threads_text ∷ (rounds_text ∷ (word_of request.placing ∷ time_words request.is_timed))
-  pub threads : IsThreads threads_text request.threads
-  pub rounds : IsRounds rounds_text request.rounds
+  pub placing_text : List ℕ
+  pub words_are : words ≡ threads_text ∷ (rounds_text ∷ (placing_text ∷ time_words request.is_timed))
+  pub in_front : AreWordsOf threads_text rounds_text placing_text request

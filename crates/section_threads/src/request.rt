@@ -1,7 +1,9 @@
 //! What the program's words ask for.
 
-ghost use Rattle.std.specs.Prelude.{◌≡◌, IfSome, IsTrue, MatchOption, codes, map, string_bytes, ℕ};
-ghost use Rattle.section_threads.specs.Request.{IsPlacingWord, IsRequest, IsRounds, IsThreads};
+ghost use Rattle.std.specs.Prelude.{◌≡◌, ◌↔◌, IfSome, IsTrue, MatchOption, codes, map, string_bytes, ℕ};
+ghost use Rattle.section_threads.specs.Request.{AreWordsOf, IsPlacingWord, IsRequest, IsRounds, IsThreads};
+ghost use Rattle.section_threads.specs.declared.placing.Placing.{Placing};
+ghost use Rattle.section_threads.specs.declared.request.Request.{Request};
 
 use crate::placing::Placing;
 use read_section::WORKERS;
@@ -31,7 +33,7 @@ fn round_count(text: &str) -> Option<u32>
 }
 
 fn placing_of(word: &str) -> Option<Placing>
-    ensures { IfSome result (IsPlacingWord word.now) }
+    ensures { MatchOption result ((placing : Placing) → IsPlacingWord word.now placing → ⊥) (IsPlacingWord word.now) }
 {
     match word {
         "spread" => Some(Placing::Spread),
@@ -41,17 +43,16 @@ fn placing_of(word: &str) -> Option<Placing>
 }
 
 fn asks_for_time(word: &str) -> bool
-    ensures { IsTrue result → word.now ≡ codes "--time" }
+    ensures { IsTrue result ↔ (word.now ≡ codes "--time") }
 {
     matches!(word, "--time")
 }
 
 // The request of the three words in front.
 fn request_of(threads: &str, rounds: &str, placing: &str, is_timed: bool) -> Option<Request>
-    ensures threads { IfSome result (λ request. IsThreads threads.now request.threads) }
-    ensures rounds { IfSome result (λ request. IsRounds rounds.now request.rounds) }
-    ensures placing { IfSome result (λ request. IsPlacingWord placing.now request.placing) }
-    ensures is_timed { IfSome result (λ request. request.is_timed ≡ is_timed) }
+    ensures request { MatchOption result ((request : Request) → AreWordsOf threads.now rounds.now placing.now request → ⊥)
+        (AreWordsOf threads.now rounds.now placing.now) }
+    ensures timed { IfSome result (λ request. request.is_timed ≡ is_timed) }
 {
     Some(Request {
         threads: thread_count(threads)?,
@@ -63,7 +64,8 @@ fn request_of(threads: &str, rounds: &str, placing: &str, is_timed: bool) -> Opt
 
 /// The request that the words are; none where they are no request.
 pub fn read_request(words: &[String]) -> Option<Request>
-    ensures { IfSome result (IsRequest (map string_bytes words.now)) }
+    ensures { MatchOption result ((request : Request) → IsRequest (map string_bytes words.now) request → ⊥)
+        (IsRequest (map string_bytes words.now)) }
 {
     match words {
         [threads, rounds, placing] => {

@@ -66,6 +66,7 @@ pub fn run<R: Threads + Clock, W: Write, E: Write>(
 ) -> Status
     ensures done { result ≡ Status.Done
         → (request : Request) × IsRequest (map string_bytes words.now) request × Tells request (W.contents out.old) (W.contents out.new) }
+    ensures misused { result ≡ Status.Misused → (request : Request) → IsRequest (map string_bytes words.now) request → ⊥ }
     ensures no_errors { result ≡ Status.Done → errs.new ≡ errs.old }
     ensures nothing_written { result ≡ Status.Misused → out.new ≡ out.old }
 {

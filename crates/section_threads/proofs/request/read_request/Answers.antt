@@ -1,5 +1,5 @@
 use Rattle.std.proofs.Common.{◌≡◌, ◌∙◌, List, codes, map, string_bytes, sym, true, ℕ, rules}
-use Rattle.section_threads.proofs.RequestLemmas.{four_words, is_request}
+use Rattle.section_threads.proofs.RequestLemmas.{four_words, request_exact}
 use Rattle.section_threads.proofs.request.read_request.Goals as goal
 
 pub returns-in-len4 : goal.returns-in-len4
@@ -10,5 +10,5 @@ returns-in-len4 c =
     let threads : List ℕ = c.as_str-in-len4.result.now in let threads_is = c.as_str-in-len4.ensures.value in
     let rounds : List ℕ = c.as_str-in-len4-2.result.now in let rounds_is = c.as_str-in-len4-2.ensures.value in
     let placing : List ℕ = c.as_str-in-len4-3.result.now in let placing_is = c.as_str-in-len4-3.ensures.value in
-    let asked : string_bytes c.time-item.result ≡ codes "--time" = sym c.as_str-then-words-lt5.ensures.value ∙ c.asks_for_time.ensures (search rules) in
-    is_request (map string_bytes words) threads rounds placing true c.request_of-in-len4.result (cc) found.threads found.rounds found.placing found.is_timed
+    let asked : string_bytes c.time-item.result ≡ codes "--time" = sym c.as_str-then-words-lt5.ensures.value ∙ c.asks_for_time.ensures.0 (search rules) in
+    request_exact (map string_bytes words) threads rounds placing true c.request_of-in-len4.result (cc) found.request found.timed
