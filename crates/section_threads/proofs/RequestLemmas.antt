@@ -1,6 +1,5 @@
 -- Words that are a request.
-use Rattle.std.proofs.Common.{◌≡◌, ◌∙◌, ◌∷◌, ◌<◌, ◌≤◌, ◌⊎◌, Bool, IfSome, List, MatchOption, None, Option, Some, [], ap, arith, codes, false, get_or, inl, inr, length, map, subst, sym, true, ℕ}
-use Rattle.std.proofs.lemmas.List.{length-map}
+use Rattle.std.proofs.Common.{◌≡◌, ◌∙◌, ◌∷◌, ◌<◌, ◌≤◌, Bool, IfSome, List, MatchOption, None, Option, Some, [], ap, arith, get_or, length, map, subst, sym, ℕ}
 use Rattle.section_threads.specs.declared.request.Request.{Request}
 use Rattle.section_threads.specs.Request.{AreWordsOf, IsRequest, IsRounds, IsThreads, time_words}
 

@@ -3,6 +3,7 @@
 ghost use Rattle.std.specs.Prelude.{◌≡◌};
 ghost use Rattle.section_threads.specs.declared.fault.Fault.TheVariants.{OutOfMemory};
 
+use read_section::WORKERS;
 use std::alloc::AllocError;
 use std::io::Write;
 
@@ -60,7 +61,8 @@ pub fn refuse_words<E: Write>(errs: &mut E) -> Status
 {
     let _ = writeln!(
         errs,
-        "error: usage: section_threads THREADS ROUNDS spread|side-by-side [--time], THREADS from 1 to 64"
+        "error: usage: section_threads THREADS ROUNDS spread|side-by-side [--time], THREADS from 1 to {WORKERS}, ROUNDS to {}",
+        u32::MAX
     );
     Status::Misused
 }

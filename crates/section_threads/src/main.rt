@@ -14,9 +14,10 @@ mod running;
 mod sections;
 mod threads;
 
-use fault::refuse_words;
+use fault::{Fault, refuse_words};
 use running::run;
 use std::env::Env;
+use std::io::ErrorKind;
 use std::process::ExitCode;
 use std::{env, io};
 
@@ -35,6 +36,9 @@ fn main(rt: HostRuntime) -> ExitCode {
             &mut rt.stdout(),
             &mut errs,
         ),
+        Err(error) if error.kind() == ErrorKind::OutOfMemory => {
+            Fault::OutOfMemory.report(&mut errs)
+        }
         Err(_) => refuse_words(&mut errs),
     };
     ExitCode::from(status as u8)

@@ -1,8 +1,8 @@
 //! Which workers the threads have: some whose read words lie far apart, or neighbours.
 
-ghost use Rattle.std.specs.Prelude.{◌≡◌, ◌+◌, ◌*◌, ◌<◌, ◌≤◌};
+ghost use Rattle.std.specs.Prelude.{◌≡◌, ◌+◌, ◌*◌, ◌<◌, ◌≤◌, ◌∷◌, [], map};
 ghost use Rattle.versions.specs.declared.layout.TheConstants.{WORKERS};
-ghost use Rattle.section_threads.specs.Placing.{distance, passed_over};
+ghost use Rattle.section_threads.specs.Placing.{distance, number_at, passed_over};
 
 use read_section::WORKERS;
 
@@ -18,6 +18,12 @@ pub enum Placing {
 
 // Read words that are so many words apart never share a cache line of 64 bytes.
 const APART: usize = 8;
+
+/// Law: the numbers of the workers of four threads. It runs nothing.
+pub fn placings_as_numbers()
+    ensures far { map (number_at Placing.Spread 4) (0 ∷ (1 ∷ (2 ∷ (3 ∷ [])))) ≡ 31 ∷ (23 ∷ (15 ∷ (7 ∷ []))) }
+    ensures neighbours { map (number_at Placing.SideBySide 4) (0 ∷ (1 ∷ (2 ∷ (3 ∷ [])))) ≡ 63 ∷ (62 ∷ (61 ∷ (60 ∷ []))) }
+{}
 
 impl Placing {
     /// How many numbers the workers of two neighbouring threads are apart.
