@@ -10,7 +10,8 @@ abbrev pub distance : Placing → ℕ → ℕ
 distance Spread threads = min APART (WORKERS / threads)
 distance SideBySide threads = 1
 
--- how many workers at the beginning of the table no thread has
+-- how many workers at the beginning are left out before the rest is counted off; of each `distance` workers behind them a thread has
+-- the last
 abbrev pub passed_over : Placing → ℕ → ℕ
 passed_over Spread threads = 0
 passed_over SideBySide threads = WORKERS - threads

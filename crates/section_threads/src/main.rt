@@ -1,8 +1,8 @@
 //! The program `section_threads`: read sections in threads, on one table (docs/PERFORMANCE.md, "Sections in threads").
 //!
 //! Its words are the number of threads, how many rounds each makes, `spread` or `side-by-side`, and `--time` or nothing. It prints one
-//! line: the threads, the placing of their workers, how many sections were made in all and, with `--time`, the nanoseconds from the
-//! start of the first thread to the end of the last. It exits with 2 where its words are at fault, and with 3 where it failed.
+//! line: the threads, the placing of their workers, how many sections were made in all and, with `--time`, the nanoseconds from before
+//! the first thread is started until after the last has ended. It exits with 2 where its words are at fault, and with 3 where it failed.
 #![tactic(auto)]
 
 mod fault;

@@ -9,8 +9,8 @@ use read_section::WORKERS;
 /// Which workers the threads have.
 #[derive(Clone, Copy, Debug, PartialEq, Eq)]
 pub enum Placing {
-    /// For up to eight threads workers 7, 15, 23 .. 63, which are those that `spread` of worker_threads lets be taken first. Their read
-    /// words are eight apart. More threads have workers that are as far apart as 64 workers allow.
+    /// Of up to eight threads the workers are 7, 15, 23 and so on, those that `spread` of worker_threads puts first. Their read words are
+    /// eight apart. Of more threads they are `64 / threads` apart.
     Spread,
     /// The last workers of the table, whose read words lie side by side.
     SideBySide,

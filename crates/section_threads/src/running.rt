@@ -21,7 +21,8 @@ fn nanoseconds_since<R: Clock>(rt: &R, start: Instant) -> Result<u64, Fault> {
     u64::try_from(time.as_nanos()).map_err(|_| Fault::ClockFailed)
 }
 
-// Opens a table, runs the threads and, where that is asked for, answers the time from the start of the first to the end of the last.
+// Opens a table, runs the threads and, where that is asked for, answers the time from before the first is started until after
+// the last has ended.
 fn carry_out<R: Threads + Clock>(
     rt: &R,
     alloc: Global,
@@ -67,6 +68,7 @@ pub fn run<R: Threads + Clock, W: Write, E: Write>(
     ensures done { result ≡ Status.Done
         → (request : Request) × IsRequest (map string_bytes words.now) request × Tells request (W.contents out.old) (W.contents out.new) }
     ensures misused { result ≡ Status.Misused → (request : Request) → IsRequest (map string_bytes words.now) request → ⊥ }
+    ensures refused { ((request : Request) → IsRequest (map string_bytes words.now) request → ⊥) → result ≡ Status.Misused }
     ensures no_errors { result ≡ Status.Done → errs.new ≡ errs.old }
     ensures nothing_written { result ≡ Status.Misused → out.new ≡ out.old }
 {
