@@ -1,6 +1,6 @@
 //! Lists of words that are read one at a time.
 
-ghost use Rattle.std.specs.Prelude.{◌≡◌, ◌<◌, ◌≤◌, ℕ, List, length, slice_get};
+ghost use Rattle.std.specs.Prelude.{◌≡◌, ◌+◌, ◌-◌, ◌<◌, ◌≤◌, ◌^◌, ◌↔◌, ℕ, IfSome, IsNone, IsTrue, List, length, slice_get};
 
 /// A list of 64-bit words, which need not lie in memory as a slice: reading one takes `&mut self`, so that an
 /// implementor can note that it was read.
@@ -12,8 +12,13 @@ pub trait Words {
 
     ghost rest: { Self → Rest };
 
-    // The first place that `program_word` may read.
+    // The places whose words are ready: from the first one on, before the second.
     ghost ready_from: { Self → ℕ };
+
+    ghost ready_to: { Self → ℕ };
+
+    // How much greater than a word's place the number is by which `ready_word` is asked for it.
+    ghost shift: { Self → ℕ };
 
     /// Tells the number of words.
     fn count(&self) -> usize
@@ -26,20 +31,37 @@ pub trait Words {
         ensures words_kept { words self.new ≡ words self.old }
         ensures rest_kept { rest self.new ≡ rest self.old };
 
-    /// Makes ready for `program_word` from place `from` on. A call of `word` behind it may end that.
-    fn begin_program(&mut self, from: usize)
-        requires { from < length (words self.old) }
-        ensures ready { ready_from self.new ≤ from }
+    /// Makes word `i` ready, and words behind it, as many as it likes; or answers the word, as `word` does, where it cannot. Programs are
+    /// run by this call and the next three: they go from each place to a later one. So an implementor may make it fast to go on from a
+    /// word that was read. A call of `word` may end that words are ready.
+    fn make_ready(&mut self, i: usize) -> Option<u64>
+        requires { i < length (words self.old) }
+        ensures ready { IsNone result → (ready_from self.new ≤ i) × (i < ready_to self.new) }
+        ensures value { IfSome result (λ word. slice_get (words self.old) i ≡ Some word) }
         ensures words_kept { words self.new ≡ words self.old }
         ensures rest_kept { rest self.new ≡ rest self.old };
 
-    /// Reads word `i`, as `word` does, after `begin_program` and before no place that was read since. Programs are run by this call:
-    /// they go from each place to a later one. So an implementor may make it fast for the words behind the one that was read before.
-    fn program_word(&mut self, i: usize) -> u64
-        requires within { i < length (words self.old) }
-        requires ahead { ready_from self.old ≤ i }
-        ensures value { slice_get (words self.old) i ≡ Some result }
-        ensures ready { ready_from self.new ≤ i }
+    /// Tells, where words are ready, how much greater than a word's place the number is by which `is_ready` and `ready_word` are asked
+    /// for it.
+    fn shift(&self) -> usize
+        requires { ready_from self.now < ready_to self.now }
+        ensures shift { result ≡ shift self.now }
+        ensures room { result + length (words self.now) < 2 ^ 64 };
+
+    /// Tells whether the word of this number is ready, if it is not before the first one that is.
+    fn is_ready(&self, number: usize) -> bool
+        requires { number < shift self.now + length (words self.now) }
+        ensures { IsTrue result ↔ (number < shift self.now + ready_to self.now) };
+
+    /// Reads the word of this number, which is ready, as `word` does.
+    fn ready_word(&mut self, number: usize) -> u64
+        requires within { number < shift self.old + length (words self.old) }
+        requires from { shift self.old + ready_from self.old ≤ number }
+        requires to { number < shift self.old + ready_to self.old }
+        ensures value { slice_get (words self.old) (number - shift self.old) ≡ Some result }
+        ensures ready_from { ready_from self.new ≡ ready_from self.old }
+        ensures ready_to { ready_to self.new ≡ ready_to self.old }
+        ensures shift { shift self.new ≡ shift self.old }
         ensures words_kept { words self.new ≡ words self.old }
         ensures rest_kept { rest self.new ≡ rest self.old };
 }
@@ -51,6 +73,10 @@ impl<'a> Words for &'a [u64] {
 
     ghost ready_from = { λ _. 0 };
 
+    ghost ready_to = { λ list. length list.now };
+
+    ghost shift = { λ _. 0 };
+
     fn count(&self) -> usize {
         self.len()
     }
@@ -60,10 +86,22 @@ impl<'a> Words for &'a [u64] {
     }
 
     #[inline(always)]
-    fn begin_program(&mut self, _from: usize) {}
+    fn make_ready(&mut self, _i: usize) -> Option<u64> {
+        None
+    }
 
     #[inline(always)]
-    fn program_word(&mut self, i: usize) -> u64 {
-        self.word(i)
+    fn shift(&self) -> usize {
+        0
+    }
+
+    #[inline(always)]
+    fn is_ready(&self, _number: usize) -> bool {
+        true
+    }
+
+    #[inline(always)]
+    fn ready_word(&mut self, number: usize) -> u64 {
+        self.word(number)
     }
 }

@@ -126,6 +126,11 @@ pub running_begin : (program packet numbers : List ℕ) (from : ℕ) → IsAccep
 running_begin program packet numbers from accepted =
     subst (λ (n : ℕ). IsRunning program packet n 0 0 0 numbers) (let g : 0 ≡ from - from = omega arith in g) (running_first program packet numbers accepted)
 
+-- the same at an equal place, with as many passed over
+pub running_next : (program packet : List ℕ) (pc pc' passed_over passed_over' a x : ℕ) (numbers : List ℕ) → IsRunning program packet pc passed_over a x numbers → pc ≡ pc' → passed_over ≡ passed_over' → IsRunning program packet pc' passed_over' a x numbers
+running_next program packet pc pc' passed_over passed_over' a x numbers running place over =
+    subst (λ (n : ℕ). IsRunning program packet n passed_over' a x numbers) place (subst (λ (n : ℕ). IsRunning program packet pc n a x numbers) over running)
+
 module _ (program packet : List ℕ) (accepted : IsAccepted program) (pc passed_over a x : ℕ) (numbers : List ℕ) (running : IsRunning program packet pc passed_over a x numbers) (size : length numbers ≡ CELL_COUNT) (insn : Insn) (at : IsAt program pc insn) (cell : HasCell insn) where
   next_of : (does : Effect) → effect insn a x running.cells packet ≡ does → (dropped a' x' : ℕ) (numbers' : List ℕ) → Agrees does (array.goes_on dropped a' x' numbers') → IsRunning program packet (pc + 1 + dropped) (passed_over + dropped) a' x' numbers'
   next_of does e dropped a' x' numbers' (both_go_on {cells = cells'} hold) =

@@ -1,6 +1,8 @@
 //! What one instruction does.
 
-ghost use Rattle.std.specs.Prelude.{◌≡◌, ◌≤◌, List, if◌then◌else◌, length, ℕ};
+ghost use Rattle.std.specs.Prelude.{◌≡◌, ◌≤◌, List, Ok, if◌then◌else◌, length, ℕ};
+ghost use Rattle.bpf_insn.specs.declared.instruction.Insn.{Insn};
+ghost use Rattle.bpf_insn.specs.Word.{instruction_of};
 ghost use Rattle.bpf_machine.specs.declared.execute.Next.TheVariants.{Skip};
 ghost use Rattle.bpf_verify.specs.body.Pass.{HasCell};
 ghost use Rattle.bpf_machine.specs.body.ArrayMachine.{a_or_end, array_effect, x_or_end};
@@ -118,4 +120,28 @@ pub fn execute(
         Insn::ReturnConstant(k) => Next::End(k),
         Insn::ReturnA => Next::End(machine.a),
     }
+}
+
+/// The registers after an instruction, and what comes after it.
+#[derive(Clone, Copy)]
+pub struct Step {
+    pub a: u32,
+    pub x: u32,
+    pub next: Next,
+}
+
+/// Does the instruction of a word, as `execute` does. For words that are seldom run: not inlined, it leaves the registers to the others.
+#[cold]
+#[inline(never)]
+pub fn step_apart(word: u64, a: u32, x: u32, cells: &mut [u32; CELL_COUNT], packet: &[u8]) -> Step
+    requires packet { length packet.now ≤ MAX_PACKET }
+    requires word { (insn : Insn) × (instruction_of word ≡ Ok insn) × HasCell insn }
+    ensures effect { (insn : Insn) → instruction_of word ≡ Ok insn → effect_of result.next result.a result.x cells.new ≡ array_effect insn a x cells.old packet.now }
+    ensures cells { length cells.new ≡ CELL_COUNT }
+{
+    let insn = Insn::from_instruction_word(word);
+    let mut machine = Registers { a, x };
+    let next = execute(&mut machine, cells, insn, packet);
+    let Registers { a, x } = machine;
+    Step { a, x, next }
 }

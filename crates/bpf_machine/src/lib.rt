@@ -2,7 +2,8 @@
 //! docs/MACHINE.md, "The machine"). No call takes memory.
 #![tactic(auto)]
 
-ghost use Rattle.std.specs.Prelude.{◌≡◌, ◌+◌, ◌-◌, ◌<◌, ◌≤◌, ◌^◌, List, length, ℕ};
+ghost use Rattle.std.specs.Prelude.{◌≡◌, ◌+◌, ◌-◌, ◌<◌, ◌≤◌, List, Ok, Some, length, slice_get, ℕ};
+ghost use Rattle.bpf_insn.specs.Word.{instruction_of};
 ghost use Rattle.bpf_verify.specs.Path.{IsAt, program_at};
 ghost use Rattle.bpf_verify.specs.Accepted.{IsAccepted};
 ghost use Rattle.bpf_machine.specs.Meaning.{IsSound, MeansByFirstWord, Ret, cost_of, ending_of};
@@ -12,7 +13,7 @@ mod arithmetic;
 mod execute;
 mod packet;
 
-use crate::execute::{CELL_COUNT, Next, Registers, execute};
+use crate::execute::{CELL_COUNT, Next, Registers, execute, step_apart};
 use bpf_insn::{Insn, Words};
 
 /// The greatest number of bytes of a packet.
@@ -32,20 +33,20 @@ pub struct Outcome {
     pub steps: u32,
 }
 
+// The instruction at a place of a program, which is this word.
 #[inline(always)]
-fn fetch<W: Words>(words: &mut W, from: usize, len: usize, place: usize) -> Insn
-    requires within { from + len ≤ length (W.words words.old) }
-    requires fits { from + len < 2 ^ 64 }
-    requires accepted { IsAccepted (program_at (W.words words.old) from len) }
+fn instruction<W: Words>(words: &W, from: usize, len: usize, place: usize, word: u64) -> Insn
+    requires within { from + len ≤ length (W.words words.now) }
+    requires accepted { IsAccepted (program_at (W.words words.now) from len) }
     requires inside { (from ≤ place) × (place - from < len) }
-    requires ready { W.ready_from words.old ≤ place }
-    ensures instruction { IsAt (program_at (W.words words.old) from len) (place - from) result }
+    requires word { slice_get (W.words words.now) place ≡ Some word }
+    ensures instruction { IsAt (program_at (W.words words.now) from len) (place - from) result }
     ensures cell { HasCell result }
-    ensures ready { W.ready_from words.new ≤ place }
-    ensures words_kept { W.words words.new ≡ W.words words.old }
-    ensures rest_kept { W.rest words.new ≡ W.rest words.old }
+    ensures decoded { instruction_of word ≡ Ok result }
 {
-    Insn::from_instruction_word(words.program_word(place))
+    // They are named by the clauses alone.
+    let (_words, _from, _len, _place) = (words, from, len, place);
+    Insn::from_instruction_word(word)
 }
 
 /// Runs the program of the `len` words from place `from` on, on a packet.
@@ -86,26 +87,52 @@ pub fn run_copy<W: Words, const COPY: usize>(
 {
     // A list that can be counted is short enough for its places to be numbers of this machine.
     let _count = words.count();
-    words.begin_program(from);
     let mut machine = Registers { a: 0, x: 0 };
     let mut cells = [0; CELL_COUNT];
     // The place of the next instruction, and how many the jumps have passed over: the others before it were met.
     let mut place = from;
     let mut passed_over = 0;
     'running: loop {
-        let insn = fetch(words, from, len, place);
-        place += 1;
-        match execute(&mut machine, &mut cells, insn, packet) {
-            Next::GoOn => {}
-            Next::Skip(count) => {
-                place += count as usize;
-                passed_over += count as usize;
-            }
-            Next::End(value) => {
-                let steps = (place - from - passed_over) as u32;
-                return Outcome { value, steps };
+        if let Some(word) = words.make_ready(place) {
+            let _insn = instruction(words, from, len, place, word);
+            let step = step_apart(word, machine.a, machine.x, &mut cells, packet);
+            machine = Registers {
+                a: step.a,
+                x: step.x,
+            };
+            place += 1;
+            match step.next {
+                Next::GoOn => continue 'running,
+                Next::Skip(count) => {
+                    place += count as usize;
+                    passed_over += count as usize;
+                    continue 'running;
+                }
+                Next::End(value) => {
+                    let steps = (place - from - passed_over) as u32;
+                    return Outcome { value, steps };
+                }
             }
         }
+        let shift = words.shift();
+        let mut number = place + shift;
+        'ready: while words.is_ready(number) {
+            let word = words.ready_word(number);
+            let insn = instruction(words, from, len, number - shift, word);
+            number += 1;
+            match execute(&mut machine, &mut cells, insn, packet) {
+                Next::GoOn => {}
+                Next::Skip(count) => {
+                    number += count as usize;
+                    passed_over += count as usize;
+                }
+                Next::End(value) => {
+                    let steps = (number - shift - from - passed_over) as u32;
+                    return Outcome { value, steps };
+                }
+            }
+        }
+        place = number - shift;
     }
 }
 

@@ -2,8 +2,6 @@
 use Rattle.std.proofs.Common.{◌≡◌, ◌+◌, ◌<◌, ◌≤◌, List, arith, length, refl, slice_index, suc, zero, ℕ, ⊎_elim}
 use Rattle.std.proofs.lemmas.Bool.{cases_lt}
 use Rattle.std.proofs.lemmas.List.{get_or_past}
-use mathlib.Core.Option.{some}
-use lib.ListN.{get_elem?}
 use Rattle.config_image.specs.Image.{Group}
 use Rattle.versions.specs.declared.book.Book.{Book}
 use Rattle.versions.specs.declared.layout.TheConstants.{ROWS}
@@ -14,10 +12,6 @@ use Rattle.versions.proofs.ShapeLemmas.{rows_is}
 use Rattle.read_section.specs.body.OperatorKept.{IsKeptBy}
 
 module _ {A : Type 0} (view : OperatorView (List Group)) (config : List Group) (book : Book A) (reported : ℕ) (zeros words pages : List ℕ) (h : IsKeptBy view config book reported zeros words pages) where
-  -- a row that the book gives the current number has the current version
-  pub row_given : (r : ℕ) → slice_index book.last r ≡ book.number + 1 → get_elem? view.version_rows (number_after view.log) ≡ some r
-  row_given r e = h.steps_told.last_there r (number_after view.log) (let n = h.steps_told.number in omega arith)
-
   abbrev row : ℕ
   row = h.stands.row
 

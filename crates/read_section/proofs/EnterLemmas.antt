@@ -14,13 +14,12 @@ use Rattle.versions.specs.Legal.{MayPeek}
 use Rattle.versions.specs.Table.{the_shape}
 use Rattle.read_section.specs.Layout.{IsPublishable}
 use Rattle.read_section.specs.body.Seat.{TellsStage}
-use Rattle.read_section.specs.declared.found.Found.{Found}
-use Rattle.read_section.specs.body.Found.{Knows, KnowsIn}
+use Rattle.read_section.specs.body.Found.{KnowsIn, KnowsRow, no_part}
 use Rattle.read_section.specs.Section.{HoldsLastSeen, held_version, held_words, version_of}
 use Rattle.read_section.specs.body.Steps.{Sees}
 use Rattle.read_section.specs.View.{Shows}
 use Rattle.read_section.specs.Worker.{Enters, IsInside, IsOutside, WorkerValue, left, left_from, steps}
-use Rattle.read_section.proofs.WorkerSeatLemmas.{some_row, version_is}
+use Rattle.read_section.proofs.WorkerSeatLemmas.{version_is}
 use Rattle.read_section.proofs.WorkerSeatLemmas as seat
 
 pub may_peek_at : (held : Option ℕ) (stage : Stage) → TellsStage held stage → MayPeek stage
@@ -120,13 +119,13 @@ seen_on before after entered = subst (λ (w : WorkerValue). IsTold before.view.s
 pub number_seen : (worker : WorkerValue) → HoldsLastSeen worker → length worker.view.seen ≡ suc (held_version worker)
 number_seen worker last = let number = last.number in ap length last.last_seen ∙ omega (arith, length-append last.older (last.config ∷ []))
 
--- a section that begins knows its row, and of nothing else where it stands
-pub nothing_known : (worker : WorkerValue) (version row : ℕ) (found : Found) → IsInside worker.view.stage version row → row < ROWS → HoldsLastSeen worker → found.form ≡ 0 → found.len ≡ 0 → Knows worker.view row found
-nothing_known worker version row found inside below last no_form no_len =
+-- a section that begins knows its row
+pub row_known : (worker : WorkerValue) (version row : ℕ) → IsInside worker.view.stage version row → row < ROWS → HoldsLastSeen worker → KnowsRow worker.view row
+row_known worker version row inside below last =
     let number : version ≡ length last.older = sym (ap version_of inside) ∙ last.number in
     let seen : version < length worker.view.seen = let more = ap length last.last_seen in omega (arith, length-append last.older (last.config ∷ [])) in
     let same : slice_index_or worker.view.seen version [] ≡ last.config = (λ j. slice_index_or (last.last_seen j) (number j) []) ∙ at_last last.older last.config [] in
     let charge = last.publishable.1 in let covered = within_charge last.config last.publishable.0 in
     let room : length (image last.config) ≤ ROW_WORDS = omega arith in
-    subst (λ (s : Stage). KnowsIn s worker.view.seen worker.view.pages row found) (sym inside)
+    subst (λ (s : Stage). KnowsIn s worker.view.seen worker.view.pages row 0 no_part) (sym inside)
     (seen, ((refl, below), (subst (λ c. length (image c) ≤ ROW_WORDS) (sym same) room, (λ some. absurd (omega arith), λ some. absurd (omega arith)))))

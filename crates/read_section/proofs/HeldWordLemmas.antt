@@ -3,10 +3,10 @@ use Rattle.std.proofs.Common.{◌≡◌, ℕ, ◌*◌, ◌+◌, ◌-◌, ◌<◌
 use Rattle.std.proofs.lemmas.Option.{get_or_from_slice_get, slice_get-get_or}
 use mathlib.Core.Option.{some}
 use lib.ListN.{get_elem?}
-use Rattle.config_image.specs.declared.TheConstants.{PAGE_WORDS, ROW_WORDS}
+use Rattle.config_image.specs.declared.TheConstants.{ROW_WORDS}
 use Rattle.config_image.specs.Image.{Group, image, programs_begin}
 use Rattle.config_image.specs.Image as of
-use Rattle.config_image.specs.Pooled.{PartsStand, form_word, part_begin, parts, pooled_row}
+use Rattle.config_image.specs.Pooled.{PartsStand, part_begin, parts, pooled_row}
 use Rattle.config_image.proofs.PooledLemmas.{parts_stand}
 use Rattle.versions.specs.declared.layout.TheConstants.{ROWS, ROWS_BEGIN, TABLE_WORDS}
 use Rattle.versions.specs.declared.view.Stage.{Stage}
@@ -17,12 +17,12 @@ use Rattle.versions.specs.Table.{the_shape}
 use Rattle.versions.proofs.ListLemmas.{elem_there, get_elem_or}
 use Rattle.versions.proofs.RowLemmas.{length-row, row_of_image}
 use Rattle.versions.proofs.ShapeLemmas.{page_below, page_words_is, pages_is, parts_is, place_below, row_is, row_words_is, rows_is}
-use Rattle.read_section.specs.declared.found.Found.{Found}
+use Rattle.part_memory.specs.declared.part.Part.{Part}
+use Rattle.part_memory.specs.Memory.{Holds}
 use Rattle.read_section.specs.Section.{held_words, version_of, words_in}
 use Rattle.read_section.specs.Worker.{WorkerValue}
-use Rattle.read_section.specs.body.Found.{HasPages, Knows, KnowsAt, KnowsForm, KnowsIn, KnowsPart, form_alone}
+use Rattle.read_section.specs.body.Found.{HasPages, IsPartOf, KnowsAt, KnowsIn}
 use Rattle.read_section.specs.body.Plays.{TellsWord}
-use Rattle.read_section.specs.body.Sought.{IsAhead}
 use Rattle.read_section.specs.body.Steps.{SeesWord}
 use Rattle.read_section.proofs.WorkerSeatLemmas.{place_is}
 
@@ -68,11 +68,11 @@ module _ (worker : WorkerValue) (k n r : ℕ) (stage : worker.view.stage ≡ Ins
   small_in_row i small = subst (λ m. i < m) (ap length words_are ∙ length-row config) small
 
   -- what is known of the version
-  pub known_there : (row : ℕ) (found : Found) → KnowsIn worker.view.stage worker.view.seen worker.view.pages row found → (n < length worker.view.seen) × KnowsAt config pages r row found
-  known_there row found known = subst (λ (s : Stage). KnowsIn s worker.view.seen worker.view.pages row found) stage known
+  pub known_there : (row heads : ℕ) (part : Part) → KnowsIn worker.view.stage worker.view.seen worker.view.pages row heads part → (n < length worker.view.seen) × KnowsAt config pages r row heads part
+  known_there row heads part known = subst (λ (s : Stage). KnowsIn s worker.view.seen worker.view.pages row heads part) stage known
 
-  pub known_again : (row : ℕ) (found : Found) → (n < length worker.view.seen) × KnowsAt config pages r row found → KnowsIn worker.view.stage worker.view.seen worker.view.pages row found
-  known_again row found known = subst (λ (s : Stage). KnowsIn s worker.view.seen worker.view.pages row found) (sym stage) known
+  pub known_again : (row heads : ℕ) (part : Part) → (n < length worker.view.seen) × KnowsAt config pages r row heads part → KnowsIn worker.view.stage worker.view.seen worker.view.pages row heads part
+  known_again row heads part known = subst (λ (s : Stage). KnowsIn s worker.view.seen worker.view.pages row heads part) (sym stage) known
 
   module _ (place x : ℕ) (sees : SeesWord worker place x) where
     told : TellsWord the_shape worker.view.seen worker.view.pages n r place x
@@ -111,96 +111,57 @@ module _ (worker : WorkerValue) (k n r : ℕ) (stage : worker.view.stage ≡ Ins
     pub row_word_told : (x : ℕ) → SeesWord worker row_place x → x ≡ slice_index (pooled_row config pages) j
     row_word_told x sees = word_told row_place x sees (slice_index (the_shape.form.row config pages) j) (inl (j, small_words, row_place_is, refl)) ∙ ap (λ l. slice_index l j) (row_is config pages)
 
-  -- a word of the part that is kept
-  module _ (row : ℕ) (found : Found) (i : ℕ) (known : (n < length worker.view.seen) × KnowsAt config pages r row found) (ahead : IsAhead found i) where
-    part_known : KnowsPart config pages found
-    part_known = known.1.1.1.1 ahead.0
+  -- a word of a part
+  module _ (part : Part) (seen : n < length worker.view.seen) (is : IsPartOf config pages part) (i : ℕ) (there : Holds part i) where
+    from : part_begin config part.index ≤ i
+    from = let e = is.1.0.0 in let low = there.0 in omega arith
 
-    form_known : (found.form ≡ form_word config) × HasPages config pages
-    form_known = known.1.1.1.0 part_known.0.0
-
-    from : part_begin config found.index ≤ i
-    from = let e = part_known.1.0.0 in let low = ahead.1 in omega arith
-
-    to : i < part_begin config (found.index + 1)
-    to = let e = part_known.1.0.1 in let high = ahead.2 in omega arith
+    to : i < part_begin config (part.index + 1)
+    to = let e = is.1.0.1 in let high = there.1 in omega arith
 
     abbrev page : ℕ
-    page = slice_index pages found.index
-
-    abbrev place : ℕ
-    place = found.begin + (i - found.at)
+    page = slice_index pages part.index
 
     abbrev offset : ℕ
-    offset = i - part_begin config found.index
+    offset = i - part_begin config part.index
 
     stands : PartsStand config
     stands = parts_stand config
 
-    page_is : slice_get pages found.index ≡ Some page
-    page_is = let counted = form_known.1.0 in let low = part_known.0.1 in slice_get-get_or pages found.index 0 (omega arith)
+    page_is : slice_get pages part.index ≡ Some page
+    page_is = let counted = is.0.0.0 in let low = is.0.1 in slice_get-get_or pages part.index 0 (omega arith)
 
-    part_there : (part : List ℕ) × (slice_get (parts config) found.index ≡ Some part) × (offset < length part) × (slice_get (image config) i ≡ slice_get part offset)
-    part_there = stands.found found.index i part_known.0.1 from to
+    part_there : (words : List ℕ) × (slice_get (parts config) part.index ≡ Some words) × (offset < length words) × (slice_get (image config) i ≡ slice_get words offset)
+    part_there = stands.found part.index i is.0.1 from to
 
-    at_place : place ≡ page_begin the_shape page + offset
-    at_place = λ j. part_known.1.1.0 j + (i - part_known.1.0.0 j)
+    at_place : part.shift + i ≡ page_begin the_shape page + offset
+    at_place = let at = is.1.0.0 in let begin = is.1.1 in let low = from in omega arith
 
-    abbrev part_place : IsPartPlace the_shape config pages place
-    part_place = record { index = found.index; page = page; part = part_there.0; k = offset; page_is = page_is; part_is = ap (λ l. slice_get l found.index) (parts_is config) ∙ part_there.1; inside = part_there.2; at = at_place }
+    abbrev part_place : IsPartPlace the_shape config pages (part.shift + i)
+    part_place = record { index = part.index; page = page; part = part_there.0; k = offset; page_is = page_is; part_is = ap (λ l. slice_get l part.index) (parts_is config) ∙ part_there.1; inside = part_there.2; at = at_place }
 
-    pub part_place_held : IsHeldPlace the_shape worker.view place
-    part_place_held = subst (λ (s : Stage). IsHeldPlaceAt the_shape s worker.view.seen pages place) (sym stage) (inr (config, seen_config worker n known.0, part_place))
+    pub part_place_held : IsHeldPlace the_shape worker.view (part.shift + i)
+    part_place_held = subst (λ (s : Stage). IsHeldPlaceAt the_shape s worker.view.seen pages (part.shift + i)) (sym stage) (inr (config, seen_config worker n seen, part_place))
 
-    in_page : IsInPage the_shape page place
-    in_page = let sized = stands.sized found.index part_there.0 part_there.1 in let most = sized.1 in let inside = part_there.2 in (offset, subst (λ m. offset < m) (sym page_words_is) (omega arith), at_place)
+    in_page : IsInPage the_shape page (part.shift + i)
+    in_page = let sized = stands.sized part.index part_there.0 part_there.1 in let most = sized.1 in let inside = part_there.2 in (offset, subst (λ m. offset < m) (sym page_words_is) (omega arith), at_place)
 
-    pub part_place_within : place < TABLE_WORDS
-    part_place_within = page_below page place (subst (λ m. page < m) (sym pages_is) (form_known.1.1 found.index page page_is)) in_page
+    pub part_place_within : part.shift + i < TABLE_WORDS
+    part_place_within = page_below page (part.shift + i) (subst (λ m. page < m) (sym pages_is) (is.0.0.1 part.index page page_is)) in_page
 
-    pub part_word_told : (x : ℕ) → SeesWord worker place x → slice_get (image config) i ≡ Some x
-    part_word_told x sees = let there = slice_get-get_or part_there.0 offset 0 part_there.2 in
-        part_there.3 ∙ (there ∙ ap Some (sym (word_told place x sees (get_or part_there.0 offset 0) (inr (part_place, there)))))
+    pub part_word_told : (x : ℕ) → SeesWord worker (part.shift + i) x → slice_get (image config) i ≡ Some x
+    part_word_told x sees = let word = slice_get-get_or part_there.0 offset 0 part_there.2 in
+        part_there.3 ∙ (word ∙ ap Some (sym (word_told (part.shift + i) x sees (get_or part_there.0 offset 0) (inr (part_place, word)))))
 
     -- so it is read from the page of the part
-    pub part_page : (index : ℕ) × (q : ℕ) × (slice_get pages index ≡ Some q) × (part_begin config index ≤ i) × (i < part_begin config (index + 1)) × (place ≡ page_begin the_shape q + (i - part_begin config index))
-    part_page = (found.index, page, page_is, from, to, at_place)
+    pub part_page : (index : ℕ) × (q : ℕ) × (slice_get pages index ≡ Some q) × (part_begin config index ≤ i) × (i < part_begin config (index + 1)) × (part.shift + i ≡ page_begin the_shape q + (i - part_begin config index))
+    part_page = (part.index, page, page_is, from, to, at_place)
 
     pub part_in_programs : (programs_begin config ≤ i) × (i < length (image config))
-    part_in_programs = (programs_before found.index from, before_end)
+    part_in_programs = (programs_before part.index from, before_end)
       where
         programs_before : (index : ℕ) → part_begin config index ≤ i → programs_begin config ≤ i
         programs_before index low = omega arith
 
         before_end : i < length (image config)
         before_end = let first = part_there.3 ∙ slice_get-get_or part_there.0 offset 0 part_there.2 in Rattle.std.proofs.lemmas.Option.slice_get_within (image config) i (get_or part_there.0 offset 0) first
-
-  -- the part that is kept ends in the row that holds the image
-  pub part_small : (row : ℕ) (found : Found) → KnowsAt config pages r row found → 0 < found.len → found.at + found.len ≤ ROW_WORDS + PAGE_WORDS
-  part_small row found known not_none =
-      let kp = known.1.1.1 not_none in let index = found.index in
-      let there = slice_get-get_or (parts config) index [] kp.0.1 in let part = get_or (parts config) index [] in
-      let sized = (parts_stand config).sized index part there in let least = sized.0 in let most = sized.1 in
-      let step = (parts_stand config).next index part there in
-      let found_there = (parts_stand config).found index (part_begin config index) kp.0.1 (omega arith) (omega arith) in
-      let below = Rattle.std.proofs.lemmas.Option.slice_get_within (image config) (part_begin config index) _ (found_there.3 ∙ slice_get-get_or found_there.0 (part_begin config index - part_begin config index) 0 found_there.2) in
-      let room = known.1.0 in let end = kp.1.0.1 in omega arith
-
--- what is known beside the parts
-module _ (worker : WorkerValue) (row : ℕ) (found : Found) (i : ℕ) (knows : Knows worker.view row found) (held : i < length (held_words worker)) where
-  at_stage : (k : ℕ) × (n : ℕ) × (r : ℕ) × (worker.view.stage ≡ Inside k n r)
-  at_stage = held_stage worker.view.stage worker.view.seen i held
-
-  all_known : (at_stage.1 < length worker.view.seen) × KnowsAt (config_held worker at_stage.1) worker.view.pages at_stage.2 row found
-  all_known = known_there worker at_stage.0 at_stage.1 at_stage.2 at_stage.3 row found knows
-
-  -- the row
-  pub knows_row : KnowsForm worker.view row 0
-  knows_row = let known = all_known in known_again worker at_stage.0 at_stage.1 at_stage.2 at_stage.3 row (form_alone 0) (known.0, (known.1.0, (known.1.1.0, (λ none. absurd (omega arith), λ none. absurd (omega arith)))))
-
-  -- and the row's first word, where that was fetched
-  pub knows_with_form : (form : ℕ) → 0 < form → KnowsForm worker.view row form → Knows worker.view row (record { form = form; at = found.at; len = found.len; begin = found.begin; index = found.index; next = found.next })
-  knows_with_form form not_none of_form = let known = all_known in
-      let formed = known_there worker at_stage.0 at_stage.1 at_stage.2 at_stage.3 row (form_alone form) of_form in
-      known_again worker at_stage.0 at_stage.1 at_stage.2 at_stage.3 row (record { form = form; at = found.at; len = found.len; begin = found.begin; index = found.index; next = found.next })
-      (known.0, (known.1.0, (known.1.1.0, (λ _. formed.1.1.1.0 not_none, λ part. let kp = known.1.1.1.1 part in ((not_none, kp.0.1), kp.1)))))

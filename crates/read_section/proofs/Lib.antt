@@ -7,7 +7,6 @@ mod ReadLemmas
 mod SoughtLemmas
 mod RowReadLemmas
 mod FrontLemmas
-mod NamedPartLemmas
 mod PartReadLemmas
 mod WorkerKept
 mod OperatorKept
@@ -17,6 +16,7 @@ mod OperatorSeatLemmas
 mod MeetingLemmas
 mod OpeningLemmas
 pub mod SectionLemmas
+mod RememberedLemmas
 mod EnterLemmas
 pub mod FilledLemmas
 mod PutLemmas

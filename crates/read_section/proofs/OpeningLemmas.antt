@@ -17,7 +17,7 @@ use Rattle.versions.proofs.WorldLemmas.{IsOpening-stored, has_room, light, slice
 use Rattle.read_section.specs.Layout.{IsPublishable}
 use Rattle.read_section.specs.Operator.{AreOpenedWorkers, opened_operator}
 use Rattle.read_section.specs.body.Seat.{operator_at}
-use Rattle.read_section.specs.body.Seat.{IsOperatorSeat, IsSeating, IsWorkerSeat}
+use Rattle.read_section.specs.body.Seat.{IsOperatorSeat, IsSeating}
 use Rattle.read_section.specs.body.SeatView.{first_seat, spare_alone, without_spare}
 use Rattle.read_section.specs.Worker.{WorkerValue}
 use Rattle.read_section.specs.body.Seat.{worker_at}
@@ -43,10 +43,6 @@ module _ (config : List Group) where
 
   pub IsSeating-on : (v : View) (n : ℕ) (me : Seated) (slots : List (ℕ × ℕ)) → IsSeating v config n → me ≡ (without_spare v, slots) → IsSeating me.0 config (n + 1)
   IsSeating-on v n me slots h e = record { view_is = ap (λ (y : Seated). y.0) e ∙ ap without_spare h.view_is }
-
-  pub IsWorkerSeat-seated : (v : View) (n : ℕ) (me : Seated) → IsSeating v config n → n < the_shape.workers → me ≡ (spare_alone the_shape v, []) → IsWorkerSeat me.0 n
-  IsWorkerSeat-seated v n me h low e = subst (λ (y : View). IsWorkerSeat y n) (sym (ap (λ (y : Seated). y.0) e ∙ ap (spare_alone the_shape) h.view_is))
-      record { knows = refl; no_spare = (let w = the_shape.workers in omega arith); numbered = refl; below = low }
 
   pub seated_worker : (v : View) (n : ℕ) (me : Seated) (table seat : TableId) → IsSeating v config n → seat ≡ table → me ≡ (spare_alone the_shape v, []) → worker_at seat me.0 ≡ record { table = table; view = new_worker config named n }
   seated_worker v n me table seat h same e = λ i. worker_at (same i) ((ap (λ (y : Seated). y.0) e ∙ ap (spare_alone the_shape) h.view_is) i)

@@ -75,6 +75,3 @@ module _ (config : List Group) (pages : List ℕ) (room : length (image config) 
       | inr last ↦ let below = index_below in let counted = length-names in let e : part.index + 1 ≡ length (parts config) = omega arith in
           ap start_of (holds.last (omega arith)) ∙ ((let g : start_of (length (image config) * 65536) ≡ length (image config) = omega arith in g) ∙ (sym stands.last ∙ ap (part_begin config) (sym e)))
     ]
-
-    pub found_next_page : part.index + 1 < length (parts config) → page_of part.next ≡ slice_index pages (part.index + 1)
-    found_next_page more = ap page_of (holds.next _ (name_there (part.index + 1) more)) ∙ page_told (part.index + 1) more

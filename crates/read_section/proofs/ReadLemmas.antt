@@ -1,5 +1,5 @@
 -- Fetches of words of the version that is held, one after another.
-use Rattle.std.proofs.Common.{◌≡◌, ℕ, suc, ◌+◌, ◌<◌, List, [], ◌∷◌, ◌++◌, ap, append_assoc, arith, length-append, refl, slice_index_or, subst, sym, ◌∙◌}
+use Rattle.std.proofs.Common.{◌≡◌, ℕ, suc, ◌<◌, List, [], ◌∷◌, ◌++◌, ap, append_assoc, arith, length, length-append, refl, slice_index_or, subst, sym, ◌∙◌}
 use Rattle.config_image.specs.Image.{Group}
 use Rattle.versions.specs.declared.step.Step.{Step}
 use Rattle.versions.specs.declared.step.Step.TheVariants.{Fetch}
@@ -10,10 +10,9 @@ use Rattle.versions.specs.Safety.{IsHeldPlace}
 use Rattle.versions.specs.Step.{entry}
 use Rattle.versions.specs.View.{after_fetch}
 use Rattle.versions.specs.Table.{the_shape}
-use Rattle.read_section.specs.Reads.{AreFetchesIn, Fetched, Reads, TellsWordAt, with_log}
+use Rattle.read_section.specs.Reads.{AreFetchesIn, Fetched, FetchedAtMost, Reads, TellsWordAt, with_log}
 use Rattle.read_section.specs.Section.{at_pin, before_fetch, before_fetches}
 use Rattle.read_section.specs.Worker.{WorkerValue, steps}
-use Rattle.read_section.specs.body.Sought.{IsSought, TellsName}
 use Rattle.read_section.specs.body.Steps.{SeesWord}
 
 pub none_fetched : (worker : WorkerValue) → Fetched 0 worker worker
@@ -30,25 +29,6 @@ module _ (n : ℕ) (before mid : WorkerValue) (f : Fetched n before mid) where
 
   pub held_after : (place : ℕ) → IsHeldPlace the_shape before.view place → IsHeldPlace the_shape mid.view place
   held_after place held = subst (λ (w : WorkerValue). IsHeldPlace the_shape w.view place) (sym f.only) held
-
-  -- a search may go on
-  pub sought_after : (row form i : ℕ) → IsSought before.view row form i → IsSought mid.view row form i
-  sought_after row form i s = subst (λ (w : WorkerValue). IsSought w.view row form i) (sym f.only) s
-
-  pub name_before : (index x : ℕ) → TellsName mid.view index x → TellsName before.view index x
-  name_before index x told = subst (λ (w : WorkerValue). TellsName w.view index x) f.only told
-
-  -- more fetches
-  pub fetched_both : (m : ℕ) (after : WorkerValue) → Fetched m mid after → Fetched (m + n) before after
-  fetched_both m after g = go (subst (λ (w : WorkerValue). Fetched m w after) f.only g)
-    where
-      go : Fetched m (with_log (f.fetches ++ before.view.log) before) after → Fetched (m + n) before after
-      go h = record {
-        fetches = h.fetches ++ f.fetches;
-        counted = (let a = h.counted in let b = f.counted in omega (arith, length-append h.fetches f.fetches));
-        only = h.only ∙ ap (λ l. with_log l before) (sym (append_assoc h.fetches f.fetches before.view.log));
-        each = AreFetchesIn-append before.view h.fetches f.fetches h.each f.each;
-      }
 
   module _ (after : WorkerValue) (place x : ℕ) (e : after ≡ steps (after_fetch place x) mid) (held : IsHeldPlace the_shape before.view place) where
     one_more : after ≡ with_log (entry (Fetch before.view.number place) x ∷ (f.fetches ++ before.view.log)) before
@@ -79,9 +59,10 @@ read_behind most i answer place x before mid after e held reads = go (subst (λ 
       newest = r.newest;
     }
 
--- a read by at most so many fetches is one by at most one more
-pub read_within : (most i answer : ℕ) (before after : WorkerValue) → Reads most i answer before after → Reads (suc most) i answer before after
-read_within most i answer before after r = record { place = r.place; loaded = r.loaded; older = r.older; few = (let few = r.few in omega arith); only = r.only; each = r.each; newest = r.newest }
+-- a read makes fetches
+pub fetched_in : (most i answer : ℕ) (before after : WorkerValue) → Reads most i answer before after → FetchedAtMost most before after
+fetched_in most i answer before after r = let few = r.few in
+    (suc (length r.older), omega arith, record { fetches = entry (Fetch before.view.number r.place) r.loaded ∷ r.older; counted = refl; only = r.only; each = r.each })
 
 -- a log without the fetches that it ends with is the same after more of them
 pub before_more : (view : WorkerView (List Group)) (fetches log : List Entry) → AreFetchesIn view fetches → before_fetches (fetches ++ log) ≡ before_fetches log
@@ -91,7 +72,3 @@ before_more view (newest ∷ older) log each = ap (λ (s : Step). before_fetch s
 -- so a read leaves the worker as it was at its pin
 pub pinned_kept : (most i answer : ℕ) (before after : WorkerValue) → Reads most i answer before after → at_pin after ≡ at_pin before
 pinned_kept most i answer before after r = ap at_pin r.only ∙ ap (λ l. with_log l before) (before_more before.view (entry (Fetch before.view.number r.place) r.loaded ∷ r.older) before.view.log r.each)
-
--- and so do fetches
-pub pinned_fetched : (n : ℕ) (before after : WorkerValue) → Fetched n before after → at_pin after ≡ at_pin before
-pinned_fetched n before after f = ap at_pin f.only ∙ ap (λ l. with_log l before) (before_more before.view f.fetches before.view.log f.each)

@@ -1,5 +1,5 @@
 -- What the last fetch of a read tells: of a word of the row, of a word of a part, and of the row's first word.
-use Rattle.std.proofs.Common.{◌≡◌, ◌⊎◌, ℕ, ◌+◌, ◌-◌, ◌/◌, ◌%◌, ◌*◌, ◌<◌, ◌≤◌, ◌^◌, List, [], Some, ap, arith, length, refl, slice_get, slice_index_or, subst, sym, ◌∙◌, ⊎_elim}
+use Rattle.std.proofs.Common.{◌≡◌, ◌⊎◌, ℕ, ◌+◌, ◌/◌, ◌%◌, ◌*◌, ◌<◌, ◌≤◌, ◌^◌, List, [], Some, ap, arith, length, refl, slice_get, slice_index_or, subst, sym, ◌∙◌, ⊎_elim}
 use Rattle.std.proofs.lemmas.Option.{get_or_from_slice_get, slice_get-get_or}
 use Rattle.config_image.specs.declared.TheConstants.{ROW_WORDS}
 use Rattle.config_image.specs.Image.{Group, image, programs_begin}
@@ -11,103 +11,117 @@ use Rattle.versions.specs.Safety.{IsHeldPlace}
 use Rattle.versions.specs.Table.{the_shape}
 use Rattle.versions.proofs.RowLemmas.{row_behind_image}
 use Rattle.config_image.proofs.ImageLemmas.{length_word}
-use Rattle.read_section.specs.declared.found.Found.{Found}
+use Rattle.part_memory.specs.declared.part.Part.{Part}
+use Rattle.part_memory.specs.Memory.{Holds}
 use Rattle.read_section.specs.Reads.{TellsWordAt}
 use Rattle.read_section.specs.Section.{held_words}
 use Rattle.read_section.specs.Worker.{WorkerValue}
-use Rattle.read_section.specs.body.Found.{HasPages, Knows, KnowsAt}
-use Rattle.read_section.specs.body.Sought.{IsAhead, IsSought}
+use Rattle.read_section.specs.body.Found.{HasPages, IsFormIn, IsFormOf, IsPartOf, Knows, KnowsAt, KnowsRow, TellsForm, TellsPart, no_part}
+use Rattle.read_section.specs.body.Sought.{IsSought}
 use Rattle.read_section.specs.body.Steps.{SeesWord}
-use Rattle.read_section.proofs.HeldWordLemmas.{config_held, held_stage, image_word_held, known_again, known_there, pages_told, part_in_programs, part_page, row_place_held, row_place_is, row_word_held, row_word_told, small_in_row}
+use Rattle.read_section.proofs.HeldWordLemmas.{config_held, held_stage, image_word_held, known_again, known_there, pages_told, part_in_programs, part_page, row_place_held, row_place_is, row_word_held, row_word_told, same_version, small_in_row}
 use Rattle.read_section.proofs.PartNameLemmas.{ArePages-table, tells}
 
 some_heads : (config : List Group) → 0 < programs_begin config
 some_heads config = omega arith
 
--- a word of the image but the first, whose row's first word is known
-module _ (worker : WorkerValue) (row : ℕ) (found : Found) (i : ℕ) (knows : Knows worker.view row found) (held : i < length (held_words worker)) (inside : (0 < i) × (i < found.form / 2 ^ 32)) where
+-- a word before the programs
+module _ (worker : WorkerValue) (row heads : ℕ) (part : Part) (i : ℕ) (knows : Knows worker.view row heads part) (held : i < length (held_words worker)) (some : 0 < i) (low : i < heads) where
   module _ (k n r : ℕ) (stage : worker.view.stage ≡ Inside k n r) where
     abbrev config : List Group
     config = config_held worker n
 
-    known : (n < length worker.view.seen) × KnowsAt config worker.view.pages r row found
-    known = known_there worker k n r stage row found knows
+    known : (n < length worker.view.seen) × KnowsAt config worker.view.pages r row heads part
+    known = known_there worker k n r stage row heads part knows
 
-    formed : (found.form ≡ form_word config) × HasPages config worker.view.pages
-    formed = let some = inside.1 in known.1.1.1.0 (omega arith)
+    head : (heads ≡ programs_begin config) × HasPages config worker.view.pages
+    head = known.1.1.1.0 (omega arith)
 
     told : PooledRowTells config worker.view.pages
-    told = tells config worker.view.pages known.1.1.0 (ArePages-table config worker.view.pages formed.1)
+    told = tells config worker.view.pages known.1.1.0 (ArePages-table config worker.view.pages head.1)
 
-    heads_are : found.form / 65536 % 65536 ≡ programs_begin config
-    heads_are = ap (λ f. f / 65536 % 65536) formed.0 ∙ told.begin_part
-
-    length_is : found.form / 2 ^ 32 ≡ length (image config)
-    length_is = ap (λ f. f / 2 ^ 32) formed.0 ∙ told.length_part
-
-    head_told : i < found.form / 65536 % 65536 → (x : ℕ) → SeesWord worker (ROWS_BEGIN + row * ROW_WORDS + i) x → slice_get (image config) i ≡ Some x
-    head_told low x sees = let h = heads_are in let is = told.image_words i inside.0 (omega arith) in let there = slice_get-get_or (pooled_row config worker.view.pages) i 0 (let whole = told.whole in let small = small_in_row worker k n r stage i held in omega arith) in
+    head_told : (x : ℕ) → SeesWord worker (ROWS_BEGIN + row * ROW_WORDS + i) x → slice_get (image config) i ≡ Some x
+    head_told x sees = let h = head.0 in let is = told.image_words i some (omega arith) in let there = slice_get-get_or (pooled_row config worker.view.pages) i 0 (let whole = told.whole in let small = small_in_row worker k n r stage i held in omega arith) in
         sym is ∙ (there ∙ ap Some (sym (row_word_told worker k n r stage row i known.1.0.0 known.1.0.1 (small_in_row worker k n r stage i held) x sees)))
 
-    head_tells : i < found.form / 65536 % 65536 → (x : ℕ) → TellsWordAt config r worker.view.pages i (ROWS_BEGIN + row * ROW_WORDS + i) x x
-    head_tells low x = record {
-      by_length = λ none. ⊎_elim (λ zero. let some = inside.0 in absurd (omega arith)) (λ behind. let some = inside.1 in let e = length_is in absurd (omega arith)) none;
-      by_row = λ some before. row_place_is worker k n r stage row i known.1.0.0 known.1.0.1 (small_in_row worker k n r stage i held);
-      by_page = λ from to. let h = heads_are in absurd (omega arith);
-      loaded = λ some before. refl;
+    head_tells : (x : ℕ) → TellsWordAt config r worker.view.pages i (ROWS_BEGIN + row * ROW_WORDS + i) x x
+    head_tells x = let h = head.0 in let within = told.inside in record {
+      by_length = λ none. ⊎_elim (λ zero. absurd (omega arith)) (λ behind. absurd (omega arith)) none;
+      by_row = λ more before. row_place_is worker k n r stage row i known.1.0.0 known.1.0.1 (small_in_row worker k n r stage i held);
+      by_page = λ from to. absurd (omega arith);
+      loaded = λ more before. refl;
     }
 
-    sought_at : found.form / 65536 % 65536 ≤ i → IsSought worker.view row found.form i
-    sought_at from = let h = heads_are in let e = length_is in let some = inside.1 in
-        (k, n, r, stage, known.0, (known.1.0.0, known.1.0.1, known.1.1.0, formed.0, formed.1, omega arith, omega arith))
+  pub head_word : (x : ℕ) → SeesWord worker (ROWS_BEGIN + row * ROW_WORDS + i) x → slice_get (held_words worker) i ≡ Some x
+  head_word x sees = let t = held_stage worker.view.stage worker.view.seen i held in image_word_held worker t.0 t.1 t.2 t.3 i x held (head_told t.0 t.1 t.2 t.3 x sees)
 
-  pub head_word : i < found.form / 65536 % 65536 → (x : ℕ) → SeesWord worker (ROWS_BEGIN + row * ROW_WORDS + i) x → slice_get (held_words worker) i ≡ Some x
-  head_word low x sees = let t = held_stage worker.view.stage worker.view.seen i held in image_word_held worker t.0 t.1 t.2 t.3 i x held (head_told t.0 t.1 t.2 t.3 low x sees)
+  pub head_newest : (x k n r : ℕ) → worker.view.stage ≡ Inside k n r → TellsWordAt (slice_index_or worker.view.seen n []) r worker.view.pages i (ROWS_BEGIN + row * ROW_WORDS + i) x x
+  head_newest x k n r stage = head_tells k n r stage x
 
-  pub head_newest : i < found.form / 65536 % 65536 → (x : ℕ) (k n r : ℕ) → worker.view.stage ≡ Inside k n r → TellsWordAt (slice_index_or worker.view.seen n []) r worker.view.pages i (ROWS_BEGIN + row * ROW_WORDS + i) x x
-  head_newest low x k n r stage = head_tells k n r stage low x
+-- where the programs begin, by the row's first word, if that is remembered
+pub knows_heads : (worker : WorkerValue) (row heads : ℕ) (part : Part) (k n r : ℕ) → worker.view.stage ≡ Inside k n r → Knows worker.view row heads part → (form : ℕ) → (0 < form → TellsForm worker.view form)
+    → Knows worker.view row (form / 65536 % 65536) part
+knows_heads worker row heads part k n r stage knows form tells_form =
+    let known = known_there worker k n r stage row heads part knows in
+    known_again worker k n r stage row (form / 65536 % 65536) part (
+      known.0,
+      (
+        known.1.0,
+        (
+          known.1.1.0,
+          (
+            λ some. let f = tells_form (omega arith) k n r stage in
+                let told = tells (config_held worker n) worker.view.pages known.1.1.0 (ArePages-table (config_held worker n) worker.view.pages f.1) in
+                (ap (λ x. x / 65536 % 65536) f.0 ∙ told.begin_part, f.1),
+            known.1.1.1.1,
+          ),
+        ),
+      ),
+    )
 
-  pub sought_there : found.form / 65536 % 65536 ≤ i → IsSought worker.view row found.form i
-  sought_there from = let t = held_stage worker.view.stage worker.view.seen i held in sought_at t.0 t.1 t.2 t.3 from
+-- the same in a number of its own
+pub heads_found : (worker : WorkerValue) (row old : ℕ) (part : Part) (k n r : ℕ) → worker.view.stage ≡ Inside k n r → Knows worker.view row old part → (form : ℕ) → (0 < form → TellsForm worker.view form)
+    → (heads : ℕ) → heads ≡ form / 65536 % 65536 → Knows worker.view row heads part
+heads_found worker row old part k n r stage knows form tells_form heads is = subst (λ (h : ℕ). Knows worker.view row h part) (sym is) (knows_heads worker row old part k n r stage knows form tells_form)
 
--- what stands before the programs is inside the image
-pub front_inside : (worker : WorkerValue) (row : ℕ) (found : Found) (i : ℕ) → Knows worker.view row found → i < length (held_words worker) → i < found.form / 65536 % 65536 → i < found.form / 2 ^ 32
-front_inside worker row found i knows held low =
-    let t = held_stage worker.view.stage worker.view.seen i held in let config = config_held worker t.1 in
-    let known = known_there worker t.0 t.1 t.2 t.3 row found knows in let formed = known.1.1.1.0 (omega arith) in
-    let told = tells config worker.view.pages known.1.1.0 (ArePages-table config worker.view.pages formed.1) in
-    let heads = ap (λ f. f / 65536 % 65536) formed.0 ∙ told.begin_part in let whole = ap (λ f. f / 2 ^ 32) formed.0 ∙ told.length_part in
-    let within = told.inside in omega arith
+pub form_in : (worker : WorkerValue) (form : ℕ) → IsFormIn worker.view form → TellsForm worker.view form
+form_in worker form is k n r stage = subst (λ m. IsFormOf (config_held worker m) worker.view.pages form) (same_version worker.view.stage is.0 is.1 is.2 k n r is.3 stage) is.4
 
--- the programs begin behind the first word
-pub some_heads_of : (worker : WorkerValue) (row : ℕ) (found : Found) (i : ℕ) → Knows worker.view row found → i < length (held_words worker) → 0 < found.form / 2 ^ 32 → 0 < found.form / 65536 % 65536
-some_heads_of worker row found i knows held some =
-    let t = held_stage worker.view.stage worker.view.seen i held in let config = config_held worker t.1 in
-    let known = known_there worker t.0 t.1 t.2 t.3 row found knows in let formed = known.1.1.1.0 (omega arith) in
-    let told = tells config worker.view.pages known.1.1.0 (ArePages-table config worker.view.pages formed.1) in
-    let heads = ap (λ f. f / 65536 % 65536) formed.0 ∙ told.begin_part in let first = some_heads config in omega arith
+-- the row alone
+pub row_alone : (worker : WorkerValue) (row heads : ℕ) (part : Part) (i : ℕ) → i < length (held_words worker) → Knows worker.view row heads part → KnowsRow worker.view row
+row_alone worker row heads part i held knows =
+    let t = held_stage worker.view.stage worker.view.seen i held in let known = known_there worker t.0 t.1 t.2 t.3 row heads part knows in
+    known_again worker t.0 t.1 t.2 t.3 row 0 no_part (known.0, (known.1.0, (known.1.1.0, (λ some. absurd (omega arith), λ some. absurd (omega arith)))))
 
--- a part that was found has its words behind the heads
-pub part_behind_heads : (worker : WorkerValue) (row : ℕ) (found : Found) (i : ℕ) → Knows worker.view row found → i < length (held_words worker) → 0 < found.len → found.form / 65536 % 65536 ≤ found.at
-part_behind_heads worker row found i knows held some =
-    let t = held_stage worker.view.stage worker.view.seen i held in let config = config_held worker t.1 in
-    let known = known_there worker t.0 t.1 t.2 t.3 row found knows in let part = known.1.1.1.1 some in let formed = known.1.1.1.0 part.0.0 in
-    let told = tells config worker.view.pages known.1.1.0 (ArePages-table config worker.view.pages formed.1) in
-    let heads = ap (λ f. f / 65536 % 65536) formed.0 ∙ told.begin_part in let at = part.1.0.0 in omega arith
+-- another part
+pub knows_part : (worker : WorkerValue) (row heads : ℕ) (old part : Part) (k n r : ℕ) → worker.view.stage ≡ Inside k n r → Knows worker.view row heads old
+    → (part.at < part.end → TellsPart worker.view part) → Knows worker.view row heads part
+knows_part worker row heads old part k n r stage knows is =
+    let known = known_there worker k n r stage row heads old knows in
+    known_again worker k n r stage row heads part (known.0, (known.1.0, (known.1.1.0, (known.1.1.1.0, λ some. is some k n r stage))))
 
--- a word of the part that is kept
-pub ahead_newest : (worker : WorkerValue) (row : ℕ) (found : Found) (i : ℕ) (knows : Knows worker.view row found) (ahead : IsAhead found i) (x : ℕ) (k n r : ℕ) → worker.view.stage ≡ Inside k n r
-    → TellsWordAt (slice_index_or worker.view.seen n []) r worker.view.pages i (found.begin + (i - found.at)) x x
-ahead_newest worker row found i knows ahead x k n r stage =
-    let known = known_there worker k n r stage row found knows in let programs = part_in_programs worker k n r stage row found i known ahead in let from = programs.0 in let to = programs.1 in record {
+-- a word of the programs may be looked for
+pub sought_there : (worker : WorkerValue) (row form i : ℕ) → KnowsRow worker.view row → IsFormIn worker.view form → form / 65536 % 65536 ≤ i → i < form / 2 ^ 32 → IsSought worker.view row form i
+sought_there worker row form i knows f from to =
+    let config = config_held worker f.1 in let known = known_there worker f.0 f.1 f.2 f.3 row 0 no_part knows in
+    let told = tells config worker.view.pages known.1.1.0 (ArePages-table config worker.view.pages f.4.1) in
+    let heads = ap (λ x. x / 65536 % 65536) f.4.0 ∙ told.begin_part in let whole = ap (λ x. x / 2 ^ 32) f.4.0 ∙ told.length_part in
+    (f.0, f.1, f.2, f.3, known.0, (known.1.0.0, known.1.0.1, known.1.1.0, f.4.0, f.4.1, omega arith, omega arith))
+
+-- a word of a part
+pub part_newest : (worker : WorkerValue) (part : Part) (i : ℕ) → ((k n r : ℕ) → worker.view.stage ≡ Inside k n r → (n < length worker.view.seen) × IsPartOf (config_held worker n) worker.view.pages part)
+    → Holds part i → (x k n r : ℕ) → worker.view.stage ≡ Inside k n r → TellsWordAt (slice_index_or worker.view.seen n []) r worker.view.pages i (part.shift + i) x x
+part_newest worker part i is there x k n r stage =
+    let p = is k n r stage in let programs = part_in_programs worker k n r stage part p.0 p.1 i there in let from = programs.0 in let to = programs.1 in
+    let heads = some_heads (config_held worker n) in record {
       by_length = λ none. ⊎_elim (λ zero. absurd (omega arith)) (λ behind. absurd (omega arith)) none;
       by_row = λ some before. absurd (omega arith);
-      by_page = λ start end. part_page worker k n r stage row found i known ahead;
+      by_page = λ start end. part_page worker k n r stage part p.0 p.1 i there;
       loaded = λ some before. refl;
     }
 
 -- the row's first word, which is fetched for the image's length
-module _ (worker : WorkerValue) (row : ℕ) (found : Found) (i : ℕ) (knows : Knows worker.view row found) (held : i < length (held_words worker)) where
+module _ (worker : WorkerValue) (row : ℕ) (i : ℕ) (knows : KnowsRow worker.view row) (held : i < length (held_words worker)) where
   first_place : ROWS_BEGIN + row * ROW_WORDS + 0 ≡ ROWS_BEGIN + row * ROW_WORDS
   first_place = omega arith
 
@@ -118,8 +132,8 @@ module _ (worker : WorkerValue) (row : ℕ) (found : Found) (i : ℕ) (knows : K
     abbrev held_config : List Group
     held_config = config_held worker n
 
-    what : (n < length worker.view.seen) × KnowsAt held_config worker.view.pages r row found
-    what = known_there worker k n r stage row found knows
+    what : (n < length worker.view.seen) × KnowsAt held_config worker.view.pages r row 0 no_part
+    what = known_there worker k n r stage row 0 no_part knows
 
     at_first : ROWS_BEGIN + row * ROW_WORDS ≡ row_begin the_shape r
     at_first = sym first_place ∙ (row_place_is worker k n r stage row 0 what.1.0.0 what.1.0.1 some_words ∙ (let g : row_begin the_shape r + 0 ≡ row_begin the_shape r = omega arith in g))
@@ -141,13 +155,6 @@ module _ (worker : WorkerValue) (row : ℕ) (found : Found) (i : ℕ) (knows : K
       x_length : x / 2 ^ 32 ≡ length (image held_config)
       x_length = ap (λ f. f / 2 ^ 32) x_is ∙ form_told.length_part
 
-      some_length : 0 < length (image held_config)
-      some_length = let few = form_told.parts_stand.few in omega arith
-
-      first_knows_at : Knows worker.view row (record { form = x; at = found.at; len = found.len; begin = found.begin; index = found.index; next = found.next })
-      first_knows_at = known_again worker k n r stage row (record { form = x; at = found.at; len = found.len; begin = found.begin; index = found.index; next = found.next })
-          (what.0, (what.1.0, (what.1.1.0, (λ _. (x_is, has), λ some. let kp = what.1.1.1.1 some in (((let e = x_length in let l = some_length in omega arith), kp.0.1), kp.1)))))
-
       first_tells_at : (answer : ℕ) → (i ≡ 0) ⊎ (x / 2 ^ 32 ≤ i) → TellsWordAt held_config r worker.view.pages i (ROWS_BEGIN + row * ROW_WORDS) x answer
       first_tells_at answer none = let heads = form_told.inside in let e = x_length in record {
         by_length = λ _. at_first;
@@ -166,12 +173,8 @@ module _ (worker : WorkerValue) (row : ℕ) (found : Found) (i : ℕ) (knows : K
   first_held = let t = held_stage worker.view.stage worker.view.seen i held in first_held_at t.0 t.1 t.2 t.3
 
   module _ (x : ℕ) (sees : SeesWord worker (ROWS_BEGIN + row * ROW_WORDS) x) where
-    pub first_knows : Knows worker.view row (record { form = x; at = found.at; len = found.len; begin = found.begin; index = found.index; next = found.next })
-    first_knows = let t = held_stage worker.view.stage worker.view.seen i held in first_knows_at t.0 t.1 t.2 t.3 x sees
-
-    -- it is not 0
-    pub first_some : 0 < x
-    first_some = let t = held_stage worker.view.stage worker.view.seen i held in let e = x_length t.0 t.1 t.2 t.3 x sees in let l = some_length t.0 t.1 t.2 t.3 x sees in omega arith
+    pub first_form : IsFormIn worker.view x
+    first_form = let t = held_stage worker.view.stage worker.view.seen i held in (t.0, t.1, t.2, t.3, (x_is t.0 t.1 t.2 t.3 x sees, has t.0 t.1 t.2 t.3 x sees))
 
     pub first_newest : (answer : ℕ) → (i ≡ 0) ⊎ (x / 2 ^ 32 ≤ i) → (k n r : ℕ) → worker.view.stage ≡ Inside k n r → TellsWordAt (slice_index_or worker.view.seen n []) r worker.view.pages i (ROWS_BEGIN + row * ROW_WORDS) x answer
     first_newest answer none k n r stage = first_tells_at k n r stage x sees answer none

@@ -19,7 +19,7 @@ use Rattle.versions.proofs.ShapeLemmas.{row_words_is}
 use Rattle.read_section.specs.body.Seat.{TellsStage}
 use Rattle.read_section.specs.Section.{EndsInFetches, IsFetchIn, IsWholeSection, SectionsAreWhole, at_pin, before_fetches, held_words, words_in}
 use Rattle.read_section.specs.body.Steps.{IsOwnLogOf}
-use Rattle.read_section.specs.Worker.{Enters, IsInside, IsOutside, WorkerValue, left, left_from, steps}
+use Rattle.read_section.specs.Worker.{Enters, IsOutside, WorkerValue, left, left_from, steps}
 
 -- the fetches that a log ends with
 module _ (view : WorkerView (List Group)) where
@@ -86,13 +86,6 @@ outside_of_none (Some n) stage e at = absurd (true_false e)
   where
     true_false : true ≡ false → ⊥
     true_false e = cc
-
-pub inside_of_some : (held : Option ℕ) (stage : Stage) → is_some held ≡ true → TellsStage held stage → (n : ℕ) × (r : ℕ) × IsInside stage n r
-inside_of_some None stage e at = absurd (false_true e)
-  where
-    false_true : false ≡ true → ⊥
-    false_true e = cc
-inside_of_some (Some n) stage e at = (n, at.0, at.1)
 
 pub length-shape_row : (config : List Group) → length (row config) ≡ the_shape.row_words
 length-shape_row config = length-row config ∙ sym row_words_is

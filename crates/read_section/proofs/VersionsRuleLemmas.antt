@@ -1,5 +1,5 @@
 -- How the rule follows a step: the trace grows, and the seat that made the step knows more.
-use Rattle.std.proofs.Common.{Contains, ◌≡◌, ◌≢◌, ℕ, suc, ◌/◌, ◌≤◌, List, ◌∷◌, ◌++◌, Some, ap, append_assoc, arith, get_or, inl, inr, refl, set, slice_index, subst, sym, ◌∙◌, ⊎_elim}
+use Rattle.std.proofs.Common.{Contains, ◌≡◌, ◌≢◌, ℕ, suc, ◌/◌, ◌≤◌, List, [], ◌∷◌, ◌++◌, Some, ap, append_assoc, arith, get_or, inl, inr, refl, set, slice_index, slice_index_or, subst, sym, ◌∙◌, ⊎_elim}
 use Rattle.std.proofs.lemmas.List.{set-get_or, take_all}
 use mathlib.Core.Logic.{dite}
 use native.Mathlib.Decide.{ℕ_discrete}
@@ -13,10 +13,10 @@ use Rattle.versions.specs.declared.step.Event.TheVariants.{Stepped}
 use Rattle.versions.specs.declared.view.WorkerView.{WorkerView}
 use Rattle.versions.specs.declared.view.OperatorView.{OperatorView}
 use Rattle.versions.specs.Layout.{Shape, pages_named}
-use Rattle.versions.specs.View.{BeginsWith, up_to}
+use Rattle.versions.specs.View.{BeginsWith, last_pinned, up_to}
 use Rattle.versions.specs.State.{State, after_step, change, start_of, state_after}
 use Rattle.versions.specs.Legal.{IsLegal, IsLegalStep, IsReached}
-use Rattle.versions.proofs.ListLemmas.{change_else, change_here, elem_below}
+use Rattle.versions.proofs.ListLemmas.{change_else, change_here, elem_below, get_elem_or}
 use Rattle.versions.proofs.MirrorLemmas.{some_same}
 use Rattle.versions.proofs.Coherence.{Coheres, current_is, seen_is}
 use Rattle.versions.proofs.TraceLemmas.{Coheres-reached}
@@ -152,3 +152,10 @@ module _ {C : Type 0} (shape : Shape C) (IsPublishable : C → Type 0) {S : Type
         publishable = λ c there. kept.publishable c (subst (λ l. Contains l c) all there);
         own = (h.each_worker view.number view mine.1).own;
       }
+
+  -- the pages of the version that a seat's worker pinned last are those that it knows
+  pub pages_kept : (s : table.State S (SeatView C)) (kept : IsLeftByTrace shape IsPublishable config s) (id : ℕ) (v : SeatView C) (view : WorkerView C) (n : ℕ) → get_elem? s.views id ≡ some v → v.worker ≡ Some view → n ≡ last_pinned shape.rows view.log
+      → slice_index_or (now s kept).operator.version_pages n [] ≡ view.pages
+  pages_kept s kept id v view n at is last =
+      let all = (now s kept).operator.version_pages in let mine = (kept.each_seat id v at).worker view is in let ok = (rule_now s kept).each_worker view.number view mine.1 in
+      get_elem_or all n view.pages [] (ap (get_elem? all) last ∙ ok.pages)

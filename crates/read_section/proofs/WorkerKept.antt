@@ -6,7 +6,7 @@ use Rattle.versions.specs.declared.step.Step.TheVariants.{Announce, Fetch, Leave
 use Rattle.versions.specs.declared.view.Stage.TheVariants.{Announced, Inside, Peeked}
 use Rattle.versions.specs.declared.view.WorkerView.{WorkerView}
 use Rattle.versions.specs.Layout.{Shape}
-use Rattle.versions.specs.View.{after_announce, after_fetch, after_leave, after_peek, after_pin, up_to}
+use Rattle.versions.specs.View.{after_announce, after_fetch, after_leave, after_peek, after_pin, last_pinned, up_to}
 use Rattle.versions.specs.Legal.{MayPeek}
 use Rattle.versions.specs.Safety.{IsOwnLog, IsSeenPlace}
 use Rattle.read_section.specs.declared.versions_rule.SeatView.{SeatView}
@@ -14,7 +14,7 @@ use Rattle.read_section.specs.body.Plays.{ShowsSeat, TellsWord, WorkerKnows, ann
 use Rattle.read_section.specs.VersionsRule.{IsLeftByTrace}
 use Rattle.read_section.specs.body.SeatView.{with_worker}
 use Rattle.read_section.proofs.HeldLemmas.{holds_place, tells_word}
-use Rattle.read_section.proofs.VersionsRuleLemmas.{IsLeftByTrace-worker, for_worker, loaded, now, rule_now, shown}
+use Rattle.read_section.proofs.VersionsRuleLemmas.{IsLeftByTrace-worker, for_worker, loaded, now, pages_kept, rule_now, shown}
 
 module _ {C : Type 0} (shape : Shape C) (IsPublishable : C → Type 0) {S : Type 0} (config : C) where
   abbrev Kept : table.State S (SeatView C) → Type 0
@@ -58,8 +58,9 @@ module _ {C : Type 0} (shape : Shape C) (IsPublishable : C → Type 0) {S : Type
         tt,
         loaded shape IsPublishable config s 0 (set s.views id (with_worker me.0 (f view)))
             (subst (λ ws. Kept record { words = ws; homes = s.homes; views = set s.views id (with_worker me.0 (f view)) }) (sym kept.words) step),
-        for_worker me.0 view is (λ b. (at.word ≡ 0) × ((l : List C) × (ps : List ℕ) × ShowsSeat shape IsPublishable me.0 b x l × WorkerKnows shape me (with_worker me.0 (f view), me.1) (after_pin shape.rows x l ps b)))
-            (here, (seen, pages, shown shape IsPublishable config s kept id me.0 view x there is e, refl)),
+        for_worker me.0 view is (λ b. (at.word ≡ 0) × ((l : List C) × (ps : List ℕ) × ShowsSeat shape IsPublishable me.0 b x l × (x / shape.rows ≡ last_pinned shape.rows b.log → ps ≡ b.pages)
+            × WorkerKnows shape me (with_worker me.0 (f view), me.1) (after_pin shape.rows x l ps b)))
+            (here, (seen, pages, shown shape IsPublishable config s kept id me.0 view x there is e, pages_kept shape IsPublishable config s kept id me.0 view (x / shape.rows) there is, refl)),
       )
 
   pub allows_fetch : (slots id : ℕ) (me : Me S (SeatView C)) (view : WorkerView C) (k n r place : ℕ) (at : table.Step S) → me.0.worker ≡ Some view → shape.workers ≤ me.0.spare → view.stage ≡ Inside k n r → IsSeenPlace shape view.seen view.pages n r place → at.word ≡ place

@@ -10,7 +10,7 @@ use Rattle.versions.specs.declared.view.Stage.{Stage}
 use Rattle.versions.specs.declared.view.Stage.TheVariants.{Announced, Inside, Outside, Peeked}
 use Rattle.versions.specs.declared.view.WorkerView.{WorkerView}
 use Rattle.versions.specs.Layout.{page_begin, row_begin, stored_words}
-use Rattle.versions.specs.View.{read_word_of}
+use Rattle.versions.specs.View.{last_pinned, read_word_of}
 use Rattle.versions.specs.Legal.{MayPeek}
 use Rattle.versions.specs.Table.{the_shape}
 use Rattle.versions.proofs.ListLemmas.{row_inside}
@@ -21,7 +21,7 @@ use Rattle.read_section.specs.Layout.{IsPublishable}
 use Rattle.read_section.specs.body.Plays.{ShowsSeat, TellsWord, announces, fetches, leaves, peeks, pins}
 use Rattle.read_section.specs.VersionsRule.{IsLeftByTrace}
 use Rattle.read_section.specs.body.Seat.{IsSeatAt, IsWorkerSeat}
-use Rattle.read_section.specs.body.Steps.{Sees, SeesWord}
+use Rattle.read_section.specs.body.Steps.{KeepsPages, Sees, SeesWord}
 use Rattle.read_section.specs.body.SeatView.{with_worker}
 use Rattle.read_section.specs.Worker.{IsInside, WorkerValue, steps}
 use Rattle.read_section.specs.body.Seat.{worker_at, worker_or_none}
@@ -35,9 +35,6 @@ Seated = Me ℕ View
 
 abbrev pub Kept : List Group → Rattle.atomic_table.specs.Table.State ℕ View → Type 0
 Kept config = IsLeftByTrace the_shape IsPublishable {S = ℕ} config
-
-pub some_row : 0 < the_shape.rows
-some_row = omega (arith, rows_is)
 
 -- the place of a word as it is computed
 pub place_is : (r i : ℕ) → ROWS_BEGIN + r * ROW_WORDS + i ≡ row_begin the_shape r + i
@@ -112,6 +109,9 @@ module _ (v : View) (number : ℕ) (h : IsWorkerSeat v number) where
 
   pub sees : (seat : TableId) (seen : List (List Group)) (x : ℕ) (worker : WorkerValue) → worker_at seat v ≡ worker → ShowsSeat the_shape IsPublishable v view x seen → Sees worker x seen
   sees seat seen x worker is told = subst (λ (w : WorkerValue). Sees w x seen) is record { shows = told.shows; publishable = told.publishable; own_log = told.own }
+
+  pub KeepsPages-told : (seat : TableId) (pages : List ℕ) (x : ℕ) (worker : WorkerValue) → worker_at seat v ≡ worker → (x / the_shape.rows ≡ last_pinned the_shape.rows view.log → pages ≡ view.pages) → KeepsPages worker x pages
+  KeepsPages-told seat pages x worker is told = subst (λ (w : WorkerValue). KeepsPages w x pages) is told
 
   module _ (slots : List (ℕ × ℕ)) (seat : TableId) (config : List Group) (slots' id : ℕ) (worker : WorkerValue) (is : worker_at seat v ≡ worker) where
     pub may_peek : MayPeek worker.view.stage → Allows (Kept config) slots' id (v, slots) 0 (λ n. n) (peeks the_shape IsPublishable (step slots' 0 0 0 none) (v, slots))

@@ -15,7 +15,6 @@ ghost use Rattle.read_section.specs.Operator.{AreOpenedWorkers, opened_operator}
 
 mod current_pages;
 mod fault;
-mod found;
 mod operator;
 mod plays;
 mod reading;

@@ -19,7 +19,7 @@ ghost use Rattle.read_section.specs.View.{TellsLog};
 ghost use Rattle.read_section.specs.Worker.{IsInside, steps};
 ghost use Rattle.read_section.specs.Operator.{AreOpenedWorkers, opened_operator, put_in};
 ghost use Rattle.read_section.specs.body.Seat.{HoldsNamed, IsSeatAt, IsSeating, acts};
-ghost use Rattle.read_section.specs.body.Steps.{IsOwnLogOf, Sees, SeesWord};
+ghost use Rattle.read_section.specs.body.Steps.{IsOwnLogOf, KeepsPages, Sees, SeesWord};
 
 use crate::plays::{
     Announce, Fetch, Fill, GiveWorker, Leave, NoteSeen, Peek, Pin, Proposal, Publish, Scan,
@@ -30,6 +30,7 @@ use crate::worker::Worker;
 use atomic_table::Table;
 use config_image::{PAGE_WORDS, ROW_WORDS};
 use member_group::Config;
+use part_memory::PartMemory;
 use std::alloc::{AllocError, Global};
 use std::marker::{Brand, Model};
 use std::sync::Arc;
@@ -76,6 +77,7 @@ impl Model for OperatorSeat {
 }
 
 fn new_worker(
+    alloc: Global,
     table: &Arc<SharedTable, Global>,
     seat: &mut TableSeat,
     number: usize,
@@ -87,13 +89,15 @@ fn new_worker(
     ensures seat { IfOk result (λ w. IsSeatAt seat.new.me.1 seat.new.table_id (arc_value table.now).shared.table_id) }
     ensures worker { IfOk result (λ w. w ≡ record { table = (arc_value table.now).shared.table_id; view = new_worker (arc_value table.now).shared.key (pages_named the_shape (opening_stored (arc_value table.now).shared.key) 0) number }) }
 {
+    let memory = PartMemory::new(alloc)?;
     let table = Arc::try_clone(table)?;
     let seat = table.shared.split_seat::<SeatSpare>(seat);
-    Ok(Worker::new(WorkerSeat {
+    let seat = WorkerSeat {
         table,
         seat,
         number,
-    }))
+    };
+    Ok(Worker::new(seat, memory))
 }
 
 fn new_workers(
@@ -109,7 +113,7 @@ fn new_workers(
 {
     let mut workers = Vec::with_capacity(alloc, WORKERS)?;
     for number in 0..WORKERS {
-        workers.push(new_worker(table, seat, number)?)?;
+        workers.push(new_worker(alloc, table, seat, number)?)?;
     }
     Ok(workers)
 }
@@ -162,7 +166,7 @@ impl WorkerSeat {
 
     pub(crate) fn pin(&mut self) -> u64
         requires { (read_word : ℕ) × (self.old.view.stage ≡ Announced read_word) }
-        ensures { (seen : List (List Group)) × (pages : List ℕ) × Sees self.old result seen × (self.new ≡ steps (after_pin the_shape.rows result seen pages) self.old) }
+        ensures { (seen : List (List Group)) × (pages : List ℕ) × Sees self.old result seen × KeepsPages self.old result pages × (self.new ≡ steps (after_pin the_shape.rows result seen pages) self.old) }
     {
         let table = &self.table;
         table.shared.load::<Pin>(&mut self.seat, 0)

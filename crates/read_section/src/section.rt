@@ -1,13 +1,60 @@
 //! Read-side critical sections.
 
-ghost use Rattle.read_section.specs.body.Found.{Knows, KnowsIn-prop, Reaches, Reaches-prop};
+ghost use Rattle.std.specs.Prelude.{◌≡◌, ◌+◌};
+ghost use Rattle.read_section.specs.body.Found.{Knows, KnowsIn-prop};
 
-use crate::found::{Found, Kept, NOTHING_FOUND};
-use crate::reading::{find_part, heads_of, length_of, part_with, read_by_row, read_from_form};
+use crate::reading::{heads_of, length_of, read_by_row};
 use crate::worker::Worker;
 use bpf_insn::Words;
 use config_image::ROW_WORDS;
+use part_memory::Part;
 use versions::{ROWS, ROWS_BEGIN};
+
+// What a section keeps of the version that is held.
+#[derive(Clone, Copy, Debug)]
+struct Kept {
+    // The version's row.
+    row: usize,
+    // Where the programs begin in the image; 0 where that is not known yet. What is before them stands in the row.
+    heads: usize,
+    // The part whose words are ready, and the place in the table behind its last word.
+    part: Part,
+    limit: usize,
+}
+
+impl Kept {
+    ghost use Rattle.std.specs.Prelude.{◌≡◌, ◌+◌, ◌<◌, ◌^◌};
+
+    // A call's result is known to be a number of 64 bits.
+    #[inline(always)]
+    fn shift(self) -> usize
+        ensures { result ≡ self.part.shift }
+    {
+        self.part.shift
+    }
+
+    #[inline(always)]
+    fn with_part(self, part: Part) -> Kept
+        requires { part.shift + part.end < 2 ^ 64 }
+        ensures { result ≡ record { row = self.row; heads = self.heads; part = part; limit = part.shift + part.end } }
+    {
+        Kept {
+            row: self.row,
+            heads: self.heads,
+            part,
+            limit: part.shift + part.end,
+        }
+    }
+}
+
+// It has no word.
+const NO_PART: Part = Part {
+    version: 0,
+    index: 0,
+    at: 0,
+    end: 0,
+    shift: 0,
+};
 
 /// A worker's read-side critical section: the words of one version's row.
 ///
@@ -17,16 +64,16 @@ use versions::{ROWS, ROWS_BEGIN};
 pub struct Section<'a> {
     worker: &'a mut Worker,
     kept: Kept,
-    ghost known: { Knows worker.now.view kept.row kept.found } by { KnowsIn-prop worker.now.view.stage worker.now.view.seen worker.now.view.pages kept.row kept.found },
-    ghost reaches: { Reaches kept } by { Reaches-prop kept },
+    ghost limit: { kept.limit ≡ kept.part.shift + kept.part.end },
+    ghost known: { Knows worker.now.view kept.row kept.heads kept.part } by { KnowsIn-prop worker.now.view.stage worker.now.view.seen worker.now.view.pages kept.row kept.heads kept.part },
 }
 
 /// The words of the section's row, `ROW_WORDS` of them: the image of the configuration, and then zeros. Each is read by a few
-/// fetches, of which the last tells it. A word of a program in the part that was found last takes one.
+/// fetches, of which the last tells it. A word that is ready takes one.
 impl Words for Section<'_> {
-    ghost use Rattle.std.specs.Prelude.{◌≡◌, ◌<◌, ◌≤◌, Some, length, slice_get};
-    ghost use Rattle.read_section.specs.Reads.{FetchedAtMost, FewFetches};
-    ghost use Rattle.read_section.specs.Section.{SectionRest, borrow_of, held_words, ready_from, section_rest, worker_of};
+    ghost use Rattle.std.specs.Prelude.{◌≡◌, ◌+◌, ◌-◌, ◌<◌, ◌≤◌, IfSome, IsNone, Some, length, slice_get};
+    ghost use Rattle.read_section.specs.Reads.{FetchedAtMost, FewFetches, Reads};
+    ghost use Rattle.read_section.specs.Section.{SectionRest, borrow_of, held_words, ready_from, ready_to, section_rest, shift_of, worker_of};
 
     ghost Rest = { SectionRest };
 
@@ -35,6 +82,10 @@ impl Words for Section<'_> {
     ghost rest = { λ section. section_rest section };
 
     ghost ready_from = { λ section. ready_from section };
+
+    ghost ready_to = { λ section. ready_to section };
+
+    ghost shift = { λ section. shift_of section };
 
     fn count(&self) -> usize {
         if self.worker.is_inside() {
@@ -53,92 +104,84 @@ impl Words for Section<'_> {
         ensures words_kept { held_words (worker_of self.new) ≡ held_words (worker_of self.old) }
         ensures rest_kept { section_rest self.new ≡ section_rest self.old }
     {
-        let Kept {
-            found,
-            end,
-            shift,
-            ..
-        } = self.kept;
         if i == 0 {
             let form = self.worker.fetch(ROWS_BEGIN + self.kept.row * ROW_WORDS);
             return length_of(form) as u64;
         }
-        if i < heads_of(found.form) {
+        if i < self.kept.heads {
             return self
                 .worker
                 .fetch(ROWS_BEGIN + self.kept.row * ROW_WORDS + i);
         }
-        if found.at <= i && i < end {
-            return self.worker.fetch(shift + i);
+        if self.kept.part.at <= i && i < self.kept.part.end {
+            return self.worker.fetch(self.kept.part.shift + i);
         }
-        if i < length_of(found.form) {
-            return self.word_of_another_part(i);
-        }
-        let read = read_from_form(self.worker, self.kept.row, i);
-        if !self.kept.is_formed {
-            self.kept.is_formed = true;
-            self.kept.found.form = read.form;
-        }
-        read.word
+        let word = read_by_row(self.worker, self.kept.row, i);
+        self.kept.heads = heads_of(self.worker.form());
+        word
     }
 
-    // The part with the program's first word is found here, before the loop over the program, where that word is in a part.
+    // The words of the part that has word i are ready then, 16 at most. A part that is not remembered is searched for by a call that is
+    // not inlined: it leaves the registers to the program's run.
     #[inline(always)]
-    fn begin_program(&mut self, from: usize)
-        requires { from < length (held_words (worker_of self.old)) }
-        ensures ready { ready_from self.new ≤ from }
-        ensures few_fetches { FetchedAtMost 12 (worker_of self.old) (worker_of self.new) }
+    fn make_ready(&mut self, i: usize) -> Option<u64>
+        requires { i < length (held_words (worker_of self.old)) }
+        ensures ready { IsNone result → (ready_from self.new ≤ i) × (i < ready_to self.new) }
+        ensures value { IfSome result (λ word. slice_get (held_words (worker_of self.old)) i ≡ Some word) }
+        ensures few_fetches { FetchedAtMost 13 (worker_of self.old) (worker_of self.new) }
+        ensures answered { IfSome result (λ word. FewFetches i word (worker_of self.old) (worker_of self.new)) }
         ensures same_worker { borrow_of self.new ≡ borrow_of self.old }
         ensures words_kept { held_words (worker_of self.new) ≡ held_words (worker_of self.old) }
         ensures rest_kept { section_rest self.new ≡ section_rest self.old }
     {
-        if self.kept.found.at <= from && from < self.kept.end {
-            return;
+        if let Some(part) = self.worker.recall(i) {
+            self.kept = self.kept.with_part(part);
+            return None;
         }
-        let form = self.kept.found.form;
-        if heads_of(form) <= from && from < length_of(form) {
-            let found = find_part(self.worker, self.kept.row, form, from);
-            self.kept = self.kept.with_part(found);
-        } else {
-            self.kept = self.kept.with_part(Found {
-                form,
-                ..NOTHING_FOUND
-            });
-        }
-    }
-
-    // What a program seldom reads stands behind calls that are not inlined: they leave the registers to its run, and the word goes
-    // straight on to what it does. Nothing is kept of the row's first word here: `word` does that, for a place above 0, as the look-up
-    // of a group reads it before a program. Without that each word is searched for.
-    #[inline(always)]
-    fn program_word(&mut self, i: usize) -> u64
-        requires within { i < length (held_words (worker_of self.old)) }
-        requires ahead { ready_from self.old ≤ i }
-        ensures value { slice_get (held_words (worker_of self.old)) i ≡ Some result }
-        ensures few_fetches { FewFetches i result (worker_of self.old) (worker_of self.new) }
-        ensures ready { ready_from self.new ≤ i }
-        ensures same_worker { borrow_of self.new ≡ borrow_of self.old }
-        ensures words_kept { held_words (worker_of self.new) ≡ held_words (worker_of self.old) }
-        ensures rest_kept { section_rest self.new ≡ section_rest self.old }
-    {
-        if i < self.kept.end {
-            return self.worker.fetch(self.kept.shift + i);
-        }
-        let form = self.kept.found.form;
-        if !self.kept.ends_at(i) || length_of(form) <= i {
-            if i == 0 || i < heads_of(form) || length_of(form) <= i {
-                return read_by_row(self.worker, self.kept.row, i);
+        let word = read_by_row(self.worker, self.kept.row, i);
+        match self.worker.recall(i) {
+            Some(part) => {
+                self.kept = self.kept.with_part(part);
+                None
+            }
+            None => {
+                self.kept = self.kept.with_part(NO_PART);
+                Some(word)
             }
         }
-        self.word_of_another_part(i)
+    }
+
+    #[inline(always)]
+    fn shift(&self) -> usize {
+        self.kept.shift()
+    }
+
+    #[inline(always)]
+    fn is_ready(&self, number: usize) -> bool {
+        number < self.kept.limit
+    }
+
+    #[inline(always)]
+    fn ready_word(&mut self, number: usize) -> u64
+        requires within { number < shift_of self.old + length (held_words (worker_of self.old)) }
+        requires from { shift_of self.old + ready_from self.old ≤ number }
+        requires to { number < shift_of self.old + ready_to self.old }
+        ensures value { slice_get (held_words (worker_of self.old)) (number - shift_of self.old) ≡ Some result }
+        ensures one_fetch { Reads 1 (number - shift_of self.old) result (worker_of self.old) (worker_of self.new) }
+        ensures ready_from { ready_from self.new ≡ ready_from self.old }
+        ensures ready_to { ready_to self.new ≡ ready_to self.old }
+        ensures shift { shift_of self.new ≡ shift_of self.old }
+        ensures same_worker { borrow_of self.new ≡ borrow_of self.old }
+        ensures words_kept { held_words (worker_of self.new) ≡ held_words (worker_of self.old) }
+        ensures rest_kept { section_rest self.new ≡ section_rest self.old }
+    {
+        self.worker.fetch(number)
     }
 }
 
 impl<'a> Section<'a> {
-    ghost use Rattle.std.specs.Prelude.{◌≡◌, ◌<◌, ◌≤◌, Some, length, slice_get};
-    ghost use Rattle.read_section.specs.Reads.{FewFetches};
-    ghost use Rattle.read_section.specs.Section.{EndsInFetches, HoldsLastSeen, borrow_of, held_version, held_words, ready_from, section_rest, worker_of};
-    ghost use Rattle.read_section.specs.body.Sought.{IsSought};
+    ghost use Rattle.std.specs.Prelude.{◌≡◌, ◌<◌};
+    ghost use Rattle.read_section.specs.Section.{EndsInFetches, HoldsLastSeen, borrow_of, held_version, worker_of};
     ghost use Rattle.read_section.specs.Worker.{IsInside, left, steps};
 
     pub(crate) fn of(worker: &'a mut Worker, version: u64, row: usize) -> Section<'a>
@@ -148,33 +191,16 @@ impl<'a> Section<'a> {
         ensures same_worker { borrow_of result ≡ worker.entry.ghost_name }
         ensures worker { worker_of result ≡ worker.old }
     {
+        let heads = heads_of(worker.form());
         Section {
             worker,
             kept: Kept {
                 row,
-                is_formed: false,
-                found: NOTHING_FOUND,
-                end: 0,
-                shift: 0,
+                heads,
+                part: NO_PART,
+                limit: 0,
             },
         }
-    }
-
-    // Word i of the programs, of another part than the one that is kept. It is kept then.
-    #[inline(always)]
-    fn word_of_another_part(&mut self, i: usize) -> u64
-        requires held { i < length (held_words (worker_of self.old)) }
-        requires sought { IsSought self.old.worker.now.view self.old.kept.row self.old.kept.found.form i }
-        ensures value { slice_get (held_words (worker_of self.old)) i ≡ Some result }
-        ensures few_fetches { FewFetches i result (worker_of self.old) (worker_of self.new) }
-        ensures ready { ready_from self.new ≤ i }
-        ensures same_worker { borrow_of self.new ≡ borrow_of self.old }
-        ensures words_kept { held_words (worker_of self.new) ≡ held_words (worker_of self.old) }
-        ensures rest_kept { section_rest self.new ≡ section_rest self.old }
-    {
-        let found = part_with(self.worker, self.kept, i);
-        self.kept = self.kept.with_part(found);
-        self.worker.fetch(self.kept.shift + i)
     }
 
     /// Tells the number of the section's version, counted from 0.

@@ -1,7 +1,10 @@
 //! Workers: the readers of the table.
 
-ghost use Rattle.std.specs.Prelude.{◌≡◌, ◌<◌, List, if◌then◌else◌, length, suc, ℕ};
+ghost use Rattle.std.specs.Prelude.{◌≡◌, ◌<◌, IfSome, List, if◌then◌else◌, length, suc, ℕ};
 ghost use Rattle.config_image.specs.Image.{Group};
+ghost use Rattle.part_memory.specs.declared.memory.PartMemory.{PartMemory};
+ghost use Rattle.part_memory.specs.declared.part.Part.{Part};
+ghost use Rattle.part_memory.specs.Memory.{Holds};
 ghost use Rattle.versions.specs.declared.layout.TheConstants.{TABLE_WORDS};
 ghost use Rattle.versions.specs.View.{IsTold, after_fetch, after_peek};
 ghost use Rattle.versions.specs.Safety.{IsHeldPlace};
@@ -10,11 +13,14 @@ ghost use Rattle.read_section.specs.Section.{EndsInFetches, HoldsLastSeen, borro
 ghost use Rattle.read_section.specs.View.{Shows};
 ghost use Rattle.read_section.specs.Worker.{Enters, IsOutside, left, steps};
 ghost use Rattle.read_section.specs.Operator.{Meets};
+ghost use Rattle.read_section.specs.body.Found.{IsFormIn, IsPartIn, TellsForm, TellsPart};
+ghost use Rattle.read_section.specs.body.Remembered.{IsBlank, IsFirstSeen};
 ghost use Rattle.read_section.specs.body.Steps.{SeesWord};
 
 use crate::operator::Operator;
 use crate::seat::WorkerSeat;
 use crate::section::Section;
+use part_memory::{Part, PartMemory};
 use std::marker::Model;
 use versions::ROWS;
 
@@ -23,12 +29,15 @@ use versions::ROWS;
 /// Contracts see its table, its log, and the versions that it has seen.
 #[derive(Drop)]
 pub struct Worker {
-    seat: WorkerSeat,
-    // The number of the version that it holds.
+    // The number of the version that it holds. It is the first field, so that its address is the worker's.
     held: Option<u64>,
+    seat: WorkerSeat,
+    // Where words of the version stand that its last pin gave.
+    memory: PartMemory,
 }
 
 impl Model for Worker {
+    ghost use Rattle.read_section.specs.body.Remembered.{IsRemembered};
     ghost use Rattle.read_section.specs.body.Seat.{TellsStage};
     ghost use Rattle.read_section.specs.Worker.{WorkerValue};
 
@@ -36,15 +45,21 @@ impl Model for Worker {
 
     ghost view = { λ w. w.seat };
 
-    ghost invariant = { λ w. TellsStage w.held w.seat.view.stage };
+    ghost invariant = { λ w. TellsStage w.held w.seat.view.stage × IsRemembered w.seat.view w.memory };
 }
 
 impl Worker {
-    pub(crate) fn new(seat: WorkerSeat) -> Worker
-        requires { IsOutside seat.view.stage }
+    pub(crate) fn new(seat: WorkerSeat, memory: PartMemory) -> Worker
+        requires outside { IsOutside seat.view.stage }
+        requires first { IsFirstSeen seat.view }
+        requires blank { IsBlank memory }
         ensures { result ≡ seat }
     {
-        Worker { seat, held: None }
+        Worker {
+            held: None,
+            seat,
+            memory,
+        }
     }
 
     /// Begins a read-side critical section on the version that is current at its pin.
@@ -66,6 +81,7 @@ impl Worker {
         let pinned = self.seat.pin();
         let version = pinned / ROWS as u64;
         self.held = Some(version);
+        self.memory.turn_to(version);
         Section::of(self, version, (pinned % ROWS as u64) as usize)
     }
 
@@ -101,6 +117,37 @@ impl Worker {
         ensures one_fetch { self.new ≡ steps (after_fetch place result) self.old }
     {
         self.seat.fetch(place)
+    }
+
+    // The first word of the row of the version that is held, as it is remembered; 0 where it is not.
+    #[inline(always)]
+    pub(crate) fn form(&self) -> u64
+        ensures { 0 < result → TellsForm self.now.view result }
+    {
+        self.memory.form()
+    }
+
+    pub(crate) fn keep_form(&mut self, form: u64)
+        requires { IsFormIn self.old.view form }
+        ensures { self.new ≡ self.old }
+    {
+        self.memory.keep_form(form);
+    }
+
+    // The part that has word i, where it is remembered.
+    #[inline(always)]
+    pub(crate) fn recall(&self, i: usize) -> Option<Part>
+        ensures { IfSome result (λ part. TellsPart self.now.view part × Holds part i) }
+    {
+        self.memory.recall(i)
+    }
+
+    pub(crate) fn keep_part(&mut self, i: usize, part: Part)
+        requires { IsPartIn self.old.view part }
+        ensures { self.new ≡ self.old }
+    {
+        let version = self.memory.version();
+        self.memory.keep(i, Part { version, ..part });
     }
 
     // Where it is, it holds a version, whose row has words.

@@ -1,67 +1,96 @@
-use Rattle.std.proofs.Common.{◌≡◌, ◌∙◌, ◌+◌, ◌-◌, ◌≤◌, ℕ, ap, arith, refl, subst, sym}
-use Rattle.std.proofs.lemmas.Grind.{common_steps}
-use Rattle.bpf_verify.specs.Path.{program_at}
+use Rattle.std.proofs.Common.{◌≡◌, ◌∙◌, ◌+◌, ◌-◌, ◌≤◌, ap, arith, inr, refl, sym}
 use Rattle.bpf_verify.proofs.PlaceLemmas.{length-program_at}
+use Rattle.bpf_machine.specs.declared.execute.Next.{Next}
 use Rattle.bpf_machine.specs.Meaning.{Run}
-use Rattle.bpf_machine.proofs.ArrayLemmas.{IsRunning, running_begin, running_end, running_go_on, running_skip}
+use Rattle.bpf_machine.specs.body.Next.{effect_of}
+use Rattle.bpf_machine.proofs.ArrayLemmas.{running_begin, running_end, running_go_on, running_next, running_skip}
 use Rattle.bpf_machine.proofs.run_copy.Goals as goal
 
-pub begin_program-requires : goal.begin_program-requires
-begin_program-requires g c =
-    let size = length-program_at (g.W.Words.words c.args.words.now) c.args.from c.args.len c.requires.within in
-    let some = c.requires.accepted.not_empty in let within = c.requires.within in omega arith
-
 pub running-init : goal.running-init
-running-init g c = (
-  c.begin_program.ensures.words_kept,
-  c.begin_program.ensures.rest_kept,
-  refl,
-  (let g : c.args.from ≤ c.args.from = omega arith in g),
-  c.begin_program.ensures.ready,
-  running_begin _ c.args.packet.now _ c.args.from c.requires.accepted,
-)
+running-init g c = (refl, refl, refl, (let e : c.args.from ≤ c.args.from = omega arith in e), running_begin _ c.args.packet.now _ c.args.from c.requires.accepted)
+
+pub overflow_add-number-in-Skip-execute : goal.overflow_add-number-in-Skip-execute
+overflow_add-number-in-Skip-execute g c =
+    let at = rw c.ready.invariant.0 at (rw c.ready_word-word.ensures.words_kept at c.instruction-insn-in-ready.ensures.instruction) in let low = c.ready.invariant.3 in
+    let size = length-program_at (g.W.Words.words c.args.words.now) c.args.from c.args.len c.requires.within in
+    let next = running_skip _ c.args.packet.now c.requires.accepted (c.ready.number - c.shift-shift.result - c.args.from) c.ready.passed_over _ _ _ c.ready.invariant.4 c.ready.invariant.2 _ at c.instruction-insn-in-ready.ensures.cell _ _ _ _ (sym c.in-Skip-execute.ensures.effect) in
+    let inside = next.safe.inside in let room = rw c.running.invariant.0 at (rw c.make_ready.ensures.words_kept at c.shift-shift.ensures.room) in let within = c.requires.within in omega arith
+
+pub ready-preserved-in-GoOn-execute : goal.ready-preserved-in-GoOn-execute
+ready-preserved-in-GoOn-execute g c =
+    let at = rw c.ready.invariant.0 at (rw c.ready_word-word.ensures.words_kept at c.instruction-insn-in-ready.ensures.instruction) in let low = c.ready.invariant.3 in
+    let from = c.ready_word-word.ensures.ready_from in let shift = c.ready_word-word.ensures.shift in let ahead = c.ready.invariant.6 in let begun = c.ready.invariant.8 in (
+      c.ready_word-word.ensures.words_kept ∙ c.ready.invariant.0,
+      c.ready_word-word.ensures.rest_kept ∙ c.ready.invariant.1,
+      c.execute.ensures.cells,
+      omega arith,
+      running_next _ c.args.packet.now _ _ _ _ _ _ _ (running_go_on _ c.args.packet.now c.requires.accepted (c.ready.number - c.shift-shift.result - c.args.from) c.ready.passed_over _ _ _ c.ready.invariant.4 c.ready.invariant.2 _ at c.instruction-insn-in-ready.ensures.cell _ _ _ (sym c.in-GoOn-execute.ensures.effect)) (let e : c.ready.number - c.shift-shift.result - c.args.from + 1 ≡ c.ready.number + 1 - c.shift-shift.result - c.args.from = omega arith in e) refl,
+      shift ∙ c.ready.invariant.5,
+      omega arith,
+      inr (omega arith),
+      omega arith,
+    )
+
+pub ready-preserved : goal.ready-preserved
+ready-preserved g c =
+    let at = rw c.ready.invariant.0 at (rw c.ready_word-word.ensures.words_kept at c.instruction-insn-in-ready.ensures.instruction) in let low = c.ready.invariant.3 in
+    let from = c.ready_word-word.ensures.ready_from in let shift = c.ready_word-word.ensures.shift in let ahead = c.ready.invariant.6 in let begun = c.ready.invariant.8 in (
+      c.ready_word-word.ensures.words_kept ∙ c.ready.invariant.0,
+      c.ready_word-word.ensures.rest_kept ∙ c.ready.invariant.1,
+      c.execute.ensures.cells,
+      omega arith,
+      running_next _ c.args.packet.now _ _ _ _ _ _ _ (running_skip _ c.args.packet.now c.requires.accepted (c.ready.number - c.shift-shift.result - c.args.from) c.ready.passed_over _ _ _ c.ready.invariant.4 c.ready.invariant.2 _ at c.instruction-insn-in-ready.ensures.cell _ _ _ _ (sym c.in-Skip-execute.ensures.effect)) (let e : c.ready.number - c.shift-shift.result - c.args.from + 1 + c.in-Skip-execute.count ≡ c.ready.number + 1 + c.in-Skip-execute.count - c.shift-shift.result - c.args.from = omega arith in e) refl,
+      shift ∙ c.ready.invariant.5,
+      omega arith,
+      inr (omega arith),
+      omega arith,
+    )
+
+pub returns-in-End-execute-clause-value : goal.returns-in-End-execute-clause-value
+returns-in-End-execute-clause-value g c =
+    let at = rw c.ready.invariant.0 at (rw c.ready_word-word.ensures.words_kept at c.instruction-insn-in-ready.ensures.instruction) in let low = c.ready.invariant.3 in
+    ap (λ (run : Run). run.0) (running_end _ c.args.packet.now c.requires.accepted (c.ready.number - c.shift-shift.result - c.args.from) c.ready.passed_over _ _ _ c.ready.invariant.4 c.ready.invariant.2 _ at c.instruction-insn-in-ready.ensures.cell _ (sym c.in-End-execute.ensures.effect))
+
+pub returns-in-End-execute-clause-steps : goal.returns-in-End-execute-clause-steps
+returns-in-End-execute-clause-steps g c =
+    let at = rw c.ready.invariant.0 at (rw c.ready_word-word.ensures.words_kept at c.instruction-insn-in-ready.ensures.instruction) in let low = c.ready.invariant.3 in
+    (let e : c.ready.number + 1 - c.shift-shift.result - c.args.from - c.ready.passed_over ≡ c.ready.number - c.shift-shift.result - c.args.from + 1 - c.ready.passed_over = omega arith in e)
+    ∙ sym (ap (λ (run : Run). run.1) (running_end _ c.args.packet.now c.requires.accepted (c.ready.number - c.shift-shift.result - c.args.from) c.ready.passed_over _ _ _ c.ready.invariant.4 c.ready.invariant.2 _ at c.instruction-insn-in-ready.ensures.cell _ (sym c.in-End-execute.ensures.effect)))
 
 pub running-preserved-in-GoOn : goal.running-preserved-in-GoOn
 running-preserved-in-GoOn g c =
-    let at = rw c.running.invariant.0 at c.fetch-insn.ensures.instruction in let low = c.running.invariant.3 in (
-      c.fetch-insn.ensures.words_kept ∙ c.running.invariant.0,
-      c.fetch-insn.ensures.rest_kept ∙ c.running.invariant.1,
-      c.execute.ensures.cells,
+    let at = rw c.running.invariant.0 at (rw c.make_ready.ensures.words_kept at c.instruction-insn.ensures.instruction) in let low = c.running.invariant.3 in let does = sym (c.step_apart-step.ensures.effect c.instruction-insn.result c.instruction-insn.ensures.decoded) ∙ ap (λ (n : Next). effect_of n c.step_apart-step.result.a c.step_apart-step.result.x c.step_apart-step.new.cells) c.in-GoOn.is in (
+      c.make_ready.ensures.words_kept ∙ c.running.invariant.0,
+      c.make_ready.ensures.rest_kept ∙ c.running.invariant.1,
+      c.step_apart-step.ensures.cells,
       omega arith,
-      (let ready = c.fetch-insn.ensures.ready in omega arith),
-      subst (λ (n : ℕ). IsRunning (program_at (g.W.Words.words c.args.words.now) c.args.from c.args.len) c.args.packet.now n c.running.passed_over c.execute.new.machine.a c.execute.new.machine.x c.execute.new.cells) (let g : c.running.place - c.args.from + 1 ≡ c.running.place + 1 - c.args.from = omega arith in g)
-          (running_go_on _ c.args.packet.now c.requires.accepted (c.running.place - c.args.from) c.running.passed_over _ _ _ c.running.invariant.5 c.running.invariant.2 _ at c.fetch-insn.ensures.cell _ _ _ (sym c.in-GoOn.ensures.effect)),
-    )
-
-pub running-preserved : goal.running-preserved
-running-preserved g c =
-    let at = rw c.running.invariant.0 at c.fetch-insn.ensures.instruction in let low = c.running.invariant.3 in (
-      c.fetch-insn.ensures.words_kept ∙ c.running.invariant.0,
-      c.fetch-insn.ensures.rest_kept ∙ c.running.invariant.1,
-      c.execute.ensures.cells,
-      omega arith,
-      (let ready = c.fetch-insn.ensures.ready in omega arith),
-      subst (λ (n : ℕ). IsRunning (program_at (g.W.Words.words c.args.words.now) c.args.from c.args.len) c.args.packet.now n (c.running.passed_over + c.in-Skip.count) c.execute.new.machine.a c.execute.new.machine.x c.execute.new.cells) (let g : c.running.place - c.args.from + 1 + c.in-Skip.count ≡ c.running.place + 1 + c.in-Skip.count - c.args.from = omega arith in g)
-          (running_skip _ c.args.packet.now c.requires.accepted (c.running.place - c.args.from) c.running.passed_over _ _ _ c.running.invariant.5 c.running.invariant.2 _ at c.fetch-insn.ensures.cell _ _ _ _ (sym c.in-Skip.ensures.effect)),
+      running_next _ c.args.packet.now _ _ _ _ _ _ _ (running_go_on _ c.args.packet.now c.requires.accepted (c.running.place - c.args.from) c.running.passed_over _ _ _ c.running.invariant.4 c.running.invariant.2 _ at c.instruction-insn.ensures.cell _ _ _ does) (let e : c.running.place - c.args.from + 1 ≡ c.running.place + 1 - c.args.from = omega arith in e) refl,
     )
 
 pub overflow_add-place-in-Skip : goal.overflow_add-place-in-Skip
 overflow_add-place-in-Skip g c =
-    let at = rw c.running.invariant.0 at c.fetch-insn.ensures.instruction in let low = c.running.invariant.3 in
+    let at = rw c.running.invariant.0 at (rw c.make_ready.ensures.words_kept at c.instruction-insn.ensures.instruction) in let low = c.running.invariant.3 in let does = sym (c.step_apart-step.ensures.effect c.instruction-insn.result c.instruction-insn.ensures.decoded) ∙ ap (λ (n : Next). effect_of n c.step_apart-step.result.a c.step_apart-step.result.x c.step_apart-step.new.cells) c.in-Skip.is in
     let size = length-program_at (g.W.Words.words c.args.words.now) c.args.from c.args.len c.requires.within in
-    let next = running_skip _ c.args.packet.now c.requires.accepted (c.running.place - c.args.from) c.running.passed_over _ _ _ c.running.invariant.5 c.running.invariant.2 _ at c.fetch-insn.ensures.cell _ _ _ _ (sym c.in-Skip.ensures.effect) in
-    let inside = next.safe.inside in omega arith
+    let next = running_skip _ c.args.packet.now c.requires.accepted (c.running.place - c.args.from) c.running.passed_over _ _ _ c.running.invariant.4 c.running.invariant.2 _ at c.instruction-insn.ensures.cell _ _ _ _ does in
+    let inside = next.safe.inside in let count = c.count-count.ensures in let fits = c.count-count.type_inv in let within = c.requires.within in omega arith
+
+pub running-preserved-in-Skip : goal.running-preserved-in-Skip
+running-preserved-in-Skip g c =
+    let at = rw c.running.invariant.0 at (rw c.make_ready.ensures.words_kept at c.instruction-insn.ensures.instruction) in let low = c.running.invariant.3 in let does = sym (c.step_apart-step.ensures.effect c.instruction-insn.result c.instruction-insn.ensures.decoded) ∙ ap (λ (n : Next). effect_of n c.step_apart-step.result.a c.step_apart-step.result.x c.step_apart-step.new.cells) c.in-Skip.is in (
+      c.make_ready.ensures.words_kept ∙ c.running.invariant.0,
+      c.make_ready.ensures.rest_kept ∙ c.running.invariant.1,
+      c.step_apart-step.ensures.cells,
+      omega arith,
+      running_next _ c.args.packet.now _ _ _ _ _ _ _ (running_skip _ c.args.packet.now c.requires.accepted (c.running.place - c.args.from) c.running.passed_over _ _ _ c.running.invariant.4 c.running.invariant.2 _ at c.instruction-insn.ensures.cell _ _ _ _ does) (let e : c.running.place - c.args.from + 1 + c.in-Skip.count ≡ c.running.place + 1 + c.in-Skip.count - c.args.from = omega arith in e) refl,
+    )
 
 pub returns-in-End-clause-value : goal.returns-in-End-clause-value
 returns-in-End-clause-value g c =
-    let at = rw c.running.invariant.0 at c.fetch-insn.ensures.instruction in
-    ap (λ (run : Run). run.0) (running_end _ c.args.packet.now c.requires.accepted (c.running.place - c.args.from) c.running.passed_over _ _ _ c.running.invariant.5 c.running.invariant.2 _ at c.fetch-insn.ensures.cell _ (sym c.in-End.ensures.effect))
+    let at = rw c.running.invariant.0 at (rw c.make_ready.ensures.words_kept at c.instruction-insn.ensures.instruction) in let low = c.running.invariant.3 in let does = sym (c.step_apart-step.ensures.effect c.instruction-insn.result c.instruction-insn.ensures.decoded) ∙ ap (λ (n : Next). effect_of n c.step_apart-step.result.a c.step_apart-step.result.x c.step_apart-step.new.cells) c.in-End.is in
+    ap (λ (run : Run). run.0) (running_end _ c.args.packet.now c.requires.accepted (c.running.place - c.args.from) c.running.passed_over _ _ _ c.running.invariant.4 c.running.invariant.2 _ at c.instruction-insn.ensures.cell _ does)
 
 pub returns-in-End-clause-steps : goal.returns-in-End-clause-steps
 returns-in-End-clause-steps g c =
-    let at = rw c.running.invariant.0 at c.fetch-insn.ensures.instruction in let low = c.running.invariant.3 in
-    (let g : c.running.place + 1 - c.args.from - c.running.passed_over ≡ c.running.place - c.args.from + 1 - c.running.passed_over = omega arith in g)
-    ∙ sym (ap (λ (run : Run). run.1) (running_end _ c.args.packet.now c.requires.accepted (c.running.place - c.args.from) c.running.passed_over _ _ _ c.running.invariant.5 c.running.invariant.2 _ at c.fetch-insn.ensures.cell _ (sym c.in-End.ensures.effect)))
-
-pub returns-in-End-clause-within_length : goal.returns-in-End-clause-within_length
-returns-in-End-clause-within_length g c = grind (arith, common_steps)
+    let at = rw c.running.invariant.0 at (rw c.make_ready.ensures.words_kept at c.instruction-insn.ensures.instruction) in let low = c.running.invariant.3 in let does = sym (c.step_apart-step.ensures.effect c.instruction-insn.result c.instruction-insn.ensures.decoded) ∙ ap (λ (n : Next). effect_of n c.step_apart-step.result.a c.step_apart-step.result.x c.step_apart-step.new.cells) c.in-End.is in
+    (let e : c.running.place + 1 - c.args.from - c.running.passed_over ≡ c.running.place - c.args.from + 1 - c.running.passed_over = omega arith in e)
+    ∙ sym (ap (λ (run : Run). run.1) (running_end _ c.args.packet.now c.requires.accepted (c.running.place - c.args.from) c.running.passed_over _ _ _ c.running.invariant.4 c.running.invariant.2 _ at c.instruction-insn.ensures.cell _ does))

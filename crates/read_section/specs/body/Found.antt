@@ -1,54 +1,72 @@
--- What a section keeps of where the words of its version stand, and what that tells.
+-- What is known of where the words of the version stand that a worker holds.
 use Rattle.std.specs.Prelude.{◌≡◌, ◌+◌, ◌<◌, ◌≤◌, List, Some, [], length, slice_get, slice_index, slice_index_or, suc, ℕ}
 use Rattle.std.specs.Coded.{×_prop, →_prop, Π_prop, Unit-prop, le_prop, Coded-set, coded_ℕ}
 use Rattle.config_image.specs.declared.TheConstants.{ROW_WORDS}
-use Rattle.config_image.specs.Image.{Group, image}
+use Rattle.config_image.specs.Image.{Group, image, programs_begin}
 use Rattle.config_image.specs.Pooled.{form_word, part_begin, parts}
+use Rattle.part_memory.specs.declared.part.Part.{Part}
 use Rattle.versions.specs.declared.layout.TheConstants.{PAGES, ROWS}
 use Rattle.versions.specs.declared.view.Stage.{Stage}
 use Rattle.versions.specs.declared.view.Stage.TheVariants.{Announced, Inside, Outside, Peeked}
 use Rattle.versions.specs.declared.view.WorkerView.{WorkerView}
 use Rattle.versions.specs.Layout.{page_begin}
 use Rattle.versions.specs.Table.{the_shape}
-use Rattle.read_section.specs.declared.found.Found.{Found}
-use Rattle.read_section.specs.declared.found.Kept.{Kept}
 
 -- each part has a page of the table
 abbrev pub HasPages : List Group → List ℕ → Type 0
 HasPages config pages = (length pages ≡ length (parts config)) × ((index page : ℕ) → slice_get pages index ≡ Some page → page < PAGES)
 
--- the part at the index has its words where it is kept, and the part behind it has its words where that is kept
-abbrev pub KnowsPart : List Group → List ℕ → Found → Type 0
-KnowsPart config pages found =
-    ((0 < found.form) × (found.index < length (parts config)))
-    × (((found.at ≡ part_begin config found.index) × (found.at + found.len ≡ part_begin config (found.index + 1)))
-    × ((found.begin ≡ page_begin the_shape (slice_index pages found.index))
-    × (found.index + 1 < length (parts config) → found.next ≡ page_begin the_shape (slice_index pages (found.index + 1)))))
+-- the number is the first word of the configuration's row
+abbrev pub IsFormOf : List Group → List ℕ → ℕ → Type 0
+IsFormOf config pages form = (form ≡ form_word config) × HasPages config pages
 
--- the row is that of the version, which it has room for; what is kept, where something is kept, is right
-abbrev pub KnowsAt : List Group → List ℕ → ℕ → ℕ → Found → Type 0
-KnowsAt config pages r row found =
+-- the part is one of the configuration's, and its words stand in its page
+abbrev pub IsPartOf : List Group → List ℕ → Part → Type 0
+IsPartOf config pages part =
+    (HasPages config pages × (part.index < length (parts config)))
+    × (((part.at ≡ part_begin config part.index) × (part.end ≡ part_begin config (part.index + 1)))
+    × (part.at + part.shift ≡ page_begin the_shape (slice_index pages part.index)))
+
+-- the row is that of the version, which it has room for. What is kept of it is right: where its programs begin, unless that is 0,
+-- and a part, if that has a word
+abbrev pub KnowsAt : List Group → List ℕ → ℕ → ℕ → ℕ → Part → Type 0
+KnowsAt config pages r row heads part =
     ((row ≡ r) × (row < ROWS))
-    × ((length (image config) ≤ ROW_WORDS) × ((0 < found.form → (found.form ≡ form_word config) × HasPages config pages) × (0 < found.len → KnowsPart config pages found)))
+    × ((length (image config) ≤ ROW_WORDS) × ((0 < heads → (heads ≡ programs_begin config) × HasPages config pages) × (part.at < part.end → IsPartOf config pages part)))
 
 -- of the version that is held, which the worker has seen; nothing where none is held
-abbrev pub KnowsIn : Stage → List (List Group) → List ℕ → ℕ → Found → Type 0
-KnowsIn (Inside read_word n r) seen pages row found = (n < length seen) × KnowsAt (slice_index_or seen n []) pages r row found
-KnowsIn _ seen pages row found = Unit {0}
+abbrev pub KnowsIn : Stage → List (List Group) → List ℕ → ℕ → ℕ → Part → Type 0
+KnowsIn (Inside read_word n r) seen pages row heads part = (n < length seen) × KnowsAt (slice_index_or seen n []) pages r row heads part
+KnowsIn _ seen pages row heads part = Unit {0}
 
-abbrev pub Knows : WorkerView (List Group) → ℕ → Found → Type 0
-Knows view row found = KnowsIn view.stage view.seen view.pages row found
+abbrev pub Knows : WorkerView (List Group) → ℕ → ℕ → Part → Type 0
+Knows view row heads part = KnowsIn view.stage view.seen view.pages row heads part
 
--- of the same version, where no part was found, and no more is kept than the row's first word
-abbrev pub form_alone : ℕ → Found
-form_alone form = record { form = form; at = 0; len = 0; begin = 0; index = 0; next = 0 }
+abbrev pub no_part : Part
+no_part = record { version = 0; index = 0; at = 0; end = 0; shift = 0 }
 
-abbrev pub KnowsForm : WorkerView (List Group) → ℕ → ℕ → Type 0
-KnowsForm view row form = Knows view row (form_alone form)
+-- the row alone
+abbrev pub KnowsRow : WorkerView (List Group) → ℕ → Type 0
+KnowsRow view row = Knows view row 0 no_part
 
--- the part that is kept ends where it is said, and its words stand so much further in the table than in the image
-abbrev pub Reaches : Kept → Type 0
-Reaches kept = (kept.end ≡ kept.found.at + kept.found.len) × (kept.shift + kept.found.at ≡ kept.found.begin)
+-- a fact of the version that a worker holds, and of its pages: where one is held, and so that one is held
+abbrev pub TellsOfHeld : (List Group → List ℕ → Type 0) → WorkerView (List Group) → Type 0
+TellsOfHeld Fact view = (k n r : ℕ) → view.stage ≡ Inside k n r → Fact (slice_index_or view.seen n []) view.pages
+
+abbrev pub HoldsOfHeld : (List Group → List ℕ → Type 0) → WorkerView (List Group) → Type 0
+HoldsOfHeld Fact view = (k : ℕ) × (n : ℕ) × (r : ℕ) × (view.stage ≡ Inside k n r) × Fact (slice_index_or view.seen n []) view.pages
+
+abbrev pub TellsForm : WorkerView (List Group) → ℕ → Type 0
+TellsForm view form = TellsOfHeld (λ config pages. IsFormOf config pages form) view
+
+abbrev pub IsFormIn : WorkerView (List Group) → ℕ → Type 0
+IsFormIn view form = HoldsOfHeld (λ config pages. IsFormOf config pages form) view
+
+abbrev pub TellsPart : WorkerView (List Group) → Part → Type 0
+TellsPart view part = TellsOfHeld (λ config pages. IsPartOf config pages part) view
+
+abbrev pub IsPartIn : WorkerView (List Group) → Part → Type 0
+IsPartIn view part = HoldsOfHeld (λ config pages. IsPartOf config pages part) view
 
 equal_prop : (a b : ℕ) → IsProp (a ≡ b)
 equal_prop a b = Coded-set coded_ℕ a b
@@ -56,24 +74,20 @@ equal_prop a b = Coded-set coded_ℕ a b
 HasPages-prop : (config : List Group) (pages : List ℕ) → IsProp (HasPages config pages)
 HasPages-prop config pages = ×_prop (equal_prop (length pages) (length (parts config))) (Π_prop (λ (index : ℕ). Π_prop (λ (page : ℕ). →_prop (le_prop {n = suc page} {m = PAGES}))))
 
-KnowsPart-prop : (config : List Group) (pages : List ℕ) (found : Found) → IsProp (KnowsPart config pages found)
-KnowsPart-prop config pages found =
-    let next : IsProp (found.index + 1 < length (parts config) → found.next ≡ page_begin the_shape (slice_index pages (found.index + 1))) = →_prop (equal_prop found.next (page_begin the_shape (slice_index pages (found.index + 1)))) in
-    ×_prop (×_prop (le_prop {n = 1} {m = found.form}) (le_prop {n = suc found.index} {m = length (parts config)}))
-    (×_prop (×_prop (equal_prop found.at (part_begin config found.index)) (equal_prop (found.at + found.len) (part_begin config (found.index + 1))))
-    (×_prop (equal_prop found.begin (page_begin the_shape (slice_index pages found.index))) next))
+IsPartOf-prop : (config : List Group) (pages : List ℕ) (part : Part) → IsProp (IsPartOf config pages part)
+IsPartOf-prop config pages part =
+    ×_prop (×_prop (HasPages-prop config pages) (le_prop {n = suc part.index} {m = length (parts config)}))
+    (×_prop (×_prop (equal_prop part.at (part_begin config part.index)) (equal_prop part.end (part_begin config (part.index + 1))))
+    (equal_prop (part.at + part.shift) (page_begin the_shape (slice_index pages part.index))))
 
-KnowsAt-prop : (config : List Group) (pages : List ℕ) (r row : ℕ) (found : Found) → IsProp (KnowsAt config pages r row found)
-KnowsAt-prop config pages r row found =
-    let form : IsProp (0 < found.form → (found.form ≡ form_word config) × HasPages config pages) = →_prop (×_prop (equal_prop found.form (form_word config)) (HasPages-prop config pages)) in
-    let part : IsProp (0 < found.len → KnowsPart config pages found) = →_prop (KnowsPart-prop config pages found) in
-    ×_prop (×_prop (equal_prop row r) (le_prop {n = suc row} {m = ROWS})) (×_prop (le_prop {n = length (image config)} {m = ROW_WORDS}) (×_prop form part))
+KnowsAt-prop : (config : List Group) (pages : List ℕ) (r row heads : ℕ) (part : Part) → IsProp (KnowsAt config pages r row heads part)
+KnowsAt-prop config pages r row heads part =
+    let head : IsProp (0 < heads → (heads ≡ programs_begin config) × HasPages config pages) = →_prop (×_prop (equal_prop heads (programs_begin config)) (HasPages-prop config pages)) in
+    let found : IsProp (part.at < part.end → IsPartOf config pages part) = →_prop (IsPartOf-prop config pages part) in
+    ×_prop (×_prop (equal_prop row r) (le_prop {n = suc row} {m = ROWS})) (×_prop (le_prop {n = length (image config)} {m = ROW_WORDS}) (×_prop head found))
 
-pub KnowsIn-prop : (stage : Stage) (seen : List (List Group)) (pages : List ℕ) (row : ℕ) (found : Found) → IsProp (KnowsIn stage seen pages row found)
-KnowsIn-prop Outside seen pages row found = Unit-prop
-KnowsIn-prop (Peeked n) seen pages row found = Unit-prop
-KnowsIn-prop (Announced k) seen pages row found = Unit-prop
-KnowsIn-prop (Inside k n r) seen pages row found = ×_prop (le_prop {n = suc n} {m = length seen}) (KnowsAt-prop (slice_index_or seen n []) pages r row found)
-
-pub Reaches-prop : (kept : Kept) → IsProp (Reaches kept)
-Reaches-prop kept = ×_prop (equal_prop kept.end (kept.found.at + kept.found.len)) (equal_prop (kept.shift + kept.found.at) kept.found.begin)
+pub KnowsIn-prop : (stage : Stage) (seen : List (List Group)) (pages : List ℕ) (row heads : ℕ) (part : Part) → IsProp (KnowsIn stage seen pages row heads part)
+KnowsIn-prop Outside seen pages row heads part = Unit-prop
+KnowsIn-prop (Peeked n) seen pages row heads part = Unit-prop
+KnowsIn-prop (Announced k) seen pages row heads part = Unit-prop
+KnowsIn-prop (Inside k n r) seen pages row heads part = ×_prop (le_prop {n = suc n} {m = length seen}) (KnowsAt-prop (slice_index_or seen n []) pages r row heads part)

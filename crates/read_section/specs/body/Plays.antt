@@ -1,5 +1,5 @@
 -- What each single step tells the seat that makes it: the word that it is on, what it gave, and what its actor knows then.
-use Rattle.std.specs.Prelude.{◌≡◌, ◌+◌, ◌%◌, ◌<◌, List, Some, length, slice_get, ℕ}
+use Rattle.std.specs.Prelude.{◌≡◌, ◌+◌, ◌/◌, ◌%◌, ◌<◌, List, Some, length, slice_get, ℕ}
 use mathlib.Core.Option.{some}
 use lib.ListN.{get_elem?}
 use Rattle.std.specs.List.{Contains}
@@ -9,7 +9,7 @@ use Rattle.versions.specs.declared.view.Stage.TheVariants.{Inside}
 use Rattle.versions.specs.declared.view.WorkerView.{WorkerView}
 use Rattle.versions.specs.declared.view.OperatorView.{OperatorView}
 use Rattle.versions.specs.Layout.{Shape, pages_named, rows_begin}
-use Rattle.versions.specs.View.{BeginsWith, after_announce, after_fetch, after_fill, after_leave, after_peek, after_pin, after_proposal, after_publish, after_scan}
+use Rattle.versions.specs.View.{BeginsWith, after_announce, after_fetch, after_fill, after_leave, after_peek, after_pin, after_proposal, after_publish, after_scan, last_pinned}
 use Rattle.versions.specs.Safety.{IsFormWord, IsOwnLog}
 use Rattle.read_section.specs.declared.versions_rule.SeatView.{SeatView}
 use Rattle.read_section.specs.View.{Shows, TellsLog}
@@ -43,9 +43,11 @@ module _ {C : Type 0} (shape : Shape C) where
   abbrev pub announces : {S : Type 0} → Step S → Seated S → ℕ → Seated S → Type 0
   announces at me x after = (view : WorkerView C) → me.0.worker ≡ Some view → (at.word ≡ 1 + view.number) × WorkerKnows me after (after_announce x view)
 
+  -- where x has the version that the worker's pin before gave, the worker knew these pages already
   abbrev pub pins : (C → Type 0) → {S : Type 0} → Step S → Seated S → ℕ → Seated S → Type 0
   pins IsPublishable at me x after = (view : WorkerView C) → me.0.worker ≡ Some view → (at.word ≡ 0)
-      × ((seen : List C) × (pages : List ℕ) × ShowsSeat IsPublishable me.0 view x seen × WorkerKnows me after (after_pin shape.rows x seen pages view))
+      × ((seen : List C) × (pages : List ℕ) × ShowsSeat IsPublishable me.0 view x seen
+      × (x / shape.rows ≡ last_pinned shape.rows view.log → pages ≡ view.pages) × WorkerKnows me after (after_pin shape.rows x seen pages view))
 
   -- x is the word that version n has at the place, if it has one there: n is one of the versions that the worker has seen, and
   -- has the pages that the worker knows

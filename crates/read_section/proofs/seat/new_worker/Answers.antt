@@ -3,11 +3,9 @@ use Rattle.atomic_table.specs.Table.{Splits}
 use Rattle.atomic_table.specs.Seated.{TableId}
 use Rattle.config_image.specs.Image.{Group}
 use Rattle.versions.specs.Table.{the_shape}
-use Rattle.read_section.specs.body.Seat.{IsSeatAt}
 use Rattle.read_section.specs.body.SeatView.{spare_alone, without_spare}
-use Rattle.read_section.specs.Worker.{IsOutside, WorkerValue}
-use Rattle.read_section.proofs.OpeningLemmas.{IsSeating-on, IsWorkerSeat-seated, may_seat, seated_worker}
-use Rattle.read_section.proofs.WorkerSeatLemmas.{IsSeatAt-on, Kept, Seated, some_word}
+use Rattle.read_section.proofs.OpeningLemmas.{IsSeating-on, may_seat, seated_worker}
+use Rattle.read_section.proofs.WorkerSeatLemmas.{IsSeatAt-on, Kept, some_word}
 use Rattle.read_section.proofs.seat.new_worker.Goals as goal
 
 pub split_seat-seat-requires : goal.split_seat-seat-requires
@@ -17,17 +15,6 @@ split_seat-seat-requires c = let h = c.requires in let lent = c.deref.ensures �
   subst (λ (k : List Group). Splits (Kept k) c.args.seat.now.id c.args.seat.now.me.0 (without_spare c.args.seat.now.me.0) (spare_alone the_shape c.args.seat.now.me.0)) (sym (ap (λ t. t.shared.key) lent)) (may_seat _ c.args.seat.now.me.0 c.args.number c.args.seat.now.id h.seating h.number),
 )
 
-pub new-requires : goal.new-requires
-new-requires c = let t = c.split_seat-seat.ensures in
-    subst (λ (w : WorkerValue). IsOutside w.view.stage) (sym (seated_worker _ _ c.args.number c.split_seat-seat.result.me _ c.split_seat-seat.result.table_id c.requires.seating (t.3 ∙ c.requires.seat.same_table) t.4)) tt
-
-pub invariant_of-new : goal.invariant_of-new
-invariant_of-new c = let h = c.requires in let lent = c.in_ok-table.ensures in let t = c.split_seat-seat.ensures in (
-  IsWorkerSeat-seated _ _ c.args.number c.split_seat-seat.result.me h.seating h.number t.4,
-  subst (λ (z : TableId). IsSeatAt c.split_seat-seat.result.me.1 c.split_seat-seat.result.table_id z) (sym (ap (λ a. a.shared.table_id) lent))
-      (IsSeatAt-on _ _ _ h.seat c.split_seat-seat.result.me _ _ t.3 (t.4 ∙ (λ i. let m : Seated = (spare_alone the_shape c.args.seat.now.me.0, sym h.seat.no_slots i) in m))),
-)
-
 pub returns-clause-seating : goal.returns-clause-seating
 returns-clause-seating c = IsSeating-on _ _ c.args.number c.split_seat-seat.new.seat.me _ c.requires.seating c.split_seat-seat.ensures.2
 
@@ -35,4 +22,4 @@ pub returns-clause-seat : goal.returns-clause-seat
 returns-clause-seat c = let t = c.split_seat-seat.ensures in IsSeatAt-on _ _ _ c.requires.seat c.split_seat-seat.new.seat.me _ _ t.0 t.2
 
 pub returns-clause-worker : goal.returns-clause-worker
-returns-clause-worker c = let t = c.split_seat-seat.ensures in c.new.ensures ∙ seated_worker _ _ c.args.number c.split_seat-seat.result.me _ c.split_seat-seat.result.table_id c.requires.seating (t.3 ∙ c.requires.seat.same_table) t.4
+returns-clause-worker c = let t = c.split_seat-seat.ensures in c.new-2.ensures ∙ seated_worker _ _ c.args.number c.split_seat-seat.result.me _ c.split_seat-seat.result.table_id c.requires.seating (t.3 ∙ c.requires.seat.same_table) t.4

@@ -1,0 +1,14 @@
+use Rattle.std.proofs.Common.{subst, sym}
+use Rattle.read_section.specs.body.Found.{IsFormIn}
+use Rattle.read_section.specs.Worker.{WorkerValue}
+use Rattle.read_section.proofs.RowReadLemmas.{first_form, first_held}
+use Rattle.read_section.proofs.reading.fetch_form.Goals as goal
+
+pub fetch-form-requires-clause-held : goal.fetch-form-requires-clause-held
+fetch-form-requires-clause-held c = first_held c.args.worker.now c.args.row c.args.i c.requires.known c.requires.held
+
+pub keep_form-requires : goal.keep_form-requires
+keep_form-requires c = subst (λ (w : WorkerValue). IsFormIn w.view c.fetch-form.result) (sym c.fetch-form.ensures.one_fetch) (first_form c.args.worker.now c.args.row c.args.i c.requires.known c.requires.held c.fetch-form.result c.fetch-form.ensures.word)
+
+pub returns-clause-form : goal.returns-clause-form
+returns-clause-form c = first_form c.args.worker.now c.args.row c.args.i c.requires.known c.requires.held c.fetch-form.result c.fetch-form.ensures.word
