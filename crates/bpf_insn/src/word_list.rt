@@ -12,7 +12,7 @@ pub trait Words {
 
     ghost rest: { Self → Rest };
 
-    // The places whose words are ready: from the first one on, before the second.
+    // The words that are ready are those at the places from `ready_from` on that are less than `ready_to`.
     ghost ready_from: { Self → ℕ };
 
     ghost ready_to: { Self → ℕ };
@@ -33,7 +33,7 @@ pub trait Words {
 
     /// Makes word `i` ready, and words behind it, as many as it likes; or answers the word, as `word` does, where it cannot. Programs are
     /// run by this call and the next three: they go from each place to a later one. So an implementor may make it fast to go on from a
-    /// word that was read. A call of `word` may end that words are ready.
+    /// word that was read. After a call of `word` no word need be ready.
     fn make_ready(&mut self, i: usize) -> Option<u64>
         requires { i < length (words self.old) }
         ensures ready { IsNone result → (ready_from self.new ≤ i) × (i < ready_to self.new) }
@@ -48,7 +48,8 @@ pub trait Words {
         ensures shift { result ≡ shift self.now }
         ensures room { result + length (words self.now) < 2 ^ 64 };
 
-    /// Tells whether the word of this number is ready, if it is not before the first one that is.
+    /// Tells whether the number stands before the end of the words that are ready. So it tells whether the word of this number is ready, if
+    /// that is not before the first ready one; and where it is ready, so are all words between the two.
     fn is_ready(&self, number: usize) -> bool
         requires { number < shift self.now + length (words self.now) }
         ensures { IsTrue result ↔ (number < shift self.now + ready_to self.now) };
