@@ -1,5 +1,5 @@
 -- The code's machine beside the meaning: the array has the value of each cell that was stored.
-use Rattle.std.proofs.Common.{◌≡◌, ◌∙◌, ◌+◌, ◌-◌, ◌<◌, ◌≤◌, Bool, List, None, Option, Some, add-zero, ap, arith, cond, eqb, false, get_or, get_or-set_other, get_or-set_same, inl, inr, length, refl, set, subst, sym, true, ℕ}
+use Rattle.std.proofs.Common.{◌≡◌, ◌∙◌, ◌+◌, ◌-◌, ◌<◌, Bool, List, None, Option, Some, add-zero, ap, arith, cond, eqb, false, get_or, get_or-set_other, get_or-set_same, inl, inr, length, refl, set, subst, sym, true, ℕ}
 use Rattle.std.specs.Prelude.{slice_index}
 use Rattle.std.proofs.lemmas.Bool.{cases_eq, eq-eqb, eqb-true}
 use Rattle.bpf_insn.specs.declared.instruction.Insn.{Insn}
@@ -12,12 +12,10 @@ use Rattle.bpf_verify.specs.body.Pass.{HasCell}
 use Rattle.bpf_machine.specs.Meaning.{Cells, Effect, Ret, Run, Stuck, a_or_end, a_or_stuck, computed, effect, ends, goes_on, header_length, no_cells, one_more, operand_value, run_after, with_cell, x_or_end, x_or_stuck}
 use Rattle.bpf_machine.specs.body.ArrayMachine.{ArrayEffect, array_effect}
 use Rattle.bpf_machine.specs.body.ArrayMachine as array
+use Rattle.bpf_machine.specs.body.Running.{Holds, IsRunning, after_steps, run_from}
 use Rattle.bpf_machine.specs.Packet.{packet_number}
-use Rattle.bpf_machine.proofs.RunLemmas.{run_from, run_from-ends, run_from-goes_on}
-use Rattle.bpf_machine.proofs.SafeLemmas.{IsSafe, safe_first, safe_next, safe_not_stuck}
-
-pub Holds : Cells → List ℕ → Type 0
-Holds cells numbers = (cell number : ℕ) → cells cell ≡ Some number → slice_index numbers cell ≡ number
+use Rattle.bpf_machine.proofs.RunLemmas.{run_from-ends, run_from-goes_on}
+use Rattle.bpf_machine.proofs.SafeLemmas.{safe_first, safe_next, safe_not_stuck}
 
 -- the two effects are one, but where the meaning is stuck
 pub data Agrees : Effect → ArrayEffect → Type 0 where
@@ -95,20 +93,8 @@ module _ (a x : ℕ) (cells : Cells) (numbers packet : List ℕ) (hold : Holds c
 
 -- ---- a run at a place
 
--- so many words were met before
-abbrev pub after_steps : ℕ → Run → Run
-after_steps steps run = (run.0, run.1 + steps)
-
 more_steps : (run : Run) (steps : ℕ) → after_steps steps (one_more run) ≡ after_steps (steps + 1) run
 more_steps run steps = let sum : run.1 + 1 + steps ≡ run.1 + (steps + 1) = omega arith in ap (λ (n : ℕ). (run.0, n)) sum
-
--- what remains from pc on means what the whole means, and of the places before it those that no jump passed over were met
-pub record IsRunning (program packet : List ℕ) (pc passed_over a x : ℕ) (numbers : List ℕ) : Type 0 where
-  pub cells : Cells
-  pub hold : Holds cells numbers
-  pub safe : IsSafe program pc cells
-  pub before : passed_over ≤ pc
-  pub same : run_after 0 program 0 0 no_cells packet ≡ after_steps (pc - passed_over) (run_from program pc a x cells packet)
 
 pub running_first : (program packet numbers : List ℕ) → IsAccepted program → IsRunning program packet 0 0 0 0 numbers
 running_first program packet numbers accepted =

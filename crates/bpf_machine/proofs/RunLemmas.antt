@@ -8,6 +8,7 @@ use Rattle.bpf_insn.specs.declared.instruction.Insn.{Insn}
 use Rattle.bpf_insn.specs.Word.{instruction_of}
 use Rattle.bpf_verify.specs.Path.{IsAt}
 use Rattle.bpf_machine.specs.Meaning.{Cells, Ending, MeansByFirstWord, Run, ends, goes_on, effect, one_more, run_after, run_on, word_effect}
+use Rattle.bpf_machine.specs.body.Running.{run_from}
 
 -- ---- what remains of a program
 
@@ -43,10 +44,6 @@ drop-at program pc word at =
     let head : get_or program pc 0 ≡ word = get_or_from_slice_get program pc word 0 at in
     let next : suc pc ≡ pc + 1 = omega arith in
     cons ∙ ap (λ first. first ∷ drop (suc pc) program) head ∙ ap (λ n. word ∷ drop n program) next
-
--- the run from a place on
-abbrev pub run_from : List ℕ → ℕ → ℕ → ℕ → Cells → List ℕ → Run
-run_from program pc a x cells packet = run_after 0 (drop pc program) a x cells packet
 
 module _ (program : List ℕ) (pc : ℕ) (insn : Insn) (at : IsAt program pc insn) (a x : ℕ) (cells : Cells) (packet : List ℕ) where
   run_from-at : run_from program pc a x cells packet ≡ run_on (λ dropped a' x' cells'. run_after dropped (drop (pc + 1) program) a' x' cells' packet) (effect insn a x cells packet)

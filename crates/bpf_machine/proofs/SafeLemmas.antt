@@ -7,7 +7,7 @@ use Rattle.bpf_insn.specs.declared.instruction.Insn.TheVariants.{Alu, CopyFromX,
 use Rattle.bpf_insn.specs.declared.instruction.Size.TheVariants.{Byte}
 use Rattle.bpf_insn.specs.Word.{IsInstructionWord}
 use Rattle.bpf_insn.proofs.WordLemmas.{instruction_of-sound}
-use Rattle.bpf_verify.specs.Path.{IsAt, IsPath, IsStoredOn, Loads, Stores, StoresAt, program_at, successors}
+use Rattle.bpf_verify.specs.Path.{IsAt, IsStoredOn, Loads, Stores, StoresAt, program_at, successors}
 use Rattle.bpf_verify.specs.Accepted.{IsAccepted, instruction_fault}
 use Rattle.bpf_verify.specs.body.Pass.{HasCell}
 use Rattle.bpf_verify.proofs.CellLemmas.{has_cell}
@@ -15,7 +15,8 @@ use Rattle.bpf_verify.proofs.PathLemmas.{IsPath-append}
 use Rattle.bpf_verify.proofs.PlaceLemmas.{IsAt-unique, faultless_at, length-program_at, slice_get-program_at, successors_inside}
 use Rattle.bpf_machine.specs.Meaning.{Cells, Effect, IsSound, Ret, Run, Stuck, a_or_end, a_or_stuck, computed, effect, ends, goes_on, header_length, holds, no_cells, one_more, operand_value, with_cell, x_or_end, x_or_stuck}
 use Rattle.bpf_machine.specs.Packet.{packet_number}
-use Rattle.bpf_machine.proofs.RunLemmas.{run_from, run_from-ends, run_from-goes_on}
+use Rattle.bpf_machine.specs.body.Running.{IsSafe, run_from}
+use Rattle.bpf_machine.proofs.RunLemmas.{run_from-ends, run_from-goes_on}
 
 -- ---- the instruction that the code fetches
 
@@ -165,13 +166,6 @@ IsStoredOn-append program pc cell [] (inl here) = inl here
 IsStoredOn-append program pc cell [] (inr none) = absurd none
 IsStoredOn-append program pc cell (place ∷ places) (inl first) = inr (inl first)
 IsStoredOn-append program pc cell (place ∷ places) (inr later) = elim (IsStoredOn-append program pc cell places later) [ inl here ↦ inl here | inr before ↦ inr (inr before) ]
-
--- the run came to pc along a path, and each cell that the path stored has a value
-pub record IsSafe (program : List ℕ) (pc : ℕ) (cells : Cells) : Type 0 where
-  pub inside : pc < length program
-  pub earlier : List ℕ
-  pub path : IsPath program (earlier ++ pc ∷ [])
-  pub valued : (cell : ℕ) → IsStoredOn program earlier cell → IsSome (cells cell)
 
 pub safe_first : (program : List ℕ) → IsAccepted program → IsSafe program 0 no_cells
 safe_first program accepted =

@@ -2,12 +2,13 @@
 //! docs/MACHINE.md, "The machine"). No call takes memory.
 #![tactic(auto)]
 
-ghost use Rattle.std.specs.Prelude.{◌≡◌, ◌+◌, ◌-◌, ◌<◌, ◌≤◌, List, Ok, Some, length, slice_get, ℕ};
+ghost use Rattle.std.specs.Prelude.{◌≡◌, ◌+◌, ◌-◌, ◌<◌, ◌≤◌, IfSome, IsNone, IsTrue, List, Ok, Some, length, slice_get, ℕ};
 ghost use Rattle.bpf_insn.specs.Word.{instruction_of};
 ghost use Rattle.bpf_verify.specs.Path.{IsAt, program_at};
 ghost use Rattle.bpf_verify.specs.Accepted.{IsAccepted};
 ghost use Rattle.bpf_machine.specs.Meaning.{IsSound, MeansByFirstWord, Ret, cost_of, ending_of};
 ghost use Rattle.bpf_verify.specs.body.Pass.{HasCell};
+ghost use Rattle.bpf_machine.specs.body.Running.{IsRunning};
 
 mod arithmetic;
 mod execute;
@@ -114,26 +115,95 @@ pub fn run_copy<W: Words, const COPY: usize>(
                 }
             }
         }
-        let shift = words.shift();
-        let mut number = place + shift;
-        'ready: while words.is_ready(number) {
-            let word = words.ready_word(number);
-            let insn = instruction(words, from, len, number - shift, word);
-            number += 1;
-            match execute(&mut machine, &mut cells, insn, packet) {
-                Next::GoOn => {}
-                Next::Skip(count) => {
-                    number += count as usize;
-                    passed_over += count as usize;
-                }
-                Next::End(value) => {
-                    let steps = (number - shift - from - passed_over) as u32;
-                    return Outcome { value, steps };
-                }
+        // Where the program's last word is ready, each word of it from here on is: then the run asks about no other.
+        let last = from + (len - 1) + words.shift();
+        let ended = if words.is_ready(last) {
+            run_ready(
+                words,
+                from,
+                len,
+                packet,
+                &mut place,
+                &mut passed_over,
+                &mut machine,
+                &mut cells,
+                true,
+            )
+        } else {
+            run_ready(
+                words,
+                from,
+                len,
+                packet,
+                &mut place,
+                &mut passed_over,
+                &mut machine,
+                &mut cells,
+                false,
+            )
+        };
+        if let Some(outcome) = ended {
+            return outcome;
+        }
+    }
+}
+
+// Runs the instructions whose words are ready, from a place on. Tells how the program ended; or nothing, where the word at the place
+// that it leaves is not ready.
+//
+// `all` says that the words are ready up to the program's end: then the loop asks about none. Each call has a constant for it and is
+// inlined, so there is one loop with the question and one without.
+#[inline(always)]
+fn run_ready<W: Words>(
+    words: &mut W,
+    from: usize,
+    len: usize,
+    packet: &[u8],
+    place: &mut usize,
+    passed_over: &mut usize,
+    machine: &mut Registers,
+    cells: &mut [u32; CELL_COUNT],
+    all: bool,
+) -> Option<Outcome>
+    requires within { from + len ≤ length (W.words words.old) }
+    requires accepted { IsAccepted (program_at (W.words words.old) from len) }
+    requires packet { length packet.now ≤ MAX_PACKET }
+    requires inside { from ≤ place.old }
+    requires ready { (W.ready_from words.old ≤ place.old) × (place.old < W.ready_to words.old) }
+    requires all { IsTrue all → from + len ≤ W.ready_to words.old }
+    requires running { IsRunning (program_at (W.words words.old) from len) packet.now (place.old - from) passed_over.old machine.old.a machine.old.x cells.old }
+
+    ensures value { IfSome result (λ outcome. ending_of (program_at (W.words words.old) from len) packet.now ≡ Ret outcome.value) }
+    ensures steps { IfSome result (λ outcome. outcome.steps ≡ cost_of (program_at (W.words words.old) from len) packet.now) }
+    ensures within_length { IfSome result (λ outcome. outcome.steps ≤ len) }
+
+    ensures later { IsNone result → place.old < place.new }
+    ensures running { IsNone result → IsRunning (program_at (W.words words.old) from len) packet.now (place.new - from) passed_over.new machine.new.a machine.new.x cells.new }
+
+    ensures cells { length cells.new ≡ CELL_COUNT }
+    ensures words_kept { W.words words.new ≡ W.words words.old }
+    ensures rest_kept { W.rest words.new ≡ W.rest words.old }
+{
+    let shift = words.shift();
+    let mut number = *place + shift;
+    'ready: while all || words.is_ready(number) {
+        let word = words.ready_word(number);
+        let insn = instruction(words, from, len, number - shift, word);
+        number += 1;
+        match execute(machine, cells, insn, packet) {
+            Next::GoOn => {}
+            Next::Skip(count) => {
+                number += count as usize;
+                *passed_over += count as usize;
+            }
+            Next::End(value) => {
+                let steps = (number - shift - from - *passed_over) as u32;
+                return Some(Outcome { value, steps });
             }
         }
-        place = number - shift;
     }
+    *place = number - shift;
+    None
 }
 
 /// Law: the meaning goes by cases on the first of the words that remain, and a jump drops words. It runs nothing.

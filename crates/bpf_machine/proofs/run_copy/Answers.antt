@@ -1,4 +1,4 @@
-use Rattle.std.proofs.Common.{◌≡◌, ◌∙◌, ◌+◌, ◌-◌, ◌≤◌, ap, arith, inr, refl, sym}
+use Rattle.std.proofs.Common.{◌≡◌, ◌∙◌, ◌+◌, ◌-◌, ◌≤◌, ap, arith, refl, sym}
 use Rattle.bpf_verify.proofs.PlaceLemmas.{length-program_at}
 use Rattle.bpf_machine.specs.declared.execute.Next.{Next}
 use Rattle.bpf_machine.specs.Meaning.{Run}
@@ -8,54 +8,6 @@ use Rattle.bpf_machine.proofs.run_copy.Goals as goal
 
 pub running-init : goal.running-init
 running-init g c = (refl, refl, refl, (let e : c.args.from ≤ c.args.from = omega arith in e), running_begin _ c.args.packet.now _ c.args.from c.requires.accepted)
-
-pub overflow_add-number-in-Skip-execute : goal.overflow_add-number-in-Skip-execute
-overflow_add-number-in-Skip-execute g c =
-    let at = rw c.ready.invariant.0 at (rw c.ready_word-word.ensures.words_kept at c.instruction-insn-in-ready.ensures.instruction) in let low = c.ready.invariant.3 in
-    let size = length-program_at (g.W.Words.words c.args.words.now) c.args.from c.args.len c.requires.within in
-    let next = running_skip _ c.args.packet.now c.requires.accepted (c.ready.number - c.shift-shift.result - c.args.from) c.ready.passed_over _ _ _ c.ready.invariant.4 c.ready.invariant.2 _ at c.instruction-insn-in-ready.ensures.cell _ _ _ _ (sym c.in-Skip-execute.ensures.effect) in
-    let inside = next.safe.inside in let room = rw c.running.invariant.0 at (rw c.make_ready.ensures.words_kept at c.shift-shift.ensures.room) in let within = c.requires.within in omega arith
-
-pub ready-preserved-in-GoOn-execute : goal.ready-preserved-in-GoOn-execute
-ready-preserved-in-GoOn-execute g c =
-    let at = rw c.ready.invariant.0 at (rw c.ready_word-word.ensures.words_kept at c.instruction-insn-in-ready.ensures.instruction) in let low = c.ready.invariant.3 in
-    let from = c.ready_word-word.ensures.ready_from in let shift = c.ready_word-word.ensures.shift in let ahead = c.ready.invariant.6 in let begun = c.ready.invariant.8 in (
-      c.ready_word-word.ensures.words_kept ∙ c.ready.invariant.0,
-      c.ready_word-word.ensures.rest_kept ∙ c.ready.invariant.1,
-      c.execute.ensures.cells,
-      omega arith,
-      running_next _ c.args.packet.now _ _ _ _ _ _ _ (running_go_on _ c.args.packet.now c.requires.accepted (c.ready.number - c.shift-shift.result - c.args.from) c.ready.passed_over _ _ _ c.ready.invariant.4 c.ready.invariant.2 _ at c.instruction-insn-in-ready.ensures.cell _ _ _ (sym c.in-GoOn-execute.ensures.effect)) (let e : c.ready.number - c.shift-shift.result - c.args.from + 1 ≡ c.ready.number + 1 - c.shift-shift.result - c.args.from = omega arith in e) refl,
-      shift ∙ c.ready.invariant.5,
-      omega arith,
-      inr (omega arith),
-      omega arith,
-    )
-
-pub ready-preserved : goal.ready-preserved
-ready-preserved g c =
-    let at = rw c.ready.invariant.0 at (rw c.ready_word-word.ensures.words_kept at c.instruction-insn-in-ready.ensures.instruction) in let low = c.ready.invariant.3 in
-    let from = c.ready_word-word.ensures.ready_from in let shift = c.ready_word-word.ensures.shift in let ahead = c.ready.invariant.6 in let begun = c.ready.invariant.8 in (
-      c.ready_word-word.ensures.words_kept ∙ c.ready.invariant.0,
-      c.ready_word-word.ensures.rest_kept ∙ c.ready.invariant.1,
-      c.execute.ensures.cells,
-      omega arith,
-      running_next _ c.args.packet.now _ _ _ _ _ _ _ (running_skip _ c.args.packet.now c.requires.accepted (c.ready.number - c.shift-shift.result - c.args.from) c.ready.passed_over _ _ _ c.ready.invariant.4 c.ready.invariant.2 _ at c.instruction-insn-in-ready.ensures.cell _ _ _ _ (sym c.in-Skip-execute.ensures.effect)) (let e : c.ready.number - c.shift-shift.result - c.args.from + 1 + c.in-Skip-execute.count ≡ c.ready.number + 1 + c.in-Skip-execute.count - c.shift-shift.result - c.args.from = omega arith in e) refl,
-      shift ∙ c.ready.invariant.5,
-      omega arith,
-      inr (omega arith),
-      omega arith,
-    )
-
-pub returns-in-End-execute-clause-value : goal.returns-in-End-execute-clause-value
-returns-in-End-execute-clause-value g c =
-    let at = rw c.ready.invariant.0 at (rw c.ready_word-word.ensures.words_kept at c.instruction-insn-in-ready.ensures.instruction) in let low = c.ready.invariant.3 in
-    ap (λ (run : Run). run.0) (running_end _ c.args.packet.now c.requires.accepted (c.ready.number - c.shift-shift.result - c.args.from) c.ready.passed_over _ _ _ c.ready.invariant.4 c.ready.invariant.2 _ at c.instruction-insn-in-ready.ensures.cell _ (sym c.in-End-execute.ensures.effect))
-
-pub returns-in-End-execute-clause-steps : goal.returns-in-End-execute-clause-steps
-returns-in-End-execute-clause-steps g c =
-    let at = rw c.ready.invariant.0 at (rw c.ready_word-word.ensures.words_kept at c.instruction-insn-in-ready.ensures.instruction) in let low = c.ready.invariant.3 in
-    (let e : c.ready.number + 1 - c.shift-shift.result - c.args.from - c.ready.passed_over ≡ c.ready.number - c.shift-shift.result - c.args.from + 1 - c.ready.passed_over = omega arith in e)
-    ∙ sym (ap (λ (run : Run). run.1) (running_end _ c.args.packet.now c.requires.accepted (c.ready.number - c.shift-shift.result - c.args.from) c.ready.passed_over _ _ _ c.ready.invariant.4 c.ready.invariant.2 _ at c.instruction-insn-in-ready.ensures.cell _ (sym c.in-End-execute.ensures.effect)))
 
 pub running-preserved-in-GoOn : goal.running-preserved-in-GoOn
 running-preserved-in-GoOn g c =
