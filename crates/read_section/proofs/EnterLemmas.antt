@@ -14,7 +14,7 @@ use Rattle.versions.specs.Legal.{MayPeek}
 use Rattle.versions.specs.Table.{the_shape}
 use Rattle.read_section.specs.Layout.{IsPublishable}
 use Rattle.read_section.specs.body.Seat.{TellsStage}
-use Rattle.read_section.specs.body.Found.{KnowsIn, KnowsRow, no_part}
+use Rattle.read_section.specs.body.Found.{KnowsIn, KnowsRow, no_extent}
 use Rattle.read_section.specs.Section.{HoldsLastSeen, held_version, held_words, version_of}
 use Rattle.read_section.specs.body.Steps.{Sees}
 use Rattle.read_section.specs.View.{Shows}
@@ -127,5 +127,5 @@ row_known worker version row inside below last =
     let same : slice_index_or worker.view.seen version [] ≡ last.config = (λ j. slice_index_or (last.last_seen j) (number j) []) ∙ at_last last.older last.config [] in
     let charge = last.publishable.1 in let covered = within_charge last.config last.publishable.0 in
     let room : length (image last.config) ≤ ROW_WORDS = omega arith in
-    subst (λ (s : Stage). KnowsIn s worker.view.seen worker.view.pages row 0 no_part) (sym inside)
+    subst (λ (s : Stage). KnowsIn s worker.view.seen worker.view.pages row 0 no_extent) (sym inside)
     (seen, ((refl, below), (subst (λ c. length (image c) ≤ ROW_WORDS) (sym same) room, (λ some. absurd (omega arith), λ some. absurd (omega arith)))))

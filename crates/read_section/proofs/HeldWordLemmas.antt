@@ -17,11 +17,11 @@ use Rattle.versions.specs.Table.{the_shape}
 use Rattle.versions.proofs.ListLemmas.{elem_there, get_elem_or}
 use Rattle.versions.proofs.RowLemmas.{length-row, row_of_image}
 use Rattle.versions.proofs.ShapeLemmas.{page_below, page_words_is, pages_is, parts_is, place_below, row_is, row_words_is, rows_is}
-use Rattle.part_memory.specs.declared.part.Part.{Part}
-use Rattle.part_memory.specs.Memory.{Holds}
+use Rattle.extent_memory.specs.declared.extent.Extent.{Extent}
+use Rattle.extent_memory.specs.Memory.{Holds}
 use Rattle.read_section.specs.Section.{held_words, version_of, words_in}
 use Rattle.read_section.specs.Worker.{WorkerValue}
-use Rattle.read_section.specs.body.Found.{HasPages, IsPartOf, KnowsAt, KnowsIn}
+use Rattle.read_section.specs.body.Found.{HasPages, IsExtentOf, KnowsAt, KnowsIn}
 use Rattle.read_section.specs.body.Plays.{TellsWord}
 use Rattle.read_section.specs.body.Steps.{SeesWord}
 use Rattle.read_section.proofs.WorkerSeatLemmas.{place_is}
@@ -68,11 +68,11 @@ module _ (worker : WorkerValue) (k n r : ℕ) (stage : worker.view.stage ≡ Ins
   small_in_row i small = subst (λ m. i < m) (ap length words_are ∙ length-row config) small
 
   -- what is known of the version
-  pub known_there : (row heads : ℕ) (part : Part) → KnowsIn worker.view.stage worker.view.seen worker.view.pages row heads part → (n < length worker.view.seen) × KnowsAt config pages r row heads part
-  known_there row heads part known = subst (λ (s : Stage). KnowsIn s worker.view.seen worker.view.pages row heads part) stage known
+  pub known_there : (row heads : ℕ) (extent : Extent) → KnowsIn worker.view.stage worker.view.seen worker.view.pages row heads extent → (n < length worker.view.seen) × KnowsAt config pages r row heads extent
+  known_there row heads extent known = subst (λ (s : Stage). KnowsIn s worker.view.seen worker.view.pages row heads extent) stage known
 
-  pub known_again : (row heads : ℕ) (part : Part) → (n < length worker.view.seen) × KnowsAt config pages r row heads part → KnowsIn worker.view.stage worker.view.seen worker.view.pages row heads part
-  known_again row heads part known = subst (λ (s : Stage). KnowsIn s worker.view.seen worker.view.pages row heads part) (sym stage) known
+  pub known_again : (row heads : ℕ) (extent : Extent) → (n < length worker.view.seen) × KnowsAt config pages r row heads extent → KnowsIn worker.view.stage worker.view.seen worker.view.pages row heads extent
+  known_again row heads extent known = subst (λ (s : Stage). KnowsIn s worker.view.seen worker.view.pages row heads extent) (sym stage) known
 
   module _ (place x : ℕ) (sees : SeesWord worker place x) where
     told : TellsWord the_shape worker.view.seen worker.view.pages n r place x
@@ -111,57 +111,61 @@ module _ (worker : WorkerValue) (k n r : ℕ) (stage : worker.view.stage ≡ Ins
     pub row_word_told : (x : ℕ) → SeesWord worker row_place x → x ≡ slice_index (pooled_row config pages) j
     row_word_told x sees = word_told row_place x sees (slice_index (the_shape.form.row config pages) j) (inl (j, small_words, row_place_is, refl)) ∙ ap (λ l. slice_index l j) (row_is config pages)
 
-  -- a word of a part
-  module _ (part : Part) (seen : n < length worker.view.seen) (is : IsPartOf config pages part) (i : ℕ) (there : Holds part i) where
-    from : part_begin config part.index ≤ i
-    from = let e = is.1.0.0 in let low = there.0 in omega arith
-
-    to : i < part_begin config (part.index + 1)
-    to = let e = is.1.0.1 in let high = there.1 in omega arith
-
-    abbrev page : ℕ
-    page = slice_index pages part.index
-
-    abbrev offset : ℕ
-    offset = i - part_begin config part.index
-
+  -- a word of an extent
+  module _ (extent : Extent) (seen : n < length worker.view.seen) (is : IsExtentOf config pages extent) (i : ℕ) (there : Holds extent i) where
     stands : PartsStand config
     stands = parts_stand config
 
-    page_is : slice_get pages part.index ≡ Some page
-    page_is = let counted = is.0.0.0 in let low = is.0.1 in slice_get-get_or pages part.index 0 (omega arith)
+    pub extent_in_programs : (programs_begin config ≤ i) × (i < length (image config))
+    extent_in_programs = let begin = is.0.1.0 in let end = is.0.1.1 in let low = there.0 in let high = there.1 in (omega arith, omega arith)
 
-    part_there : (words : List ℕ) × (slice_get (parts config) part.index ≡ Some words) × (offset < length words) × (slice_get (image config) i ≡ slice_get words offset)
-    part_there = stands.found part.index i is.0.1 from to
+    -- the part that has it
+    covered : (index : ℕ) × (index < length (parts config)) × (part_begin config index ≤ i) × (i < part_begin config (index + 1))
+    covered = stands.covered i extent_in_programs.0 extent_in_programs.1
 
-    at_place : part.shift + i ≡ page_begin the_shape page + offset
-    at_place = let at = is.1.0.0 in let begin = is.1.1 in let low = from in omega arith
+    abbrev index : ℕ
+    index = covered.0
 
-    abbrev part_place : IsPartPlace the_shape config pages (part.shift + i)
-    part_place = record { index = part.index; page = page; part = part_there.0; k = offset; page_is = page_is; part_is = ap (λ l. slice_get l part.index) (parts_is config) ∙ part_there.1; inside = part_there.2; at = at_place }
+    below : index < length (parts config)
+    below = covered.1
 
-    pub part_place_held : IsHeldPlace the_shape worker.view (part.shift + i)
-    part_place_held = subst (λ (s : Stage). IsHeldPlaceAt the_shape s worker.view.seen pages (part.shift + i)) (sym stage) (inr (config, seen_config worker n seen, part_place))
+    from : part_begin config index ≤ i
+    from = covered.2
 
-    in_page : IsInPage the_shape page (part.shift + i)
-    in_page = let sized = stands.sized part.index part_there.0 part_there.1 in let most = sized.1 in let inside = part_there.2 in (offset, subst (λ m. offset < m) (sym page_words_is) (omega arith), at_place)
+    to : i < part_begin config (index + 1)
+    to = covered.3
 
-    pub part_place_within : part.shift + i < TABLE_WORDS
-    part_place_within = page_below page (part.shift + i) (subst (λ m. page < m) (sym pages_is) (is.0.0.1 part.index page page_is)) in_page
+    abbrev page : ℕ
+    page = slice_index pages index
 
-    pub part_word_told : (x : ℕ) → SeesWord worker (part.shift + i) x → slice_get (image config) i ≡ Some x
-    part_word_told x sees = let word = slice_get-get_or part_there.0 offset 0 part_there.2 in
-        part_there.3 ∙ (word ∙ ap Some (sym (word_told (part.shift + i) x sees (get_or part_there.0 offset 0) (inr (part_place, word)))))
+    abbrev offset : ℕ
+    offset = i - part_begin config index
 
-    -- so it is read from the page of the part
-    pub part_page : (index : ℕ) × (q : ℕ) × (slice_get pages index ≡ Some q) × (part_begin config index ≤ i) × (i < part_begin config (index + 1)) × (part.shift + i ≡ page_begin the_shape q + (i - part_begin config index))
-    part_page = (part.index, page, page_is, from, to, at_place)
+    page_is : slice_get pages index ≡ Some page
+    page_is = let counted = is.0.0.0 in let low = below in slice_get-get_or pages index 0 (omega arith)
 
-    pub part_in_programs : (programs_begin config ≤ i) × (i < length (image config))
-    part_in_programs = (programs_before part.index from, before_end)
-      where
-        programs_before : (index : ℕ) → part_begin config index ≤ i → programs_begin config ≤ i
-        programs_before index low = omega arith
+    part_there : (words : List ℕ) × (slice_get (parts config) index ≡ Some words) × (offset < length words) × (slice_get (image config) i ≡ slice_get words offset)
+    part_there = stands.found index i below from to
 
-        before_end : i < length (image config)
-        before_end = let first = part_there.3 ∙ slice_get-get_or part_there.0 offset 0 part_there.2 in Rattle.std.proofs.lemmas.Option.slice_get_within (image config) i (get_or part_there.0 offset 0) first
+    at_place : extent.shift + i ≡ page_begin the_shape page + offset
+    at_place = let begin = is.1 i index there.0 there.1 below from to in let low = from in omega arith
+
+    abbrev part_place : IsPartPlace the_shape config pages (extent.shift + i)
+    part_place = record { index = index; page = page; part = part_there.0; k = offset; page_is = page_is; part_is = ap (λ l. slice_get l index) (parts_is config) ∙ part_there.1; inside = part_there.2; at = at_place }
+
+    pub extent_place_held : IsHeldPlace the_shape worker.view (extent.shift + i)
+    extent_place_held = subst (λ (s : Stage). IsHeldPlaceAt the_shape s worker.view.seen pages (extent.shift + i)) (sym stage) (inr (config, seen_config worker n seen, part_place))
+
+    in_page : IsInPage the_shape page (extent.shift + i)
+    in_page = let sized = stands.sized index part_there.0 part_there.1 in let most = sized.1 in let inside = part_there.2 in (offset, subst (λ m. offset < m) (sym page_words_is) (omega arith), at_place)
+
+    pub extent_place_within : extent.shift + i < TABLE_WORDS
+    extent_place_within = page_below page (extent.shift + i) (subst (λ m. page < m) (sym pages_is) (is.0.0.1 index page page_is)) in_page
+
+    pub extent_word_told : (x : ℕ) → SeesWord worker (extent.shift + i) x → slice_get (image config) i ≡ Some x
+    extent_word_told x sees = let word = slice_get-get_or part_there.0 offset 0 part_there.2 in
+        part_there.3 ∙ (word ∙ ap Some (sym (word_told (extent.shift + i) x sees (get_or part_there.0 offset 0) (inr (part_place, word)))))
+
+    -- so it is read from the page of its part
+    pub extent_page : (index : ℕ) × (q : ℕ) × (slice_get pages index ≡ Some q) × (part_begin config index ≤ i) × (i < part_begin config (index + 1)) × (extent.shift + i ≡ page_begin the_shape q + (i - part_begin config index))
+    extent_page = (index, page, page_is, from, to, at_place)

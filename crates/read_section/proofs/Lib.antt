@@ -7,7 +7,7 @@ mod ReadLemmas
 mod SoughtLemmas
 mod RowReadLemmas
 mod FrontLemmas
-mod PartReadLemmas
+mod ExtentReadLemmas
 mod WorkerKept
 mod OperatorKept
 mod SeatKept

@@ -1,5 +1,5 @@
 -- What the names in a row in the pooled form tell of the parts, and what a search among them finds.
-use Rattle.std.proofs.Common.{◌≡◌, ℕ, ◌+◌, ◌*◌, ◌<◌, ◌≤◌, List, Some, ap, arith, drop, get_or, inl, inr, length, length-drop, length-take, slice_get, slice_index, sym, ◌∙◌}
+use Rattle.std.proofs.Common.{◌≡◌, ℕ, suc, zero, ◌+◌, ◌-◌, ◌*◌, ◌/◌, ◌<◌, ◌≤◌, List, [], Some, ap, arith, drop, get_or, inl, inr, length, length-drop, length-take, slice_get, slice_index, sym, ◌∙◌}
 use Rattle.std.proofs.lemmas.Bool.{cases_lt}
 use Rattle.std.proofs.lemmas.List.{get_or-drop, get_or-take}
 use Rattle.std.proofs.lemmas.Option.{get_or_from_slice_get, slice_get-get_or, slice_get_within}
@@ -56,6 +56,43 @@ module _ (config : List Group) (pages : List ℕ) (room : length (image config) 
   IsWithin-programs i from to = let t = stands.covered i from to in let some = t.1 in let first : 0 < length (parts config) = omega arith in
       (part_begin config 0 * 65536 + slice_index pages 0, name_there 0 first, (let start = start_told 0 first in let begin = stands.first in omega arith), to)
 
+  -- the name behind the last part has the place where the parts end
+  pub end_told : (length (image config) * 65536) / 65536 ≡ part_begin config (length (parts config))
+  end_told = (let g : (length (image config) * 65536) / 65536 ≡ length (image config) = omega arith in g) ∙ sym stands.last
+
+  -- a part begins behind those before it
+  begins_behind : (index more : ℕ) → index + more ≤ length (parts config) → part_begin config index ≤ part_begin config (index + more)
+  begins_behind index zero low = let g : index ≡ index + 0 = omega arith in let e = ap (part_begin config) g in omega arith
+  begins_behind index (suc more) low =
+      let before = begins_behind index more (omega arith) in let there = slice_get-get_or (parts config) (index + more) [] (omega arith) in
+      let next = stands.next (index + more) (get_or (parts config) (index + more) []) there in
+      let g : index + more + 1 ≡ index + suc more = omega arith in let e = ap (part_begin config) g in omega arith
+
+  not_before : (i index other : ℕ) → index < other → other ≤ length (parts config) → i < part_begin config (index + 1) → part_begin config other ≤ i → ⊥
+  not_before i index other less low to from =
+      let behind = begins_behind (index + 1) (other - (index + 1)) (omega arith) in
+      let g : index + 1 + (other - (index + 1)) ≡ other = omega arith in let e = ap (part_begin config) g in omega arith
+
+  -- one part at most has a place
+  pub one_part : (i index other : ℕ) → index < length (parts config) → other < length (parts config) → part_begin config index ≤ i → i < part_begin config (index + 1) → part_begin config other ≤ i → i < part_begin config (other + 1) → index ≡ other
+  one_part i index other low low' from to from' to' = elim (cases_lt index other) [
+    | inl less ↦ absurd (not_before i index other less (omega arith) to from')
+    | inr same ↦ elim (cases_lt other index) [
+      | inl less ↦ absurd (not_before i other index less (omega arith) to' from)
+      | inr equal ↦ omega arith
+    ]
+  ]
+
+  -- the part at an index has a place behind the one where it begins
+  pub part_has_word : (index : ℕ) → index < length (parts config) → part_begin config index < part_begin config (index + 1)
+  part_has_word index low =
+      let there = slice_get-get_or (parts config) index [] low in let part = get_or (parts config) index [] in
+      let next = stands.next index part there in let sized = stands.sized index part there in let some = sized.0 in omega arith
+
+  pub ends_in_image : (index : ℕ) → index ≤ length (parts config) → part_begin config index ≤ length (image config)
+  ends_in_image index low = let behind = begins_behind index (length (parts config) - index) (omega arith) in
+      let g : index + (length (parts config) - index) ≡ length (parts config) = omega arith in let e = ap (part_begin config) g in let last = stands.last in omega arith
+
   module _ (i : ℕ) (part : FoundPart) (holds : HoldsPlace names (length (image config)) i part) where
     pub index_below : part.index < length (parts config)
     index_below = let counted = length-names in let within = slice_get_within names part.index part.name holds.named in omega arith
@@ -75,3 +112,6 @@ module _ (config : List Group) (pages : List ℕ) (room : length (image config) 
       | inr last ↦ let below = index_below in let counted = length-names in let e : part.index + 1 ≡ length (parts config) = omega arith in
           ap start_of (holds.last (omega arith)) ∙ ((let g : start_of (length (image config) * 65536) ≡ length (image config) = omega arith in g) ∙ (sym stands.last ∙ ap (part_begin config) (sym e)))
     ]
+
+    pub found_next_page : part.index + 1 < length (parts config) → page_of part.next ≡ slice_index pages (part.index + 1)
+    found_next_page more = ap page_of (holds.next _ (name_there (part.index + 1) more)) ∙ page_told (part.index + 1) more

@@ -1,5 +1,5 @@
 -- Fetches of words of the version that is held, one after another.
-use Rattle.std.proofs.Common.{◌≡◌, ℕ, suc, ◌<◌, List, [], ◌∷◌, ◌++◌, ap, append_assoc, arith, length, length-append, refl, slice_index_or, subst, sym, ◌∙◌}
+use Rattle.std.proofs.Common.{◌≡◌, ℕ, suc, ◌+◌, ◌<◌, List, [], ◌∷◌, ◌++◌, ap, append_assoc, arith, length, length-append, refl, slice_index_or, subst, sym, ◌∙◌}
 use Rattle.config_image.specs.Image.{Group}
 use Rattle.versions.specs.declared.step.Step.{Step}
 use Rattle.versions.specs.declared.step.Step.TheVariants.{Fetch}
@@ -40,6 +40,18 @@ module _ (n : ℕ) (before mid : WorkerValue) (f : Fetched n before mid) where
     -- the last one tells a word
     pub read_last : (most i answer : ℕ) → n < most → ((k m r : ℕ) → before.view.stage ≡ Inside k m r → TellsWordAt (slice_index_or before.view.seen m []) r before.view.pages i place x answer) → Reads most i answer before after
     read_last most i answer few newest = record { place = place; loaded = x; older = f.fetches; few = (let counted = f.counted in omega arith); only = one_more; each = ((place, refl, held), f.each); newest = newest }
+
+-- fetches after others
+pub fetched_further : (n m : ℕ) (before mid after : WorkerValue) → Fetched n before mid → Fetched m mid after → Fetched (m + n) before after
+fetched_further n m before mid after f g = go (subst (λ (w : WorkerValue). Fetched m w after) f.only g)
+  where
+    go : Fetched m (with_log (f.fetches ++ before.view.log) before) after → Fetched (m + n) before after
+    go h = record {
+      fetches = h.fetches ++ f.fetches;
+      counted = (let first = f.counted in let last = h.counted in omega (arith, length-append h.fetches f.fetches));
+      only = h.only ∙ ap (λ l. with_log l before) (sym (append_assoc h.fetches f.fetches before.view.log));
+      each = AreFetchesIn-append before.view h.fetches f.fetches h.each f.each;
+    }
 
 -- a read after one more fetch in front
 pub read_behind : (most i answer place x : ℕ) (before mid after : WorkerValue) → mid ≡ steps (after_fetch place x) before → IsHeldPlace the_shape before.view place → Reads most i answer mid after → Reads (suc most) i answer before after

@@ -3,15 +3,15 @@ use Rattle.std.proofs.Common.{◌≡◌, ◌≢◌, ◌⊎◌, ℕ, zero, suc, �
 use mathlib.Core.Logic.{dite}
 use native.Mathlib.Decide.{ℕ_discrete}
 use Rattle.config_image.specs.Image.{Group}
-use Rattle.part_memory.specs.declared.part.Part.{Part}
-use Rattle.part_memory.specs.Memory.{IsKept, MemoryValue}
+use Rattle.extent_memory.specs.declared.extent.Extent.{Extent}
+use Rattle.extent_memory.specs.Memory.{IsKept, MemoryValue}
 use Rattle.versions.specs.declared.layout.TheConstants.{ROWS}
 use Rattle.versions.specs.declared.view.Stage.{Stage}
 use Rattle.versions.specs.declared.view.Stage.TheVariants.{Announced, Inside, Outside, Peeked}
 use Rattle.versions.specs.declared.view.WorkerView.{WorkerView}
 use Rattle.versions.specs.View.{BeginsWith, after_announce, after_fetch, after_leave, after_peek, after_pin, last_pinned, read_word_of, stage_after_peek}
 use Rattle.versions.specs.Table.{the_shape}
-use Rattle.read_section.specs.body.Found.{IsFormIn, IsFormOf, IsPartIn, IsPartOf, TellsForm, TellsPart}
+use Rattle.read_section.specs.body.Found.{IsFormIn, IsFormOf, IsExtentIn, IsExtentOf, TellsForm, TellsExtent}
 use Rattle.read_section.specs.body.Remembered.{IsBlank, IsFirstSeen, IsRemembered, remembered}
 use Rattle.read_section.specs.body.Seat.{TellsStage}
 use Rattle.read_section.specs.View.{Shows}
@@ -45,7 +45,7 @@ module _ (view : Seen) (memory : MemoryValue) (is : IsRemembered view memory) wh
     seen = seen_further view.seen view'.seen memory.version is.seen seen;
     held = held;
     form = λ some. subst (λ c. IsFormOf c view'.pages memory.form) (sym same) (subst (λ p. IsFormOf (remembered view memory) p memory.form) (sym pages) (is.form some));
-    parts = λ part kept. subst (λ c. IsPartOf c view'.pages part) (sym same) (subst (λ p. IsPartOf (remembered view memory) p part) (sym pages) (is.parts part kept));
+    extents = λ extent kept. subst (λ c. IsExtentOf c view'.pages extent) (sym same) (subst (λ p. IsExtentOf (remembered view memory) p extent) (sym pages) (is.extents extent kept));
   }
 
   pub remembered_fetched : (place x : ℕ) → IsRemembered (after_fetch place x view) memory
@@ -103,31 +103,31 @@ module _ (view : Seen) (memory : MemoryValue) (is : IsRemembered view memory) wh
 
   -- after a pin, where the memory turned to the version that it gave
   pub remembered_pinned : (x : ℕ) (more : List (List Group)) (pages : List ℕ) (memory' : MemoryValue) → Shows the_shape x more view.seen → (x / the_shape.rows ≡ last_pinned the_shape.rows view.log → pages ≡ view.pages)
-      → memory'.version ≡ x / ROWS → (memory.version ≡ x / ROWS → memory' ≡ memory) → (memory.version ≢ x / ROWS → memory'.form ≡ 0) → (memory.version ≢ x / ROWS → (part : Part) → IsKept memory' part → ⊥)
+      → memory'.version ≡ x / ROWS → (memory.version ≡ x / ROWS → memory' ≡ memory) → (memory.version ≢ x / ROWS → memory'.form ≡ 0) → (memory.version ≢ x / ROWS → (extent : Extent) → IsKept memory' extent → ⊥)
       → IsRemembered (after_pin the_shape.rows x more pages view) memory'
-  remembered_pinned x more pages memory' shows keeps version same no_form no_parts = let v = version_is x in let count = shows.up_to_version in dite (ℕ_discrete memory.version (x / ROWS))
+  remembered_pinned x more pages memory' shows keeps version same no_form no_extents = let v = version_is x in let count = shows.up_to_version in dite (ℕ_discrete memory.version (x / ROWS))
       (λ (e : memory.version ≡ x / ROWS). subst (λ m. IsRemembered (after_pin the_shape.rows x more pages view) m) (sym (same e)) (
       let config = version_stays view.seen more memory.version is.seen shows.goes_on in let kept = keeps (let p = is.pinned in omega arith) in record {
         pinned = (let g : memory.version ≡ x / the_shape.rows = omega arith in g);
         seen = seen_further view.seen more memory.version is.seen shows.goes_on;
         held = λ k n r at. version_of_inside _ _ _ k n r at ∙ (let g : x / the_shape.rows ≡ memory.version = omega arith in g);
         form = λ some. subst (λ c. IsFormOf c pages memory.form) (sym config) (subst (λ p. IsFormOf (remembered view memory) p memory.form) (sym kept) (is.form some));
-        parts = λ part there. subst (λ c. IsPartOf c pages part) (sym config) (subst (λ p. IsPartOf (remembered view memory) p part) (sym kept) (is.parts part there));
+        extents = λ extent there. subst (λ c. IsExtentOf c pages extent) (sym config) (subst (λ p. IsExtentOf (remembered view memory) p extent) (sym kept) (is.extents extent there));
       }))
       (λ (ne : memory.version ≢ x / ROWS). record {
         pinned = (let g : memory'.version ≡ x / the_shape.rows = omega arith in g);
         seen = (let g : memory'.version < length more = omega arith in g);
         held = λ k n r at. version_of_inside _ _ _ k n r at ∙ (let g : x / the_shape.rows ≡ memory'.version = omega arith in g);
         form = λ some. let none = no_form ne in absurd (omega arith);
-        parts = λ part there. absurd (no_parts ne part there);
+        extents = λ extent there. absurd (no_extents ne extent there);
       })
 
   -- what it tells of the version that is held
   pub form_remembered : 0 < memory.form → TellsForm view memory.form
   form_remembered some k n r stage = subst (λ m. IsFormOf (slice_index_or view.seen m []) view.pages memory.form) (sym (is.held k n r stage)) (is.form some)
 
-  pub part_remembered : (part : Part) → IsKept memory part → TellsPart view part
-  part_remembered part kept k n r stage = subst (λ m. IsPartOf (slice_index_or view.seen m []) view.pages part) (sym (is.held k n r stage)) (is.parts part kept)
+  pub extent_remembered : (extent : Extent) → IsKept memory extent → TellsExtent view extent
+  extent_remembered extent kept k n r stage = subst (λ m. IsExtentOf (slice_index_or view.seen m []) view.pages extent) (sym (is.held k n r stage)) (is.extents extent kept)
 
   -- and what it may keep of that
   pub remember_form : (form : ℕ) → IsFormIn view form → IsRemembered view (record memory { form = form })
@@ -136,18 +136,18 @@ module _ (view : Seen) (memory : MemoryValue) (is : IsRemembered view memory) wh
     seen = is.seen;
     held = is.held;
     form = λ some. subst (λ m. IsFormOf (slice_index_or view.seen m []) view.pages form) (is.held k n r stage) of;
-    parts = is.parts;
+    extents = is.extents;
   }
 
-  pub remember_part : (memory' : MemoryValue) (part : Part) → IsPartIn view part → memory'.version ≡ memory.version → memory'.form ≡ memory.form → ((other : Part) → IsKept memory' other → (other ≡ part) ⊎ IsKept memory other) → IsRemembered view memory'
-  remember_part memory' part (k, n, r, stage, of) version form others =
-      let here = subst (λ m. IsPartOf (slice_index_or view.seen m []) view.pages part) (is.held k n r stage) of in record {
+  pub remember_extent : (memory' : MemoryValue) (extent : Extent) → IsExtentIn view extent → memory'.version ≡ memory.version → memory'.form ≡ memory.form → ((other : Extent) → IsKept memory' other → (other ≡ extent) ⊎ IsKept memory other) → IsRemembered view memory'
+  remember_extent memory' extent (k, n, r, stage, of) version form others =
+      let here = subst (λ m. IsExtentOf (slice_index_or view.seen m []) view.pages extent) (is.held k n r stage) of in record {
         pinned = version ∙ is.pinned;
         seen = subst (λ m. m < length view.seen) (sym version) is.seen;
         held = λ k' n' r' at. is.held k' n' r' at ∙ sym version;
         form = λ some. subst (λ m. IsFormOf (slice_index_or view.seen m []) view.pages memory'.form) (sym version) (subst (λ f. IsFormOf (remembered view memory) view.pages f) (sym form) (is.form (subst (λ f. 0 < f) form some)));
-        parts = λ other kept. subst (λ m. IsPartOf (slice_index_or view.seen m []) view.pages other) (sym version)
-            (⊎_elim (λ (e : other ≡ part). subst (λ p. IsPartOf (remembered view memory) view.pages p) (sym e) here) (λ old. is.parts other old) (others other kept));
+        extents = λ other kept. subst (λ m. IsExtentOf (slice_index_or view.seen m []) view.pages other) (sym version)
+            (⊎_elim (λ (e : other ≡ extent). subst (λ p. IsExtentOf (remembered view memory) view.pages p) (sym e) here) (λ old. is.extents other old) (others other kept));
       }
 
 -- a new worker
@@ -157,7 +157,7 @@ remembered_first view memory first blank outside = record {
   seen = (let v = blank.0 in let some = first.1 in omega arith);
   held = λ k n r e. absurd (outside k n r e);
   form = λ some. let none = blank.1 in absurd (omega arith);
-  parts = λ part kept. absurd (blank.2 part kept);
+  extents = λ extent kept. absurd (blank.2 extent kept);
 }
 
 -- a peek leaves a section's stage as it is

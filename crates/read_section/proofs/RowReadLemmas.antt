@@ -1,4 +1,4 @@
--- What the last fetch of a read tells: of a word of the row, of a word of a part, and of the row's first word.
+-- What the last fetch of a read tells: of a word of the row, of a word of an extent, and of the row's first word.
 use Rattle.std.proofs.Common.{◌≡◌, ◌⊎◌, ℕ, ◌+◌, ◌/◌, ◌%◌, ◌*◌, ◌<◌, ◌≤◌, ◌^◌, List, [], Some, ap, arith, length, refl, slice_get, slice_index_or, subst, sym, ◌∙◌, ⊎_elim}
 use Rattle.std.proofs.lemmas.Option.{get_or_from_slice_get, slice_get-get_or}
 use Rattle.config_image.specs.declared.TheConstants.{ROW_WORDS}
@@ -11,28 +11,28 @@ use Rattle.versions.specs.Safety.{IsHeldPlace}
 use Rattle.versions.specs.Table.{the_shape}
 use Rattle.versions.proofs.RowLemmas.{row_behind_image}
 use Rattle.config_image.proofs.ImageLemmas.{length_word}
-use Rattle.part_memory.specs.declared.part.Part.{Part}
-use Rattle.part_memory.specs.Memory.{Holds}
+use Rattle.extent_memory.specs.declared.extent.Extent.{Extent}
+use Rattle.extent_memory.specs.Memory.{Holds}
 use Rattle.read_section.specs.Reads.{TellsWordAt}
 use Rattle.read_section.specs.Section.{held_words}
 use Rattle.read_section.specs.Worker.{WorkerValue}
-use Rattle.read_section.specs.body.Found.{HasPages, IsFormIn, IsFormOf, IsPartOf, Knows, KnowsAt, KnowsRow, TellsForm, TellsPart, no_part}
+use Rattle.read_section.specs.body.Found.{HasPages, IsFormIn, IsFormOf, IsExtentOf, Knows, KnowsAt, KnowsRow, TellsForm, TellsExtent, no_extent}
 use Rattle.read_section.specs.body.Sought.{IsSought}
 use Rattle.read_section.specs.body.Steps.{SeesWord}
-use Rattle.read_section.proofs.HeldWordLemmas.{config_held, held_stage, image_word_held, known_again, known_there, pages_told, part_in_programs, part_page, row_place_held, row_place_is, row_word_held, row_word_told, same_version, small_in_row}
+use Rattle.read_section.proofs.HeldWordLemmas.{config_held, held_stage, image_word_held, known_again, known_there, pages_told, extent_in_programs, extent_page, row_place_held, row_place_is, row_word_held, row_word_told, same_version, small_in_row}
 use Rattle.read_section.proofs.PartNameLemmas.{ArePages-table, tells}
 
 some_heads : (config : List Group) → 0 < programs_begin config
 some_heads config = omega arith
 
 -- a word before the programs
-module _ (worker : WorkerValue) (row heads : ℕ) (part : Part) (i : ℕ) (knows : Knows worker.view row heads part) (held : i < length (held_words worker)) (some : 0 < i) (low : i < heads) where
+module _ (worker : WorkerValue) (row heads : ℕ) (extent : Extent) (i : ℕ) (knows : Knows worker.view row heads extent) (held : i < length (held_words worker)) (some : 0 < i) (low : i < heads) where
   module _ (k n r : ℕ) (stage : worker.view.stage ≡ Inside k n r) where
     abbrev config : List Group
     config = config_held worker n
 
-    known : (n < length worker.view.seen) × KnowsAt config worker.view.pages r row heads part
-    known = known_there worker k n r stage row heads part knows
+    known : (n < length worker.view.seen) × KnowsAt config worker.view.pages r row heads extent
+    known = known_there worker k n r stage row heads extent knows
 
     head : (heads ≡ programs_begin config) × HasPages config worker.view.pages
     head = known.1.1.1.0 (omega arith)
@@ -59,11 +59,11 @@ module _ (worker : WorkerValue) (row heads : ℕ) (part : Part) (i : ℕ) (knows
   head_newest x k n r stage = head_tells k n r stage x
 
 -- where the programs begin, by the row's first word, if that is remembered
-pub knows_heads : (worker : WorkerValue) (row heads : ℕ) (part : Part) (k n r : ℕ) → worker.view.stage ≡ Inside k n r → Knows worker.view row heads part → (form : ℕ) → (0 < form → TellsForm worker.view form)
-    → Knows worker.view row (form / 65536 % 65536) part
-knows_heads worker row heads part k n r stage knows form tells_form =
-    let known = known_there worker k n r stage row heads part knows in
-    known_again worker k n r stage row (form / 65536 % 65536) part (
+pub knows_heads : (worker : WorkerValue) (row heads : ℕ) (extent : Extent) (k n r : ℕ) → worker.view.stage ≡ Inside k n r → Knows worker.view row heads extent → (form : ℕ) → (0 < form → TellsForm worker.view form)
+    → Knows worker.view row (form / 65536 % 65536) extent
+knows_heads worker row heads extent k n r stage knows form tells_form =
+    let known = known_there worker k n r stage row heads extent knows in
+    known_again worker k n r stage row (form / 65536 % 65536) extent (
       known.0,
       (
         known.1.0,
@@ -80,43 +80,43 @@ knows_heads worker row heads part k n r stage knows form tells_form =
     )
 
 -- the same in a number of its own
-pub heads_found : (worker : WorkerValue) (row old : ℕ) (part : Part) (k n r : ℕ) → worker.view.stage ≡ Inside k n r → Knows worker.view row old part → (form : ℕ) → (0 < form → TellsForm worker.view form)
-    → (heads : ℕ) → heads ≡ form / 65536 % 65536 → Knows worker.view row heads part
-heads_found worker row old part k n r stage knows form tells_form heads is = subst (λ (h : ℕ). Knows worker.view row h part) (sym is) (knows_heads worker row old part k n r stage knows form tells_form)
+pub heads_found : (worker : WorkerValue) (row old : ℕ) (extent : Extent) (k n r : ℕ) → worker.view.stage ≡ Inside k n r → Knows worker.view row old extent → (form : ℕ) → (0 < form → TellsForm worker.view form)
+    → (heads : ℕ) → heads ≡ form / 65536 % 65536 → Knows worker.view row heads extent
+heads_found worker row old extent k n r stage knows form tells_form heads is = subst (λ (h : ℕ). Knows worker.view row h extent) (sym is) (knows_heads worker row old extent k n r stage knows form tells_form)
 
 pub form_in : (worker : WorkerValue) (form : ℕ) → IsFormIn worker.view form → TellsForm worker.view form
 form_in worker form is k n r stage = subst (λ m. IsFormOf (config_held worker m) worker.view.pages form) (same_version worker.view.stage is.0 is.1 is.2 k n r is.3 stage) is.4
 
 -- the row alone
-pub row_alone : (worker : WorkerValue) (row heads : ℕ) (part : Part) (i : ℕ) → i < length (held_words worker) → Knows worker.view row heads part → KnowsRow worker.view row
-row_alone worker row heads part i held knows =
-    let t = held_stage worker.view.stage worker.view.seen i held in let known = known_there worker t.0 t.1 t.2 t.3 row heads part knows in
-    known_again worker t.0 t.1 t.2 t.3 row 0 no_part (known.0, (known.1.0, (known.1.1.0, (λ some. absurd (omega arith), λ some. absurd (omega arith)))))
+pub row_alone : (worker : WorkerValue) (row heads : ℕ) (extent : Extent) (i : ℕ) → i < length (held_words worker) → Knows worker.view row heads extent → KnowsRow worker.view row
+row_alone worker row heads extent i held knows =
+    let t = held_stage worker.view.stage worker.view.seen i held in let known = known_there worker t.0 t.1 t.2 t.3 row heads extent knows in
+    known_again worker t.0 t.1 t.2 t.3 row 0 no_extent (known.0, (known.1.0, (known.1.1.0, (λ some. absurd (omega arith), λ some. absurd (omega arith)))))
 
--- another part
-pub knows_part : (worker : WorkerValue) (row heads : ℕ) (old part : Part) (k n r : ℕ) → worker.view.stage ≡ Inside k n r → Knows worker.view row heads old
-    → (part.at < part.end → TellsPart worker.view part) → Knows worker.view row heads part
-knows_part worker row heads old part k n r stage knows is =
+-- another extent
+pub knows_extent : (worker : WorkerValue) (row heads : ℕ) (old extent : Extent) (k n r : ℕ) → worker.view.stage ≡ Inside k n r → Knows worker.view row heads old
+    → (extent.at < extent.end → TellsExtent worker.view extent) → Knows worker.view row heads extent
+knows_extent worker row heads old extent k n r stage knows is =
     let known = known_there worker k n r stage row heads old knows in
-    known_again worker k n r stage row heads part (known.0, (known.1.0, (known.1.1.0, (known.1.1.1.0, λ some. is some k n r stage))))
+    known_again worker k n r stage row heads extent (known.0, (known.1.0, (known.1.1.0, (known.1.1.1.0, λ some. is some k n r stage))))
 
 -- a word of the programs may be looked for
 pub sought_there : (worker : WorkerValue) (row form i : ℕ) → KnowsRow worker.view row → IsFormIn worker.view form → form / 65536 % 65536 ≤ i → i < form / 2 ^ 32 → IsSought worker.view row form i
 sought_there worker row form i knows f from to =
-    let config = config_held worker f.1 in let known = known_there worker f.0 f.1 f.2 f.3 row 0 no_part knows in
+    let config = config_held worker f.1 in let known = known_there worker f.0 f.1 f.2 f.3 row 0 no_extent knows in
     let told = tells config worker.view.pages known.1.1.0 (ArePages-table config worker.view.pages f.4.1) in
     let heads = ap (λ x. x / 65536 % 65536) f.4.0 ∙ told.begin_part in let whole = ap (λ x. x / 2 ^ 32) f.4.0 ∙ told.length_part in
     (f.0, f.1, f.2, f.3, known.0, (known.1.0.0, known.1.0.1, known.1.1.0, f.4.0, f.4.1, omega arith, omega arith))
 
--- a word of a part
-pub part_newest : (worker : WorkerValue) (part : Part) (i : ℕ) → ((k n r : ℕ) → worker.view.stage ≡ Inside k n r → (n < length worker.view.seen) × IsPartOf (config_held worker n) worker.view.pages part)
-    → Holds part i → (x k n r : ℕ) → worker.view.stage ≡ Inside k n r → TellsWordAt (slice_index_or worker.view.seen n []) r worker.view.pages i (part.shift + i) x x
-part_newest worker part i is there x k n r stage =
-    let p = is k n r stage in let programs = part_in_programs worker k n r stage part p.0 p.1 i there in let from = programs.0 in let to = programs.1 in
+-- a word of an extent
+pub extent_newest : (worker : WorkerValue) (extent : Extent) (i : ℕ) → ((k n r : ℕ) → worker.view.stage ≡ Inside k n r → (n < length worker.view.seen) × IsExtentOf (config_held worker n) worker.view.pages extent)
+    → Holds extent i → (x k n r : ℕ) → worker.view.stage ≡ Inside k n r → TellsWordAt (slice_index_or worker.view.seen n []) r worker.view.pages i (extent.shift + i) x x
+extent_newest worker extent i is there x k n r stage =
+    let p = is k n r stage in let programs = extent_in_programs worker k n r stage extent p.0 p.1 i there in let from = programs.0 in let to = programs.1 in
     let heads = some_heads (config_held worker n) in record {
       by_length = λ none. ⊎_elim (λ zero. absurd (omega arith)) (λ behind. absurd (omega arith)) none;
       by_row = λ some before. absurd (omega arith);
-      by_page = λ start end. part_page worker k n r stage part p.0 p.1 i there;
+      by_page = λ start end. extent_page worker k n r stage extent p.0 p.1 i there;
       loaded = λ some before. refl;
     }
 
@@ -132,8 +132,8 @@ module _ (worker : WorkerValue) (row : ℕ) (i : ℕ) (knows : KnowsRow worker.v
     abbrev held_config : List Group
     held_config = config_held worker n
 
-    what : (n < length worker.view.seen) × KnowsAt held_config worker.view.pages r row 0 no_part
-    what = known_there worker k n r stage row 0 no_part knows
+    what : (n < length worker.view.seen) × KnowsAt held_config worker.view.pages r row 0 no_extent
+    what = known_there worker k n r stage row 0 no_extent knows
 
     at_first : ROWS_BEGIN + row * ROW_WORDS ≡ row_begin the_shape r
     at_first = sym first_place ∙ (row_place_is worker k n r stage row 0 what.1.0.0 what.1.0.1 some_words ∙ (let g : row_begin the_shape r + 0 ≡ row_begin the_shape r = omega arith in g))

@@ -1,10 +1,10 @@
 -- The search for the part of a word that is sought: its fetches, and what they tell.
-use Rattle.std.proofs.Common.{◌≡◌, ℕ, ◌*◌, ◌+◌, ◌-◌, ◌/◌, ◌%◌, ◌^◌, ◌<◌, ◌≤◌, List, Some, ap, arith, length, slice_get, slice_index, subst, sym, ◌∙◌}
+use Rattle.std.proofs.Common.{◌≡◌, ℕ, ◌*◌, ◌+◌, ◌-◌, ◌/◌, ◌%◌, ◌^◌, ◌<◌, ◌≤◌, List, Some, ap, arith, inl, inr, length, slice_get, slice_index, subst, sym, ◌∙◌}
+use Rattle.std.proofs.lemmas.Bool.{cases_lt}
 use Rattle.std.proofs.lemmas.Option.{get_or_from_slice_get}
 use Rattle.config_image.specs.declared.TheConstants.{PAGE_LIMIT, PAGE_WORDS, ROW_WORDS}
 use Rattle.config_image.specs.Image.{Group, image, programs_begin}
 use Rattle.config_image.specs.Pooled.{ArePages, PooledRowTells, part_begin, parts, pooled_row}
-use Rattle.part_memory.specs.declared.part.Part.{Part}
 use Rattle.part_search.specs.declared.found.FoundPart.{FoundPart}
 use Rattle.part_search.specs.Names.{HoldsPlace, IsWithin, page_of, start_of}
 use Rattle.versions.specs.declared.layout.TheConstants.{POOL_BEGIN, ROWS_BEGIN}
@@ -13,10 +13,10 @@ use Rattle.versions.specs.Layout.{page_begin}
 use Rattle.versions.specs.Safety.{IsHeldPlace}
 use Rattle.versions.specs.Table.{the_shape}
 use Rattle.read_section.specs.Worker.{WorkerValue}
-use Rattle.read_section.specs.body.Found.{IsPartIn}
-use Rattle.read_section.specs.body.Sought.{IsSought, names_of}
+use Rattle.read_section.specs.body.Found.{IsExtentOf, TellsOfHeld}
+use Rattle.read_section.specs.body.Sought.{IsNameOf, IsSought, names_of}
 use Rattle.read_section.specs.body.Steps.{SeesWord}
-use Rattle.read_section.proofs.HeldWordLemmas.{config_held, row_place_held, row_word_told}
+use Rattle.read_section.proofs.HeldWordLemmas.{config_held, row_place_held, row_word_told, same_version}
 use Rattle.read_section.proofs.PartNameLemmas as part
 use Rattle.read_section.proofs.WorkerSeatLemmas.{page_place_is}
 
@@ -84,28 +84,67 @@ module _ (worker : WorkerValue) (row form i : ℕ) (s : IsSought worker.view row
     pub name_there : (x : ℕ) → SeesWord worker (ROWS_BEGIN + row * ROW_WORDS + (heads + index)) x → slice_get (names_of config pages) index ≡ Some x
     name_there x sees = part.name_there config pages s.5.2 are index low_parts ∙ ap Some (sym (name_told x sees))
 
+    -- so the fetch tells the part's name
+    pub is_name : (x : ℕ) → SeesWord worker (ROWS_BEGIN + row * ROW_WORDS + (heads + index)) x → IsNameOf config pages index x
+    is_name x sees = let e = name_told x sees in
+        (ap start_of e ∙ part.start_told config pages s.5.2 are index low_parts, λ _. ap page_of e ∙ part.page_told config pages s.5.2 are index low_parts)
+
+  pub is_end_name : (index : ℕ) → index ≡ form % 65536 → IsNameOf config pages index (form / 2 ^ 32 * 65536)
+  is_end_name index e = let last : index ≡ length (parts config) = e ∙ entries_are in
+      (ap (λ l. l * 65536 / 65536) length_is ∙ (part.end_told config pages s.5.2 are ∙ ap (part_begin config) (sym last)), λ low. absurd (omega arith))
+
+  -- facts of the version that is held
+  pub told_of : (Fact : List Group → List ℕ → Type 0) → Fact config pages → TellsOfHeld Fact worker.view
+  told_of Fact fact k' n' r' e = subst (λ m. Fact (config_held worker m) pages) (same_version worker.view.stage k n r k' n' r' stage e) fact
+
   -- a part that was found, by its name and the name behind it
   module _ (f : FoundPart) (holds : HoldsPlace (names_of config pages) (length (image config)) i f) where
+    pub found_below : f.index + 1 ≤ form % 65536
+    found_below = let low = part.index_below config pages s.5.2 are i f holds in let e = entries_are in omega arith
+
+    pub found_next : IsNameOf config pages (f.index + 1) f.next
+    found_next = (part.found_end config pages s.5.2 are i f holds, λ more. part.found_next_page config pages s.5.2 are i f holds more)
+
     -- a page of the table begins behind each place in an image
-    pub found_low : start_of f.name ≤ POOL_BEGIN + page_of f.name * PAGE_WORDS
-    found_low = let from = holds.from in let to = s.5.6 in let room = s.5.2 in omega arith
+    pub found_low : start_of f.name ≤ page_begin the_shape (page_of f.name)
+    found_low = let from = holds.from in let to = s.5.6 in let room = s.5.2 in let p = page_place_is (page_of f.name) 0 in omega arith
 
-    module _ (found : Part) (index_is : found.index ≡ f.index) (at_is : found.at ≡ start_of f.name) (end_is : found.end ≡ start_of f.next) (shift_is : found.shift ≡ (POOL_BEGIN + page_of f.name * PAGE_WORDS) - start_of f.name) where
-      place : found.at + found.shift ≡ page_begin the_shape (slice_index pages found.index)
-      place = let low = found_low in let p = page_place_is (page_of f.name) 0 in
-          (let g : found.at + found.shift ≡ page_begin the_shape (page_of f.name) = omega arith in g) ∙ ap (page_begin the_shape) (part.found_page config pages s.5.2 are i f holds ∙ ap (slice_index pages) (sym index_is))
+    -- its words are an extent
+    pub found_is : (shift : ℕ) → shift ≡ page_begin the_shape (page_of f.name) - start_of f.name → IsExtentOf config pages (record { version = 0; at = start_of f.name; end = start_of f.next; shift = shift })
+    found_is shift e =
+        let below = part.index_below config pages s.5.2 are i f holds in let begin = part.found_start config pages s.5.2 are i f holds in let end = part.found_end config pages s.5.2 are i f holds in
+        let first = begins_in_programs f.index in let last = part.ends_in_image config pages s.5.2 are (f.index + 1) (omega arith) in let low = found_low in (
+          (s.5.4, (omega arith, omega arith)),
+          λ j index from to there from' to'.
+              let same = part.one_part config pages s.5.2 are j index f.index there below from' to' (omega arith) (omega arith) in
+              let q : page_begin the_shape (page_of f.name) ≡ page_begin the_shape (slice_index pages index) = ap (page_begin the_shape) (part.found_page config pages s.5.2 are i f holds ∙ ap (slice_index pages) (sym same)) in
+              let b : part_begin config index ≡ part_begin config f.index = ap (part_begin config) same in omega arith,
+        )
+      where
+        begins_in_programs : (index : ℕ) → programs_begin config ≤ part_begin config index
+        begins_in_programs index = omega arith
 
-      pub found_is : IsPartIn worker.view found
-      found_is = (
-        k,
-        n,
-        r,
-        stage,
-        (
-          (s.5.4, subst (λ m. m < length (parts config)) (sym index_is) (part.index_below config pages s.5.2 are i f holds)),
-          (
-            (at_is ∙ (part.found_start config pages s.5.2 are i f holds ∙ ap (part_begin config) (sym index_is)), end_is ∙ (part.found_end config pages s.5.2 are i f holds ∙ ap (λ m. part_begin config (m + 1)) (sym index_is))),
-            place,
-          ),
-        ),
-      )
+  -- an extent goes on in the next part, which stands in the next page
+  module _ (at shift index next behind : ℕ) (low : index < form % 65536) (name : IsNameOf config pages index next) (is : IsExtentOf config pages (record { version = 0; at = at; end = start_of next; shift = shift }))
+      (follows : page_begin the_shape (page_of next) ≡ start_of next + shift) (name' : IsNameOf config pages (index + 1) behind) where
+    below_parts : index < length (parts config)
+    below_parts = subst (λ m. index < m) entries_are low
+
+    pub further : start_of next < start_of behind
+    further = let here = name.0 in let there = name'.0 in let word = part.part_has_word config pages s.5.2 are index below_parts in omega arith
+
+    pub goes_on : IsExtentOf config pages (record { version = 0; at = at; end = start_of behind; shift = shift })
+    goes_on =
+        let here = name.0 in let there = name'.0 in let last = part.ends_in_image config pages s.5.2 are (index + 1) (let below = below_parts in omega arith) in (
+          (is.0.0, (is.0.1.0, omega arith)),
+          λ j other from to below from' to'. elim (cases_lt j (start_of next)) [
+            | inl before ↦ is.1 j other from before below from' to'
+            | inr after ↦
+                let same = part.one_part config pages s.5.2 are j other index below below_parts from' to' (omega arith) (omega arith) in
+                let q : page_begin the_shape (page_of next) ≡ page_begin the_shape (slice_index pages other) = ap (page_begin the_shape) (name.1 below_parts ∙ ap (slice_index pages) (sym same)) in
+                let b : part_begin config other ≡ part_begin config index = ap (part_begin config) same in omega arith
+          ],
+        )
+
+  pub name_small : (index next : ℕ) → index ≤ form % 65536 → IsNameOf config pages index next → start_of next ≤ ROW_WORDS
+  name_small index next low name = let inside = part.ends_in_image config pages s.5.2 are index (let e = entries_are in omega arith) in let here = name.0 in let room = s.5.2 in omega arith

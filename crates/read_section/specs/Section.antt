@@ -25,16 +25,16 @@ worker_of section = section.worker.now
 abbrev pub borrow_of : Section → GName
 borrow_of section = section.worker.ghost_name
 
--- the places whose words are ready: those of the part that was made ready last
+-- the places whose words are ready: those of the extent that was made ready last
 abbrev pub ready_from : Section → ℕ
-ready_from section = section.kept.part.at
+ready_from section = section.kept.extent.at
 
 abbrev pub ready_to : Section → ℕ
-ready_to section = section.kept.part.end
+ready_to section = section.kept.extent.end
 
 -- how much further its words stand in the table than in the image
 abbrev pub shift_of : Section → ℕ
-shift_of section = section.kept.part.shift
+shift_of section = section.kept.extent.shift
 
 abbrev pub version_of : Stage → ℕ
 version_of (Inside read_word n r) = n

@@ -1,21 +1,24 @@
 //! How a word is read whose place its section does not know: by a few fetches that find it.
 
-ghost use Rattle.std.specs.Prelude.{◌≡◌, ◌+◌, ◌*◌, ◌/◌, ◌%◌, ◌^◌, ◌<◌, ◌≤◌, Some, length, slice_get};
+ghost use Rattle.std.specs.Prelude.{◌≡◌, ◌+◌, ◌*◌, ◌/◌, ◌%◌, ◌^◌, ◌<◌, ◌≤◌, Some, length, slice_get, ℕ};
 ghost use Rattle.config_image.specs.declared.TheConstants.{ROW_WORDS};
-ghost use Rattle.part_memory.specs.Memory.{Holds};
+ghost use Rattle.extent_memory.specs.Memory.{Holds};
+ghost use Rattle.part_search.specs.Names.{page_of, start_of};
 ghost use Rattle.versions.specs.declared.layout.TheConstants.{ROWS_BEGIN};
+ghost use Rattle.versions.specs.Layout.{page_begin};
+ghost use Rattle.versions.specs.Table.{the_shape};
 ghost use Rattle.versions.specs.View.{after_fetch};
 ghost use Rattle.read_section.specs.Reads.{FetchedAtMost, FewFetches, Reads};
 ghost use Rattle.read_section.specs.Section.{held_words};
 ghost use Rattle.read_section.specs.Worker.{steps};
-ghost use Rattle.read_section.specs.body.Found.{IsFormIn, IsPartIn, KnowsRow};
-ghost use Rattle.read_section.specs.body.Sought.{IsSought};
+ghost use Rattle.read_section.specs.body.Found.{IsExtentIn, IsFormIn, KnowsRow};
+ghost use Rattle.read_section.specs.body.Sought.{IsSought, TellsName};
 ghost use Rattle.read_section.specs.body.Steps.{SeesWord};
 
 use crate::worker::Worker;
 use config_image::{PAGE_WORDS, ROW_WORDS};
-use part_memory::Part;
-use part_search::Search;
+use extent_memory::Extent;
+use part_search::{READ_LIMIT, Search};
 use versions::{POOL_BEGIN, ROWS_BEGIN};
 
 // The parts of a row's first word: the image's length, where the programs begin, how many parts there are.
@@ -39,41 +42,88 @@ fn entries_of(form: u64) -> usize
     (form & 0xffff) as usize
 }
 
-// The part that holds word i, by a search among the names.
-fn search_part(worker: &mut Worker, row: usize, form: u64, i: usize) -> Part
+// What a name tells: the place of its part's first word in the image, the part's page, and where that begins in the table.
+fn start(name: u64) -> usize
+    ensures { result ≡ start_of name }
+{
+    (name >> 16) as usize
+}
+
+fn page(name: u64) -> usize
+    ensures { result ≡ page_of name }
+{
+    (name & 0xffff) as usize
+}
+
+fn page_place(name: u64) -> usize
+    ensures { result ≡ page_begin the_shape (page_of name) }
+{
+    POOL_BEGIN + page(name) * PAGE_WORDS
+}
+
+// The name of a part. Behind the last one it is the place where the parts end, in the form of a name of page 0.
+fn read_name(worker: &mut Worker, row: usize, form: u64, index: usize) -> u64
+    requires row { (i : ℕ) × IsSought worker.old.view row form i }
+    requires index { index ≤ form % 65536 }
+    ensures name { TellsName worker.old.view index result }
+    ensures few { FetchedAtMost 1 worker.old worker.new }
+{
+    if index < entries_of(form) {
+        worker.fetch(ROWS_BEGIN + row * ROW_WORDS + (heads_of(form) + index))
+    } else {
+        length_of(form) as u64 * 65536
+    }
+}
+
+// The extent that has word i, by a search among the names. It goes on in the parts behind the one that was found, as long as they stand
+// in the pages behind: their names are read, unless the search has made as many reads as a search may make.
+fn search_extent(worker: &mut Worker, row: usize, form: u64, i: usize) -> Extent
     requires { IsSought worker.old.view row form i }
-    ensures found { IsPartIn worker.old.view result }
+    ensures found { IsExtentIn worker.old.view result }
     ensures there { Holds result i }
     ensures few { FetchedAtMost 11 worker.old worker.new }
 {
     let mut search = Search::new(entries_of(form), length_of(form), i);
+    let mut reads = 0;
     while let Some(index) = search.ask() {
         search.tell(worker.fetch(ROWS_BEGIN + row * ROW_WORDS + (heads_of(form) + index)));
+        reads += 1;
     }
     let found = search.found();
-    let begin = POOL_BEGIN + found.page() * PAGE_WORDS;
-    Part {
+    let at = found.start();
+    let shift = page_place(found.name) - at;
+    // The part behind the extent, and its name.
+    let mut index = found.index + 1;
+    let mut next = found.next;
+    while reads < READ_LIMIT
+        && index < entries_of(form)
+        && page_place(next) == start(next) + shift
+    {
+        index += 1;
+        next = read_name(worker, row, form, index);
+        reads += 1;
+    }
+    Extent {
         version: 0,
-        index: found.index,
-        at: found.start(),
-        end: found.end(),
-        shift: begin - found.start(),
+        at,
+        end: start(next),
+        shift,
     }
 }
 
 // The same, from the worker's memory, or else by a search, which the memory notes.
-fn find_part(worker: &mut Worker, row: usize, form: u64, i: usize) -> Part
+fn find_extent(worker: &mut Worker, row: usize, form: u64, i: usize) -> Extent
     requires { IsSought worker.old.view row form i }
-    ensures found { IsPartIn worker.old.view result }
+    ensures found { IsExtentIn worker.old.view result }
     ensures there { Holds result i }
     ensures few { FetchedAtMost 11 worker.old worker.new }
 {
-    if let Some(part) = worker.recall(i) {
-        return part;
+    if let Some(extent) = worker.recall(i) {
+        return extent;
     }
-    let part = search_part(worker, row, form, i);
-    worker.keep_part(i, part);
-    part
+    let extent = search_extent(worker, row, form, i);
+    worker.keep_extent(i, extent);
+    extent
 }
 
 // Word i of the image, but not the first, where the row's first word was fetched.
@@ -88,8 +138,8 @@ fn read_image(worker: &mut Worker, row: usize, form: u64, i: usize) -> u64
     if i < heads_of(form) {
         return worker.fetch(ROWS_BEGIN + row * ROW_WORDS + i);
     }
-    let part = find_part(worker, row, form, i);
-    worker.fetch(part.shift + i)
+    let extent = find_extent(worker, row, form, i);
+    worker.fetch(extent.shift + i)
 }
 
 // Fetches the row's first word, which the worker's memory notes.

@@ -29,8 +29,8 @@ use crate::versions_rule::{SharedTable, TableSeat};
 use crate::worker::Worker;
 use atomic_table::Table;
 use config_image::{PAGE_WORDS, ROW_WORDS};
+use extent_memory::ExtentMemory;
 use member_group::Config;
-use part_memory::PartMemory;
 use std::alloc::{AllocError, Global};
 use std::marker::{Brand, Model};
 use std::sync::Arc;
@@ -89,7 +89,7 @@ fn new_worker(
     ensures seat { IfOk result (λ w. IsSeatAt seat.new.me.1 seat.new.table_id (arc_value table.now).shared.table_id) }
     ensures worker { IfOk result (λ w. w ≡ record { table = (arc_value table.now).shared.table_id; view = new_worker (arc_value table.now).shared.key (pages_named the_shape (opening_stored (arc_value table.now).shared.key) 0) number }) }
 {
-    let memory = PartMemory::new(alloc)?;
+    let memory = ExtentMemory::new(alloc)?;
     let table = Arc::try_clone(table)?;
     let seat = table.shared.split_seat::<SeatSpare>(seat);
     let seat = WorkerSeat {

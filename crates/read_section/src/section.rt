@@ -7,7 +7,7 @@ use crate::reading::{heads_of, length_of, read_by_row};
 use crate::worker::Worker;
 use bpf_insn::Words;
 use config_image::ROW_WORDS;
-use part_memory::Part;
+use extent_memory::Extent;
 use versions::{ROWS, ROWS_BEGIN};
 
 // What a section keeps of the version that is held.
@@ -17,8 +17,8 @@ struct Kept {
     row: usize,
     // Where the programs begin in the image; 0 where that is not known yet. What is before them stands in the row.
     heads: usize,
-    // The part whose words are ready, and the place in the table behind its last word.
-    part: Part,
+    // The extent whose words are ready, and the place in the table behind its last word.
+    extent: Extent,
     limit: usize,
 }
 
@@ -28,29 +28,28 @@ impl Kept {
     // A call's result is known to be a number of 64 bits.
     #[inline(always)]
     fn shift(self) -> usize
-        ensures { result ≡ self.part.shift }
+        ensures { result ≡ self.extent.shift }
     {
-        self.part.shift
+        self.extent.shift
     }
 
     #[inline(always)]
-    fn with_part(self, part: Part) -> Kept
-        requires { part.shift + part.end < 2 ^ 64 }
-        ensures { result ≡ record { row = self.row; heads = self.heads; part = part; limit = part.shift + part.end } }
+    fn with_extent(self, extent: Extent) -> Kept
+        requires { extent.shift + extent.end < 2 ^ 64 }
+        ensures { result ≡ record { row = self.row; heads = self.heads; extent = extent; limit = extent.shift + extent.end } }
     {
         Kept {
             row: self.row,
             heads: self.heads,
-            part,
-            limit: part.shift + part.end,
+            extent,
+            limit: extent.shift + extent.end,
         }
     }
 }
 
 // It has no word.
-const NO_PART: Part = Part {
+const NO_EXTENT: Extent = Extent {
     version: 0,
-    index: 0,
     at: 0,
     end: 0,
     shift: 0,
@@ -64,8 +63,8 @@ const NO_PART: Part = Part {
 pub struct Section<'a> {
     worker: &'a mut Worker,
     kept: Kept,
-    ghost limit: { kept.limit ≡ kept.part.shift + kept.part.end },
-    ghost known: { Knows worker.now.view kept.row kept.heads kept.part } by { KnowsIn-prop worker.now.view.stage worker.now.view.seen worker.now.view.pages kept.row kept.heads kept.part },
+    ghost limit: { kept.limit ≡ kept.extent.shift + kept.extent.end },
+    ghost known: { Knows worker.now.view kept.row kept.heads kept.extent } by { KnowsIn-prop worker.now.view.stage worker.now.view.seen worker.now.view.pages kept.row kept.heads kept.extent },
 }
 
 /// The words of the section's row, `ROW_WORDS` of them: the image of the configuration, and then zeros. Each is read by a few
@@ -113,16 +112,16 @@ impl Words for Section<'_> {
                 .worker
                 .fetch(ROWS_BEGIN + self.kept.row * ROW_WORDS + i);
         }
-        if self.kept.part.at <= i && i < self.kept.part.end {
-            return self.worker.fetch(self.kept.part.shift + i);
+        if self.kept.extent.at <= i && i < self.kept.extent.end {
+            return self.worker.fetch(self.kept.extent.shift + i);
         }
         let word = read_by_row(self.worker, self.kept.row, i);
         self.kept.heads = heads_of(self.worker.form());
         word
     }
 
-    // The words of the part that has word i are ready then, 16 at most. A part that is not remembered is searched for by a call that is
-    // not inlined: it leaves the registers to the program's run.
+    // The words of the extent that has word i are ready then. An extent that is not remembered is searched for by a call that is not
+    // inlined: it leaves the registers to the program's run.
     #[inline(always)]
     fn make_ready(&mut self, i: usize) -> Option<u64>
         requires { i < length (held_words (worker_of self.old)) }
@@ -134,18 +133,18 @@ impl Words for Section<'_> {
         ensures words_kept { held_words (worker_of self.new) ≡ held_words (worker_of self.old) }
         ensures rest_kept { section_rest self.new ≡ section_rest self.old }
     {
-        if let Some(part) = self.worker.recall(i) {
-            self.kept = self.kept.with_part(part);
+        if let Some(extent) = self.worker.recall(i) {
+            self.kept = self.kept.with_extent(extent);
             return None;
         }
         let word = read_by_row(self.worker, self.kept.row, i);
         match self.worker.recall(i) {
-            Some(part) => {
-                self.kept = self.kept.with_part(part);
+            Some(extent) => {
+                self.kept = self.kept.with_extent(extent);
                 None
             }
             None => {
-                self.kept = self.kept.with_part(NO_PART);
+                self.kept = self.kept.with_extent(NO_EXTENT);
                 Some(word)
             }
         }
@@ -197,7 +196,7 @@ impl<'a> Section<'a> {
             kept: Kept {
                 row,
                 heads,
-                part: NO_PART,
+                extent: NO_EXTENT,
                 limit: 0,
             },
         }

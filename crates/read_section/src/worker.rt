@@ -2,9 +2,9 @@
 
 ghost use Rattle.std.specs.Prelude.{◌≡◌, ◌<◌, IfSome, List, if◌then◌else◌, length, suc, ℕ};
 ghost use Rattle.config_image.specs.Image.{Group};
-ghost use Rattle.part_memory.specs.declared.memory.PartMemory.{PartMemory};
-ghost use Rattle.part_memory.specs.declared.part.Part.{Part};
-ghost use Rattle.part_memory.specs.Memory.{Holds};
+ghost use Rattle.extent_memory.specs.declared.memory.ExtentMemory.{ExtentMemory};
+ghost use Rattle.extent_memory.specs.declared.extent.Extent.{Extent};
+ghost use Rattle.extent_memory.specs.Memory.{Holds};
 ghost use Rattle.versions.specs.declared.layout.TheConstants.{TABLE_WORDS};
 ghost use Rattle.versions.specs.View.{IsTold, after_fetch, after_peek};
 ghost use Rattle.versions.specs.Safety.{IsHeldPlace};
@@ -13,14 +13,14 @@ ghost use Rattle.read_section.specs.Section.{EndsInFetches, HoldsLastSeen, borro
 ghost use Rattle.read_section.specs.View.{Shows};
 ghost use Rattle.read_section.specs.Worker.{Enters, IsOutside, left, steps};
 ghost use Rattle.read_section.specs.Operator.{Meets};
-ghost use Rattle.read_section.specs.body.Found.{IsFormIn, IsPartIn, TellsForm, TellsPart};
+ghost use Rattle.read_section.specs.body.Found.{IsFormIn, IsExtentIn, TellsForm, TellsExtent};
 ghost use Rattle.read_section.specs.body.Remembered.{IsBlank, IsFirstSeen};
 ghost use Rattle.read_section.specs.body.Steps.{SeesWord};
 
 use crate::operator::Operator;
 use crate::seat::WorkerSeat;
 use crate::section::Section;
-use part_memory::{Part, PartMemory};
+use extent_memory::{Extent, ExtentMemory};
 use std::marker::Model;
 use versions::ROWS;
 
@@ -33,7 +33,7 @@ pub struct Worker {
     held: Option<u64>,
     seat: WorkerSeat,
     // Where words of the version stand that its last pin gave.
-    memory: PartMemory,
+    memory: ExtentMemory,
 }
 
 impl Model for Worker {
@@ -49,7 +49,7 @@ impl Model for Worker {
 }
 
 impl Worker {
-    pub(crate) fn new(seat: WorkerSeat, memory: PartMemory) -> Worker
+    pub(crate) fn new(seat: WorkerSeat, memory: ExtentMemory) -> Worker
         requires outside { IsOutside seat.view.stage }
         requires first { IsFirstSeen seat.view }
         requires blank { IsBlank memory }
@@ -134,20 +134,20 @@ impl Worker {
         self.memory.keep_form(form);
     }
 
-    // The part that has word i, where it is remembered.
+    // The extent that has word i, where it is remembered.
     #[inline(always)]
-    pub(crate) fn recall(&self, i: usize) -> Option<Part>
-        ensures { IfSome result (λ part. TellsPart self.now.view part × Holds part i) }
+    pub(crate) fn recall(&self, i: usize) -> Option<Extent>
+        ensures { IfSome result (λ extent. TellsExtent self.now.view extent × Holds extent i) }
     {
         self.memory.recall(i)
     }
 
-    pub(crate) fn keep_part(&mut self, i: usize, part: Part)
-        requires { IsPartIn self.old.view part }
+    pub(crate) fn keep_extent(&mut self, i: usize, extent: Extent)
+        requires { IsExtentIn self.old.view extent }
         ensures { self.new ≡ self.old }
     {
         let version = self.memory.version();
-        self.memory.keep(i, Part { version, ..part });
+        self.memory.keep(i, Extent { version, ..extent });
     }
 
     // Where it is, it holds a version, whose row has words.

@@ -1,13 +1,13 @@
 -- What a worker's memory tells of the version that its last pin gave, also outside a section.
 use Rattle.std.specs.Prelude.{◌≡◌, ◌<◌, List, [], length, slice_index_or, ℕ}
 use Rattle.config_image.specs.Image.{Group}
-use Rattle.part_memory.specs.declared.part.Part.{Part}
-use Rattle.part_memory.specs.Memory.{IsKept, MemoryValue}
+use Rattle.extent_memory.specs.declared.extent.Extent.{Extent}
+use Rattle.extent_memory.specs.Memory.{IsKept, MemoryValue}
 use Rattle.versions.specs.declared.view.Stage.TheVariants.{Inside}
 use Rattle.versions.specs.declared.view.WorkerView.{WorkerView}
 use Rattle.versions.specs.View.{last_pinned}
 use Rattle.versions.specs.Table.{the_shape}
-use Rattle.read_section.specs.body.Found.{IsFormOf, IsPartOf}
+use Rattle.read_section.specs.body.Found.{IsFormOf, IsExtentOf}
 
 -- the version that the memory is of, as the worker has seen it
 abbrev pub remembered : WorkerView (List Group) → MemoryValue → List Group
@@ -20,7 +20,7 @@ pub record IsRemembered (view : WorkerView (List Group)) (memory : MemoryValue) 
   pub seen : memory.version < length view.seen
   pub held : (k n r : ℕ) → view.stage ≡ Inside k n r → n ≡ memory.version
   pub form : 0 < memory.form → IsFormOf (remembered view memory) view.pages memory.form
-  pub parts : (part : Part) → IsKept memory part → IsPartOf (remembered view memory) view.pages part
+  pub extents : (extent : Extent) → IsKept memory extent → IsExtentOf (remembered view memory) view.pages extent
 
 -- a worker that has seen version 0, and made no pin
 abbrev pub IsFirstSeen : WorkerView (List Group) → Type 0
@@ -28,4 +28,4 @@ IsFirstSeen view = (last_pinned the_shape.rows view.log ≡ 0) × (0 < length vi
 
 -- a memory of version 0 that keeps nothing
 abbrev pub IsBlank : MemoryValue → Type 0
-IsBlank memory = (memory.version ≡ 0) × (memory.form ≡ 0) × ((part : Part) → IsKept memory part → ⊥)
+IsBlank memory = (memory.version ≡ 0) × (memory.form ≡ 0) × ((extent : Extent) → IsKept memory extent → ⊥)

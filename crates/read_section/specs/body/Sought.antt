@@ -1,12 +1,13 @@
 -- What the search for a part needs, and what it finds.
-use Rattle.std.specs.Prelude.{◌≡◌, ◌<◌, ◌≤◌, List, [], drop, length, slice_index_or, take, ℕ}
+use Rattle.std.specs.Prelude.{◌≡◌, ◌<◌, ◌≤◌, List, [], drop, length, slice_index, slice_index_or, take, ℕ}
 use Rattle.config_image.specs.declared.TheConstants.{ROW_WORDS}
 use Rattle.config_image.specs.Image.{Group, image, programs_begin}
-use Rattle.config_image.specs.Pooled.{form_word, parts, pooled_row}
+use Rattle.config_image.specs.Pooled.{form_word, part_begin, parts, pooled_row}
+use Rattle.part_search.specs.Names.{page_of, start_of}
 use Rattle.versions.specs.declared.layout.TheConstants.{ROWS}
 use Rattle.versions.specs.declared.view.Stage.TheVariants.{Inside}
 use Rattle.versions.specs.declared.view.WorkerView.{WorkerView}
-use Rattle.read_section.specs.body.Found.{HasPages}
+use Rattle.read_section.specs.body.Found.{HasPages, TellsOfHeld}
 
 -- word i is one of the programs of a configuration, whose row is known
 abbrev pub SoughtAt : List Group → List ℕ → ℕ → ℕ → ℕ → ℕ → Type 0
@@ -21,3 +22,10 @@ IsSought view row form i = (k : ℕ) × (n : ℕ) × (r : ℕ) × (view.stage �
 -- the names in a row
 abbrev pub names_of : List Group → List ℕ → List ℕ
 names_of config pages = take (length (parts config)) (drop (programs_begin config) (pooled_row config pages))
+
+-- the number is the name of a part; or it has the place behind the last part in the place of a start
+abbrev pub IsNameOf : List Group → List ℕ → ℕ → ℕ → Type 0
+IsNameOf config pages index name = (start_of name ≡ part_begin config index) × (index < length (parts config) → page_of name ≡ slice_index pages index)
+
+abbrev pub TellsName : WorkerView (List Group) → ℕ → ℕ → Type 0
+TellsName view index name = TellsOfHeld (λ config pages. IsNameOf config pages index name) view

@@ -3,37 +3,37 @@ use Rattle.versions.specs.declared.view.Stage.TheVariants.{Inside}
 use Rattle.read_section.specs.declared.section.Kept.{Kept}
 use Rattle.read_section.specs.Section.{borrow_of, worker_of}
 use Rattle.read_section.specs.Worker.{WorkerValue}
-use Rattle.read_section.specs.body.Found.{Knows, no_part}
+use Rattle.read_section.specs.body.Found.{Knows, no_extent}
 use Rattle.read_section.proofs.HeldWordLemmas.{held_stage}
-use Rattle.read_section.proofs.PartReadLemmas.{part_limit, part_recalled}
+use Rattle.read_section.proofs.ExtentReadLemmas.{extent_limit, extent_recalled}
 use Rattle.read_section.proofs.ReadLemmas.{fetched_in, pinned_kept}
-use Rattle.read_section.proofs.RowReadLemmas.{knows_part}
+use Rattle.read_section.proofs.RowReadLemmas.{knows_extent}
 use Rattle.read_section.proofs.section.SectionWords.make_ready.Goals as goal
 
-pub with_part-self-requires : goal.with_part-self-requires
-with_part-self-requires c = let s = c.args.self.now in let w = worker_of s in let t = held_stage w.view.stage w.view.seen c.args.i c.requires in let p = c.in-Some.part in let told = c.in-Some.ensures in
-    part_limit w p (part_recalled w s.kept.row s.kept.heads s.kept.part p s.known told.0) t.0 t.1 t.2 t.3 (let a = told.1.0 in let b = told.1.1 in omega arith)
+pub with_extent-self-requires : goal.with_extent-self-requires
+with_extent-self-requires c = let s = c.args.self.now in let w = worker_of s in let t = held_stage w.view.stage w.view.seen c.args.i c.requires in let p = c.in-Some.extent in let told = c.in-Some.ensures in
+    extent_limit w p (extent_recalled w s.kept.row s.kept.heads s.kept.extent p s.known told.0) t.0 t.1 t.2 t.3 (let a = told.1.0 in let b = told.1.1 in omega arith)
 
 pub invariant_of-self : goal.invariant_of-self
-invariant_of-self c = let s = c.args.self.now in let w = worker_of s in let t = held_stage w.view.stage w.view.seen c.args.i c.requires in let p = c.in-Some.part in let told = c.in-Some.ensures in let is = c.with_part-self.ensures in record {
-  limit = ap (λ (k : Kept). k.limit) is ∙ sym (ap (λ (k : Kept). k.part.shift + k.part.end) is);
-  known = subst (λ (k : Kept). Knows w.view k.row k.heads k.part) (sym is) (knows_part w s.kept.row s.kept.heads s.kept.part p t.0 t.1 t.2 t.3 s.known (λ some. told.0));
+invariant_of-self c = let s = c.args.self.now in let w = worker_of s in let t = held_stage w.view.stage w.view.seen c.args.i c.requires in let p = c.in-Some.extent in let told = c.in-Some.ensures in let is = c.with_extent-self.ensures in record {
+  limit = ap (λ (k : Kept). k.limit) is ∙ sym (ap (λ (k : Kept). k.extent.shift + k.extent.end) is);
+  known = subst (λ (k : Kept). Knows w.view k.row k.heads k.extent) (sym is) (knows_extent w s.kept.row s.kept.heads s.kept.extent p t.0 t.1 t.2 t.3 s.known (λ some. told.0));
 }
 
-pub with_part-self-requires-in-Some-recall : goal.with_part-self-requires-in-Some-recall
-with_part-self-requires-in-Some-recall c = let s = c.args.self.now in let w = worker_of s in let t = held_stage w.view.stage w.view.seen c.args.i c.requires in let read = c.read_by_row-word.ensures.few_fetches in let after = c.read_by_row-word.new.worker in let stage : after.view.stage ≡ Inside t.0 t.1 t.2 = subst (λ (v : WorkerValue). v.view.stage ≡ Inside t.0 t.1 t.2) (sym read.only) t.3 in let known = subst (λ (v : WorkerValue). Knows v.view s.kept.row s.kept.heads s.kept.part) (sym read.only) s.known in let p = c.in-Some-recall.part in let told = c.in-Some-recall.ensures in
-    part_limit after p (part_recalled after s.kept.row s.kept.heads s.kept.part p known told.0) t.0 t.1 t.2 stage (let a = told.1.0 in let b = told.1.1 in omega arith)
+pub with_extent-self-requires-in-Some-recall : goal.with_extent-self-requires-in-Some-recall
+with_extent-self-requires-in-Some-recall c = let s = c.args.self.now in let w = worker_of s in let t = held_stage w.view.stage w.view.seen c.args.i c.requires in let read = c.read_by_row-word.ensures.few_fetches in let after = c.read_by_row-word.new.worker in let stage : after.view.stage ≡ Inside t.0 t.1 t.2 = subst (λ (v : WorkerValue). v.view.stage ≡ Inside t.0 t.1 t.2) (sym read.only) t.3 in let known = subst (λ (v : WorkerValue). Knows v.view s.kept.row s.kept.heads s.kept.extent) (sym read.only) s.known in let p = c.in-Some-recall.extent in let told = c.in-Some-recall.ensures in
+    extent_limit after p (extent_recalled after s.kept.row s.kept.heads s.kept.extent p known told.0) t.0 t.1 t.2 stage (let a = told.1.0 in let b = told.1.1 in omega arith)
 
 pub invariant_of-self-in-Some-recall : goal.invariant_of-self-in-Some-recall
-invariant_of-self-in-Some-recall c = let s = c.args.self.now in let w = worker_of s in let t = held_stage w.view.stage w.view.seen c.args.i c.requires in let read = c.read_by_row-word.ensures.few_fetches in let after = c.read_by_row-word.new.worker in let stage : after.view.stage ≡ Inside t.0 t.1 t.2 = subst (λ (v : WorkerValue). v.view.stage ≡ Inside t.0 t.1 t.2) (sym read.only) t.3 in let known = subst (λ (v : WorkerValue). Knows v.view s.kept.row s.kept.heads s.kept.part) (sym read.only) s.known in let p = c.in-Some-recall.part in let told = c.in-Some-recall.ensures in let is = c.with_part-self-in-Some-recall.ensures in record {
-  limit = ap (λ (k : Kept). k.limit) is ∙ sym (ap (λ (k : Kept). k.part.shift + k.part.end) is);
-  known = subst (λ (k : Kept). Knows after.view k.row k.heads k.part) (sym is) (knows_part after s.kept.row s.kept.heads s.kept.part p t.0 t.1 t.2 stage known (λ some. told.0));
+invariant_of-self-in-Some-recall c = let s = c.args.self.now in let w = worker_of s in let t = held_stage w.view.stage w.view.seen c.args.i c.requires in let read = c.read_by_row-word.ensures.few_fetches in let after = c.read_by_row-word.new.worker in let stage : after.view.stage ≡ Inside t.0 t.1 t.2 = subst (λ (v : WorkerValue). v.view.stage ≡ Inside t.0 t.1 t.2) (sym read.only) t.3 in let known = subst (λ (v : WorkerValue). Knows v.view s.kept.row s.kept.heads s.kept.extent) (sym read.only) s.known in let p = c.in-Some-recall.extent in let told = c.in-Some-recall.ensures in let is = c.with_extent-self-in-Some-recall.ensures in record {
+  limit = ap (λ (k : Kept). k.limit) is ∙ sym (ap (λ (k : Kept). k.extent.shift + k.extent.end) is);
+  known = subst (λ (k : Kept). Knows after.view k.row k.heads k.extent) (sym is) (knows_extent after s.kept.row s.kept.heads s.kept.extent p t.0 t.1 t.2 stage known (λ some. told.0));
 }
 
 pub invariant_of-self-in-None : goal.invariant_of-self-in-None
-invariant_of-self-in-None c = let s = c.args.self.now in let w = worker_of s in let t = held_stage w.view.stage w.view.seen c.args.i c.requires in let read = c.read_by_row-word.ensures.few_fetches in let after = c.read_by_row-word.new.worker in let stage : after.view.stage ≡ Inside t.0 t.1 t.2 = subst (λ (v : WorkerValue). v.view.stage ≡ Inside t.0 t.1 t.2) (sym read.only) t.3 in let known = subst (λ (v : WorkerValue). Knows v.view s.kept.row s.kept.heads s.kept.part) (sym read.only) s.known in let is = c.with_part-self-in-None.ensures in record {
-  limit = ap (λ (k : Kept). k.limit) is ∙ sym (ap (λ (k : Kept). k.part.shift + k.part.end) is);
-  known = subst (λ (k : Kept). Knows after.view k.row k.heads k.part) (sym is) (knows_part after s.kept.row s.kept.heads s.kept.part no_part t.0 t.1 t.2 stage known (λ some. absurd (omega arith)));
+invariant_of-self-in-None c = let s = c.args.self.now in let w = worker_of s in let t = held_stage w.view.stage w.view.seen c.args.i c.requires in let read = c.read_by_row-word.ensures.few_fetches in let after = c.read_by_row-word.new.worker in let stage : after.view.stage ≡ Inside t.0 t.1 t.2 = subst (λ (v : WorkerValue). v.view.stage ≡ Inside t.0 t.1 t.2) (sym read.only) t.3 in let known = subst (λ (v : WorkerValue). Knows v.view s.kept.row s.kept.heads s.kept.extent) (sym read.only) s.known in let is = c.with_extent-self-in-None.ensures in record {
+  limit = ap (λ (k : Kept). k.limit) is ∙ sym (ap (λ (k : Kept). k.extent.shift + k.extent.end) is);
+  known = subst (λ (k : Kept). Knows after.view k.row k.heads k.extent) (sym is) (knows_extent after s.kept.row s.kept.heads s.kept.extent no_extent t.0 t.1 t.2 stage known (λ some. absurd (omega arith)));
 }
 
 pub returns-in-Some-recall-clause-few_fetches : goal.returns-in-Some-recall-clause-few_fetches

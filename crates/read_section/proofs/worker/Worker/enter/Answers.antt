@@ -21,7 +21,7 @@ pub invariant_of-self : goal.invariant_of-self
 invariant_of-self c = let may = may_peek_at c.self.inside.held _ c.self.invariant.0 in let out = c.self.view_is ∙ c.leave.ensures.left in let seat = c.self.inside.seat in let memory = c.self.inside.memory in let one = c.peek-peeked.ensures in let three = c.pin-pinned.ensures in let was = announced_after seat memory c.self.invariant.1 c.peek-peeked.new.self c.announce.new.self c.peek-peeked.result one.0 _ one.1.shows one.2 c.announce.ensures in (
   (c.pin-pinned.result % ROWS, pinned_inside c.args.self.now seat may out _ c.peek-peeked.result one.0 one.2 _ _ c.pin-pinned.result three.0 three.1 c.announce.ensures three.4 one.1 three.2),
   subst (λ (w : WorkerValue). IsRemembered w.view c.turn_to.new.self) (sym three.4)
-      (remembered_pinned c.announce.new.self.view memory was c.pin-pinned.result three.0 three.1 c.turn_to.new.self three.2.shows three.3 c.turn_to.ensures.version c.turn_to.ensures.same c.turn_to.ensures.forgets_form c.turn_to.ensures.forgets_parts),
+      (remembered_pinned c.announce.new.self.view memory was c.pin-pinned.result three.0 three.1 c.turn_to.new.self three.2.shows three.3 c.turn_to.ensures.version c.turn_to.ensures.same c.turn_to.ensures.forgets_form c.turn_to.ensures.forgets_extents),
 )
 
 pub returns-clause-entered_by_three_steps : goal.returns-clause-entered_by_three_steps

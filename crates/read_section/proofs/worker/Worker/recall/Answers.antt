@@ -1,14 +1,14 @@
 use Rattle.std.proofs.Common.{IfSome, None, Option, Some, subst}
-use Rattle.part_memory.specs.declared.part.Part.{Part}
-use Rattle.part_memory.specs.Memory.{Holds, IsKept}
-use Rattle.read_section.specs.body.Found.{TellsPart}
+use Rattle.extent_memory.specs.declared.extent.Extent.{Extent}
+use Rattle.extent_memory.specs.Memory.{Holds, IsKept}
+use Rattle.read_section.specs.body.Found.{TellsExtent}
 use Rattle.read_section.specs.Worker.{WorkerValue}
-use Rattle.read_section.proofs.RememberedLemmas.{part_remembered}
+use Rattle.read_section.proofs.RememberedLemmas.{extent_remembered}
 use Rattle.read_section.proofs.worker.Worker.recall.Goals as goal
 
 pub returns : goal.returns
 returns c = told c.recall.result c.recall.ensures.kept
   where
-    told : (found : Option Part) → IfSome found (λ part. IsKept c.self.inside.memory part × Holds part c.args.i) → IfSome found (λ part. TellsPart c.args.self.now.view part × Holds part c.args.i)
+    told : (found : Option Extent) → IfSome found (λ extent. IsKept c.self.inside.memory extent × Holds extent c.args.i) → IfSome found (λ extent. TellsExtent c.args.self.now.view extent × Holds extent c.args.i)
     told None none = none
-    told (Some part) is = (subst (λ (w : WorkerValue). TellsPart w.view part) c.self.view_is (part_remembered c.self.inside.seat.view c.self.inside.memory c.self.invariant.1 part is.0), is.1)
+    told (Some extent) is = (subst (λ (w : WorkerValue). TellsExtent w.view extent) c.self.view_is (extent_remembered c.self.inside.seat.view c.self.inside.memory c.self.invariant.1 extent is.0), is.1)

@@ -1,0 +1,131 @@
+//! The memory: for each place of an image one slot, which has room for one extent.
+
+ghost use Rattle.std.specs.Prelude.{◌≡◌, ◌≢◌, ◌<◌, ◌≤◌, ◌⊎◌, IfOk, IfSome, IsNone, Some, slice_get, slice_set};
+ghost use Rattle.extent_memory.specs.declared.extent.Extent.{Extent};
+ghost use Rattle.extent_memory.specs.Memory.{Holds, IsKept, slot_of};
+
+use crate::Extent;
+use std::alloc::{AllocError, Global};
+use std::marker::Model;
+
+/// The number of slots. Places that are less than 1023 apart have slots of their own (`slots_apart`).
+pub const SLOTS: usize = 1024;
+
+/// The memory of one reader: the first word of one version's row, and extents of its image.
+///
+/// The first word of a row has the image's length from bit 32 on, the place where the programs begin in bits 16 to 31, and the number
+/// of parts in the 16 bits below. It is never 0, so 0 stands for a word that is not kept.
+#[derive(Drop)]
+pub struct ExtentMemory {
+    version: u64,
+    form: u64,
+    extents: Vec<Extent>,
+}
+
+impl Model for ExtentMemory {
+    ghost use Rattle.std.specs.Prelude.{◌≡◌, ◌≤◌, length};
+    ghost use Rattle.std.specs.List.{All};
+    ghost use Rattle.extent_memory.specs.Memory.{MemoryValue};
+    ghost use Rattle.extent_memory.specs.declared.memory.TheConstants.{SLOTS};
+
+    ghost Value = { MemoryValue };
+
+    ghost view = { λ memory. record { version = memory.version; form = memory.form; extents = memory.extents.items } };
+
+    ghost invariant = { λ memory. (length memory.extents.items ≡ SLOTS) × All (λ extent. extent.version ≤ memory.version) memory.extents.items };
+}
+
+// The slot of a place.
+#[inline(always)]
+fn slot(place: usize) -> usize
+    ensures slot { result ≡ slot_of place }
+{
+    (place % SLOTS + place / SLOTS) % SLOTS
+}
+
+impl ExtentMemory {
+    /// A memory of version 0, which keeps nothing.
+    pub fn new(alloc: Global) -> Result<ExtentMemory, AllocError>
+        ensures version { IfOk result (λ memory. memory.version ≡ 0) }
+        ensures no_form { IfOk result (λ memory. memory.form ≡ 0) }
+        ensures empty { IfOk result (λ memory. (extent : Extent) → IsKept memory extent → ⊥) }
+    {
+        let nothing = Extent {
+            version: 0,
+            at: 0,
+            end: 0,
+            shift: 0,
+        };
+        let extents = vec![in alloc; nothing; SLOTS]?;
+        Ok(ExtentMemory {
+            version: 0,
+            form: 0,
+            extents,
+        })
+    }
+
+    /// The version whose extents are kept.
+    pub fn version(&self) -> u64
+        ensures version { result ≡ self.now.version }
+    {
+        self.version
+    }
+
+    /// The first word of the version's row, as it was kept, or 0.
+    #[inline(always)]
+    pub fn form(&self) -> u64
+        ensures form { result ≡ self.now.form }
+    {
+        self.form
+    }
+
+    /// Keeps the first word of the version's row.
+    pub fn keep_form(&mut self, form: u64)
+        ensures kept { self.new ≡ record self.old { form = form } }
+    {
+        self.form = form;
+    }
+
+    /// The extent that was kept for a place of the image, where it is of the memory's version and the place is in it. An extent is kept for
+    /// the one place that `keep` is told, and until another takes its slot.
+    #[inline(always)]
+    pub fn recall(&self, place: usize) -> Option<Extent>
+        ensures kept { IfSome result (λ extent. IsKept self.now extent × Holds extent place) }
+        ensures of_slot { IfSome result (λ extent. slice_get self.now.extents (slot_of place) ≡ Some extent) }
+        ensures none { IsNone result → (extent : Extent) → slice_get self.now.extents (slot_of place) ≡ Some extent → extent.version ≡ self.now.version → Holds extent place → ⊥ }
+    {
+        let extent = self.extents[slot(place)];
+        if extent.version == self.version && extent.at <= place && place < extent.end {
+            Some(extent)
+        } else {
+            None
+        }
+    }
+
+    /// Keeps an extent of the memory's version for a place, in place of what was kept in that slot.
+    pub fn keep(&mut self, place: usize, extent: Extent)
+        requires version { extent.version ≡ self.old.version }
+        ensures version { self.new.version ≡ self.old.version }
+        ensures form { self.new.form ≡ self.old.form }
+        ensures kept { self.new.extents ≡ slice_set self.old.extents (slot_of place) extent }
+        ensures others { (other : Extent) → IsKept self.new other → (other ≡ extent) ⊎ IsKept self.old other }
+        ensures recalled { slice_get self.new.extents (slot_of place) ≡ Some extent }
+    {
+        self.extents[slot(place)] = extent;
+    }
+
+    /// Goes on with a version: the same one, whose extents are still kept, or a later one, of which nothing is kept.
+    #[inline(always)]
+    pub fn turn_to(&mut self, version: u64)
+        requires later { self.old.version ≤ version }
+        ensures version { self.new.version ≡ version }
+        ensures same { self.old.version ≡ version → self.new ≡ self.old }
+        ensures forgets_form { self.old.version ≢ version → self.new.form ≡ 0 }
+        ensures forgets_extents { self.old.version ≢ version → (extent : Extent) → IsKept self.new extent → ⊥ }
+    {
+        if self.version != version {
+            self.version = version;
+            self.form = 0;
+        }
+    }
+}

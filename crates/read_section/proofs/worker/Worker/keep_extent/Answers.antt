@@ -1,0 +1,12 @@
+use Rattle.std.proofs.Common.{subst, sym}
+use Rattle.extent_memory.specs.declared.extent.Extent.{Extent}
+use Rattle.read_section.specs.body.Found.{IsExtentIn}
+use Rattle.read_section.specs.Worker.{WorkerValue}
+use Rattle.read_section.proofs.RememberedLemmas.{remember_extent}
+use Rattle.read_section.proofs.worker.Worker.keep_extent.Goals as goal
+
+pub invariant_of-self : goal.invariant_of-self
+invariant_of-self c = let seat = c.self.inside.seat in let kept : Extent = record c.args.extent { version = c.version-version.result } in (
+  c.self.invariant.0,
+  remember_extent seat.view c.self.inside.memory c.self.invariant.1 c.keep.new.self kept (subst (λ (w : WorkerValue). IsExtentIn w.view kept) (sym c.self.view_is) c.requires) c.keep.ensures.version c.keep.ensures.form c.keep.ensures.others,
+)
