@@ -1,45 +1,43 @@
-//! The memory of parts: what is recalled, and what is forgotten.
+//! The memory of extents: what is recalled, and what is forgotten.
 
-use part_memory::{Part, PartMemory};
+use extent_memory::{Extent, ExtentMemory};
 use std::test::Fail;
 
-const PART: Part = Part {
+const EXTENT: Extent = Extent {
     version: 0,
-    index: 2,
     at: 10,
     end: 26,
     shift: 131_127,
 };
 
 // Its place shares a slot with place 1.
-const FAR: Part = Part {
+const FAR: Extent = Extent {
     version: 0,
-    index: 70,
     at: 1024,
     end: 1030,
     shift: 131_200,
 };
 
 #[test]
-fn part_is_recalled_for_its_place(rt: HostRuntime) -> Result<(), Fail> {
-    let mut memory = PartMemory::new(rt.alloc())?;
+fn extent_is_recalled_for_its_place(rt: HostRuntime) -> Result<(), Fail> {
+    let mut memory = ExtentMemory::new(rt.alloc())?;
     assert!(rt; memory.recall(10).is_none());
-    memory.keep(10, PART);
-    assert!(rt; memory.recall(10) == Some(PART));
+    memory.keep(10, EXTENT);
+    assert!(rt; memory.recall(10) == Some(EXTENT));
     // It was not kept for this place of it.
     assert!(rt; memory.recall(11).is_none());
-    memory.keep(25, PART);
-    assert!(rt; memory.recall(25) == Some(PART));
+    memory.keep(25, EXTENT);
+    assert!(rt; memory.recall(25) == Some(EXTENT));
     Ok(())
 }
 
 #[test]
 fn two_places_of_one_slot(rt: HostRuntime) -> Result<(), Fail> {
-    let mut memory = PartMemory::new(rt.alloc())?;
-    let near = Part {
+    let mut memory = ExtentMemory::new(rt.alloc())?;
+    let near = Extent {
         at: 1,
         end: 8,
-        ..PART
+        ..EXTENT
     };
     memory.keep(1, near);
     memory.keep(1024, FAR);
@@ -53,12 +51,12 @@ fn two_places_of_one_slot(rt: HostRuntime) -> Result<(), Fail> {
 
 #[test]
 fn another_version_is_forgotten(rt: HostRuntime) -> Result<(), Fail> {
-    let mut memory = PartMemory::new(rt.alloc())?;
+    let mut memory = ExtentMemory::new(rt.alloc())?;
     memory.keep_form(0x1a_000a_0003);
-    memory.keep(10, PART);
+    memory.keep(10, EXTENT);
     memory.turn_to(0);
     assert!(rt; memory.form() == 0x1a_000a_0003);
-    assert!(rt; memory.recall(10) == Some(PART));
+    assert!(rt; memory.recall(10) == Some(EXTENT));
     memory.turn_to(7);
     assert!(rt; memory.version() == 7);
     assert!(rt; memory.form() == 0);
