@@ -1,0 +1,187 @@
+//! Extents: how many words of a program are ready at once where its pages follow each other, and where they do not.
+
+ghost use Rattle.std.specs.Prelude.{◌≡◌};
+
+use super::numbered::applied;
+use bpf_insn::Words;
+use bpf_verify::Program;
+use ipv4_fields::Endpoint;
+use member_group::{Command, Config};
+use read_section::{Operator, Worker, open};
+use retire::Retire;
+use std::alloc::Global;
+use std::process::Abort;
+use std::test::Fail;
+
+// `ret #0`
+const RETURN: u64 = 0x0006_0000_0000_0000;
+
+fn key_of(group: u32) -> Endpoint {
+    Endpoint {
+        address: group,
+        port: 53,
+    }
+}
+
+// `ld #1`, `ld #2` and so on, and then `ret #0`: so many instructions.
+fn loads(alloc: Global, count: usize) -> Result<Program<Global>, Fail> {
+    let mut words = vec![in alloc; 0; 0]?;
+    for k in 1..count {
+        words.push(k as u64)?;
+    }
+    words.push(RETURN)?;
+    match Program::new(words) {
+        Ok(program) => Ok(program),
+        Err(_) => Err(Fail::from("loads and a return are a program")),
+    }
+}
+
+// Gives a group a selector of so many instructions.
+fn selecting(alloc: Global, config: &Config, group: u32, count: usize) -> Result<Config, Fail> {
+    let program = loads(alloc, count)?;
+    let key = key_of(group);
+    applied(config, Command::SetSelector { key, program })
+}
+
+// Groups 1, 2 and 3, with selectors of so many instructions.
+fn three_groups(alloc: Global, counts: [usize; 3]) -> Result<Config, Fail> {
+    let [first, second, third] = counts;
+    let mut config = Config::new(alloc);
+    for (group, count) in [(1u32, first), (2, second), (3, third)] {
+        let key = key_of(group);
+        config = applied(&config, Command::AddGroup { key })?;
+        config = selecting(alloc, &config, group, count)?;
+    }
+    Ok(config)
+}
+
+// Makes a word ready, and counts the words that are ready from it on.
+fn ready_count<W: Words>(words: &mut W, i: usize) -> usize
+    ensures words_kept { W.words words.new ≡ W.words words.old }
+{
+    let count = words.count();
+    if count <= i {
+        return 0;
+    }
+    if let Some(_word) = words.make_ready(i) {
+        return 0;
+    }
+    let shift = words.shift();
+    let mut ready = 0usize;
+    for end in i..count {
+        if words.is_ready(end + shift) {
+            ready = ready.saturating_add(1);
+        }
+    }
+    ready
+}
+
+fn word<W: Words>(words: &mut W, i: usize) -> Option<u64>
+    ensures words_kept { W.words words.new ≡ W.words words.old }
+{
+    if i < words.count() {
+        Some(words.word(i))
+    } else {
+        None
+    }
+}
+
+// From a place on, extents of these lengths have the words of a program of loads.
+fn extents_are<W: Words>(rt: &impl Abort, words: &mut W, begin: usize, lengths: &[usize]) {
+    let mut at = begin;
+    let mut k = 1u64;
+    for length in lengths {
+        assert_eq!(rt; ready_count(words, at), *length, "from word {at}");
+        for _ in 0..*length {
+            let read = word(words, at);
+            assert!(rt; read == Some(k) || read == Some(RETURN), "word {at}");
+            at = at.wrapping_add(1);
+            k = k.wrapping_add(1);
+        }
+    }
+    assert_eq!(rt; word(words, at.wrapping_sub(1)), Some(RETURN));
+}
+
+// The same twice in a section of its own: the second time the worker remembers them.
+fn reads_extents(rt: &impl Abort, worker: &mut Worker, begin: usize, lengths: &[usize]) {
+    for _ in 0..2 {
+        let mut section = worker.enter();
+        extents_are(rt, &mut section, begin, lengths);
+        section.leave();
+    }
+}
+
+fn opened(alloc: Global, config: Config) -> Result<(Operator, Worker), Fail> {
+    let (operator, mut workers) = open(config)?;
+    match workers.pop() {
+        Some(worker) => Ok((operator, worker)),
+        None => Err(Fail::from("there are workers")),
+    }
+}
+
+fn pages_are(operator: &Operator, wanted: &[u32]) -> bool {
+    operator.current_pages() == wanted
+}
+
+// The programs begin behind 2 words and 4 for each group.
+const FIRST: usize = 14;
+
+// Seven pages, one behind the other: the extent ends with the program, though the next program's page follows.
+#[test]
+fn program_in_pages_one_behind_the_other(rt: HostRuntime) -> Result<(), Fail> {
+    let config = three_groups(rt.alloc(), [1, 100, 1])?;
+    let (operator, mut worker) = opened(rt.alloc(), config)?;
+    assert!(&rt; pages_are(&operator, &[0, 1, 2, 3, 4, 5, 6, 7, 8]));
+    reads_extents(&rt, &mut worker, FIRST, &[1]);
+    reads_extents(&rt, &mut worker, FIRST + 1, &[100]);
+    reads_extents(&rt, &mut worker, FIRST + 101, &[1]);
+    Ok(())
+}
+
+// Publishes another selector of group 2, of so many instructions.
+fn selects(alloc: Global, operator: &mut Operator, count: usize) -> Result<bool, Fail> {
+    let next = selecting(alloc, operator.config(), 2, count)?;
+    Ok(operator.publish(next).is_ok())
+}
+
+// Page 1 is free, and pages 2 and 3 are not: the program's second part stands in page 4.
+fn scatters(rt: &impl Abort, alloc: Global, operator: &mut Operator) -> Result<(), Fail> {
+    assert!(rt; selects(alloc, operator, 2)?);
+    assert!(rt; pages_are(operator, &[0, 3, 2]));
+    assert_eq!(rt; operator.sweep().count, 1);
+    assert!(rt; selects(alloc, operator, 100)?);
+    assert!(rt; pages_are(operator, &[0, 1, 4, 5, 6, 7, 8, 9, 2]));
+    Ok(())
+}
+
+#[test]
+fn program_in_pages_that_lie_apart(rt: HostRuntime) -> Result<(), Fail> {
+    let config = three_groups(rt.alloc(), [1, 1, 1])?;
+    let (mut operator, mut worker) = opened(rt.alloc(), config)?;
+    scatters(&rt, rt.alloc(), &mut operator)?;
+    reads_extents(&rt, &mut worker, FIRST, &[1]);
+    reads_extents(&rt, &mut worker, FIRST + 1, &[16, 84]);
+    reads_extents(&rt, &mut worker, FIRST + 101, &[1]);
+    Ok(())
+}
+
+// What is remembered of a version does not serve for the next one, whose program stands elsewhere.
+#[test]
+fn extents_of_the_version_before_are_forgotten(rt: HostRuntime) -> Result<(), Fail> {
+    let config = three_groups(rt.alloc(), [1, 40, 1])?;
+    let (mut operator, mut worker) = opened(rt.alloc(), config)?;
+    reads_extents(&rt, &mut worker, FIRST + 1, &[40]);
+    assert!(&rt; selects(rt.alloc(), &mut operator, 30)?);
+    reads_extents(&rt, &mut worker, FIRST + 1, &[30]);
+    reads_extents(&rt, &mut worker, FIRST + 31, &[1]);
+    Ok(())
+}
+
+// Of 34 names a search needs six, or five where the halves are small: the other reads are made for the parts behind.
+#[test]
+fn long_program_has_several_extents(rt: HostRuntime) -> Result<(), Fail> {
+    let config = three_groups(rt.alloc(), [500, 1, 1])?;
+    let (_operator, mut worker) = opened(rt.alloc(), config)?;
+    reads_extents(&rt, &mut worker, FIRST, &[96, 112, 112, 112, 68]);
+    Ok(())
+}
