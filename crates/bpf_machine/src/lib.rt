@@ -34,6 +34,13 @@ pub struct Outcome {
     pub steps: u32,
 }
 
+// How far a run has come: the place of the next instruction, and how many the jumps have passed over. The others before it were met.
+#[derive(Drop)]
+struct Reached {
+    place: usize,
+    passed_over: usize,
+}
+
 // The instruction at a place of a program, which is this word.
 #[inline(always)]
 fn instruction<W: Words>(words: &W, from: usize, len: usize, place: usize, word: u64) -> Insn
@@ -90,27 +97,28 @@ pub fn run_copy<W: Words, const COPY: usize>(
     let _count = words.count();
     let mut machine = Registers { a: 0, x: 0 };
     let mut cells = [0; CELL_COUNT];
-    // The place of the next instruction, and how many the jumps have passed over: the others before it were met.
-    let mut place = from;
-    let mut passed_over = 0;
+    let mut reached = Reached {
+        place: from,
+        passed_over: 0,
+    };
     'running: loop {
-        if let Some(word) = words.make_ready(place) {
-            let _insn = instruction(words, from, len, place, word);
+        if let Some(word) = words.make_ready(reached.place) {
+            let _insn = instruction(words, from, len, reached.place, word);
             let step = step_apart(word, machine.a, machine.x, &mut cells, packet);
             machine = Registers {
                 a: step.a,
                 x: step.x,
             };
-            place += 1;
+            reached.place += 1;
             match step.next {
                 Next::GoOn => continue 'running,
                 Next::Skip(count) => {
-                    place += count as usize;
-                    passed_over += count as usize;
+                    reached.place += count as usize;
+                    reached.passed_over += count as usize;
                     continue 'running;
                 }
                 Next::End(value) => {
-                    let steps = (place - from - passed_over) as u32;
+                    let steps = (reached.place - from - reached.passed_over) as u32;
                     return Outcome { value, steps };
                 }
             }
@@ -123,8 +131,7 @@ pub fn run_copy<W: Words, const COPY: usize>(
                 from,
                 len,
                 packet,
-                &mut place,
-                &mut passed_over,
+                &mut reached,
                 &mut machine,
                 &mut cells,
                 true,
@@ -135,8 +142,7 @@ pub fn run_copy<W: Words, const COPY: usize>(
                 from,
                 len,
                 packet,
-                &mut place,
-                &mut passed_over,
+                &mut reached,
                 &mut machine,
                 &mut cells,
                 false,
@@ -148,8 +154,8 @@ pub fn run_copy<W: Words, const COPY: usize>(
     }
 }
 
-// Runs the instructions whose words are ready, from a place on. Tells how the program ended; or nothing, where the word at the place
-// that it leaves is not ready.
+// Runs instructions whose words are ready, until the program ends, or the next one's word is not ready. Tells how the program ended, or
+// `None`.
 //
 // `all` says that the words are ready up to the program's end: then the loop asks about none. Each call has a constant for it and is
 // inlined, so there is one loop with the question and one without.
@@ -159,8 +165,7 @@ fn run_ready<W: Words>(
     from: usize,
     len: usize,
     packet: &[u8],
-    place: &mut usize,
-    passed_over: &mut usize,
+    reached: &mut Reached,
     machine: &mut Registers,
     cells: &mut [u32; CELL_COUNT],
     all: bool,
@@ -168,24 +173,24 @@ fn run_ready<W: Words>(
     requires within { from + len ≤ length (W.words words.old) }
     requires accepted { IsAccepted (program_at (W.words words.old) from len) }
     requires packet { length packet.now ≤ MAX_PACKET }
-    requires inside { from ≤ place.old }
-    requires ready { (W.ready_from words.old ≤ place.old) × (place.old < W.ready_to words.old) }
+    requires inside { from ≤ reached.old.place }
+    requires ready { (W.ready_from words.old ≤ reached.old.place) × (reached.old.place < W.ready_to words.old) }
     requires all { IsTrue all → from + len ≤ W.ready_to words.old }
-    requires running { IsRunning (program_at (W.words words.old) from len) packet.now (place.old - from) passed_over.old machine.old.a machine.old.x cells.old }
+    requires running { IsRunning (program_at (W.words words.old) from len) packet.now (reached.old.place - from) reached.old.passed_over machine.old.a machine.old.x cells.old }
 
     ensures value { IfSome result (λ outcome. ending_of (program_at (W.words words.old) from len) packet.now ≡ Ret outcome.value) }
     ensures steps { IfSome result (λ outcome. outcome.steps ≡ cost_of (program_at (W.words words.old) from len) packet.now) }
     ensures within_length { IfSome result (λ outcome. outcome.steps ≤ len) }
 
-    ensures later { IsNone result → place.old < place.new }
-    ensures running { IsNone result → IsRunning (program_at (W.words words.old) from len) packet.now (place.new - from) passed_over.new machine.new.a machine.new.x cells.new }
+    ensures later { IsNone result → reached.old.place < reached.new.place }
+    ensures running { IsNone result → IsRunning (program_at (W.words words.old) from len) packet.now (reached.new.place - from) reached.new.passed_over machine.new.a machine.new.x cells.new }
 
     ensures cells { length cells.new ≡ CELL_COUNT }
     ensures words_kept { W.words words.new ≡ W.words words.old }
     ensures rest_kept { W.rest words.new ≡ W.rest words.old }
 {
     let shift = words.shift();
-    let mut number = *place + shift;
+    let mut number = reached.place + shift;
     'ready: while all || words.is_ready(number) {
         let word = words.ready_word(number);
         let insn = instruction(words, from, len, number - shift, word);
@@ -194,15 +199,15 @@ fn run_ready<W: Words>(
             Next::GoOn => {}
             Next::Skip(count) => {
                 number += count as usize;
-                *passed_over += count as usize;
+                reached.passed_over += count as usize;
             }
             Next::End(value) => {
-                let steps = (number - shift - from - *passed_over) as u32;
+                let steps = (number - shift - from - reached.passed_over) as u32;
                 return Some(Outcome { value, steps });
             }
         }
     }
-    *place = number - shift;
+    reached.place = number - shift;
     None
 }
 

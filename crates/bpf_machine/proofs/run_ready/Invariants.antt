@@ -10,7 +10,7 @@ invariant-ready g l =
     × (g.W.Words.rest l.words ≡ g.W.Words.rest l.fn.words)
     × (length l.cells ≡ CELL_COUNT)
     × (l.shift + l.from ≤ l.number)
-    × IsRunning (program_at (g.W.Words.words l.fn.words) l.from l.len) l.packet (l.number - l.shift - l.from) l.passed_over l.machine.a l.machine.x l.cells
+    × IsRunning (program_at (g.W.Words.words l.fn.words) l.from l.len) l.packet (l.number - l.shift - l.from) l.reached.passed_over l.machine.a l.machine.x l.cells
     × (g.W.Words.shift l.words ≡ l.shift)
     × (l.shift + g.W.Words.ready_from l.words ≤ l.number)
     × ((l.number < l.shift + g.W.Words.ready_to l.words) ⊎ (l.initial.number < l.number))
