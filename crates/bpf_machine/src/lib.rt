@@ -2,7 +2,7 @@
 //! docs/MACHINE.md, "The machine"). No call takes memory.
 #![tactic(auto)]
 
-ghost use Rattle.std.specs.Prelude.{◌≡◌, ◌+◌, ◌-◌, ◌<◌, ◌≤◌, IfSome, IsNone, IsTrue, List, Ok, Some, length, slice_get, ℕ};
+ghost use Rattle.std.specs.Prelude.{◌≡◌, ◌+◌, ◌-◌, ◌<◌, ◌≤◌, IfErr, IfOk, IfSome, IsTrue, List, Ok, Some, length, slice_get, ℕ};
 ghost use Rattle.bpf_insn.specs.Word.{instruction_of};
 ghost use Rattle.bpf_verify.specs.Path.{IsAt, program_at};
 ghost use Rattle.bpf_verify.specs.Accepted.{IsAccepted};
@@ -34,11 +34,14 @@ pub struct Outcome {
     pub steps: u32,
 }
 
-// How far a run has come: the place of the next instruction, and how many the jumps have passed over. The others before it were met.
-#[derive(Drop)]
-struct Reached {
+// Where a run stands: the place of the next instruction, how many instructions the jumps have passed over, and the registers. The
+// instructions before the place that no jump has passed over were met.
+#[derive(Clone, Copy)]
+struct Running {
     place: usize,
     passed_over: usize,
+    a: u32,
+    x: u32,
 }
 
 // The instruction at a place of a program, which is this word.
@@ -95,120 +98,108 @@ pub fn run_copy<W: Words, const COPY: usize>(
 {
     // A list that can be counted is short enough for its places to be numbers of this machine.
     let _count = words.count();
-    let mut machine = Registers { a: 0, x: 0 };
     let mut cells = [0; CELL_COUNT];
-    let mut reached = Reached {
+    let mut state = Running {
         place: from,
         passed_over: 0,
+        a: 0,
+        x: 0,
     };
     'running: loop {
-        if let Some(word) = words.make_ready(reached.place) {
-            let _insn = instruction(words, from, len, reached.place, word);
-            let step = step_apart(word, machine.a, machine.x, &mut cells, packet);
-            machine = Registers {
-                a: step.a,
-                x: step.x,
-            };
-            reached.place += 1;
+        if let Some(word) = words.make_ready(state.place) {
+            let _insn = instruction(words, from, len, state.place, word);
+            let step = step_apart(word, state.a, state.x, &mut cells, packet);
+            state.a = step.a;
+            state.x = step.x;
+            state.place += 1;
             match step.next {
                 Next::GoOn => continue 'running,
                 Next::Skip(count) => {
-                    reached.place += count as usize;
-                    reached.passed_over += count as usize;
+                    state.place += count as usize;
+                    state.passed_over += count as usize;
                     continue 'running;
                 }
                 Next::End(value) => {
-                    let steps = (reached.place - from - reached.passed_over) as u32;
+                    let steps = (state.place - from - state.passed_over) as u32;
                     return Outcome { value, steps };
                 }
             }
         }
-        // Where the program's last word is ready, each word of it from here on is: then the run asks about no other.
+        // Where the program's last word is ready, so are all its words from here on. Then none of them is asked about.
         let last = from + (len - 1) + words.shift();
-        let ended = if words.is_ready(last) {
-            run_ready(
-                words,
-                from,
-                len,
-                packet,
-                &mut reached,
-                &mut machine,
-                &mut cells,
-                true,
-            )
+        let ran = if words.is_ready(last) {
+            run_ready::<W, COPY, true>(words, from, len, packet, state, &mut cells)
         } else {
-            run_ready(
-                words,
-                from,
-                len,
-                packet,
-                &mut reached,
-                &mut machine,
-                &mut cells,
-                false,
-            )
+            run_ready::<W, COPY, false>(words, from, len, packet, state, &mut cells)
         };
-        if let Some(outcome) = ended {
-            return outcome;
+        match ran {
+            Ok(outcome) => return outcome,
+            Err(left) => state = left,
         }
     }
 }
 
-// Runs instructions whose words are ready, until the program ends, or the next one's word is not ready. Tells how the program ended, or
-// `None`.
+// Runs the instructions as long as their words are ready. Tells how the program ended, or where the run stands when the next word is not
+// ready.
 //
-// `all` says that the words are ready up to the program's end: then the loop asks about none. Each call has a constant for it and is
-// inlined, so there is one loop with the question and one without.
-#[inline(always)]
-fn run_ready<W: Words>(
+// `ALL` says that the words are ready up to the program's end. Then the loop asks about none. Each copy is called at one place, and is
+// inlined there for that reason, as `run_copy` is where it is called.
+fn run_ready<W: Words, const COPY: usize, const ALL: bool>(
     words: &mut W,
     from: usize,
     len: usize,
     packet: &[u8],
-    reached: &mut Reached,
-    machine: &mut Registers,
+    state: Running,
     cells: &mut [u32; CELL_COUNT],
-    all: bool,
-) -> Option<Outcome>
+) -> Result<Outcome, Running>
     requires within { from + len ≤ length (W.words words.old) }
     requires accepted { IsAccepted (program_at (W.words words.old) from len) }
     requires packet { length packet.now ≤ MAX_PACKET }
-    requires inside { from ≤ reached.old.place }
-    requires ready { (W.ready_from words.old ≤ reached.old.place) × (reached.old.place < W.ready_to words.old) }
-    requires all { IsTrue all → from + len ≤ W.ready_to words.old }
-    requires running { IsRunning (program_at (W.words words.old) from len) packet.now (reached.old.place - from) reached.old.passed_over machine.old.a machine.old.x cells.old }
-
-    ensures value { IfSome result (λ outcome. ending_of (program_at (W.words words.old) from len) packet.now ≡ Ret outcome.value) }
-    ensures steps { IfSome result (λ outcome. outcome.steps ≡ cost_of (program_at (W.words words.old) from len) packet.now) }
-    ensures within_length { IfSome result (λ outcome. outcome.steps ≤ len) }
-
-    ensures later { IsNone result → reached.old.place < reached.new.place }
-    ensures running { IsNone result → IsRunning (program_at (W.words words.old) from len) packet.now (reached.new.place - from) reached.new.passed_over machine.new.a machine.new.x cells.new }
-
+    requires inside { from ≤ state.place }
+    requires ready { (W.ready_from words.old ≤ state.place) × (state.place < W.ready_to words.old) }
+    requires all { IsTrue ALL → from + len ≤ W.ready_to words.old }
+    requires running { IsRunning (program_at (W.words words.old) from len) packet.now (state.place - from) state.passed_over state.a state.x cells.old }
+    ensures value { IfOk result (λ outcome. ending_of (program_at (W.words words.old) from len) packet.now ≡ Ret outcome.value) }
+    ensures steps { IfOk result (λ outcome. outcome.steps ≡ cost_of (program_at (W.words words.old) from len) packet.now) }
+    ensures within_length { IfOk result (λ outcome. outcome.steps ≤ len) }
+    ensures later { IfErr result (λ left. state.place < left.place) }
+    ensures running { IfErr result (λ left. IsRunning (program_at (W.words words.old) from len) packet.now (left.place - from) left.passed_over left.a left.x cells.new) }
     ensures cells { length cells.new ≡ CELL_COUNT }
     ensures words_kept { W.words words.new ≡ W.words words.old }
     ensures rest_kept { W.rest words.new ≡ W.rest words.old }
 {
+    let Running {
+        place,
+        mut passed_over,
+        a,
+        x,
+    } = state;
     let shift = words.shift();
-    let mut number = reached.place + shift;
-    'ready: while all || words.is_ready(number) {
+    let mut number = place + shift;
+    let mut machine = Registers { a, x };
+    'ready: while ALL || words.is_ready(number) {
         let word = words.ready_word(number);
         let insn = instruction(words, from, len, number - shift, word);
         number += 1;
-        match execute(machine, cells, insn, packet) {
+        match execute(&mut machine, cells, insn, packet) {
             Next::GoOn => {}
             Next::Skip(count) => {
                 number += count as usize;
-                reached.passed_over += count as usize;
+                passed_over += count as usize;
             }
             Next::End(value) => {
-                let steps = (number - shift - from - reached.passed_over) as u32;
-                return Some(Outcome { value, steps });
+                let steps = (number - shift - from - passed_over) as u32;
+                return Ok(Outcome { value, steps });
             }
         }
     }
-    reached.place = number - shift;
-    None
+    let Registers { a, x } = machine;
+    Err(Running {
+        place: number - shift,
+        passed_over,
+        a,
+        x,
+    })
 }
 
 /// Law: the meaning goes by cases on the first of the words that remain, and a jump drops words. It runs nothing.

@@ -9,8 +9,8 @@ invariant-running g l =
     (g.W.Words.words l.words ≡ g.W.Words.words l.fn.words)
     × (g.W.Words.rest l.words ≡ g.W.Words.rest l.fn.words)
     × (length l.cells ≡ CELL_COUNT)
-    × (l.from ≤ l.reached.place)
-    × IsRunning (program_at (g.W.Words.words l.fn.words) l.from l.len) l.packet (l.reached.place - l.from) l.reached.passed_over l.machine.a l.machine.x l.cells
+    × (l.from ≤ l.state.place)
+    × IsRunning (program_at (g.W.Words.words l.fn.words) l.from l.len) l.packet (l.state.place - l.from) l.state.passed_over l.state.a l.state.x l.cells
 
 abbrev pub decreases-running : goal.decreases-running
-decreases-running g l = l.from + l.len - l.reached.place
+decreases-running g l = l.from + l.len - l.state.place
