@@ -2,7 +2,7 @@
 //! docs/MACHINE.md, "The machine"). No call takes memory.
 #![tactic(auto)]
 
-ghost use Rattle.std.specs.Prelude.{◌≡◌, ◌+◌, ◌-◌, ◌<◌, ◌≤◌, IfErr, IfOk, IfSome, IsTrue, List, Ok, Some, length, slice_get, ℕ};
+ghost use Rattle.std.specs.Prelude.{◌≡◌, ◌+◌, ◌-◌, ◌<◌, ◌≤◌, IfSome, IsNone, IsTrue, List, Ok, Some, length, slice_get, ℕ};
 ghost use Rattle.bpf_insn.specs.Word.{instruction_of};
 ghost use Rattle.bpf_verify.specs.Path.{IsAt, program_at};
 ghost use Rattle.bpf_verify.specs.Accepted.{IsAccepted};
@@ -127,20 +127,21 @@ pub fn run_copy<W: Words, const COPY: usize>(
         }
         // Where the program's last word is ready, so are all its words from here on. Then none of them is asked about.
         let last = from + (len - 1) + words.shift();
-        let ran = if words.is_ready(last) {
+        let (next, end) = if words.is_ready(last) {
             run_ready::<W, COPY, true>(words, from, len, packet, state, &mut cells)
         } else {
             run_ready::<W, COPY, false>(words, from, len, packet, state, &mut cells)
         };
-        match ran {
-            Ok(outcome) => return outcome,
-            Err(left) => state = left,
+        state = next;
+        if let Some(value) = end {
+            let steps = (state.place - from - state.passed_over) as u32;
+            return Outcome { value, steps };
         }
     }
 }
 
-// Runs the instructions as long as their words are ready. Tells how the program ended, or where the run stands when the next word is not
-// ready.
+// Runs the instructions as long as their words are ready. Tells where the run stands then, and the number that the program ended with, if
+// it did. The place is behind the last instruction that was met, or where that jumped to.
 //
 // `ALL` says that the words are ready up to the program's end. Then the loop asks about none. Each copy is called at one place, and is
 // inlined there for that reason, as `run_copy` is where it is called.
@@ -151,7 +152,7 @@ fn run_ready<W: Words, const COPY: usize, const ALL: bool>(
     packet: &[u8],
     state: Running,
     cells: &mut [u32; CELL_COUNT],
-) -> Result<Outcome, Running>
+) -> (Running, Option<u32>)
     requires within { from + len ≤ length (W.words words.old) }
     requires accepted { IsAccepted (program_at (W.words words.old) from len) }
     requires packet { length packet.now ≤ MAX_PACKET }
@@ -159,11 +160,11 @@ fn run_ready<W: Words, const COPY: usize, const ALL: bool>(
     requires ready { (W.ready_from words.old ≤ state.place) × (state.place < W.ready_to words.old) }
     requires all { IsTrue ALL → from + len ≤ W.ready_to words.old }
     requires running { IsRunning (program_at (W.words words.old) from len) packet.now (state.place - from) state.passed_over state.a state.x cells.old }
-    ensures value { IfOk result (λ outcome. ending_of (program_at (W.words words.old) from len) packet.now ≡ Ret outcome.value) }
-    ensures steps { IfOk result (λ outcome. outcome.steps ≡ cost_of (program_at (W.words words.old) from len) packet.now) }
-    ensures within_length { IfOk result (λ outcome. outcome.steps ≤ len) }
-    ensures later { IfErr result (λ left. state.place < left.place) }
-    ensures running { IfErr result (λ left. IsRunning (program_at (W.words words.old) from len) packet.now (left.place - from) left.passed_over left.a left.x cells.new) }
+    ensures value { IfSome result.1 (λ value. ending_of (program_at (W.words words.old) from len) packet.now ≡ Ret value) }
+    ensures steps { IfSome result.1 (λ _. result.0.place - from - result.0.passed_over ≡ cost_of (program_at (W.words words.old) from len) packet.now) }
+    ensures inside { (from + result.0.passed_over ≤ result.0.place) × (result.0.place ≤ from + len) }
+    ensures later { IsNone result.1 → state.place < result.0.place }
+    ensures running { IsNone result.1 → IsRunning (program_at (W.words words.old) from len) packet.now (result.0.place - from) result.0.passed_over result.0.a result.0.x cells.new }
     ensures cells { length cells.new ≡ CELL_COUNT }
     ensures words_kept { W.words words.new ≡ W.words words.old }
     ensures rest_kept { W.rest words.new ≡ W.rest words.old }
@@ -188,18 +189,23 @@ fn run_ready<W: Words, const COPY: usize, const ALL: bool>(
                 passed_over += count as usize;
             }
             Next::End(value) => {
-                let steps = (number - shift - from - passed_over) as u32;
-                return Ok(Outcome { value, steps });
+                let ended = Running {
+                    place: number - shift,
+                    passed_over,
+                    ..state
+                };
+                return (ended, Some(value));
             }
         }
     }
     let Registers { a, x } = machine;
-    Err(Running {
+    let next = Running {
         place: number - shift,
         passed_over,
         a,
         x,
-    })
+    };
+    (next, None)
 }
 
 /// Law: the meaning goes by cases on the first of the words that remain, and a jump drops words. It runs nothing.
