@@ -1,6 +1,6 @@
 -- Words of the version that is held: where they stand, and what a fetch of them gives.
 use Rattle.std.proofs.Common.{◌≡◌, ℕ, ◌*◌, ◌+◌, ◌-◌, ◌<◌, ◌≤◌, List, [], Some, ap, arith, get_or, inl, inr, length, refl, slice_get, slice_index, slice_index_or, subst, sym, ◌∙◌}
-use Rattle.std.proofs.lemmas.Option.{get_or_from_slice_get, slice_get-get_or}
+use Rattle.std.proofs.lemmas.Option.{slice_get-get_or}
 use mathlib.Core.Option.{some}
 use lib.ListN.{get_elem?}
 use Rattle.config_image.specs.declared.TheConstants.{ROW_WORDS}

@@ -2,12 +2,12 @@
 use Rattle.std.proofs.Common.{◌≡◌, ℕ, ◌*◌, ◌+◌, ◌-◌, ◌/◌, ◌%◌, ◌^◌, ◌<◌, ◌≤◌, List, Some, ap, arith, inl, inr, length, slice_get, slice_index, subst, sym, ◌∙◌}
 use Rattle.std.proofs.lemmas.Bool.{cases_lt}
 use Rattle.std.proofs.lemmas.Option.{get_or_from_slice_get}
-use Rattle.config_image.specs.declared.TheConstants.{PAGE_LIMIT, PAGE_WORDS, ROW_WORDS}
+use Rattle.config_image.specs.declared.TheConstants.{PAGE_LIMIT, ROW_WORDS}
 use Rattle.config_image.specs.Image.{Group, image, programs_begin}
 use Rattle.config_image.specs.Pooled.{ArePages, PooledRowTells, part_begin, parts, pooled_row}
 use Rattle.part_search.specs.declared.found.FoundPart.{FoundPart}
 use Rattle.part_search.specs.Names.{HoldsPlace, IsWithin, page_of, start_of}
-use Rattle.versions.specs.declared.layout.TheConstants.{POOL_BEGIN, ROWS_BEGIN}
+use Rattle.versions.specs.declared.layout.TheConstants.{ROWS_BEGIN}
 use Rattle.versions.specs.declared.view.Stage.TheVariants.{Inside}
 use Rattle.versions.specs.Layout.{page_begin}
 use Rattle.versions.specs.Safety.{IsHeldPlace}

@@ -1,4 +1,4 @@
-use Rattle.std.proofs.Common.{◌*◌, ◌+◌, ◌-◌, ◌/◌, ◌^◌, ◌≤◌, [], Some, arith, refl, slice_get, slice_index_or, subst, suc, sym, ℕ, ◌%◌, ◌<◌, ◌∙◌, ◌≡◌}
+use Rattle.std.proofs.Common.{◌*◌, ◌+◌, ◌-◌, ◌/◌, ◌^◌, [], Some, arith, slice_get, slice_index_or, subst, suc, sym, ℕ, ◌%◌, ◌<◌, ◌∙◌, ◌≡◌}
 use Rattle.config_image.specs.declared.TheConstants.{ROW_WORDS}
 use Rattle.part_search.specs.Names.{HoldsPlace, IsWithin, page_of, start_of}
 use Rattle.part_search.specs.Search.{IsSearchOf}
