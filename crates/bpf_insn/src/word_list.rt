@@ -31,9 +31,9 @@ pub trait Words {
         ensures words_kept { words self.new ≡ words self.old }
         ensures rest_kept { rest self.new ≡ rest self.old };
 
-    /// Makes word `i` ready, and words behind it, as many as it likes; or answers the word, as `word` does, where it cannot. Programs are
-    /// run by this call and the next three: they go from each place to a later one. So an implementor may make it fast to go on from a
-    /// word that was read. After a call of `word` no word need be ready.
+    /// Makes word `i` ready, and words behind it, as many as it likes; or answers the word, as `word` does. Programs are run by this call
+    /// and the next three: they go from each place to a later one. So an implementor may make it fast to go on from a word that was
+    /// read. After a call of `word`, or of this one that answers, no word need be ready.
     fn make_ready(&mut self, i: usize) -> Option<u64>
         requires { i < length (words self.old) }
         ensures ready { IsNone result → (ready_from self.new ≤ i) × (i < ready_to self.new) }
@@ -49,7 +49,7 @@ pub trait Words {
         ensures room { result + length (words self.now) < 2 ^ 64 };
 
     /// Tells whether the number stands before the end of the words that are ready. So it tells whether the word of this number is ready, if
-    /// that is not before the first ready one; and where it is ready, so are all words between the two.
+    /// that is not before the first ready one. If it is ready, so are all words from the first ready one to it.
     fn is_ready(&self, number: usize) -> bool
         requires { number < shift self.now + length (words self.now) }
         ensures { IsTrue result ↔ (number < shift self.now + ready_to self.now) };

@@ -141,7 +141,7 @@ pub fn run_copy<W: Words, const COPY: usize>(
 }
 
 // Runs the instructions as long as their words are ready. Tells where the run stands then, and the number that the program ended with, if
-// it did. The place is behind the last instruction that was met, or where that jumped to.
+// it did. The place is behind the last instruction that was met, or where that jumped to. At an end A and X are not told.
 //
 // `ALL` says that the words are ready up to the program's end. Then the loop asks about none. Each copy is called at one place, and is
 // inlined there for that reason, as `run_copy` is where it is called.

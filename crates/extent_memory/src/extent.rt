@@ -1,6 +1,6 @@
 //! Words of an image that stand one behind the other in a table, too.
 
-/// So many words of an image, one behind the other, and where they stand.
+/// A run of words of an image, and where they stand.
 #[derive(Clone, Copy, Debug, PartialEq, Eq)]
 pub struct Extent {
     /// The number of the version whose image has the words.

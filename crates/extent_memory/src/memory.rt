@@ -86,8 +86,8 @@ impl ExtentMemory {
         self.form = form;
     }
 
-    /// The extent that was kept for a place of the image, where it is of the memory's version and the place is in it. An extent is kept for
-    /// the one place that `keep` is told, and until another takes its slot.
+    /// The extent that the slot of a place has, where it is of the memory's version and the place is in it. It was kept for this place, or
+    /// for another one of the slot.
     #[inline(always)]
     pub fn recall(&self, place: usize) -> Option<Extent>
         ensures kept { IfSome result (λ extent. IsKept self.now extent × Holds extent place) }
@@ -102,9 +102,10 @@ impl ExtentMemory {
         }
     }
 
-    /// Keeps an extent of the memory's version for a place, in place of what was kept in that slot.
+    /// Keeps an extent of the memory's version for a place of it, instead of what the place's slot had.
     pub fn keep(&mut self, place: usize, extent: Extent)
         requires version { extent.version ≡ self.old.version }
+        requires holds { Holds extent place }
         ensures version { self.new.version ≡ self.old.version }
         ensures form { self.new.form ≡ self.old.form }
         ensures kept { self.new.extents ≡ slice_set self.old.extents (slot_of place) extent }

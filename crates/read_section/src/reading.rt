@@ -75,8 +75,8 @@ fn read_name(worker: &mut Worker, row: usize, form: u64, index: usize) -> u64
     }
 }
 
-// The extent that has word i, by a search among the names. It goes on in the parts behind the one that was found, as long as they stand
-// in the pages behind: their names are read, unless the search has made as many reads as a search may make.
+// An extent that has word i, by a search among the names. It goes on behind the part that was found as long as each part has a whole
+// page of words and the next one stands in the next page: further names are read, unless as many were read as a search may read.
 fn search_extent(worker: &mut Worker, row: usize, form: u64, i: usize) -> Extent
     requires { IsSought worker.old.view row form i }
     ensures found { IsExtentIn worker.old.view result }
@@ -92,7 +92,7 @@ fn search_extent(worker: &mut Worker, row: usize, form: u64, i: usize) -> Extent
     let found = search.found();
     let at = found.start();
     let shift = page_place(found.name) - at;
-    // The part behind the extent, and its name.
+    // The index of the part behind the extent, and its name, as `read_name` tells it.
     let mut index = found.index + 1;
     let mut next = found.next;
     while reads < READ_LIMIT
@@ -103,6 +103,7 @@ fn search_extent(worker: &mut Worker, row: usize, form: u64, i: usize) -> Extent
         next = read_name(worker, row, form, index);
         reads += 1;
     }
+    // The memory gives it its version.
     Extent {
         version: 0,
         at,

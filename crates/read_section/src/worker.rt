@@ -13,7 +13,7 @@ ghost use Rattle.read_section.specs.Section.{EndsInFetches, HoldsLastSeen, borro
 ghost use Rattle.read_section.specs.View.{Shows};
 ghost use Rattle.read_section.specs.Worker.{Enters, IsOutside, left, steps};
 ghost use Rattle.read_section.specs.Operator.{Meets};
-ghost use Rattle.read_section.specs.body.Found.{IsFormIn, IsExtentIn, TellsForm, TellsExtent};
+ghost use Rattle.read_section.specs.body.Found.{IsExtentIn, IsFormIn, TellsExtent, TellsForm};
 ghost use Rattle.read_section.specs.body.Remembered.{IsBlank, IsFirstSeen};
 ghost use Rattle.read_section.specs.body.Steps.{SeesWord};
 
@@ -143,7 +143,8 @@ impl Worker {
     }
 
     pub(crate) fn keep_extent(&mut self, i: usize, extent: Extent)
-        requires { IsExtentIn self.old.view extent }
+        requires is { IsExtentIn self.old.view extent }
+        requires holds { Holds extent i }
         ensures { self.new ≡ self.old }
     {
         let version = self.memory.version();

@@ -7,7 +7,7 @@ use Rattle.versions.specs.declared.view.Stage.TheVariants.{Inside}
 use Rattle.versions.specs.declared.view.WorkerView.{WorkerView}
 use Rattle.versions.specs.View.{last_pinned}
 use Rattle.versions.specs.Table.{the_shape}
-use Rattle.read_section.specs.body.Found.{IsFormOf, IsExtentOf}
+use Rattle.read_section.specs.body.Found.{IsExtentOf, IsFormOf}
 
 -- the version that the memory is of, as the worker has seen it
 abbrev pub remembered : WorkerView (List Group) → MemoryValue → List Group

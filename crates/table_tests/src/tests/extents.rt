@@ -55,8 +55,17 @@ fn three_groups(alloc: Global, counts: [usize; 3]) -> Result<Config, Fail> {
     Ok(config)
 }
 
-// Makes a word ready, and counts the words that are ready from it on.
-fn ready_count<W: Words>(words: &mut W, i: usize) -> usize
+// What a program of loads has at a place of the image, if it has all places from the first to the last of these.
+fn load_at(first: usize, last: usize, place: usize) -> u64 {
+    if place == last {
+        RETURN
+    } else {
+        place.wrapping_sub(first).wrapping_add(1) as u64
+    }
+}
+
+// Makes word i of a program of loads ready, and counts the words that are ready from it on. 0 is for a word that is another one.
+fn ready_count<W: Words>(words: &mut W, first: usize, last: usize, i: usize) -> usize
     ensures words_kept { W.words words.new ≡ W.words words.old }
 {
     let count = words.count();
@@ -68,8 +77,11 @@ fn ready_count<W: Words>(words: &mut W, i: usize) -> usize
     }
     let shift = words.shift();
     let mut ready = 0usize;
-    for end in i..count {
-        if words.is_ready(end + shift) {
+    for place in i..count {
+        if words.is_ready(place + shift) {
+            if words.ready_word(place + shift) != load_at(first, last, place) {
+                return 0;
+            }
             ready = ready.saturating_add(1);
         }
     }
@@ -86,27 +98,36 @@ fn word<W: Words>(words: &mut W, i: usize) -> Option<u64>
     }
 }
 
-// From a place on, extents of these lengths have the words of a program of loads.
-fn extents_are<W: Words>(rt: &impl Abort, words: &mut W, begin: usize, lengths: &[usize]) {
-    let mut at = begin;
-    let mut k = 1u64;
+// A program of loads begins at a place, and its extents have these lengths.
+fn extents_are<W: Words>(rt: &impl Abort, words: &mut W, first: usize, lengths: &[usize]) {
+    let mut end = first;
     for length in lengths {
-        assert_eq!(rt; ready_count(words, at), *length, "from word {at}");
-        for _ in 0..*length {
-            let read = word(words, at);
-            assert!(rt; read == Some(k) || read == Some(RETURN), "word {at}");
-            at = at.wrapping_add(1);
-            k = k.wrapping_add(1);
-        }
+        end = end.wrapping_add(*length);
     }
-    assert_eq!(rt; word(words, at.wrapping_sub(1)), Some(RETURN));
+    let last = end.wrapping_sub(1);
+    let mut at = first;
+    for length in lengths {
+        assert_eq!(rt;
+            ready_count(words, first, last, at),
+            *length,
+            "from word {at}"
+        );
+        at = at.wrapping_add(*length);
+    }
+    for place in first..end {
+        assert_eq!(rt;
+            word(words, place),
+            Some(load_at(first, last, place)),
+            "word {place}"
+        );
+    }
 }
 
-// The same twice in a section of its own: the second time the worker remembers them.
-fn reads_extents(rt: &impl Abort, worker: &mut Worker, begin: usize, lengths: &[usize]) {
+// The same twice, each time in a section of its own, whether the words are searched for or remembered.
+fn reads_extents(rt: &impl Abort, worker: &mut Worker, first: usize, lengths: &[usize]) {
     for _ in 0..2 {
         let mut section = worker.enter();
-        extents_are(rt, &mut section, begin, lengths);
+        extents_are(rt, &mut section, first, lengths);
         section.leave();
     }
 }
@@ -170,14 +191,16 @@ fn program_in_pages_that_lie_apart(rt: HostRuntime) -> Result<(), Fail> {
 fn extents_of_the_version_before_are_forgotten(rt: HostRuntime) -> Result<(), Fail> {
     let config = three_groups(rt.alloc(), [1, 40, 1])?;
     let (mut operator, mut worker) = opened(rt.alloc(), config)?;
+    assert!(&rt; pages_are(&operator, &[0, 1, 2, 3, 4]));
     reads_extents(&rt, &mut worker, FIRST + 1, &[40]);
     assert!(&rt; selects(rt.alloc(), &mut operator, 30)?);
+    assert!(&rt; pages_are(&operator, &[0, 5, 6, 4]));
     reads_extents(&rt, &mut worker, FIRST + 1, &[30]);
     reads_extents(&rt, &mut worker, FIRST + 31, &[1]);
     Ok(())
 }
 
-// Of 34 names a search needs six, or five where the halves are small: the other reads are made for the parts behind.
+// Of 34 names a search needs six, or five for some places. The reads that are left of eleven are made for the parts behind.
 #[test]
 fn long_program_has_several_extents(rt: HostRuntime) -> Result<(), Fail> {
     let config = three_groups(rt.alloc(), [500, 1, 1])?;

@@ -8,5 +8,5 @@ use Rattle.read_section.proofs.worker.Worker.keep_extent.Goals as goal
 pub invariant_of-self : goal.invariant_of-self
 invariant_of-self c = let seat = c.self.inside.seat in let kept : Extent = record c.args.extent { version = c.version-version.result } in (
   c.self.invariant.0,
-  remember_extent seat.view c.self.inside.memory c.self.invariant.1 c.keep.new.self kept (subst (λ (w : WorkerValue). IsExtentIn w.view kept) (sym c.self.view_is) c.requires) c.keep.ensures.version c.keep.ensures.form c.keep.ensures.others,
+  remember_extent seat.view c.self.inside.memory c.self.invariant.1 c.keep.new.self kept (subst (λ (w : WorkerValue). IsExtentIn w.view kept) (sym c.self.view_is) c.requires.is) c.keep.ensures.version c.keep.ensures.form c.keep.ensures.others,
 )
