@@ -1,19 +1,10 @@
-//! The program's commands over streams in memory.
+//! The program's commands over streams in memory: what no session on the built program shows.
 
-mod captures;
-mod example_files;
-mod example_scripts;
-mod examples;
-mod explaining;
-mod expressions;
 mod failures;
 mod flood;
-mod formats;
-mod packets;
-mod programs;
 mod replay;
 mod streams;
-mod tell;
+mod telling;
 mod words;
 
 use std::alloc::{AllocError, Global};
@@ -134,42 +125,6 @@ fn assert_wrote<C: Debug>(
         (Some(status), Some(text), Some(errs)),
         "{case:?}"
     );
-}
-
-/// Runs the words on an input, which give this status and this text, and nothing on standard error.
-fn assert_told(
-    rt: &impl Abort,
-    alloc: Global,
-    words: &[&str],
-    input: &str,
-    status: u8,
-    text: &str,
-) -> Result<(), Fail> {
-    let told = told(alloc, words, input.as_bytes())?;
-    assert_wrote(rt, &told, status, text, "", &(words, input));
-    Ok(())
-}
-
-/// The words have a fault, of which standard error tells, and nothing is written.
-fn assert_misused(
-    rt: &impl Abort,
-    alloc: Global,
-    words: &[&str],
-    input: &[u8],
-) -> Result<(), Fail> {
-    let told = told(alloc, words, input)?;
-    let out = &told.out;
-    assert_eq!(rt;
-        (told.status, out.text(), out.writes),
-        (Some(2), Some(""), 0),
-        "{words:?}"
-    );
-    let fault = told.errs.text().unwrap_or("");
-    assert!(rt;
-        fault.starts_with("error: ") && fault.ends_with('\n'),
-        "{words:?}: {fault}"
-    );
-    Ok(())
 }
 
 /// The words are left to `main`, and nothing is written.

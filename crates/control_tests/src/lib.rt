@@ -1,4 +1,5 @@
-//! Tests of control lines and of scripts, through what their crates give out.
+//! Tests of what no command shows of control lines and scripts: failing streams, a worker that stays inside, codes that no line has, and
+//! the bytes of packets and programs. Sessions have the others.
 #![tactic(auto)]
 
 #[cfg(test)]

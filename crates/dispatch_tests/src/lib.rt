@@ -1,4 +1,4 @@
-//! Tests of verdicts, tallies, batches, jobs and workers.
+//! Tests of tallies, batches, jobs and workers. Sessions have the verdicts.
 #![tactic(auto)]
 
 #[cfg(test)]

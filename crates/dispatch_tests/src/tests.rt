@@ -1,9 +1,8 @@
-//! Verdicts, tallies, batches, jobs and workers' threads, worked by hand.
+//! Tallies, batches, jobs and workers' threads, worked by hand.
 
 mod batches;
-mod changed_packets;
+mod configurations;
 mod devices;
 mod jobs;
 mod tallies;
-mod verdicts;
 mod workers;

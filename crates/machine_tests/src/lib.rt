@@ -1,4 +1,5 @@
-//! Tests of the machine and of packets: words of instructions, the verifier, runs of programs, header fields and endpoints.
+//! Tests of what no command shows of programs and packets: words of a slice, the verifier on a part of a list, clones, and the order of
+//! endpoints. Sessions and the rows of program_rows have the others.
 #![tactic(auto)]
 
 #[cfg(test)]

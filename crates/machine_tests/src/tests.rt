@@ -1,6 +1,5 @@
-//! Tests of instructions, of the verifier, of the machine, and of packets.
+//! Tests of instructions, of the verifier, and of packets.
 
 mod instructions;
-mod machine;
 mod packets;
 mod verifier;

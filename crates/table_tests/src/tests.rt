@@ -7,6 +7,8 @@ mod pages;
 mod pooled;
 mod publications;
 mod random_steps;
+mod replacing;
 mod sections;
 mod sharing;
+mod tables;
 mod worlds;

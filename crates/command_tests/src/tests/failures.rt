@@ -1,7 +1,7 @@
-//! Streams that fail: each read and each write in turn, and the flush.
+//! Streams that fail: each read and each write in turn, and the flush. Commands that do not read.
 
 use super::streams::{Sink, Source};
-use super::{FIRST, SAMPLE_PACKET, run_into, run_on, told};
+use super::{FIRST, SAMPLE_PACKET, assert_wrote, run_into, run_on, told};
 use std::alloc::{AllocError, Global};
 use std::io::{ErrorKind, Read};
 use std::process::Abort;
@@ -159,31 +159,62 @@ fn read_without_memory_is_e3(rt: HostRuntime) -> Result<(), Fail> {
     expect_failure(&rt, rt.alloc(), &["check"], input, &mut out, "failed E3\n")
 }
 
-// What commands that read no input print.
-const UNREAD: [(&[&str], &str); 5] = [
-    (&["first"], FIRST),
-    (&["--version"], "dswitch 0.2.0\n"),
-    (&["compile", ""], "refused P1 0\n"),
-    (&["run", "--packet", "", "--expr", "ip"], "reject\n"),
-    (&["explain", "G8"], G8),
+// What commands that read no input print, after their status.
+const UNREAD: [(&[&str], u8, &str); 5] = [
+    (&["first"], 0, FIRST),
+    (&["--version"], 0, "dswitch 0.2.0\n"),
+    (&["compile", ""], 1, "refused P1 0\n"),
+    (&["run", "--packet", "", "--expr", "ip"], 0, "reject\n"),
+    (&["explain", "G8"], 0, G8),
 ];
 
-// The command prints this text and reads nothing.
-fn assert_unread(rt: &impl Abort, alloc: Global, words: &[&str], text: &str) -> Result<(), Fail> {
+// The command ends with this status, prints this text and reads nothing.
+fn assert_unread(
+    rt: &impl Abort,
+    alloc: Global,
+    words: &[&str],
+    status: u8,
+    text: &str,
+) -> Result<(), Fail> {
     let mut input = Source::open(PROGRAM, 7);
     let told = run_on(alloc, words, &mut input)?;
-    assert_eq!(rt;
-        (told.out.text(), input.reads),
-        (Some(text), 0),
-        "{words:?}"
-    );
+    assert_wrote(rt, &told, status, text, "", &text);
+    assert_eq!(rt; input.reads, 0, "{text}");
     Ok(())
 }
 
 #[test]
 fn other_commands_read_nothing(rt: HostRuntime) -> Result<(), Fail> {
-    for (words, text) in &UNREAD {
-        assert_unread(&rt, rt.alloc(), words, text)?;
+    for (words, status, text) in &UNREAD {
+        assert_unread(&rt, rt.alloc(), words, *status, text)?;
+    }
+    Ok(())
+}
+
+// The packet is refused by this line before the program is read, and before the expression is looked at: it is none.
+fn assert_bad_packet(rt: &impl Abort, alloc: Global, packet: &str, line: &str) -> Result<(), Fail> {
+    assert_unread(rt, alloc, &["run", "--packet", packet], 1, line)?;
+    let words = ["run", "--packet", packet, "--expr", "udp and"];
+    assert_unread(rt, alloc, &words, 1, line)
+}
+
+// So many times the digit 4, and the last one.
+fn put_digits(text: &mut String, fours: usize, last: char) -> Result<(), AllocError> {
+    for _ in 0..fours {
+        text.push('4')?;
+    }
+    text.push(last)
+}
+
+// Both are longer than a word of a command line may be. The first has no digit at its end.
+const LONG: [(char, &str); 2] = [('g', "refused C1\n"), ('4', "refused C3\n")];
+
+#[test]
+fn bad_hex_comes_first(rt: HostRuntime) -> Result<(), Fail> {
+    for (last, line) in &LONG {
+        let mut packet = String::new(rt.alloc());
+        put_digits(&mut packet, 131_071, *last)?;
+        assert_bad_packet(&rt, rt.alloc(), packet.as_str(), line)?;
     }
     Ok(())
 }

@@ -1,7 +1,7 @@
-//! `flood`: its totals, that its workers start together, and the words that ask for it.
+//! `flood`: that its workers start together, its totals where it has no datagram, and what it does as `main` runs it.
 
 use super::streams::{Sink, Source};
-use super::{assert_misused, assert_wrote, run_as_main};
+use super::{assert_wrote, run_as_main};
 use dispatch::Gate;
 use std::alloc::Global;
 use std::process::Abort;
@@ -10,7 +10,7 @@ use std::sync::atomic::{AtomicU64, Ordering};
 use std::test::Fail;
 use std::thread;
 use std::thread::Threads;
-use worker_commands::{DATAGRAMS, ServeFault, flood};
+use worker_commands::{ServeFault, flood};
 
 const TOTALS: &str =
     "malformed 1024 nogroup 1024 nomembers 0 dropped 0 delivered 2048 sendfailed 0 receivefailed 0\n";
@@ -32,39 +32,12 @@ impl Gate for Open {
     fn done(&self, _batch: u64) {}
 }
 
-// So many workers flood with so many datagrams, which are counted so.
-fn assert_flooded<R: Threads + Wait + Sync + Abort>(
-    rt: &R,
-    alloc: Global,
-    workers: usize,
-    datagrams: usize,
-    text: &str,
-) {
-    assert!(rt; 1 <= workers && workers <= 64, "{workers} workers");
-    let mut out = Sink::open(alloc);
-    let result = flood(rt, alloc, workers, datagrams, &Open, &mut out);
-    assert_eq!(rt;
-        (result, out.text()),
-        (Ok(()), Some(text)),
-        "{workers} workers"
-    );
-}
-
-#[test]
-fn flood_totals_for_any_worker_count(rt: HostRuntime) {
-    for workers in [1usize, 16, 64] {
-        assert_flooded(&rt, rt.alloc(), workers, DATAGRAMS, TOTALS);
-    }
-}
-
-const FEW: [(usize, usize, &str); 4] = [(64, 5, FIVE), (3, 0, NONE), (1, 5, FIVE), (3, 8, EIGHT)];
-
-// Most of these workers have no datagram.
+// No line of words asks for no datagram.
 #[test]
 fn flood_of_few_datagrams(rt: HostRuntime) {
-    for (workers, datagrams, text) in &FEW {
-        assert_flooded(&rt, rt.alloc(), *workers, *datagrams, text);
-    }
+    let mut out = Sink::open(rt.alloc());
+    let result = flood(&rt, rt.alloc(), 3, 0, &Open, &mut out);
+    assert_eq!(rt; (result, out.text()), (Ok(()), Some(NONE)));
 }
 
 // Two first batches that wait for each other, each for so many turns at most.
@@ -165,54 +138,6 @@ fn flood_is_left_to_main(rt: HostRuntime) -> Result<(), Fail> {
     for (words, text) in &FLOODS {
         let told = run_as_main(&rt, rt.alloc(), words, Source::open(b"", 1))?;
         assert_wrote(&rt, &told, 0, text, "", words);
-    }
-    Ok(())
-}
-
-const WRONG_WORKERS: [&[&str]; 9] = [
-    &["flood"],
-    &["flood", "--workers"],
-    &["flood", "--workers", "0"],
-    &["flood", "--workers", "65"],
-    &["flood", "--workers", "-1"],
-    &["flood", "--workers", "x"],
-    &["flood", "--workers", ""],
-    &["flood", "4"],
-    &["flood", "--workers", "4", "--workers", "4"],
-];
-
-#[test]
-fn sixty_five_workers_is_a_usage_fault(rt: HostRuntime) -> Result<(), Fail> {
-    for words in &WRONG_WORKERS {
-        assert_misused(&rt, rt.alloc(), words, b"")?;
-    }
-    Ok(())
-}
-
-const WRONG_DATAGRAMS: [&[&str]; 9] = [
-    &["flood", "--datagrams", "8"],
-    &["flood", "--workers", "4", "--datagrams"],
-    &["flood", "--workers", "4", "--datagrams", "0"],
-    &["flood", "--workers", "4", "--datagrams", "16777217"],
-    &["flood", "--workers", "4", "--datagrams", "-1"],
-    &["flood", "--workers", "4", "--datagrams", "x"],
-    &["flood", "--workers", "4", "--datagrams", "1.5"],
-    &["flood", "--workers", "4", "--datagrams", ""],
-    &[
-        "flood",
-        "--workers",
-        "4",
-        "--datagrams",
-        "8",
-        "--datagrams",
-        "8",
-    ],
-];
-
-#[test]
-fn a_number_of_datagrams_out_of_range_is_a_usage_fault(rt: HostRuntime) -> Result<(), Fail> {
-    for words in &WRONG_DATAGRAMS {
-        assert_misused(&rt, rt.alloc(), words, b"")?;
     }
     Ok(())
 }

@@ -1,8 +1,7 @@
-//! The command `replay`: a session with its packets, the scripts of examples/, and input that fails.
+//! The command `replay`: its writes, input that fails and output that fails.
 
-use super::example_scripts::SCRIPTS;
 use super::streams::{Sink, Source};
-use super::{assert_told, assert_wrote, run_into, run_on, told};
+use super::{assert_wrote, run_into, run_on, told};
 use std::alloc::{AllocError, Global};
 use std::io::ErrorKind;
 use std::process::Abort;
@@ -71,20 +70,6 @@ fn writes_have_whole_lines(rt: HostRuntime) -> Result<(), Fail> {
     Ok(())
 }
 
-#[test]
-fn script_through_the_command(rt: HostRuntime) -> Result<(), Fail> {
-    assert_told(&rt, rt.alloc(), &["replay"], SCRIPT, 0, REPLIES)?;
-    assert_told(&rt, rt.alloc(), &["replay"], "", 0, "")?;
-    assert_told(
-        &rt,
-        rt.alloc(),
-        &["replay"],
-        "show",
-        0,
-        "version 0 groups 0 members 0 charge 2\n",
-    )
-}
-
 const SHORT_SCRIPT: &[u8] = b"add 10.0.0.2:53\nshow\nsweep";
 
 // How many reads of six bytes are made, and the replies.
@@ -116,40 +101,6 @@ fn both(alloc: Global) -> Result<String, AllocError> {
     let mut text = String::from_str(alloc, REPLIES)?;
     text.push_str(SUMMARY)?;
     Ok(text)
-}
-
-fn assert_summaries(rt: &impl Abort, alloc: Global, all: &str) -> Result<(), Fail> {
-    assert_told(rt, alloc, &["replay", "--summary"], SCRIPT, 0, all)?;
-    let words = ["replay", "--summary", "--quiet"];
-    assert_told(rt, alloc, &words, SCRIPT, 0, SUMMARY)?;
-    assert_told(rt, alloc, &words, "show\nsweep", 0, "")?;
-    assert_told(rt, alloc, &["replay", "--quiet"], SCRIPT, 0, "")
-}
-
-#[test]
-fn summary_is_asked_for(rt: HostRuntime) -> Result<(), Fail> {
-    let all = both(rt.alloc())?;
-    assert_summaries(&rt, rt.alloc(), &all)
-}
-
-// Verdicts without a member, and packets that are no good digits. The last line has no LF.
-#[test]
-fn summary_has_each_verdict(rt: HostRuntime) -> Result<(), Fail> {
-    let script = "packet 45\n\
-        packet 4500001d00000000401100000a0000010a000002138800350009000061\n\
-        packet\n\
-        packet 4\n\
-        packet \n\
-        add 10.0.0.2:53\n\
-        packet 4500001d00000000401100000a0000010a000002138800350009000061";
-    assert_told(
-        &rt,
-        rt.alloc(),
-        &["replay", "--quiet", "--summary"],
-        script,
-        0,
-        "malformed 2\nnogroup 1\nnomembers 1\nrefused C1 2\n",
-    )
 }
 
 // So many writes are taken, of the two that give all.
@@ -192,14 +143,6 @@ fn failed_read_has_no_summary(rt: HostRuntime) -> Result<(), Fail> {
         let input = Source::new(b"packet 45\nshow\n", 10, 1, ErrorKind::BrokenPipe);
         let told = run_on(rt.alloc(), words, input)?;
         assert_wrote(&rt, &told, 3, replies, "failed E1\n", words);
-    }
-    Ok(())
-}
-
-#[test]
-fn scripts_of_the_examples(rt: HostRuntime) -> Result<(), Fail> {
-    for (script, replies) in &SCRIPTS {
-        assert_told(&rt, rt.alloc(), &["replay"], script, 0, replies)?;
     }
     Ok(())
 }

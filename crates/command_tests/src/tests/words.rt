@@ -1,52 +1,11 @@
-//! Words that name no command, help and the version, the command `first`, and the words of `serve` and `tell`.
+//! Words that are left to `main`, and memory that is refused while they are read.
 
+use super::assert_left;
 use super::streams::Sink;
-use super::{FIRST, assert_left, assert_misused, assert_told, told};
 use command_line::{Failure, Status, refuse_arguments};
-use std::alloc::Global;
 use std::io;
 use std::io::ErrorKind;
-use std::process::Abort;
 use std::test::Fail;
-
-// The group 10.0.0.2:53 has the program as its selector, and it runs where the image says.
-#[test]
-fn first_runs_the_selector(rt: HostRuntime) -> Result<(), Fail> {
-    assert_told(&rt, rt.alloc(), &["first"], "", 0, FIRST)
-}
-
-const WRONG: [&[&str]; 22] = [
-    &[],
-    &[""],
-    &["second"],
-    &["First"],
-    &["first", "first"],
-    &["--loud"],
-    &["help", "second"],
-    &["check", "ret #0"],
-    &["check", "--packet", "00"],
-    &["compile"],
-    &["compile", "ip", "ip"],
-    &["compile", "--expr", "ip"],
-    &["compile", "-1 = 1"],
-    &["run"],
-    &["run", "--packet"],
-    &["run", "4500"],
-    &["run", "--expr", "ip"],
-    &["run", "--packet", "00", "--packet", "00"],
-    &["run", "--packet", "00", "--expr"],
-    &["explain"],
-    &["explain", "G3", "G4"],
-    &["explain", "-G3"],
-];
-
-#[test]
-fn wrong_words_are_refused(rt: HostRuntime) -> Result<(), Fail> {
-    for words in &WRONG {
-        assert_misused(&rt, rt.alloc(), words, b"ret #0")?;
-    }
-    Ok(())
-}
 
 // An address whose port the system picks.
 const ANY_PORT: &str = "127.0.0.1:0";
@@ -76,38 +35,6 @@ fn serve_is_left_to_main(rt: HostRuntime) -> Result<(), Fail> {
     Ok(())
 }
 
-const WRONG_SERVE: [&[&str]; 7] = [
-    &["serve"],
-    &["serve", "--control", ANY_PORT, "--workers", "4"],
-    &["serve", "--front", ANY_PORT, "--workers", "4"],
-    &["serve", "--front", ANY_PORT, "--control", ANY_PORT],
-    &["serve", "--front", "--control", ANY_PORT, "--workers", "4"],
-    &["serve", ANY_PORT, ANY_PORT, "4"],
-    &["serve", "--workers", "4"],
-];
-
-const WRONG_WORKERS: [&str; 5] = ["0", "65", "-1", "x", ""];
-
-#[test]
-fn serve_of_wrong_words_is_misused(rt: HostRuntime) -> Result<(), Fail> {
-    for words in &WRONG_SERVE {
-        assert_misused(&rt, rt.alloc(), words, b"ret #0")?;
-    }
-    for workers in &WRONG_WORKERS {
-        let words = [
-            "serve",
-            "--front",
-            ANY_PORT,
-            "--control",
-            ANY_PORT,
-            "--workers",
-            *workers,
-        ];
-        assert_misused(&rt, rt.alloc(), &words, b"ret #0")?;
-    }
-    Ok(())
-}
-
 // With lines, options between them, and none.
 const TELL: [&[&str]; 4] = [
     &["tell", "--control", "127.0.0.1:5301"],
@@ -128,85 +55,6 @@ const TELL: [&[&str]; 4] = [
 fn tell_is_left_to_main(rt: HostRuntime) -> Result<(), Fail> {
     for words in &TELL {
         assert_left(&rt, rt.alloc(), words, b"show")?;
-    }
-    Ok(())
-}
-
-const WRONG_TELL: [&[&str]; 5] = [
-    &["tell"],
-    &["tell", "show"],
-    &["tell", "--control"],
-    &["tell", "--control", "x", "--wait", "1"],
-    &["tell", "--control", "x", "--timeout"],
-];
-
-const WRONG_TIMEOUTS: [&str; 6] = ["0", "3601", "-1", "x", "1.5", ""];
-
-#[test]
-fn tell_of_wrong_words_is_misused(rt: HostRuntime) -> Result<(), Fail> {
-    for words in &WRONG_TELL {
-        assert_misused(&rt, rt.alloc(), words, b"ret #0")?;
-    }
-    for timeout in &WRONG_TIMEOUTS {
-        let words = ["tell", "--control", "x", "--timeout", *timeout];
-        assert_misused(&rt, rt.alloc(), &words, b"ret #0")?;
-    }
-    Ok(())
-}
-
-// Words, and a part of what they print.
-const RESULTS: [(&[&str], &str); 18] = [
-    (&["--help"], "Usage: dswitch <COMMAND>\n"),
-    (&["-h"], "Usage: dswitch <COMMAND>\n"),
-    (&["help"], "Usage: dswitch <COMMAND>\n"),
-    (&["help", "first"], "Usage: dswitch first\n"),
-    (&["first", "--help"], "Usage: dswitch first\n"),
-    (&["check", "--help"], "Usage: dswitch check [OPTIONS]\n"),
-    (
-        &["compile", "--help"],
-        "Usage: dswitch compile [OPTIONS] <EXPR>\n",
-    ),
-    (
-        &["help", "run"],
-        "Usage: dswitch run [OPTIONS] --packet <HEX>\n",
-    ),
-    (
-        &["serve", "--help"],
-        "Usage: dswitch serve --front <A> --control <A> --workers <N>\n",
-    ),
-    (&["help", "explain"], "Usage: dswitch explain <CODE>\n"),
-    (
-        &["tell", "--help"],
-        "Usage: dswitch tell [OPTIONS] --control <A> [LINE]...\n",
-    ),
-    (&["explain", "-h"], "\n  $ dswitch explain G3\n"),
-    (&["check", "-h"], "\n  accepted 4\n"),
-    (&["compile", "-h"], "\n  charge 6\n"),
-    (&["run", "-h"], "\n  value 4 steps 2 kept 4\n"),
-    (
-        &["serve", "-h"],
-        "\n  ready 127.0.0.1:5300 127.0.0.1:5301\n",
-    ),
-    (&["--version"], "dswitch 0.2.0\n"),
-    (&["-V"], "dswitch 0.2.0\n"),
-];
-
-fn assert_prints(rt: &impl Abort, alloc: Global, words: &[&str], part: &str) -> Result<(), Fail> {
-    let told = told(alloc, words, b"")?;
-    let text = told.out.text().unwrap_or("");
-    assert!(rt; text.contains(part), "{words:?}: {text}");
-    assert_eq!(rt;
-        (told.status, told.errs.text()),
-        (Some(0), Some("")),
-        "{words:?}"
-    );
-    Ok(())
-}
-
-#[test]
-fn help_and_version_are_results(rt: HostRuntime) -> Result<(), Fail> {
-    for (words, part) in &RESULTS {
-        assert_prints(&rt, rt.alloc(), words, part)?;
     }
     Ok(())
 }

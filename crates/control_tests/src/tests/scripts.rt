@@ -1,9 +1,9 @@
-//! Scripts and their replies: a whole session, the ends of lines and of the script, lines at their limits, and devices that fail.
+//! Scripts over readers that give a few bytes at a time, over devices that fail, and as a contract sees them.
 
 ghost use Rattle.std.specs.Prelude.{◌≡◌, ◌++◌, List, OnOk, ℕ};
 ghost use Rattle.control.specs.Script.{IsScriptText};
 
-use control::{FromRead, LINE_LIMIT, ReplayFault, ToWrite, replay};
+use control::{FromRead, ReplayFault, ToWrite, replay};
 use std::alloc::Global;
 use std::io;
 use std::io::{ErrorKind, Read, Write};
@@ -112,8 +112,8 @@ fn replay_bytes(alloc: Global, script: &[u8], out: &mut Vec<u8>) -> Result<(), R
 fn expect(rt: &impl Abort, alloc: Global, script: &[u8], replies: &str) {
     for most in [1, 7, usize::MAX] {
         let (written, answer) = replayed(alloc, in_pieces(script, most));
-        assert_eq!(rt; answer, Ok(()));
-        assert_eq!(rt; written.as_slice(), replies.as_bytes());
+        assert!(rt; answer == Ok(()));
+        assert!(rt; written.as_slice() == replies.as_bytes(), "{replies}");
     }
 }
 
@@ -148,12 +148,7 @@ const REPLIES: &str = "ok version 1\n\
     reclaimed 7 0\n\
     refused C1\n";
 
-#[test]
-fn script_replies_line_by_line(rt: HostRuntime) {
-    expect(&rt, rt.alloc(), SCRIPT.as_bytes(), REPLIES);
-}
-
-// Nothing changes or clears the filter of a locked member; the lock ends when it leaves.
+// Nothing changes or clears the filter of a locked member; the lock ends when the member leaves.
 const SCRIPT_WITH_LOCKS: &str = "add 10.0.0.2:53\n\
     join 10.0.0.2:53 1 127.0.0.1:9001\n\
     filter 10.0.0.2:53 1 expr udp and less 28\n\
@@ -184,14 +179,39 @@ const REPLIES_WITH_LOCKS: &str = "ok version 1\n\
     ok version 7\n\
     refused G7\n";
 
+// Scripts and their replies, whose ends the sessions have too, as one read brings them.
+const IN_PIECES: [(&str, &str); 18] = [
+    (SCRIPT, REPLIES),
+    ("", ""),
+    ("show", "version 0 groups 0 members 0 charge 2\n"),
+    ("show\n", "version 0 groups 0 members 0 charge 2\n"),
+    ("show\r\n", "refused C1\n"),
+    ("\n", "refused C1\n"),
+    ("\n\nsweep", "refused C1\nrefused C1\nreclaimed 0 0\n"),
+    ("sweep\n\0", "reclaimed 0 0\nrefused C1\n"),
+    ("stop\ntotals\n", "refused C1\nrefused C1\n"),
+    (SCRIPT_WITH_LOCKS, REPLIES_WITH_LOCKS),
+    ("packet", "refused C1\n"),
+    ("packet ", "version 0 malformed\n"),
+    ("packet 4", "refused C1\n"),
+    ("packet 4g", "refused C1\n"),
+    ("packet  45", "refused C1\n"),
+    ("Packet 45", "refused C1\n"),
+    (
+        "packet 4500001D00000000401100000a0000010a000002138800350009000061",
+        "version 0 nogroup\n",
+    ),
+    (
+        "add 10.0.0.2:53\npacket 4500001d00000000401100000a0000010a000002138800350009000061\nremove 10.0.0.2:53\n",
+        "ok version 1\nversion 1 nomembers\nok version 2\n",
+    ),
+];
+
 #[test]
-fn script_with_locks(rt: HostRuntime) {
-    expect(
-        &rt,
-        rt.alloc(),
-        SCRIPT_WITH_LOCKS.as_bytes(),
-        REPLIES_WITH_LOCKS,
-    );
+fn script_replies_line_by_line(rt: HostRuntime) {
+    for (script, replies) in &IN_PIECES {
+        expect(&rt, rt.alloc(), script.as_bytes(), replies);
+    }
 }
 
 #[test]
@@ -203,96 +223,6 @@ fn bytes_are_replayed_to_bytes(rt: HostRuntime) -> Result<(), Fail> {
         b"> version 0 groups 0 members 0 charge 2\nreclaimed 0 0\n".as_slice()
     );
     Ok(())
-}
-
-#[test]
-fn no_bytes_no_replies(rt: HostRuntime) {
-    expect(&rt, rt.alloc(), b"", "");
-}
-
-#[test]
-fn ends_of_lines_and_of_the_script(rt: HostRuntime) {
-    for (script, replies) in [
-        (
-            b"show".as_slice(),
-            "version 0 groups 0 members 0 charge 2\n",
-        ),
-        (b"show\n", "version 0 groups 0 members 0 charge 2\n"),
-        (b"show\r\n", "refused C1\n"),
-        (b"\n", "refused C1\n"),
-        (b"\n\nsweep", "refused C1\nrefused C1\nreclaimed 0 0\n"),
-        (b"sweep\n\0", "reclaimed 0 0\nrefused C1\n"),
-        (b"stop\ntotals\n", "refused C1\nrefused C1\n"),
-    ] {
-        expect(&rt, rt.alloc(), script, replies);
-    }
-}
-
-#[test]
-fn packets_of_a_script(rt: HostRuntime) {
-    for (script, replies) in [
-        (b"packet".as_slice(), "refused C1\n"),
-        (b"packet ", "version 0 malformed\n"),
-        (b"packet 4", "refused C1\n"),
-        (b"packet 4g", "refused C1\n"),
-        (b"packet  45", "refused C1\n"),
-        (b"Packet 45", "refused C1\n"),
-        (
-            b"packet 4500001D00000000401100000a0000010a000002138800350009000061",
-            "version 0 nogroup\n",
-        ),
-        (
-            b"add 10.0.0.2:53\npacket 4500001d00000000401100000a0000010a000002138800350009000061\nremove 10.0.0.2:53\n",
-            "ok version 1\nversion 1 nomembers\nok version 2\n",
-        ),
-    ] {
-        expect(&rt, rt.alloc(), script, replies);
-    }
-}
-
-// A long line, by what it begins with, what is repeated and how often; and its reply.
-const LONG_LINES: [(&str, &str, usize, &str); 6] = [
-    ("", "x", LINE_LIMIT, "refused C1\n"),
-    ("", "x", LINE_LIMIT + 1, "refused C2\n"),
-    ("packet ", "00", 65_535, "version 0 malformed\n"),
-    ("packet ", "00", 65_536, "refused C3\n"),
-    ("packet ", "00", 131_068, "refused C3\n"),
-    ("packet ", "00", 131_069, "refused C2\n"),
-];
-
-#[test]
-fn too_long_packet_and_line(rt: HostRuntime) {
-    let alloc = rt.alloc();
-    for (begin, text, count, reply) in LONG_LINES {
-        let mut script = super::in_pieces(&rt, alloc, &[(begin, 1), (text, count)]);
-        let (alone, answer) = replayed(alloc, in_pieces(&script, usize::MAX));
-        assert_eq!(rt; answer, Ok(()));
-        assert_eq!(rt; alone.as_slice(), reply.as_bytes());
-        script
-            .extend_from_slice(b"\nsweep\n")
-            .expect(&rt, "one line more");
-        let (followed, answer) = replayed(alloc, in_pieces(&script, 1000));
-        assert_eq!(rt; answer, Ok(()));
-        assert_eq!(rt;
-            &followed[..reply.len().min(followed.len())],
-            reply.as_bytes()
-        );
-        assert!(rt; followed.as_slice().ends_with(b"\nreclaimed 0 0\n"));
-    }
-}
-
-// More versions than rows, each free as soon as it is replaced.
-#[test]
-fn no_publication_is_busy(rt: HostRuntime) {
-    let alloc = rt.alloc();
-    let script = super::in_pieces(&rt, alloc, &[("add 10.0.0.2:53\nremove 10.0.0.2:53\n", 20)]);
-    let (written, answer) = replayed(alloc, in_pieces(&script, usize::MAX));
-    assert_eq!(rt; answer, Ok(()));
-    assert!(rt;
-        written
-            .as_slice()
-            .ends_with(b"ok version 39\nok version 40\n")
-    );
 }
 
 // The replies of the first so many lines.

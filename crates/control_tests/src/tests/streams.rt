@@ -1,4 +1,4 @@
-//! Inputs over readers, outputs over writers, and the lines with a packet.
+//! Inputs over readers, outputs over writers, and the bytes of packets in lines.
 
 ghost use Rattle.std.specs.Prelude.{◌≡◌, ◌≤◌, IfOk, take};
 ghost use Rattle.std.specs.Io.KnownBytes.{Appends};
@@ -10,7 +10,6 @@ use dispatch::Failed;
 use std::alloc::Global;
 use std::io;
 use std::io::{ErrorKind, Read, Write};
-use std::process::Abort;
 use std::test::Fail;
 
 // What a device answers: it gives or takes so many bytes at most, or fails.
@@ -201,51 +200,49 @@ const NO_PACKETS: [&[u8]; 9] = [
     b"show",
 ];
 
+// Lengths of a line of hexadecimal digits, and whether it is a packet that is too long. A longer line is no line.
+const TOO_LONG: [(usize, bool); 4] = [
+    (131_079, true),
+    (262_143, true),
+    (262_144, false),
+    (262_145, false),
+];
+
+fn is_read_as(alloc: Global, text: &[u8], packet: &[u8]) -> Result<bool, Fail> {
+    Ok(match read_packet_line(alloc, text)? {
+        Some(PacketLine::Packet(bytes)) => bytes.as_slice() == packet,
+        _ => false,
+    })
+}
+
+fn is_too_long(alloc: Global, text: &[u8], is_wanted: bool) -> Result<bool, Fail> {
+    Ok(match read_packet_line(alloc, text)? {
+        Some(PacketLine::TooLong) => is_wanted,
+        Some(PacketLine::Packet(_)) => false,
+        None => !is_wanted,
+    })
+}
+
 #[test]
 fn packets_of_lines(rt: HostRuntime) -> Result<(), Fail> {
     for (text, packet) in PACKETS {
-        let is_read = match read_packet_line(rt.alloc(), text)? {
-            Some(PacketLine::Packet(bytes)) => bytes.as_slice() == packet,
-            _ => false,
-        };
-        assert!(rt; is_read);
+        assert!(rt; is_read_as(rt.alloc(), text, packet)?);
     }
-    for text in NO_PACKETS {
-        assert!(rt; read_packet_line(rt.alloc(), text)?.is_none());
+    let mut text = Vec::from_slice(rt.alloc(), b"packet ")?;
+    text.resize(131_077, b'8')?;
+    let packet = vec![in rt.alloc(); 0x88u8; 65_535]?;
+    assert!(rt; is_read_as(rt.alloc(), &text, &packet)?);
+    for (len, is_wanted) in TOO_LONG {
+        text.resize(len, b'8')?;
+        assert!(rt; is_too_long(rt.alloc(), &text, is_wanted)?);
     }
     Ok(())
 }
 
-// Reads a line with so many digits, and tells how many bytes the packet has.
-fn packet_len(
-    rt: &impl Abort,
-    alloc: Global,
-    digits: usize,
-    len: usize,
-) -> Result<Option<Option<usize>>, Fail> {
-    let mut text = Vec::from_slice(alloc, b"packet ")?;
-    for _ in 0..digits {
-        text.push(b'8')?;
-    }
-    assert_eq!(rt; text.len(), len);
-    Ok(match read_packet_line(alloc, &text)? {
-        Some(PacketLine::Packet(packet)) => Some(Some(packet.len())),
-        Some(PacketLine::TooLong) => Some(None),
-        None => None,
-    })
-}
-
-// The longest packet, one byte more, and lines at the limit of a line; with an odd number of digits the last.
 #[test]
-fn packets_at_the_limits(rt: HostRuntime) -> Result<(), Fail> {
-    for (digits, len, expected) in [
-        (131_070, 131_077, Some(Some(65_535))),
-        (131_072, 131_079, Some(None)),
-        (262_136, 262_143, Some(None)),
-        (262_138, 262_145, None),
-        (262_137, 262_144, None),
-    ] {
-        assert_eq!(rt; packet_len(&rt, rt.alloc(), digits, len)?, expected);
+fn other_lines_have_no_packet(rt: HostRuntime) -> Result<(), Fail> {
+    for text in NO_PACKETS {
+        assert!(rt; read_packet_line(rt.alloc(), text)?.is_none());
     }
     Ok(())
 }

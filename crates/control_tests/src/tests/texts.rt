@@ -1,15 +1,7 @@
-//! Programs of texts, and the faults of other texts.
+//! The words and the charge of a program in assembly.
 
-use bpf_asm::AsmFault;
-use bpf_verify::{Fault, Program};
-use filter_compile::CompileFault;
-use filter_parse::ParseFault;
-use program_text::{TextFault, assembled, compiled};
-use std::alloc::Global;
-use std::process::Abort;
+use program_text::assembled;
 use std::test::Fail;
-
-type Made = Result<Program<Global>, TextFault>;
 
 // An assembly text and its words (networking/filter.rst, "Structure"); each is charged by their number.
 const ASSEMBLED: [(&[u8], &[u64]); 2] = [
@@ -20,56 +12,14 @@ const ASSEMBLED: [(&[u8], &[u64]); 2] = [
     ),
 ];
 
-const NOT_ASSEMBLED: [(&[u8], TextFault); 4] = [
-    (b"foo", TextFault::Assembly(AsmFault::Syntax { line: 1 })),
-    (b"", TextFault::Words(Fault::Empty)),
-    (b"ld #1", TextFault::Words(Fault::NoReturn)),
-    (b"udp", TextFault::Assembly(AsmFault::Syntax { line: 1 })),
-];
-
-// Seventeen sums, each in the brackets of the one before.
-const NOT_COMPILED: [(&[u8], TextFault); 3] = [
-    (b"", TextFault::Expression(ParseFault::Syntax { at: 0 })),
-    (
-        b"ret #0",
-        TextFault::Expression(ParseFault::Syntax { at: 0 }),
-    ),
-    (
-        b"1+(1+(1+(1+(1+(1+(1+(1+(1+(1+(1+(1+(1+(1+(1+(1+(1+1)))))))))))))))) = 18",
-        TextFault::Compiling(CompileFault::CellsExceeded),
-    ),
-];
-
-fn expect_fault(rt: &impl Abort, made: Made, expected: TextFault) {
-    match made {
-        Ok(_) => assert!(rt; false),
-        Err(fault) => assert_eq!(rt; fault, expected),
-    }
-}
-
 #[test]
 fn programs_of_assembly(rt: HostRuntime) -> Result<(), Fail> {
     for (text, words) in ASSEMBLED {
         let Ok(program) = assembled(rt.alloc(), text) else {
             return Err(Fail::from("no program"));
         };
-        assert_eq!(rt; program.words(), words);
-        assert_eq!(rt; program.charge() as usize, words.len());
-    }
-    for (text, fault) in NOT_ASSEMBLED {
-        expect_fault(&rt, assembled(rt.alloc(), text), fault);
-    }
-    Ok(())
-}
-
-#[test]
-fn programs_of_expressions(rt: HostRuntime) -> Result<(), Fail> {
-    let Ok(program) = compiled(rt.alloc(), b"udp and less 28") else {
-        return Err(Fail::from("no program"));
-    };
-    assert_eq!(rt; program.charge(), 15);
-    for (text, fault) in NOT_COMPILED {
-        expect_fault(&rt, compiled(rt.alloc(), text), fault);
+        assert!(rt; program.words() == words);
+        assert!(rt; program.charge() as usize == words.len());
     }
     Ok(())
 }

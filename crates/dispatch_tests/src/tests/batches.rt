@@ -1,7 +1,7 @@
 //! Batches of four datagrams: two for the third of three members, one for no group, and one cut short.
 
+use super::configurations::{PACKET, socket, three_members, worker_of};
 use super::devices::{FailsAfter, FailsFirst, Looks, push, sends};
-use super::verdicts::{PACKET, socket, three_members, worker_of};
 use dispatch::{
     BatchDone, BatchFault, Counter, Datagrams, KINDS, Kind, Outbox, Sends, Source, Tally, batch,
 };

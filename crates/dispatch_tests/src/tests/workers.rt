@@ -3,7 +3,7 @@
 ghost use Rattle.std.specs.Prelude.{◌≡◌, ◌≤◌};
 
 use super::batches::{four_datagrams, totals, two_sends};
-use super::verdicts::{three_members, workers_of};
+use super::configurations::{three_members, workers_of};
 use dispatch::{Counter, Datagrams, Done, Gate, Job, Sends, Tally, run_workers};
 use read_section::Worker;
 use std::alloc::Global;

@@ -1,9 +1,9 @@
-//! Commands on small configurations, on those at the limits, and under refused growths.
+//! The order of groups and of members, which no command of the program prints, and commands under refused growths.
 
 use bpf_verify::Program;
 use ipv4_fields::Endpoint;
 use linked_list_allocator::LocalHeap;
-use member_group::{Command, Config, GROUP_LIMIT, MEMBER_LIMIT, Refusal};
+use member_group::{Command, Config, Refusal};
 use std::alloc::Global;
 use std::test::Fail;
 
@@ -90,10 +90,6 @@ pub(super) fn after_each(alloc: Global, acts: &[Act]) -> Result<Config, Fail> {
     Ok(config)
 }
 
-fn refusal(alloc: Global, config: &Config, act: Act) -> Result<Option<Refusal>, Fail> {
-    Ok(config.apply(&command(alloc, act)?).err())
-}
-
 // What a configuration has: the ports of its keys in order, the numbers of its members in order, and its charge.
 struct Content {
     ports: &'static [u16],
@@ -151,7 +147,32 @@ fn holds(alloc: Global, row: &Row) -> Result<bool, Fail> {
 
 const FOUR_GROUPS: &[Act] = &[Act::Add(53), Act::Add(99), Act::Add(7), Act::Add(60)];
 
-const IN_RISING_ORDER: [Row; 2] = [
+// The filter goes with its member.
+const THREE_MEMBERS: &[Act] = &[
+    Act::Add(53),
+    Act::Join(1),
+    Act::Join(2),
+    Act::Join(3),
+    Act::Filter(3, 5),
+];
+
+const ALL_THREE: Content = Content {
+    ports: &[53],
+    ids: &[1, 2, 3],
+    charge: 2 + 4 + 4 * 3 + 5,
+};
+
+// Above the largest charge that is published, 8192.
+const TOO_LARGE: &[Act] = &[
+    Act::Add(53),
+    Act::Join(0),
+    Act::Join(1),
+    Act::Filter(0, 4096),
+    Act::Filter(1, 4082),
+    Act::Filter(1, 4083),
+];
+
+const ROWS: [Row; 5] = [
     Row {
         acts: &[],
         before: Content {
@@ -180,33 +201,7 @@ const IN_RISING_ORDER: [Row; 2] = [
             charge: 14,
         },
     },
-];
-
-#[test]
-fn groups_in_rising_order(rt: HostRuntime) -> Result<(), Fail> {
-    for row in &IN_RISING_ORDER {
-        assert!(rt; holds(rt.alloc(), row)?);
-    }
-    Ok(())
-}
-
-// The filter goes with its member.
-const THREE_MEMBERS: &[Act] = &[
-    Act::Add(53),
-    Act::Join(1),
-    Act::Join(2),
-    Act::Join(3),
-    Act::Filter(3, 5),
-];
-
-const ALL_THREE: Content = Content {
-    ports: &[53],
-    ids: &[1, 2, 3],
-    charge: 2 + 4 + 4 * 3 + 5,
-};
-
-// The old configuration stays, and so does the order where the last one leaves.
-const GAPS: [Row; 2] = [
+    // The last member fills the gap; the order stays if the last one leaves.
     Row {
         acts: THREE_MEMBERS,
         before: ALL_THREE,
@@ -227,82 +222,26 @@ const GAPS: [Row; 2] = [
             charge: 2 + 4 + 4 * 2,
         },
     },
+    Row {
+        acts: TOO_LARGE,
+        before: Content {
+            ports: &[53],
+            ids: &[0, 1],
+            charge: 8193,
+        },
+        act: Act::Unfilter(0),
+        after: Content {
+            ports: &[53],
+            ids: &[0, 1],
+            charge: 14 + 4083,
+        },
+    },
 ];
 
 #[test]
-fn last_member_fills_the_gap(rt: HostRuntime) -> Result<(), Fail> {
-    for row in &GAPS {
+fn groups_in_rising_order(rt: HostRuntime) -> Result<(), Fail> {
+    for row in &ROWS {
         assert!(rt; holds(rt.alloc(), row)?);
-    }
-    Ok(())
-}
-
-fn group_of_members(alloc: Global, members: u32) -> Result<Config, Fail> {
-    let mut config = after_each(alloc, &[Act::Add(53)])?;
-    for member in 0..members {
-        config = applied(&config, command(alloc, Act::Join(member))?)?;
-    }
-    Ok(config)
-}
-
-fn groups_at_ports(alloc: Global, groups: u16) -> Result<Config, Fail> {
-    let mut config = Config::new(alloc);
-    for port in 0..groups {
-        config = applied(&config, command(alloc, Act::Add(port))?)?;
-    }
-    Ok(config)
-}
-
-#[test]
-fn sixty_fifth_member(rt: HostRuntime) -> Result<(), Fail> {
-    let alloc = rt.alloc();
-    let full = group_of_members(alloc, 64)?;
-    assert_eq!(rt; full.members(), MEMBER_LIMIT);
-    assert_eq!(rt;
-        refusal(alloc, &full, Act::Join(64))?,
-        Some(Refusal::GroupFull)
-    );
-    // That a member is there already is told first.
-    assert_eq!(rt;
-        refusal(alloc, &full, Act::Join(63))?,
-        Some(Refusal::MemberExists)
-    );
-    Ok(())
-}
-
-#[test]
-fn sixty_fifth_group(rt: HostRuntime) -> Result<(), Fail> {
-    let alloc = rt.alloc();
-    let full = groups_at_ports(alloc, 64)?;
-    assert_eq!(rt; full.groups().len(), GROUP_LIMIT);
-    assert_eq!(rt;
-        refusal(alloc, &full, Act::Add(64))?,
-        Some(Refusal::TooManyGroups)
-    );
-    assert_eq!(rt;
-        refusal(alloc, &full, Act::Add(63))?,
-        Some(Refusal::GroupExists)
-    );
-    Ok(())
-}
-
-// Commands, and what the configuration is charged after each.
-const LARGEST: [(Act, u64); 7] = [
-    (Act::Add(53), 6),
-    (Act::Join(0), 10),
-    (Act::Join(1), 14),
-    (Act::Filter(0, 4096), 14 + 4096),
-    (Act::Filter(1, 4082), 8192),
-    (Act::Filter(1, 4083), 8193),
-    (Act::Unfilter(0), 14 + 4083),
-];
-
-#[test]
-fn largest_charge_is_published(rt: HostRuntime) -> Result<(), Fail> {
-    let mut config = Config::new(rt.alloc());
-    for (act, charge) in &LARGEST {
-        config = applied(&config, command(rt.alloc(), *act)?)?;
-        assert_eq!(rt; config.charge(), *charge);
     }
     Ok(())
 }
@@ -310,46 +249,6 @@ fn largest_charge_is_published(rt: HostRuntime) -> Result<(), Fail> {
 pub(super) const ONE_MEMBER: &[Act] = &[Act::Add(53), Act::Join(1)];
 
 pub(super) const LOCKED_BARE: &[Act] = &[Act::Add(53), Act::Join(1), Act::Lock(1)];
-
-const LOCKED_FILTER: &[Act] = &[Act::Add(53), Act::Join(1), Act::Filter(1, 1), Act::Lock(1)];
-
-// After the commands this one is refused so.
-const REFUSED: [(&[Act], Act, Refusal); 22] = [
-    (&[], Act::Remove(53), Refusal::NoGroup),
-    (&[], Act::Join(1), Refusal::NoGroup),
-    (&[], Act::Leave(1), Refusal::NoGroup),
-    (&[], Act::Select(1), Refusal::NoGroup),
-    (&[], Act::Unselect, Refusal::NoGroup),
-    (&[], Act::Filter(1, 1), Refusal::NoGroup),
-    (&[], Act::Unfilter(1), Refusal::NoGroup),
-    (ONE_MEMBER, Act::Add(53), Refusal::GroupExists),
-    (ONE_MEMBER, Act::Join(1), Refusal::MemberExists),
-    (ONE_MEMBER, Act::Leave(2), Refusal::NoMember),
-    (ONE_MEMBER, Act::Filter(2, 1), Refusal::NoMember),
-    (ONE_MEMBER, Act::Unfilter(2), Refusal::NoMember),
-    (ONE_MEMBER, Act::Unfilter(1), Refusal::NoProgram),
-    (ONE_MEMBER, Act::Unselect, Refusal::NoProgram),
-    (&[], Act::Lock(1), Refusal::NoGroup),
-    (ONE_MEMBER, Act::Lock(2), Refusal::NoMember),
-    (LOCKED_BARE, Act::Filter(1, 1), Refusal::Locked),
-    (LOCKED_BARE, Act::Unfilter(1), Refusal::Locked),
-    (LOCKED_BARE, Act::Filter(2, 1), Refusal::NoMember),
-    (LOCKED_FILTER, Act::Filter(1, 1), Refusal::Locked),
-    (LOCKED_FILTER, Act::Unfilter(1), Refusal::Locked),
-    (LOCKED_FILTER, Act::Unselect, Refusal::NoProgram),
-];
-
-fn refusal_after(alloc: Global, acts: &[Act], act: Act) -> Result<Option<Refusal>, Fail> {
-    refusal(alloc, &after_each(alloc, acts)?, act)
-}
-
-#[test]
-fn each_refusal_in_its_order(rt: HostRuntime) -> Result<(), Fail> {
-    for (acts, act, reason) in &REFUSED {
-        assert_eq!(rt; refusal_after(rt.alloc(), acts, *act)?, Some(*reason));
-    }
-    Ok(())
-}
 
 // Commands, and what the configuration is charged after each.
 const STEPS: [(Act, u64); 10] = [

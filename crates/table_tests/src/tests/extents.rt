@@ -3,11 +3,12 @@
 ghost use Rattle.std.specs.Prelude.{◌≡◌};
 
 use super::numbered::applied;
+use super::tables::on_table;
 use bpf_insn::Words;
 use bpf_verify::Program;
 use ipv4_fields::Endpoint;
 use member_group::{Command, Config};
-use read_section::{Operator, Worker, open};
+use read_section::{Operator, Worker};
 use retire::Retire;
 use std::alloc::Global;
 use std::process::Abort;
@@ -107,17 +108,15 @@ fn extents_are<W: Words>(rt: &impl Abort, words: &mut W, first: usize, lengths: 
     let last = end.wrapping_sub(1);
     let mut at = first;
     for length in lengths {
-        assert_eq!(rt;
-            ready_count(words, first, last, at),
-            *length,
+        assert!(rt;
+            ready_count(words, first, last, at) == *length,
             "from word {at}"
         );
         at = at.wrapping_add(*length);
     }
     for place in first..end {
-        assert_eq!(rt;
-            word(words, place),
-            Some(load_at(first, last, place)),
+        assert!(rt;
+            word(words, place) == Some(load_at(first, last, place)),
             "word {place}"
         );
     }
@@ -132,14 +131,6 @@ fn reads_extents(rt: &impl Abort, worker: &mut Worker, first: usize, lengths: &[
     }
 }
 
-fn opened(alloc: Global, config: Config) -> Result<(Operator, Worker), Fail> {
-    let (operator, mut workers) = open(config)?;
-    match workers.pop() {
-        Some(worker) => Ok((operator, worker)),
-        None => Err(Fail::from("there are workers")),
-    }
-}
-
 fn pages_are(operator: &Operator, wanted: &[u32]) -> bool {
     operator.current_pages() == wanted
 }
@@ -147,16 +138,20 @@ fn pages_are(operator: &Operator, wanted: &[u32]) -> bool {
 // The programs begin behind 2 words and 4 for each group.
 const FIRST: usize = 14;
 
-// Seven pages, one behind the other: the extent ends with the program, though the next program's page follows.
+fn are_one_extent(rt: &impl Abort, operator: &Operator, worker: &mut Worker) {
+    assert!(rt; pages_are(operator, &[0, 1, 2, 3, 4, 5, 6, 7, 8]));
+    reads_extents(rt, worker, FIRST, &[1]);
+    reads_extents(rt, worker, FIRST + 1, &[100]);
+    reads_extents(rt, worker, FIRST + 101, &[1]);
+}
+
+// Seven pages, one after the other: the extent ends with the program, though the next program's page follows.
 #[test]
 fn program_in_pages_one_behind_the_other(rt: HostRuntime) -> Result<(), Fail> {
-    let config = three_groups(rt.alloc(), [1, 100, 1])?;
-    let (operator, mut worker) = opened(rt.alloc(), config)?;
-    assert!(&rt; pages_are(&operator, &[0, 1, 2, 3, 4, 5, 6, 7, 8]));
-    reads_extents(&rt, &mut worker, FIRST, &[1]);
-    reads_extents(&rt, &mut worker, FIRST + 1, &[100]);
-    reads_extents(&rt, &mut worker, FIRST + 101, &[1]);
-    Ok(())
+    on_table(three_groups(rt.alloc(), [1, 100, 1])?, |operator, worker| {
+        are_one_extent(&rt, operator, worker);
+        Ok(())
+    })
 }
 
 // Publishes another selector of group 2, of so many instructions.
@@ -169,42 +164,58 @@ fn selects(alloc: Global, operator: &mut Operator, count: usize) -> Result<bool,
 fn scatters(rt: &impl Abort, alloc: Global, operator: &mut Operator) -> Result<(), Fail> {
     assert!(rt; selects(alloc, operator, 2)?);
     assert!(rt; pages_are(operator, &[0, 3, 2]));
-    assert_eq!(rt; operator.sweep().count, 1);
+    assert!(rt; operator.sweep().count == 1);
     assert!(rt; selects(alloc, operator, 100)?);
     assert!(rt; pages_are(operator, &[0, 1, 4, 5, 6, 7, 8, 9, 2]));
     Ok(())
 }
 
+fn are_two_extents(rt: &impl Abort, worker: &mut Worker) {
+    reads_extents(rt, worker, FIRST, &[1]);
+    reads_extents(rt, worker, FIRST + 1, &[16, 84]);
+    reads_extents(rt, worker, FIRST + 101, &[1]);
+}
+
 #[test]
 fn program_in_pages_that_lie_apart(rt: HostRuntime) -> Result<(), Fail> {
-    let config = three_groups(rt.alloc(), [1, 1, 1])?;
-    let (mut operator, mut worker) = opened(rt.alloc(), config)?;
-    scatters(&rt, rt.alloc(), &mut operator)?;
-    reads_extents(&rt, &mut worker, FIRST, &[1]);
-    reads_extents(&rt, &mut worker, FIRST + 1, &[16, 84]);
-    reads_extents(&rt, &mut worker, FIRST + 101, &[1]);
+    on_table(three_groups(rt.alloc(), [1, 1, 1])?, |operator, worker| {
+        scatters(&rt, rt.alloc(), operator)?;
+        are_two_extents(&rt, worker);
+        Ok(())
+    })
+}
+
+fn are_forgotten(
+    rt: &impl Abort,
+    alloc: Global,
+    operator: &mut Operator,
+    worker: &mut Worker,
+) -> Result<(), Fail> {
+    assert!(rt; pages_are(operator, &[0, 1, 2, 3, 4]));
+    reads_extents(rt, worker, FIRST + 1, &[40]);
+    assert!(rt; selects(alloc, operator, 30)?);
+    assert!(rt; pages_are(operator, &[0, 5, 6, 4]));
+    reads_extents(rt, worker, FIRST + 1, &[30]);
+    reads_extents(rt, worker, FIRST + 31, &[1]);
     Ok(())
 }
 
-// What is remembered of a version does not serve for the next one, whose program stands elsewhere.
+// What is remembered of a version does not serve for the next one, whose program is elsewhere.
 #[test]
 fn extents_of_the_version_before_are_forgotten(rt: HostRuntime) -> Result<(), Fail> {
-    let config = three_groups(rt.alloc(), [1, 40, 1])?;
-    let (mut operator, mut worker) = opened(rt.alloc(), config)?;
-    assert!(&rt; pages_are(&operator, &[0, 1, 2, 3, 4]));
-    reads_extents(&rt, &mut worker, FIRST + 1, &[40]);
-    assert!(&rt; selects(rt.alloc(), &mut operator, 30)?);
-    assert!(&rt; pages_are(&operator, &[0, 5, 6, 4]));
-    reads_extents(&rt, &mut worker, FIRST + 1, &[30]);
-    reads_extents(&rt, &mut worker, FIRST + 31, &[1]);
-    Ok(())
+    on_table(three_groups(rt.alloc(), [1, 40, 1])?, |operator, worker| {
+        are_forgotten(&rt, rt.alloc(), operator, worker)
+    })
 }
 
 // Of 34 names a search needs six, or five for some places. The reads that are left of eleven are made for the parts behind.
 #[test]
 fn long_program_has_several_extents(rt: HostRuntime) -> Result<(), Fail> {
-    let config = three_groups(rt.alloc(), [500, 1, 1])?;
-    let (_operator, mut worker) = opened(rt.alloc(), config)?;
-    reads_extents(&rt, &mut worker, FIRST, &[96, 112, 112, 112, 68]);
-    Ok(())
+    on_table(
+        three_groups(rt.alloc(), [500, 1, 1])?,
+        |_operator, worker| {
+            reads_extents(&rt, worker, FIRST, &[96, 112, 112, 112, 68]);
+            Ok(())
+        },
+    )
 }

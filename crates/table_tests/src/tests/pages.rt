@@ -2,7 +2,8 @@
 
 use super::numbered::config_of;
 use super::sections::read_whole;
-use read_section::{Operator, PAGE_WORDS, PAGES, ROW_WORDS, open};
+use super::tables::on_table;
+use read_section::{Operator, PAGE_WORDS, PAGES, ROW_WORDS};
 use std::process::Abort;
 use std::test::Fail;
 
@@ -36,9 +37,10 @@ fn each_is_free(rt: &impl Abort, operator: &mut Operator) {
 
 #[test]
 fn each_page_is_free_at_first(rt: HostRuntime) -> Result<(), Fail> {
-    let (mut operator, _workers) = open(config_of(rt.alloc(), 0)?)?;
-    each_is_free(&rt, &mut operator);
-    Ok(())
+    on_table(config_of(rt.alloc(), 0)?, |operator, _worker| {
+        each_is_free(&rt, operator);
+        Ok(())
+    })
 }
 
 // Fills a place of a row; tells whether the row was free, and so may be filled.
@@ -72,12 +74,10 @@ fn fills_are_told(rt: &impl Abort, operator: &mut Operator) {
 
 #[test]
 fn words_of_rows_are_told(rt: HostRuntime) -> Result<(), Fail> {
-    let (mut operator, mut workers) = open(config_of(rt.alloc(), 0)?)?;
-    fills_are_told(&rt, &mut operator);
-    // The current version stands as it stood.
-    let Some(worker) = workers.first_mut() else {
-        return Err(Fail::from("there are workers"));
-    };
-    assert!(rt; read_whole(worker) == (0, 0));
-    Ok(())
+    on_table(config_of(rt.alloc(), 0)?, |operator, worker| {
+        fills_are_told(&rt, operator);
+        // The current version is as it was.
+        assert!(&rt; read_whole(worker) == (0, 0));
+        Ok(())
+    })
 }

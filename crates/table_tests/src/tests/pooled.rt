@@ -2,11 +2,12 @@
 
 use super::history::{begin_of, begin_of_page};
 use super::numbered::applied;
+use super::tables::on_table;
 use super::worlds::answers;
 use bpf_verify::Program;
 use ipv4_fields::Endpoint;
 use member_group::{Command, Config};
-use read_section::{Operator, ROW_WORDS, ROWS, open};
+use read_section::{Operator, ROW_WORDS, ROWS};
 use retire::Retire;
 use std::alloc::Global;
 use std::process::Abort;
@@ -90,7 +91,10 @@ fn row_word(operator: &Operator, row: usize, place: usize) -> Option<u64> {
 // The first words of row 0.
 fn operator_has(rt: &impl Abort, operator: &Operator, words: &[u64]) {
     for (place, word) in words.iter().enumerate() {
-        assert_eq!(rt; row_word(operator, 0, place), Some(*word), "place {place}");
+        assert!(rt;
+            row_word(operator, 0, place) == Some(*word),
+            "place {place}"
+        );
     }
 }
 
@@ -98,39 +102,43 @@ fn operator_has(rt: &impl Abort, operator: &Operator, words: &[u64]) {
 fn world_has(rt: &impl Abort, world: &World, begin: usize, words: &[u64]) {
     for (i, word) in words.iter().enumerate() {
         let place = begin.wrapping_add(i);
-        assert_eq!(rt; world.word(place), Some(*word), "place {place}");
+        assert!(rt; world.word(place) == Some(*word), "place {place}");
     }
+}
+
+fn stores_no_pages(rt: &impl Abort, operator: &Operator) {
+    operator_has(rt, operator, &[0x0002_0002_0000, 0, 0]);
+    assert!(rt; pages_are_from(operator, 0, 0));
 }
 
 #[test]
 fn pooled_empty_row(rt: HostRuntime) -> Result<(), Fail> {
-    let (operator, _workers) = open(Config::new(rt.alloc()))?;
-    operator_has(&rt, &operator, &[0x0002_0002_0000, 0, 0]);
-    assert!(rt; pages_are_from(&operator, 0, 0));
-    Ok(())
+    on_table(Config::new(rt.alloc()), |operator, _worker| {
+        stores_no_pages(&rt, operator);
+        Ok(())
+    })
 }
 
 // The row and its page, as an operator tells them.
-fn operator_stores_selector(rt: &impl Abort, alloc: Global) -> Result<(), Fail> {
-    let (operator, _workers) = open(with_selector(alloc)?)?;
-    operator_has(rt, &operator, &SELECTOR_ROW);
-    assert!(rt; pages_are_from(&operator, 0, 1));
+fn operator_stores_selector(rt: &impl Abort, operator: &Operator) {
+    operator_has(rt, operator, &SELECTOR_ROW);
+    assert!(rt; pages_are_from(operator, 0, 1));
     assert!(rt; !operator.page_is_free(0) && operator.page_is_free(1));
-    Ok(())
 }
 
 // The same, word by word.
-fn world_stores_selector(rt: &impl Abort, alloc: Global) -> Result<(), Fail> {
-    let world = World::new(with_selector(alloc)?)?;
-    world_has(rt, &world, begin_of(0), &SELECTOR_ROW);
-    world_has(rt, &world, begin_of_page(0), &[RETURN, 0]);
-    Ok(())
+fn world_stores_selector(rt: &impl Abort, world: &World) {
+    world_has(rt, world, begin_of(0), &SELECTOR_ROW);
+    world_has(rt, world, begin_of_page(0), &[RETURN, 0]);
 }
 
 #[test]
 fn pooled_selector_row(rt: HostRuntime) -> Result<(), Fail> {
-    operator_stores_selector(&rt, rt.alloc())?;
-    world_stores_selector(&rt, rt.alloc())
+    world_stores_selector(&rt, &World::new(with_selector(rt.alloc())?)?);
+    on_table(with_selector(rt.alloc())?, |operator, _worker| {
+        operator_stores_selector(&rt, operator);
+        Ok(())
+    })
 }
 
 fn fetch(place: usize) -> Step {
@@ -172,7 +180,7 @@ fn fills_row(rt: &impl Abort, world: &mut World, page: u64) {
             *word
         };
         let place = begin_of(1).wrapping_add(i);
-        assert_eq!(rt; world.step(Fill { place, word: named }), Ok(named));
+        assert!(rt; world.step(Fill { place, word: named }) == Ok(named));
     }
 }
 
@@ -221,7 +229,7 @@ fn row_is_published_with_its_pages(rt: HostRuntime) -> Result<(), Fail> {
 fn row_is_published_with_a_page_of_the_version_before(rt: HostRuntime) -> Result<(), Fail> {
     let mut world = world_with_the_same(rt.alloc())?;
     fills_row(&rt, &mut world, 0);
-    assert_eq!(rt; world.step(Publish { row: 1 }), Ok(17));
+    assert!(rt; world.step(Publish { row: 1 }) == Ok(17));
     Ok(())
 }
 
@@ -248,20 +256,13 @@ const LONG_ROW: [(usize, u64); 4] = [
 // Words of a row at places, and the pages of the filter, behind which all are free.
 fn has_filter(rt: &impl Abort, operator: &Operator, row: usize, words: &[(usize, u64)]) {
     for (place, word) in words {
-        assert_eq!(rt;
-            row_word(operator, row, *place),
-            Some(*word),
+        assert!(rt;
+            row_word(operator, row, *place) == Some(*word),
             "place {place}"
         );
     }
     assert!(rt; pages_are_from(operator, 0, 256));
-    assert_eq!(rt; operator.free_page(0), Some(256));
-}
-
-fn operator_stores_filter(rt: &impl Abort, alloc: Global) -> Result<(), Fail> {
-    let (operator, _workers) = open(with_long_filter(alloc, 0)?)?;
-    has_filter(rt, &operator, 0, &LONG_ROW);
-    Ok(())
+    assert!(rt; operator.free_page(0) == Some(256));
 }
 
 // The filter's first word, another of its first page, its last word, and the word behind it.
@@ -272,18 +273,19 @@ const LONG_PAGES: [(usize, usize, u64); 4] = [
     (256, 0, 0),
 ];
 
-fn world_stores_filter(rt: &impl Abort, alloc: Global) -> Result<(), Fail> {
-    let world = World::new(with_long_filter(alloc, 0)?)?;
+fn world_stores_filter(rt: &impl Abort, world: &World) {
     for (page, k, word) in &LONG_PAGES {
-        world_has(rt, &world, begin_of_page(*page).wrapping_add(*k), &[*word]);
+        world_has(rt, world, begin_of_page(*page).wrapping_add(*k), &[*word]);
     }
-    Ok(())
 }
 
 #[test]
 fn pooled_long_filter(rt: HostRuntime) -> Result<(), Fail> {
-    operator_stores_filter(&rt, rt.alloc())?;
-    world_stores_filter(&rt, rt.alloc())
+    world_stores_filter(&rt, &World::new(with_long_filter(rt.alloc(), 0)?)?);
+    on_table(with_long_filter(rt.alloc(), 0)?, |operator, _worker| {
+        has_filter(&rt, operator, 0, &LONG_ROW);
+        Ok(())
+    })
 }
 
 // Publishes the group with another filter, as the version of this number.
@@ -305,11 +307,11 @@ fn takes_the_least_free_pages(
         assert!(rt; pages_are_from(operator, *first, 256), "version {number}");
     }
     let reclaimed = operator.sweep();
-    assert_eq!(rt; (reclaimed.first, reclaimed.count), (0, 3));
+    assert!(rt; (reclaimed.first, reclaimed.count) == (0, 3));
     assert!(rt; is_published(alloc, operator, 4)?);
     assert!(rt; pages_are_from(operator, 0, 256));
     // The least free row, row 0, has the names of these pages.
-    assert_eq!(rt; operator.row_word(0, 265), 0x0ffa_00ff);
+    assert!(rt; operator.row_word(0, 265) == 0x0ffa_00ff);
     Ok(())
 }
 
@@ -317,8 +319,9 @@ fn takes_the_least_free_pages(
 // free.
 #[test]
 fn new_pages_are_the_least_free_ones(rt: HostRuntime) -> Result<(), Fail> {
-    let (mut operator, _workers) = open(with_long_filter(rt.alloc(), 0)?)?;
-    takes_the_least_free_pages(&rt, rt.alloc(), &mut operator)
+    on_table(with_long_filter(rt.alloc(), 0)?, |operator, _worker| {
+        takes_the_least_free_pages(&rt, rt.alloc(), operator)
+    })
 }
 
 // The row after a second member has joined: word 0, the filter's first name, which is behind one member record more, its last name,
@@ -335,12 +338,13 @@ fn keeps_its_pages(rt: &impl Abort, operator: &mut Operator) -> Result<(), Fail>
     let next = joined(operator.config(), 1)?;
     assert!(rt; matches!(operator.publish(next), Ok(1)));
     has_filter(rt, operator, 1, &JOINED_ROW);
-    assert_eq!(rt; operator.zeros_from(1), 270);
+    assert!(rt; operator.zeros_from(1) == 270);
     Ok(())
 }
 
 #[test]
 fn pooled_long_filter_and_join(rt: HostRuntime) -> Result<(), Fail> {
-    let (mut operator, _workers) = open(with_long_filter(rt.alloc(), 0)?)?;
-    keeps_its_pages(&rt, &mut operator)
+    on_table(with_long_filter(rt.alloc(), 0)?, |operator, _worker| {
+        keeps_its_pages(&rt, operator)
+    })
 }

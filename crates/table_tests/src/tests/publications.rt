@@ -4,6 +4,7 @@ ghost use Rattle.std.specs.Prelude.{◌<◌};
 
 use super::numbered::{applied, config_of, differing};
 use super::sections::read_whole;
+use super::tables::{on_table, on_workers};
 use bpf_insn::Words;
 use bpf_verify::Program;
 use ipv4_fields::Endpoint;
@@ -15,15 +16,6 @@ use std::process::Abort;
 use std::sync::{Mutex, Wait};
 use std::test::Fail;
 use std::thread;
-
-// A table at version 0, with one of its workers.
-fn table(alloc: Global) -> Result<(Operator, Worker), Fail> {
-    let (operator, mut workers) = open(config_of(alloc, 0)?)?;
-    match workers.pop() {
-        Some(worker) => Ok((operator, worker)),
-        None => Err(Fail::from("no worker")),
-    }
-}
 
 // Publishes the next version, and tells whether it has this number.
 fn is_published(alloc: Global, operator: &mut Operator, number: u64) -> Result<bool, Fail> {
@@ -59,20 +51,21 @@ fn keeps_its_version(
 ) -> Result<(), Fail> {
     assert!(rt; is_published(alloc, operator, 1)?);
     let mut section = worker.enter();
-    assert_eq!(rt; section.count(), 8192);
+    assert!(rt; section.count() == 8192);
     let published = is_published(alloc, operator, 2);
-    assert_eq!(rt; section.number(), 1);
-    assert_eq!(rt; differing(&mut section, 1), 0);
+    assert!(rt; section.number() == 1);
+    assert!(rt; differing(&mut section, 1) == 0);
     section.leave();
     assert!(rt; published?);
-    assert_eq!(rt; read_whole(worker), (2, 0));
+    assert!(rt; read_whole(worker) == (2, 0));
     Ok(())
 }
 
 #[test]
 fn publication_beside_a_section(rt: HostRuntime) -> Result<(), Fail> {
-    let (mut operator, mut worker) = table(rt.alloc())?;
-    keeps_its_version(&rt, rt.alloc(), &mut operator, &mut worker)
+    on_table(config_of(rt.alloc(), 0)?, |operator, worker| {
+        keeps_its_version(&rt, rt.alloc(), operator, worker)
+    })
 }
 
 // Stores a stray word in the row, if it is free.
@@ -110,7 +103,7 @@ fn is_used_again(
         stray(operator, row, 8191);
     }
     assert!(rt; is_published(alloc, operator, number)?);
-    assert_eq!(rt; read_whole(worker), (number, 0));
+    assert!(rt; read_whole(worker) == (number, 0));
     let row = row_of(number);
     assert!(rt;
         row < ROWS && operator.zeros_from(row) <= 6,
@@ -126,19 +119,20 @@ fn are_used_again(
     operator: &mut Operator,
     worker: &mut Worker,
 ) -> Result<(), Fail> {
-    assert_eq!(rt; (operator.zeros_from(0), operator.zeros_from(1)), (6, 0));
+    assert!(rt; operator.zeros_from(0) == 6 && operator.zeros_from(1) == 0);
     assert!(rt; !operator.is_free(0) && operator.is_free(1) && !operator.is_free(ROWS));
     for number in 1..44u64 {
         is_used_again(rt, alloc, operator, worker, number)?;
     }
-    assert_eq!(rt; operator.number(), 43);
+    assert!(rt; operator.number() == 43);
     Ok(())
 }
 
 #[test]
 fn rows_are_used_again(rt: HostRuntime) -> Result<(), Fail> {
-    let (mut operator, mut worker) = table(rt.alloc())?;
-    are_used_again(&rt, rt.alloc(), &mut operator, &mut worker)
+    on_table(config_of(rt.alloc(), 0)?, |operator, worker| {
+        are_used_again(&rt, rt.alloc(), operator, worker)
+    })
 }
 
 // Enters so many times: how many sections were not whole, or older than one before.
@@ -189,8 +183,8 @@ fn are_whole(
     bad_publications: Result<u32, Fail>,
     bad_sections: u32,
 ) -> Result<(), Fail> {
-    assert_eq!(rt; bad_publications?, 0);
-    assert_eq!(rt; bad_sections, 0);
+    assert!(rt; bad_publications? == 0);
+    assert!(rt; bad_sections == 0);
     // As many versions as there are other rows find one that was never used, whoever reads.
     assert!(rt; operator.number() >= LAST_WITH_ROW);
     Ok(())
@@ -227,6 +221,11 @@ fn fills_beside(alloc: Global, operator: &mut Operator, worker: &mut Worker) -> 
     filled
 }
 
+// Whether a sweep reports so many versions, from the first on.
+fn reclaims(operator: &mut Operator, first: u64, count: u64) -> bool {
+    operator.sweep() == (Reclaimed { first, count })
+}
+
 // A worker stays in version 0: fifteen more versions have a row, and then none is free before it leaves.
 fn is_busy_beside(
     rt: &impl Abort,
@@ -235,48 +234,43 @@ fn is_busy_beside(
     worker: &mut Worker,
 ) -> Result<(), Fail> {
     assert!(rt; fills_beside(alloc, operator, worker)?);
-    assert_eq!(rt;
-        operator.sweep(),
-        Reclaimed {
-            first: 0,
-            count: 15
-        }
-    );
-    assert_eq!(rt;
-        operator.sweep(),
-        Reclaimed {
-            first: 15,
-            count: 0
-        }
-    );
+    assert!(rt; reclaims(operator, 0, 15));
+    assert!(rt; reclaims(operator, 15, 0));
     assert!(rt; is_published(alloc, operator, 16)?);
     Ok(())
 }
 
 #[test]
 fn busy_when_no_row_is_free(rt: HostRuntime) -> Result<(), Fail> {
-    let (mut operator, mut worker) = table(rt.alloc())?;
-    is_busy_beside(&rt, rt.alloc(), &mut operator, &mut worker)
+    on_table(config_of(rt.alloc(), 0)?, |operator, worker| {
+        is_busy_beside(&rt, rt.alloc(), operator, worker)
+    })
 }
 
 // Fifteen more versions have a row, and then none is free for good.
 fn stays_busy(rt: &impl Abort, alloc: Global, operator: &mut Operator) -> Result<(), Fail> {
     assert!(rt; fills_all_rows(alloc, operator)?);
     for _ in 0..3usize {
-        assert_eq!(rt; operator.sweep(), Reclaimed { first: 0, count: 0 });
+        assert!(rt; reclaims(operator, 0, 0));
         assert!(rt; is_busy(alloc, operator)?);
     }
-    assert_eq!(rt; operator.number(), 15);
+    assert!(rt; operator.number() == 15);
     Ok(())
 }
 
-// A worker abandons its section on version 0, and is gone.
+// A worker abandons its section, and is gone.
+fn loses_a_worker(rt: &impl Abort, workers: &mut Vec<Worker>) {
+    let mut worker = workers.pop().expect(rt, "a table has workers");
+    worker.enter().abandon();
+}
+
+// The lost worker's section is on version 0.
 #[test]
 fn lost_worker_keeps_its_version(rt: HostRuntime) -> Result<(), Fail> {
-    let (mut operator, mut worker) = table(rt.alloc())?;
-    worker.enter().abandon();
-    drop(worker);
-    stays_busy(&rt, rt.alloc(), &mut operator)
+    on_workers(config_of(rt.alloc(), 0)?, |operator, workers| {
+        loses_a_worker(&rt, workers);
+        stays_busy(&rt, rt.alloc(), operator)
+    })
 }
 
 // Adds a member with a filter of so many instructions.
@@ -329,12 +323,13 @@ fn publishes_up_to_the_limit(
 ) -> Result<(), Fail> {
     assert!(rt; greatest_is_published(alloc, operator)?);
     assert!(rt; one_more_is_refused(alloc, operator)?);
-    assert_eq!(rt; operator.number(), 1);
+    assert!(rt; operator.number() == 1);
     Ok(())
 }
 
 #[test]
 fn largest_charge_is_published(rt: HostRuntime) -> Result<(), Fail> {
-    let (mut operator, _worker) = table(rt.alloc())?;
-    publishes_up_to_the_limit(&rt, rt.alloc(), &mut operator)
+    on_table(config_of(rt.alloc(), 0)?, |operator, _worker| {
+        publishes_up_to_the_limit(&rt, rt.alloc(), operator)
+    })
 }

@@ -68,9 +68,8 @@ fn steps(
     step: Step,
 ) -> Result<bool, Fail> {
     let wanted = history.answer(step);
-    assert_eq!(rt;
-        world.step(step),
-        wanted.ok_or(StepFault::NotLegal),
+    assert!(rt;
+        world.step(step) == wanted.ok_or(StepFault::NotLegal),
         "turn {turn}: {step:?}"
     );
     match wanted {

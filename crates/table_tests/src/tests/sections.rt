@@ -56,7 +56,7 @@ fn opened(rt: &impl Abort, alloc: Global) -> Result<(Operator, Worker, Worker), 
     ensures last { IfOk result (λ parts. parts.2.table ≡ parts.0.table) }
 {
     let (operator, mut workers) = open(config_of(alloc, 0)?)?;
-    assert_eq!(rt; workers.len(), WORKERS);
+    assert!(rt; workers.len() == WORKERS);
     let last = workers.swap_remove(WORKERS - 1);
     let first = workers.swap_remove(0);
     Ok((operator, first, last))
@@ -91,7 +91,7 @@ fn publish(rt: &impl Abort, alloc: Global, operator: &mut Operator, number: u32)
     }
     if operator.is_free(row) {
         fill_and_put(operator, row, config);
-        assert_eq!(rt; operator.number(), u64::from(number));
+        assert!(rt; operator.number() == u64::from(number));
         return Ok(());
     }
     Err(Fail::from("the row is free"))
@@ -116,11 +116,11 @@ fn counts_as_inside(rt: &impl Abort, operator: &mut Operator, worker: &mut Worke
     requires { worker.old.table ≡ operator.old.table }
 {
     worker.enter().abandon();
-    assert_eq!(rt; operator.scan(WORKERS - 1), 1);
+    assert!(rt; operator.scan(WORKERS - 1) == 1);
     worker.meet(operator);
-    assert_eq!(rt; operator.scan(WORKERS - 1), 1);
-    assert_eq!(rt; read_whole(worker), (0, 0));
-    assert_eq!(rt; operator.scan(WORKERS - 1), 0);
+    assert!(rt; operator.scan(WORKERS - 1) == 1);
+    assert!(rt; read_whole(worker) == (0, 0));
+    assert!(rt; operator.scan(WORKERS - 1) == 0);
 }
 
 #[test]
@@ -131,18 +131,11 @@ fn entering_after_abandon(rt: HostRuntime) -> Result<(), Fail> {
 }
 
 fn is_at_version_zero(rt: &impl Abort, operator: &mut Operator, worker: &mut Worker) {
-    assert_eq!(rt; operator.number(), 0);
-    assert_eq!(rt; (operator.zeros_from(0), operator.zeros_from(1)), (6, 0));
-    assert_eq!(rt;
-        (
-            operator.is_free(0),
-            operator.is_free(1),
-            operator.is_free(ROWS)
-        ),
-        (false, true, false)
-    );
-    assert_eq!(rt; operator.report(), Reclaimed { first: 0, count: 0 });
-    assert_eq!(rt; read_whole(worker), (0, 0));
+    assert!(rt; operator.number() == 0);
+    assert!(rt; operator.zeros_from(0) == 6 && operator.zeros_from(1) == 0);
+    assert!(rt; !operator.is_free(0) && operator.is_free(1) && !operator.is_free(ROWS));
+    assert!(rt; operator.report() == (Reclaimed { first: 0, count: 0 }));
+    assert!(rt; read_whole(worker) == (0, 0));
 }
 
 #[test]
@@ -163,14 +156,14 @@ fn keeps_its_version(
 {
     publish(rt, alloc, operator, 1)?;
     let mut section = worker.enter();
-    assert_eq!(rt; section.count(), 8192);
+    assert!(rt; section.count() == 8192);
     let published = publish(rt, alloc, operator, 2);
-    assert_eq!(rt; section.number(), 1);
-    assert_eq!(rt; differing(&mut section, 1), 0);
+    assert!(rt; section.number() == 1);
+    assert!(rt; differing(&mut section, 1) == 0);
     section.leave();
     published?;
     worker.meet(operator);
-    assert_eq!(rt; read_whole(worker), (2, 0));
+    assert!(rt; read_whole(worker) == (2, 0));
     Ok(())
 }
 
@@ -193,7 +186,7 @@ fn is_told(
 {
     publish(rt, alloc, operator, 1)?;
     first.meet(operator);
-    assert_eq!(rt; enter_told(last, first), (1, 0));
+    assert!(rt; enter_told(last, first) == (1, 0));
     Ok(())
 }
 
@@ -212,10 +205,10 @@ fn opened_charge(config: Config) -> Result<u64, OpenFault> {
 #[test]
 fn largest_charge_opens(rt: HostRuntime) -> Result<(), Fail> {
     let largest = with_selectors(rt.alloc(), [4096, 4086])?;
-    assert_eq!(rt; largest.charge(), 8192);
-    assert_eq!(rt; opened_charge(largest), Ok(8192));
+    assert!(rt; largest.charge() == 8192);
+    assert!(rt; opened_charge(largest) == Ok(8192));
     let greater = with_selectors(rt.alloc(), [4096, 4087])?;
-    assert_eq!(rt; greater.charge(), 8193);
-    assert_eq!(rt; opened_charge(greater), Err(OpenFault::TooBig));
+    assert!(rt; greater.charge() == 8193);
+    assert!(rt; opened_charge(greater) == Err(OpenFault::TooBig));
     Ok(())
 }

@@ -3,6 +3,7 @@
 ghost use Rattle.std.specs.Prelude.{◌≡◌, ◌≤◌};
 
 use super::numbered::applied;
+use super::tables::on_table;
 use bpf_insn::Words;
 use bpf_verify::Program;
 use ipv4_fields::Endpoint;
@@ -88,7 +89,7 @@ fn takes_equal_pages(rt: &impl Abort, alloc: Global, operator: &mut Operator) ->
         assert!(rt; pages_are(operator, pages), "{bytes} bytes");
     }
     // The pages of the versions before are free, but for those that the current version names.
-    assert_eq!(rt; operator.sweep().count, 5);
+    assert!(rt; operator.sweep().count == 5);
     assert!(rt; selects(alloc, operator, 3, 11)?);
     assert!(rt; pages_are(operator, &[5, 4, 0]));
     // Two equal programs that are new take a page each.
@@ -102,8 +103,9 @@ fn takes_equal_pages(rt: &impl Abort, alloc: Global, operator: &mut Operator) ->
 
 #[test]
 fn equal_programs_take_the_pages_of_the_version_before(rt: HostRuntime) -> Result<(), Fail> {
-    let (mut operator, _workers) = open(three_groups(rt.alloc())?)?;
-    takes_equal_pages(&rt, rt.alloc(), &mut operator)
+    on_table(three_groups(rt.alloc())?, |operator, _worker| {
+        takes_equal_pages(&rt, rt.alloc(), operator)
+    })
 }
 
 // ---- ten thousand versions beside sections
@@ -254,9 +256,9 @@ fn are_whole(
     bad_publications: Result<u32, Fail>,
     bad_sections: u32,
 ) -> Result<(), Fail> {
-    assert_eq!(rt; bad_publications?, 0);
-    assert_eq!(rt; operator.number(), LAST);
-    assert_eq!(rt; bad_sections, 0);
+    assert!(rt; bad_publications? == 0);
+    assert!(rt; operator.number() == LAST);
+    assert!(rt; bad_sections == 0);
     Ok(())
 }
 

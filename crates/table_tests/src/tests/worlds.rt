@@ -49,43 +49,48 @@ fn free_rows(world: &mut World) -> usize {
 fn publishes(rt: &impl Abort, alloc: Global, world: &mut World, number: u64) -> Result<(), Fail> {
     let mut word = publish(alloc, world)?;
     if word == 0 {
-        assert_eq!(rt; scan_all(world)?, 0);
+        assert!(rt; scan_all(world)? == 0);
         word = publish(alloc, world)?;
     }
-    assert_eq!(rt; word / ROWS as u64, number);
+    assert!(rt; word / ROWS as u64 == number);
     Ok(())
+}
+
+fn pinned_version(world: &mut World) -> Result<u64, Fail> {
+    Ok(world.step(Pin { worker: 0 })? / ROWS as u64)
 }
 
 // While the worker's read word tells version 3, no more becomes free than was before.
 fn holds_back(rt: &impl Abort, alloc: Global, world: &mut World) -> Result<(), Fail> {
-    assert_eq!(rt; world.step(Announce { worker: 0 })?, 4);
-    assert_eq!(rt; world.step(Pin { worker: 0 })? / ROWS as u64, 90);
+    assert!(rt; world.step(Announce { worker: 0 }) == Ok(4));
+    assert!(rt; pinned_version(world)? == 90);
     for _ in 0..3usize {
-        assert_eq!(rt; scan_all(world)?, 4);
-        assert_eq!(rt; free_rows(world), 0);
+        assert!(rt; scan_all(world)? == 4 && free_rows(world) == 0);
     }
-    assert_eq!(rt; publish(alloc, world)?, 0);
-    assert_eq!(rt; world.step(Leave { worker: 0 })?, 0);
-    assert_eq!(rt; scan_all(world)?, 0);
-    assert_eq!(rt; free_rows(world), ROWS - 1);
+    assert!(rt; publish(alloc, world)? == 0);
+    assert!(rt; world.step(Leave { worker: 0 }) == Ok(0));
+    assert!(rt; scan_all(world)? == 0 && free_rows(world) == ROWS - 1);
     Ok(())
+}
+
+fn stalls(rt: &impl Abort, alloc: Global, world: &mut World) -> Result<(), Fail> {
+    for number in 1..4u64 {
+        publishes(rt, alloc, world, number)?;
+    }
+    // Version 3 in row 3.
+    assert!(rt; world.step(Peek { worker: 0 }) == Ok(51));
+    for number in 4..91u64 {
+        publishes(rt, alloc, world, number)?;
+    }
+    // The last round of scans came before version 76: 75 to 89 are replaced and not free, each in a row of its own.
+    assert!(rt; free_rows(world) == 0);
+    holds_back(rt, alloc, world)
 }
 
 #[test]
 fn stalled_worker_holds_back_more(rt: HostRuntime) -> Result<(), Fail> {
-    let alloc = rt.alloc();
-    let mut world = World::new(Config::new(alloc))?;
-    for number in 1..4u64 {
-        publishes(&rt, alloc, &mut world, number)?;
-    }
-    // Version 3 in row 3.
-    assert_eq!(rt; world.step(Peek { worker: 0 })?, 51);
-    for number in 4..91u64 {
-        publishes(&rt, alloc, &mut world, number)?;
-    }
-    // The last round of scans came before version 76: 75 to 89 are replaced and not free, each in a row of its own.
-    assert_eq!(rt; free_rows(&mut world), 0);
-    holds_back(&rt, alloc, &mut world)
+    let mut world = World::new(Config::new(rt.alloc()))?;
+    stalls(&rt, rt.alloc(), &mut world)
 }
 
 // Each step with its answer, in a world whose version 0 is the empty configuration; no answer is "not legal".
@@ -224,13 +229,17 @@ pub fn answers(rt: &impl Abort, world: &mut World, steps: &[(Step, Option<u64>)]
     }
 }
 
+fn answers_before_and_after(rt: &impl Abort, alloc: Global, world: &mut World) -> Result<(), Fail> {
+    answers(rt, world, &ANSWERS);
+    world.propose(Config::new(alloc))?;
+    answers(rt, world, &PUBLICATIONS);
+    Ok(())
+}
+
 #[test]
 fn steps_and_their_answers(rt: HostRuntime) -> Result<(), Fail> {
     let mut world = World::new(Config::new(rt.alloc()))?;
-    answers(&rt, &mut world, &ANSWERS);
-    world.propose(Config::new(rt.alloc()))?;
-    answers(&rt, &mut world, &PUBLICATIONS);
-    Ok(())
+    answers_before_and_after(&rt, rt.alloc(), &mut world)
 }
 
 // The group 10.0.0.2:53 with the member 7 at 127.0.0.1:9001, without programs, and its row in the pooled form: its image, but for
@@ -269,52 +278,49 @@ fn with_group(alloc: Global) -> Result<Config, Fail> {
 }
 
 // Each of these words is filled in row 5, and there is no publication before the last word that is not 0.
-fn fills_group(rt: &impl Abort, world: &mut World) -> Result<(), Fail> {
+fn fills_group(rt: &impl Abort, world: &mut World) {
     for (i, word) in GROUP_ROW.iter().enumerate() {
         // The last of them is 0, as the row has it.
         if i < 8 {
-            assert_eq!(rt; world.step(Publish { row: 5 }), Err(StepFault::NotLegal));
+            assert!(rt; world.step(Publish { row: 5 }) == Err(StepFault::NotLegal));
         }
         let place = begin_of(5).wrapping_add(i);
-        assert_eq!(rt; world.step(Fill { place, word: *word })?, *word);
+        assert!(rt; world.step(Fill { place, word: *word }) == Ok(*word));
     }
-    Ok(())
 }
+
+const ENTERS_ON_THE_GROUP: [(Step, Option<u64>); 3] = [
+    (Peek { worker: 63 }, Some(21)),
+    (Announce { worker: 63 }, Some(2)),
+    (Pin { worker: 63 }, Some(21)),
+];
 
 // The last worker enters on version 1 in row 5, and fetches each word.
-fn fetches_group(rt: &impl Abort, world: &mut World) -> Result<(), Fail> {
-    assert_eq!(rt; world.step(Peek { worker: 63 })?, 21);
-    assert_eq!(rt; world.step(Announce { worker: 63 })?, 2);
-    assert_eq!(rt; world.step(Pin { worker: 63 })?, 21);
+fn fetches_group(rt: &impl Abort, world: &mut World) {
+    answers(rt, world, &ENTERS_ON_THE_GROUP);
     for (i, word) in GROUP_ROW.iter().enumerate() {
         let place = begin_of(5).wrapping_add(i);
-        assert_eq!(rt; world.step(Fetch { worker: 63, place })?, *word);
+        assert!(rt; world.step(Fetch { worker: 63, place }) == Ok(*word));
     }
-    Ok(())
 }
 
-fn publishes_group(rt: &impl Abort, world: &mut World) -> Result<(), Fail> {
-    fills_group(rt, world)?;
-    assert_eq!(rt; world.step(Publish { row: 5 })?, 21);
-    assert_eq!(rt; world.word(0), Some(21));
-    assert_eq!(rt; world.word(TABLE_WORDS), None);
-    fetches_group(rt, world)
+fn publishes_group(rt: &impl Abort, world: &mut World) {
+    fills_group(rt, world);
+    assert!(rt; world.step(Publish { row: 5 }) == Ok(21));
+    assert!(rt; world.word(0) == Some(21) && world.word(TABLE_WORDS) == None);
+    fetches_group(rt, world);
 }
 
 #[test]
 fn group_is_published_word_by_word(rt: HostRuntime) -> Result<(), Fail> {
     let mut world = World::new(Config::new(rt.alloc()))?;
     world.propose(with_group(rt.alloc())?)?;
-    publishes_group(&rt, &mut world)
+    publishes_group(&rt, &mut world);
+    Ok(())
 }
 
-// Steps a worker's round, until one is refused; tells how many rounds were made.
-fn rounds_within(heap: &LocalHeap) -> Result<usize, Fail> {
-    let mut world = match World::new(Config::new(heap)) {
-        Ok(world) => world,
-        Err(StepFault::OutOfMemory) => return Ok(0),
-        Err(_) => return Err(Fail::from("only memory is refused")),
-    };
+// Steps a worker's round, until one is refused; returns how many rounds were made.
+fn rounds_of<'a>(heap: &'a LocalHeap, world: &mut World<&'a LocalHeap>) -> Result<usize, Fail> {
     for round in 1..40usize {
         match world.propose(Config::new(heap)) {
             Ok(()) => {}
@@ -339,6 +345,14 @@ fn rounds_within(heap: &LocalHeap) -> Result<usize, Fail> {
     Ok(40)
 }
 
+fn rounds_within(heap: &LocalHeap) -> Result<usize, Fail> {
+    match World::new(Config::new(heap)) {
+        Ok(mut world) => rounds_of(heap, &mut world),
+        Err(StepFault::OutOfMemory) => Ok(0),
+        Err(_) => Err(Fail::from("only memory is refused")),
+    }
+}
+
 #[test]
 fn world_under_each_refused_growth(rt: HostRuntime) -> Result<(), Fail> {
     let mut least = 0;
@@ -349,11 +363,11 @@ fn world_under_each_refused_growth(rt: HostRuntime) -> Result<(), Fail> {
             let heap = LocalHeap::new(rt.alloc(), size)?;
             let rounds = rounds_within(&heap)?;
             assert!(rt; least <= rounds, "a heap of {size} bytes");
-            assert_eq!(rt; heap.used(), 0);
+            assert!(rt; heap.used() == 0);
             least = rounds;
             size = size.saturating_add(128);
         }
     }
-    assert_eq!(rt; least, 40);
+    assert!(rt; least == 40);
     Ok(())
 }

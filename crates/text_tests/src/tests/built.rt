@@ -3,7 +3,7 @@
 ghost use Rattle.std.specs.Prelude.{◌≤◌, length};
 ghost use Rattle.bpf_verify.specs.Program.{IsProgram};
 
-use bpf_machine::{MAX_PACKET, Outcome, run};
+use bpf_machine::{MAX_PACKET, run};
 use bpf_verify::Program;
 use bumpalo::Bump;
 use filter_tree::{
@@ -139,22 +139,14 @@ pub fn is_tree_of(
         && has_text(alloc, &Bump::new(alloc), tree, text)
 }
 
-/// How the program ends on a packet; none where the packet is too long for one.
-pub fn outcome<A: Allocator>(program: &Program<A>, packet: &[u8]) -> Option<Outcome> {
+/// Whether the program ends with this value on a packet.
+pub fn answers<A: Allocator>(program: &Program<A>, packet: &[u8], value: u32) -> bool {
     if packet.len() > MAX_PACKET {
-        return None;
+        return false;
     }
     let mut words = program.words();
     let count = words.len();
-    Some(run(&mut words, 0, count, packet))
-}
-
-/// Whether the program ends with this value on a packet.
-pub fn answers<A: Allocator>(program: &Program<A>, packet: &[u8], value: u32) -> bool {
-    match outcome(program, packet) {
-        Some(outcome) => outcome.value == value,
-        None => false,
-    }
+    run(&mut words, 0, count, packet).value == value
 }
 
 /// Whether an answer may come with more memory than the one before: it is not wrong, and not refused where that one was not.

@@ -1,0 +1,239 @@
+//! Lines told over a wire in memory.
+
+ghost use Rattle.std.specs.Prelude.{◌≤◌, IfSome, length};
+
+use control_client::{
+    Came, InputLines, LONGEST_LINE, Lines, TellFault, Wire, WireFailed, WordLines, tell,
+};
+use ipv4_fields::Endpoint;
+use std::alloc::Global;
+use std::io::{BufReader, Read};
+use std::test::Fail;
+
+const SWITCH: Endpoint = Endpoint {
+    address: 0x7f00_0001,
+    port: 5301,
+};
+
+const ELSEWHERE: Endpoint = Endpoint {
+    address: 0x7f00_0001,
+    port: 5302,
+};
+
+// What a receive gives.
+#[derive(Clone, Copy)]
+enum Arrival {
+    Answer(&'static str),
+    Foreign(&'static str),
+    Silence,
+    Broken,
+}
+
+// It gives these in their order, and then nothing in time. What is sent stands in `sent`, a line each.
+#[derive(Drop)]
+struct MemoryWire {
+    left: &'static [Arrival],
+    sent: Vec<u8>,
+}
+
+fn put(from: Endpoint, text: &str, buf: &mut [u8]) -> Option<Came>
+    ensures within { IfSome result (λ one. one.len ≤ length buf.new) }
+{
+    let len = text.len().min(buf.len());
+    buf[..len].copy_from_slice(&text.as_bytes()[..len]);
+    Some(Came { from, len })
+}
+
+impl Wire for MemoryWire {
+    ghost use Rattle.std.specs.Prelude.{None};
+
+    ghost log = { λ _. None };
+
+    fn send(&mut self, _to: Endpoint, bytes: &[u8]) -> Result<(), WireFailed> {
+        let whole = self.sent.extend_from_slice(bytes).is_ok()
+            && self.sent.extend_from_slice(b"\n".as_slice()).is_ok();
+        if whole { Ok(()) } else { Err(WireFailed) }
+    }
+
+    fn receive(&mut self, buf: &mut [u8]) -> Result<Option<Came>, WireFailed> {
+        let Some((first, left)) = self.left.split_first() else {
+            return Ok(None);
+        };
+        self.left = left;
+        match *first {
+            Arrival::Answer(text) => Ok(put(SWITCH, text, buf)),
+            Arrival::Foreign(text) => Ok(put(ELSEWHERE, text, buf)),
+            Arrival::Silence => Ok(None),
+            Arrival::Broken => Err(WireFailed),
+        }
+    }
+}
+
+// Lines, what comes, and then how it ends, what was sent and what was printed.
+struct Row {
+    lines: &'static [&'static str],
+    arrivals: &'static [Arrival],
+    ended: Result<bool, TellFault>,
+    sent: &'static str,
+    printed: &'static str,
+}
+
+const ROWS: [Row; 8] = [
+    Row {
+        lines: &["add 10.0.0.2:53", "show"],
+        arrivals: &[
+            Arrival::Answer("ok version 1"),
+            Arrival::Answer("version 1 groups 1 members 0 charge 6"),
+        ],
+        ended: Ok(false),
+        sent: "add 10.0.0.2:53\nshow\n",
+        printed: "ok version 1\nversion 1 groups 1 members 0 charge 6\n",
+    },
+    Row {
+        lines: &["", "show"],
+        arrivals: &[Arrival::Answer("refused C1"), Arrival::Answer("")],
+        ended: Ok(true),
+        sent: "\nshow\n",
+        printed: "refused C1\n\n",
+    },
+    Row {
+        lines: &["totals", "stop"],
+        arrivals: &[Arrival::Answer("failed E3"), Arrival::Answer("ok stop")],
+        ended: Ok(true),
+        sent: "totals\nstop\n",
+        printed: "failed E3\nok stop\n",
+    },
+    Row {
+        lines: &["show"],
+        arrivals: &[
+            Arrival::Foreign("refused C1"),
+            Arrival::Foreign("ok stop"),
+            Arrival::Answer("refuse"),
+        ],
+        ended: Ok(false),
+        sent: "show\n",
+        printed: "refuse\n",
+    },
+    Row {
+        lines: &["add 10.0.0.2:53", "show", "sweep"],
+        arrivals: &[
+            Arrival::Answer("ok version 1"),
+            Arrival::Silence,
+            Arrival::Answer("version 1 groups 1 members 0 charge 6"),
+        ],
+        ended: Err(TellFault::NoAnswer),
+        sent: "add 10.0.0.2:53\nshow\n",
+        printed: "ok version 1\n",
+    },
+    Row {
+        lines: &["show", "sweep"],
+        arrivals: &[Arrival::Foreign("ok stop"), Arrival::Silence],
+        ended: Err(TellFault::NoAnswer),
+        sent: "show\n",
+        printed: "",
+    },
+    Row {
+        lines: &["show", "sweep"],
+        arrivals: &[Arrival::Answer("reclaimed 0 0"), Arrival::Broken],
+        ended: Err(TellFault::WaitFailed),
+        sent: "show\nsweep\n",
+        printed: "reclaimed 0 0\n",
+    },
+    Row {
+        lines: &[],
+        arrivals: &[],
+        ended: Ok(false),
+        sent: "",
+        printed: "",
+    },
+];
+
+fn is_told<L: Lines>(
+    alloc: Global,
+    lines: &mut L,
+    arrivals: &'static [Arrival],
+    ended: Result<bool, TellFault>,
+    texts: (&str, &str),
+) -> bool {
+    let mut wire = MemoryWire {
+        left: arrivals,
+        sent: Vec::new(alloc),
+    };
+    let mut out = Vec::new(alloc);
+    tell(alloc, lines, &mut wire, SWITCH, &mut out) == ended
+        && wire.sent.as_slice() == texts.0.as_bytes()
+        && out.as_slice() == texts.1.as_bytes()
+}
+
+#[test]
+fn lines_are_told_in_order(rt: HostRuntime) {
+    for row in &ROWS {
+        let mut lines = WordLines::new(row.lines);
+        let told = is_told(
+            rt.alloc(),
+            &mut lines,
+            row.arrivals,
+            row.ended,
+            (row.sent, row.printed),
+        );
+        assert!(rt; told);
+    }
+}
+
+// An input, and the lines that are sent of it.
+const INPUTS: [(&str, &str); 6] = [
+    ("", ""),
+    ("\n", "\n"),
+    ("show", "show\n"),
+    ("show\n", "show\n"),
+    ("show\n\nsweep", "show\n\nsweep\n"),
+    ("show\r\nsweep\n", "show\r\nsweep\n"),
+];
+
+const THREE: [Arrival; 3] = [
+    Arrival::Answer("ok"),
+    Arrival::Answer("ok"),
+    Arrival::Answer("ok"),
+];
+
+fn sends<R: Read + Drop>(alloc: Global, input: R, sent: &str) -> bool {
+    let Ok(input) = BufReader::new(alloc, input) else {
+        return false;
+    };
+    let mut wire = MemoryWire {
+        left: &THREE,
+        sent: Vec::new(alloc),
+    };
+    let mut out = Vec::new(alloc);
+    let ended = tell(
+        alloc,
+        &mut InputLines::new(input),
+        &mut wire,
+        SWITCH,
+        &mut out,
+    );
+    ended == Ok(false) && wire.sent.as_slice() == sent.as_bytes()
+}
+
+#[test]
+fn input_is_cut_into_lines(rt: HostRuntime) {
+    for (input, sent) in &INPUTS {
+        assert!(rt; sends(rt.alloc(), input.as_bytes(), sent), "{input:?}");
+    }
+}
+
+#[test]
+fn long_line_is_not_sent(rt: HostRuntime) -> Result<(), Fail> {
+    let mut input = vec![in rt.alloc(); b'a'; LONGEST_LINE + 1]?;
+    input.extend_from_slice(b"\nshow\n".as_slice())?;
+    let reader = BufReader::new(rt.alloc(), input.as_slice())?;
+    let told = is_told(
+        rt.alloc(),
+        &mut InputLines::new(reader),
+        &THREE,
+        Ok(true),
+        ("show\n", "refused C2\nok\n"),
+    );
+    assert!(rt; told);
+    Ok(())
+}

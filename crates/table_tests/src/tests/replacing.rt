@@ -1,0 +1,138 @@
+//! Verdicts of versions that are replaced while a worker is inside.
+
+use super::tables::on_table;
+use bpf_verify::Program;
+use ipv4_fields::Endpoint;
+use member_group::{Command, Config};
+use packet_verdict::{Verdict, judge};
+use read_section::{Operator, Worker};
+use retire::Retire;
+use std::alloc::Global;
+use std::process::Abort;
+use std::test::Fail;
+
+// 29 bytes of UDP over IPv4 from 10.0.0.1:5000 to 10.0.0.2:53, with the payload `a`.
+const PACKET: [u8; 29] = [
+    0x45, 0x00, 0x00, 0x1d, 0x00, 0x00, 0x00, 0x00, 0x40, 0x11, 0x00, 0x00, 0x0a, 0x00, 0x00, 0x01,
+    0x0a, 0x00, 0x00, 0x02, 0x13, 0x88, 0x00, 0x35, 0x00, 0x09, 0x00, 0x00, 0x61,
+];
+
+// 10.0.0.2:53
+const KEY: Endpoint = Endpoint {
+    address: 0x0a00_0002,
+    port: 53,
+};
+
+// 127.0.0.1:9000 and the ports above it, one for each member.
+fn socket(member: u16) -> Endpoint {
+    Endpoint {
+        address: 0x7f00_0001,
+        port: member.wrapping_add(9000),
+    }
+}
+
+fn apply(config: &mut Config, command: &Command) -> Result<(), Fail> {
+    match config.apply(command) {
+        Ok(next) => {
+            *config = next;
+            Ok(())
+        }
+        Err(_) => Err(Fail::from("the command is applied")),
+    }
+}
+
+// Adds a group of members 1, 2 and 3.
+fn add_group(config: &mut Config) -> Result<(), Fail> {
+    apply(config, &Command::AddGroup { key: KEY })?;
+    for member in 1..4u16 {
+        let join = Command::Join {
+            key: KEY,
+            member: u32::from(member),
+            to: socket(member),
+        };
+        apply(config, &join)?;
+    }
+    Ok(())
+}
+
+// The program that answers a number.
+fn answering(alloc: Global, number: u32) -> Result<Program<Global>, Fail> {
+    let words = vec![in alloc; 0x0006_0000_0000_0000 | u64::from(number); 1]?;
+    match Program::new(words) {
+        Ok(program) => Ok(program),
+        Err(_) => Err(Fail::from("a return is a program")),
+    }
+}
+
+fn select(config: &mut Config, number: u32) -> Result<(), Fail> {
+    let program = answering(*config.allocator(), number)?;
+    apply(config, &Command::SetSelector { key: KEY, program })
+}
+
+// A group of members 1, 2 and 3, whose selector answers a number.
+fn selecting(alloc: Global, number: u32) -> Result<Config, Fail> {
+    let mut config = Config::new(alloc);
+    add_group(&mut config)?;
+    select(&mut config, number)?;
+    Ok(config)
+}
+
+fn published(operator: &mut Operator, config: Config) -> Result<u64, Fail> {
+    match operator.publish(config) {
+        Ok(number) => Ok(number),
+        Err(_) => Err(Fail::from("a row is free")),
+    }
+}
+
+fn judged(worker: &mut Worker) -> (u64, Verdict) {
+    let mut section = worker.enter();
+    let number = section.number();
+    let verdict = judge(&mut section, &PACKET);
+    section.leave();
+    (number, verdict)
+}
+
+fn delivered(member: u16) -> Verdict {
+    Verdict::Deliver {
+        group: KEY,
+        member: u32::from(member),
+        to: socket(member),
+        bytes: 29,
+    }
+}
+
+// A configuration is published while the worker is inside: its number, the section's number, and the section's verdict.
+fn published_inside(
+    operator: &mut Operator,
+    worker: &mut Worker,
+    config: Config,
+) -> Result<(u64, u64, Verdict), Fail> {
+    let mut section = worker.enter();
+    let number = published(operator, config);
+    let verdict = judge(&mut section, &PACKET);
+    let held = section.number();
+    section.leave();
+    Ok((number?, held, verdict))
+}
+
+fn keeps_its_version(
+    rt: &impl Abort,
+    alloc: Global,
+    operator: &mut Operator,
+    worker: &mut Worker,
+) -> Result<(), Fail> {
+    assert!(rt; judged(worker) == (0, Verdict::NoGroup));
+    let first = published(operator, selecting(alloc, 0)?)?;
+    let inside = published_inside(operator, worker, selecting(alloc, 1)?)?;
+    assert!(rt; (first, inside) == (1, (2, 1, delivered(1))));
+    assert!(rt; judged(worker) == (2, delivered(2)));
+    Ok(())
+}
+
+// A worker that entered at version 1 judges by it while version 2 is current; once it has left, by version 2.
+#[test]
+fn section_keeps_its_version(rt: HostRuntime) -> Result<(), Fail> {
+    on_table(Config::new(rt.alloc()), |operator, worker| {
+        keeps_its_version(&rt, rt.alloc(), operator, worker)
+    })
+}

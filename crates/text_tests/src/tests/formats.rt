@@ -1,0 +1,138 @@
+//! Programs in numbers: the words of texts, and what tcpdump prints, read and printed in heaps of every size.
+
+use bpf_verify::Program;
+use linked_list_allocator::LocalHeap;
+use program_formats::{FormatFault, print_dd, print_ddd, print_hex, read_ddd, read_hex};
+use std::alloc::Global;
+use std::process::Abort;
+use std::test::Fail;
+
+// tcpdump 4.99.3, `tcpdump -y RAW -ddd ip`, and the same with `-dd`.
+const IP_DDD: &str = "5\n48 0 0 0\n84 0 0 240\n21 0 1 64\n6 0 0 262144\n6 0 0 0\n";
+
+const IP_DD: &str = "\
+{ 0x30, 0, 0, 0x00000000 },
+{ 0x54, 0, 0, 0x000000f0 },
+{ 0x15, 0, 1, 0x00000040 },
+{ 0x6, 0, 0, 0x00040000 },
+{ 0x6, 0, 0, 0x00000000 },
+";
+
+const IP_HEX: &str = "\
+0030000000000000
+00540000000000f0
+0015000100000040
+0006000000040000
+0006000000000000
+";
+
+const IP: [u64; 5] = [
+    0x0030_0000_0000_0000,
+    0x0054_0000_0000_00f0,
+    0x0015_0001_0000_0040,
+    0x0006_0000_0004_0000,
+    0x0006_0000_0000_0000,
+];
+
+const RET_A: u64 = 0x0016_0000_0000_0000;
+
+// Whatever the fields are, and however often a line or a comma ends.
+const DDD: [(&[u8], &[u64]); 8] = [
+    (b"0", &[]),
+    (b"0\n\n", &[]),
+    (b"1\n22 0 0 0", &[RET_A]),
+    (b"1,22 0 0 0", &[RET_A]),
+    (b"1,22 0 0 0,\n", &[RET_A]),
+    (b"2\n\n22 0 0 0,,22 0 0 0\n", &[RET_A, RET_A]),
+    (b"1\n65535 255 254 4294967295\n", &[0xffff_fffe_ffff_ffff]),
+    // An instruction's code alone makes no word: `Program::new` refuses it.
+    (b"1\n0 1 2 3\n", &[0x0000_0102_0000_0003]),
+];
+
+const HEX: [(&[u8], &[u64]); 5] = [
+    (b"", &[]),
+    (b"\n,\n", &[]),
+    (b"0016000000000000", &[RET_A]),
+    (b"0016000000000000,\n\n0016000000000000\n", &[RET_A, RET_A]),
+    (b"FFFFfffeFFFFffff", &[0xffff_fffe_ffff_ffff]),
+];
+
+// Whether the text is these words.
+fn is_ddd(alloc: Global, text: &[u8], words: &[u64]) -> bool {
+    match read_ddd(alloc, text) {
+        Ok(read) => read.as_slice() == words,
+        Err(_) => false,
+    }
+}
+
+fn is_hex(alloc: Global, text: &[u8], words: &[u64]) -> bool {
+    match read_hex(alloc, text) {
+        Ok(read) => read.as_slice() == words,
+        Err(_) => false,
+    }
+}
+
+#[test]
+fn texts_and_their_words(rt: HostRuntime) {
+    for (text, words) in &DDD {
+        assert!(rt; is_ddd(rt.alloc(), text, words), "{text:?}");
+    }
+    for (text, words) in &HEX {
+        assert!(rt; is_hex(rt.alloc(), text, words), "{text:?}");
+    }
+}
+
+// Reads a program in a heap's memory, and prints it there in each format: returns how far memory lasted.
+fn formatted_within(heap: &LocalHeap) -> Result<usize, Fail> {
+    let words = match read_ddd(heap, IP_DDD.as_bytes()) {
+        Ok(words) => words,
+        Err(FormatFault::OutOfMemory) => return Ok(0),
+        Err(_) => return Err(Fail::from("only memory is refused")),
+    };
+    let Ok(program) = Program::new(words) else {
+        return Err(Fail::from("the words are accepted"));
+    };
+    if program.words() != &IP as &[u64] {
+        return Err(Fail::from("the words are those of the text"));
+    }
+    let Ok(in_decimal) = print_ddd(heap, &program) else {
+        return Ok(1);
+    };
+    let Ok(in_c) = print_dd(heap, &program) else {
+        return Ok(2);
+    };
+    let Ok(in_hex) = print_hex(heap, &program) else {
+        return Ok(3);
+    };
+    if in_decimal.as_str() != IP_DDD || in_c.as_str() != IP_DD || in_hex.as_str() != IP_HEX {
+        return Err(Fail::from("the whole program is printed"));
+    }
+    match read_hex(heap, IP_HEX.as_bytes()) {
+        Ok(words) if words.as_slice() == program.words() => Ok(5),
+        Err(FormatFault::OutOfMemory) => Ok(4),
+        _ => Err(Fail::from("only memory is refused")),
+    }
+}
+
+// The same in a heap of so many bytes, which has all of them again afterwards.
+fn steps_within(rt: &impl Abort, alloc: Global, size: usize) -> Result<usize, Fail> {
+    let heap = LocalHeap::new(alloc, size)?;
+    let steps = formatted_within(&heap)?;
+    assert!(rt; heap.used() == 0);
+    Ok(steps)
+}
+
+#[test]
+fn formats_under_each_refused_growth(rt: HostRuntime) -> Result<(), Fail> {
+    let mut size = 64;
+    let mut least = 0;
+    // A block more from heap to heap, so that each growth is once the first that is refused.
+    for _ in 0..120 {
+        let steps = steps_within(&rt, rt.alloc(), size)?;
+        assert!(rt; least <= steps, "a heap of {size} bytes");
+        least = steps;
+        size = size.saturating_add(16);
+    }
+    assert!(rt; least == 5);
+    Ok(())
+}
