@@ -8,8 +8,13 @@ fn next(value: u32, radix: u32, digit: u8) -> Option<u32>
     requires upper { radix ≤ 36 }
     ensures { result ≡ next_value radix value digit }
 {
-    let digit = char::from(digit).to_digit(radix)?;
-    value.checked_mul(radix)?.checked_add(digit)
+    let Some(digit) = char::from(digit).to_digit(radix) else {
+        return None;
+    };
+    match value.checked_mul(radix) {
+        Some(scaled) => scaled.checked_add(digit),
+        None => None,
+    }
 }
 
 #[tactic(auto, unfolding(crate::specs::body::Reading::numeral))]

@@ -35,8 +35,13 @@ fn after_number(line: &[u8]) -> Option<(u32, &[u8])>
 fn closed(line: &[u8]) -> Option<(u32, &[u8])>
     ensures { option_map (λ found. (found.0, tokens_of found.1.now)) result ≡ closed_in (tokens_of line.now) }
 {
-    let (k, rest) = after_number(line)?;
-    Some((k, after_mark(rest, b']')?))
+    let Some((k, rest)) = after_number(line) else {
+        return None;
+    };
+    match after_mark(rest, b']') {
+        Some(rest) => Some((k, rest)),
+        None => None,
+    }
 }
 
 // `k]` or `x+k]`, behind `[`
@@ -45,10 +50,18 @@ fn bracket(line: &[u8]) -> Option<(Form<'_>, &[u8])>
     ensures { option_map (λ found. (form_of found.0, tokens_of found.1.now)) result ≡ bracket_in (tokens_of line.now) }
 {
     match first_token(line) {
-        Some((Token::Number(k), rest)) => Some((Form::Absolute(k), after_mark(rest, b']')?)),
+        Some((Token::Number(k), rest)) => match after_mark(rest, b']') {
+            Some(rest) => Some((Form::Absolute(k), rest)),
+            None => None,
+        },
         Some((Token::Word(name), rest)) if is_name(name, "x") => {
-            let (k, rest) = closed(after_mark(rest, b'+')?)?;
-            Some((Form::Indexed(k), rest))
+            let Some(rest) = after_mark(rest, b'+') else {
+                return None;
+            };
+            match closed(rest) {
+                Some((k, rest)) => Some((Form::Indexed(k), rest)),
+                None => None,
+            }
         }
         _ => None,
     }
@@ -59,13 +72,27 @@ fn bracket(line: &[u8]) -> Option<(Form<'_>, &[u8])>
 fn header(four: u32, line: &[u8]) -> Option<(Form<'_>, &[u8])>
     ensures { option_map (λ found. (form_of found.0, tokens_of found.1.now)) result ≡ header_in four (tokens_of line.now) }
 {
-    let rest = after_mark(line, b'*')?;
-    let rest = after_mark(rest, b'(')?;
-    let rest = after_mark(rest, b'[')?;
-    let (k, rest) = closed(rest)?;
-    let rest = after_mark(rest, b'&')?;
-    let (mask, rest) = after_number(rest)?;
-    let rest = after_mark(rest, b')')?;
+    let Some(rest) = after_mark(line, b'*') else {
+        return None;
+    };
+    let Some(rest) = after_mark(rest, b'(') else {
+        return None;
+    };
+    let Some(rest) = after_mark(rest, b'[') else {
+        return None;
+    };
+    let Some((k, rest)) = closed(rest) else {
+        return None;
+    };
+    let Some(rest) = after_mark(rest, b'&') else {
+        return None;
+    };
+    let Some((mask, rest)) = after_number(rest) else {
+        return None;
+    };
+    let Some(rest) = after_mark(rest, b')') else {
+        return None;
+    };
     if four == 4 && mask == 15 {
         Some((Form::Header(k), rest))
     } else {
@@ -83,8 +110,10 @@ fn named<'a>(name: &'a [u8], line: &'a [u8]) -> Option<(Form<'a>, &'a [u8])>
             if !is_name(name, "M") {
                 return None;
             }
-            let (k, rest) = closed(rest)?;
-            Some((Form::Cell(k), rest))
+            match closed(rest) {
+                Some((k, rest)) => Some((Form::Cell(k), rest)),
+                None => None,
+            }
         }
         None => Some((Form::Name(name), line)),
     }
@@ -97,7 +126,9 @@ fn marked(mark: u8, line: &[u8]) -> Option<(Form<'_>, &[u8])>
     if mark == b'[' {
         return bracket(line);
     }
-    let (k, rest) = after_number(line)?;
+    let Some((k, rest)) = after_number(line) else {
+        return None;
+    };
     match mark {
         b'#' => Some((Form::Constant(k), rest)),
         b'+' => Some((Form::Skip(k), rest)),

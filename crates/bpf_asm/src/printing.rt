@@ -1,11 +1,12 @@
 //! How a program is printed (docs/MACHINE.md, "How a program is printed").
 
-ghost use Rattle.std.specs.Prelude.{◌≡◌, ◌++◌, ◌∷◌, [], IfOk, OnOk, string_bytes};
+ghost use Rattle.std.specs.Prelude.{◌≡◌, ◌++◌, ◌∷◌, [], IfOk, OnOk, codes, decimal, string_bytes};
 ghost use Rattle.bpf_asm.specs.Assembly.{Assembles};
 ghost use Rattle.bpf_asm.specs.Statement.{load_name, operation_name, test_name};
 ghost use Rattle.bpf_asm.specs.Text.{printed, printed_insn, printed_operand};
+ghost use Rattle.bpf_insn.specs.declared.instruction.Insn.TheVariants.{Alu, JumpIf};
 
-use bpf_insn::{Insn, Operand, Operation, Size, Test};
+use bpf_insn::{Insn, Offsets, Operand, Operation, Size, Test};
 use bpf_verify::{OutOfMemory, Program};
 use std::alloc::Allocator;
 
@@ -56,44 +57,86 @@ fn print_operand<A: Allocator>(text: &mut String<A>, operand: Operand) -> Result
     }
 }
 
+// Prints a number behind a text.
+fn print_number<A: Allocator>(text: &mut String<A>, front: &str, k: u32) -> Result<(), OutOfMemory>
+    ensures { OnOk result (string_bytes text.new ≡ string_bytes text.old ++ (front.now ++ decimal k)) }
+{
+    write!(text, "{front}{k}")
+}
+
+// Prints a number between two texts.
+fn print_between<A: Allocator>(
+    text: &mut String<A>,
+    front: &str,
+    k: u32,
+    back: &str,
+) -> Result<(), OutOfMemory>
+    ensures { OnOk result (string_bytes text.new ≡ string_bytes text.old ++ (front.now ++ decimal k ++ back.now)) }
+{
+    write!(text, "{front}{k}{back}")
+}
+
+fn print_load<A: Allocator>(
+    text: &mut String<A>,
+    size: Size,
+    front: &str,
+    k: u32,
+) -> Result<(), OutOfMemory>
+    ensures { OnOk result (string_bytes text.new ≡ string_bytes text.old ++ (load_name size ++ (front.now ++ decimal k ++ codes "]"))) }
+{
+    let name = load_name(size);
+    write!(text, "{name}{front}{k}]")
+}
+
+fn print_operation<A: Allocator>(
+    text: &mut String<A>,
+    operation: Operation,
+    operand: Operand,
+) -> Result<(), OutOfMemory>
+    ensures { OnOk result (string_bytes text.new ≡ string_bytes text.old ++ printed_insn (Alu operation operand)) }
+{
+    let name = operation_name(operation);
+    write!(text, "{name} ")?;
+    print_operand(text, operand)
+}
+
+fn print_branch<A: Allocator>(
+    text: &mut String<A>,
+    test: Test,
+    operand: Operand,
+    offsets: Offsets,
+) -> Result<(), OutOfMemory>
+    ensures { OnOk result (string_bytes text.new ≡ string_bytes text.old ++ printed_insn (JumpIf test operand offsets)) }
+{
+    let (jt, jf) = (offsets.jt, offsets.jf);
+    let name = test_name(test);
+    write!(text, "{name} ")?;
+    print_operand(text, operand)?;
+    write!(text, ",{jt},{jf}")
+}
+
 fn print_insn<A: Allocator>(text: &mut String<A>, insn: Insn) -> Result<(), OutOfMemory>
     ensures { OnOk result (string_bytes text.new ≡ string_bytes text.old ++ printed_insn insn) }
 {
     match insn {
-        Insn::LoadAbsolute(size, k) => {
-            text.push_str(load_name(size))?;
-            write!(text, " [{k}]")
-        }
-        Insn::LoadIndexed(size, k) => {
-            text.push_str(load_name(size))?;
-            write!(text, " [x+{k}]")
-        }
-        Insn::LoadConstant(k) => write!(text, "ld #{k}"),
-        Insn::LoadCell(k) => write!(text, "ld M[{k}]"),
+        Insn::LoadAbsolute(size, k) => print_load(text, size, " [", k),
+        Insn::LoadIndexed(size, k) => print_load(text, size, " [x+", k),
+        Insn::LoadConstant(k) => print_number(text, "ld #", k),
+        Insn::LoadCell(k) => print_between(text, "ld M[", k, "]"),
         Insn::LoadLength => text.push_str("ld len"),
-        Insn::LoadXConstant(k) => write!(text, "ldx #{k}"),
-        Insn::LoadXCell(k) => write!(text, "ldx M[{k}]"),
+        Insn::LoadXConstant(k) => print_number(text, "ldx #", k),
+        Insn::LoadXCell(k) => print_between(text, "ldx M[", k, "]"),
         Insn::LoadXLength => text.push_str("ldx len"),
-        Insn::LoadXHeader(k) => write!(text, "ldx 4*([{k}]&0xf)"),
-        Insn::Store(k) => write!(text, "st M[{k}]"),
-        Insn::StoreX(k) => write!(text, "stx M[{k}]"),
-        Insn::Alu(operation, operand) => {
-            text.push_str(operation_name(operation))?;
-            text.push_str(" ")?;
-            print_operand(text, operand)
-        }
+        Insn::LoadXHeader(k) => print_between(text, "ldx 4*([", k, "]&0xf)"),
+        Insn::Store(k) => print_between(text, "st M[", k, "]"),
+        Insn::StoreX(k) => print_between(text, "stx M[", k, "]"),
+        Insn::Alu(operation, operand) => print_operation(text, operation, operand),
         Insn::Negate => text.push_str("neg"),
         Insn::CopyToX => text.push_str("tax"),
         Insn::CopyFromX => text.push_str("txa"),
-        Insn::Jump(k) => write!(text, "ja +{k}"),
-        Insn::JumpIf(test, operand, offsets) => {
-            let (jt, jf) = (offsets.jt, offsets.jf);
-            text.push_str(test_name(test))?;
-            text.push_str(" ")?;
-            print_operand(text, operand)?;
-            write!(text, ",{jt},{jf}")
-        }
-        Insn::ReturnConstant(k) => write!(text, "ret #{k}"),
+        Insn::Jump(k) => print_number(text, "ja +", k),
+        Insn::JumpIf(test, operand, offsets) => print_branch(text, test, operand, offsets),
+        Insn::ReturnConstant(k) => print_number(text, "ret #", k),
         Insn::ReturnA => text.push_str("ret a"),
     }
 }

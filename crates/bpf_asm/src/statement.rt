@@ -119,9 +119,15 @@ fn other_insn(name: &[u8], form: Form) -> Option<Insn>
     } else if is_name(name, "ldx") {
         x_load(form)
     } else if is_name(name, "st") {
-        Some(Insn::Store(cell_of(form)?))
+        match cell_of(form) {
+            Some(k) => Some(Insn::Store(k)),
+            None => None,
+        }
     } else if is_name(name, "stx") {
-        Some(Insn::StoreX(cell_of(form)?))
+        match cell_of(form) {
+            Some(k) => Some(Insn::StoreX(k)),
+            None => None,
+        }
     } else if is_name(name, "ret") {
         return_of(form)
     } else if is_name(name, "neg") {
@@ -140,7 +146,10 @@ fn insn_of(name: &[u8], form: Form) -> Option<Insn>
     ensures { result ≡ insn_in name.now (form_of form.entry) }
 {
     match operation_of(name) {
-        Some(operation) => Some(Insn::Alu(operation, operand_of(form)?)),
+        Some(operation) => match operand_of(form) {
+            Some(operand) => Some(Insn::Alu(operation, operand)),
+            None => None,
+        },
         None => other_insn(name, form),
     }
 }
@@ -172,9 +181,21 @@ fn near_target(line: &[u8]) -> Option<(Target<'_>, &[u8])>
 fn branch<'a>(test: Test, form: Form<'a>, line: &'a [u8]) -> Option<Statement<'a>>
     ensures { option_map statement_of result ≡ branch_behind test (form_of form.entry) (tokens_of line.now) }
 {
-    let operand = operand_of(form)?;
-    let (yes, rest) = near_target(after_mark(line, b',')?)?;
-    let (no, rest) = near_target(after_mark(rest, b',')?)?;
+    let Some(operand) = operand_of(form) else {
+        return None;
+    };
+    let Some(rest) = after_mark(line, b',') else {
+        return None;
+    };
+    let Some((yes, rest)) = near_target(rest) else {
+        return None;
+    };
+    let Some(rest) = after_mark(rest, b',') else {
+        return None;
+    };
+    let Some((no, rest)) = near_target(rest) else {
+        return None;
+    };
     if is_blank(rest) {
         Some(Statement::Branch(test, operand, yes, no))
     } else {
@@ -187,9 +208,15 @@ fn unbranched<'a>(name: &[u8], form: Form<'a>) -> Option<Statement<'a>>
     ensures { option_map statement_of result ≡ unbranched name.now (form_of form.entry) }
 {
     if is_name(name, "ja") {
-        Some(Statement::Jump(far_target(form)?))
+        match far_target(form) {
+            Some(target) => Some(Statement::Jump(target)),
+            None => None,
+        }
     } else {
-        Some(Statement::Plain(insn_of(name, form)?))
+        match insn_of(name, form) {
+            Some(insn) => Some(Statement::Plain(insn)),
+            None => None,
+        }
     }
 }
 
@@ -198,7 +225,9 @@ fn unbranched<'a>(name: &[u8], form: Form<'a>) -> Option<Statement<'a>>
 pub(crate) fn read_statement<'a>(name: &[u8], line: &'a [u8]) -> Option<Statement<'a>>
     ensures { option_map statement_of result ≡ statement_in name.now (tokens_of line.now) }
 {
-    let (form, rest) = operand_form(line)?;
+    let Some((form, rest)) = operand_form(line) else {
+        return None;
+    };
     if let Some(test) = test_of(name) {
         branch(test, form, rest)
     } else if is_blank(rest) {

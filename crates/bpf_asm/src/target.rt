@@ -52,7 +52,10 @@ fn offset_of<'a, A: Allocator>(
 {
     let offset = match target {
         Target::Skips(k) => k as usize,
-        Target::GoesTo(name) => distance(labels.place(name), at)?,
+        Target::GoesTo(name) => match distance(labels.place(name), at) {
+            Ok(offset) => offset,
+            Err(fault) => return Err(fault),
+        },
     };
     if offset > most {
         return Err(AsmFault::TooFar { line: at.line });
@@ -71,14 +74,22 @@ fn insn_of<'a, A: Allocator>(
 {
     match statement {
         Statement::Plain(insn) => Ok(insn),
-        Statement::Jump(target) => {
-            let k = offset_of(labels, at, FARTHEST, target)?;
-            Ok(Insn::Jump(k as u32))
-        }
+        Statement::Jump(target) => match offset_of(labels, at, FARTHEST, target) {
+            Ok(k) => Ok(Insn::Jump(k as u32)),
+            Err(fault) => Err(fault),
+        },
         Statement::Branch(test, operand, on_true, on_false) => {
-            let jt = offset_of(labels, at, FARTHEST_BRANCH, on_true)? as u8;
-            let jf = offset_of(labels, at, FARTHEST_BRANCH, on_false)? as u8;
-            Ok(Insn::JumpIf(test, operand, Offsets { jf, jt }))
+            let jt = match offset_of(labels, at, FARTHEST_BRANCH, on_true) {
+                Ok(offset) => offset as u8,
+                Err(fault) => return Err(fault),
+            };
+            match offset_of(labels, at, FARTHEST_BRANCH, on_false) {
+                Ok(offset) => {
+                    let jf = offset as u8;
+                    Ok(Insn::JumpIf(test, operand, Offsets { jf, jt }))
+                }
+                Err(fault) => Err(fault),
+            }
         }
     }
 }
@@ -101,8 +112,13 @@ fn push_word<'a, A: Allocator, B: Allocator>(
         pc: words.len(),
         line,
     };
-    words.push(insn_of(labels, at, statement)?.to_word())?;
-    Ok(())
+    match insn_of(labels, at, statement) {
+        Ok(insn) => match words.push(insn.to_word()) {
+            Ok(()) => Ok(()),
+            Err(_) => Err(AsmFault::OutOfMemory),
+        },
+        Err(fault) => Err(fault),
+    }
 }
 
 /// Makes the words of some lines, or tells the first fault of a target.

@@ -1,3 +1,4 @@
 mod CommandLineLemmas
 pub mod EndingLemmas
 mod StandardFacts
+mod BuilderLemmas

@@ -4,6 +4,7 @@ ghost use Rattle.std.specs.Prelude.{◌≡◌, IfOk, false};
 ghost use Rattle.clap.specs.Words.{App, Rule, app_of, new_app, rule_of, with_rule, with_subcommand};
 ghost use Rattle.clap.specs.declared.builder.command.Command.TheViews.{out-Command};
 ghost use Rattle.command_line.specs.CommandLine.{check_line, command_line, compile_line, explain_line, flood_line, replay_line, run_line, serve_line, tell_line, without_commands};
+ghost use Rattle.command_line.specs.body.Half.{with_queries};
 
 use crate::arguments::{
     address_argument, datagrams_argument, expression_argument, flag_argument, format_argument,
@@ -144,8 +145,9 @@ fn with_command<'a>(
     program?.subcommand(command?)
 }
 
-pub(crate) fn program<'a>(alloc: Global) -> Result<Command<'a>, AllocError>
-    ensures { IfOk result (λ program. app_of program ≡ command_line) }
+// The program with its commands up to `explain`.
+fn with_queries<'a>(alloc: Global) -> Result<Command<'a>, AllocError>
+    ensures { IfOk result (λ program. app_of program ≡ with_queries) }
 {
     let program = without_commands(alloc);
     let first = plain_command(alloc, "first", help::FIRST, help::FIRST_MORE);
@@ -153,8 +155,13 @@ pub(crate) fn program<'a>(alloc: Global) -> Result<Command<'a>, AllocError>
     let program = with_command(program, check_command(alloc));
     let program = with_command(program, compile_command(alloc));
     let program = with_command(program, run_command(alloc));
-    let program = with_command(program, explain_command(alloc));
-    let program = with_command(program, replay_command(alloc));
+    with_command(program, explain_command(alloc))
+}
+
+pub(crate) fn program<'a>(alloc: Global) -> Result<Command<'a>, AllocError>
+    ensures { IfOk result (λ program. app_of program ≡ command_line) }
+{
+    let program = with_command(with_queries(alloc), replay_command(alloc));
     let packets = plain_command(alloc, "packets", help::PACKETS, help::PACKETS_MORE);
     let program = with_command(program, Ok(packets));
     let program = with_command(program, flood_command(alloc));

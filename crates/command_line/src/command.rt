@@ -7,7 +7,7 @@ pub const MAX_TIMEOUT: u64 = 3600;
 pub const MAX_DATAGRAMS: u64 = 1 << 24;
 
 /// A command that has one result.
-#[derive(Clone, Copy, Debug, PartialEq, Eq)]
+#[derive(Clone, Copy)]
 pub enum Query<'a> {
     First,
     /// `format` is the name of a format as it is written, and `"asm"` where none is. So it is below.
@@ -33,7 +33,7 @@ pub enum Query<'a> {
 }
 
 /// A command of the program, with its arguments.
-#[derive(Debug, Drop)]
+#[derive(Drop)]
 pub enum Subcommand<'a> {
     Query(Query<'a>),
     /// `summary` and `quiet` say which of the two flags are given.

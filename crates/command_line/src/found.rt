@@ -4,7 +4,7 @@ ghost use Rattle.std.specs.Prelude.{◌≡◌, IfOk, Some, codes, map, string_by
 ghost use Rattle.std.specs.Option.{option_map};
 ghost use Rattle.clap.specs.Walk.{first_of};
 ghost use Rattle.clap.specs.Words.{FailsBy, found_of, rows_of};
-ghost use Rattle.command_line.specs.CommandLine.{datagrams_in, faults_in, format_in, is_set, query_request, request_in, request_named, request_of, run_or_judge, timeout_in, value_in, values_in};
+ghost use Rattle.command_line.specs.CommandLine.{datagrams_in, faults_in, format_in, is_set, query_request, request_in, request_named, request_of, run_or_judge, tell, timeout_in, value_in, values_in};
 
 use crate::builders::program;
 use crate::command::{Query, Subcommand};
@@ -70,6 +70,20 @@ fn run_or_judge<'a>(found: &ArgMatches<'a>) -> Query<'a>
     }
 }
 
+// `tell` with its arguments: the only command of which these take memory.
+fn tell<'a>(alloc: Global, found: &ArgMatches<'a>) -> Result<Option<Subcommand<'a>>, AllocError>
+    ensures { IfOk result (λ command. option_map request_of command
+        ≡ Some (tell (value_in (rows_of (found_of found.now)) (codes "control")) (timeout_in (rows_of (found_of found.now)))
+        (values_in (rows_of (found_of found.now)) (codes "LINE")))) }
+{
+    let lines = values_of(alloc, found, "LINE")?;
+    Ok(Some(Subcommand::Tell {
+        control: value_of(found, "control"),
+        timeout: timeout_of(found),
+        lines,
+    }))
+}
+
 // The command of that name, with its arguments as `clap` found them.
 fn subcommand_of<'a>(
     alloc: Global,
@@ -78,41 +92,36 @@ fn subcommand_of<'a>(
 ) -> Result<Option<Subcommand<'a>>, AllocError>
     ensures { IfOk result (λ command. option_map request_of command ≡ request_named name.now (rows_of (found_of found.now))) }
 {
-    let command = match name {
-        "first" => Some(Subcommand::Query(Query::First)),
-        "check" => Some(Subcommand::Query(Query::Check {
+    match name {
+        "first" => Ok(Some(Subcommand::Query(Query::First))),
+        "check" => Ok(Some(Subcommand::Query(Query::Check {
             format: format_of(found),
-        })),
-        "compile" => Some(Subcommand::Query(Query::Compile {
+        }))),
+        "compile" => Ok(Some(Subcommand::Query(Query::Compile {
             expression: value_of(found, "EXPR"),
             format: format_of(found),
-        })),
-        "run" => Some(Subcommand::Query(run_or_judge(found))),
-        "explain" => Some(Subcommand::Query(Query::Explain {
+        }))),
+        "run" => Ok(Some(Subcommand::Query(run_or_judge(found)))),
+        "explain" => Ok(Some(Subcommand::Query(Query::Explain {
             code: value_of(found, "CODE"),
-        })),
-        "replay" => Some(Subcommand::Replay {
+        }))),
+        "replay" => Ok(Some(Subcommand::Replay {
             summary: is_set(found, "summary"),
             quiet: is_set(found, "quiet"),
-        }),
-        "packets" => Some(Subcommand::Packets),
-        "flood" => Some(Subcommand::Flood {
+        })),
+        "packets" => Ok(Some(Subcommand::Packets)),
+        "flood" => Ok(Some(Subcommand::Flood {
             workers: value_of(found, "workers"),
             datagrams: datagrams_of(found),
-        }),
-        "serve" => Some(Subcommand::Serve {
+        })),
+        "serve" => Ok(Some(Subcommand::Serve {
             front: value_of(found, "front"),
             control: value_of(found, "control"),
             workers: value_of(found, "workers"),
-        }),
-        "tell" => Some(Subcommand::Tell {
-            control: value_of(found, "control"),
-            timeout: timeout_of(found),
-            lines: values_of(alloc, found, "LINE")?,
-        }),
-        _ => None,
-    };
-    Ok(command)
+        })),
+        "tell" => tell(alloc, found),
+        _ => Ok(None),
+    }
 }
 
 /// Reads the words after the program's name. `Err` is a fault of the words, or the help or the version that they ask for.

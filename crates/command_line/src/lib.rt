@@ -11,10 +11,12 @@ mod command;
 mod ending;
 mod found;
 mod help;
+mod input;
 
 pub use command::{MAX_DATAGRAMS, MAX_TIMEOUT, Query, Subcommand};
 pub use ending::{Failure, Status, refuse_arguments, write_what_fits};
 pub use found::read_words;
+pub use input::read_whole;
 
 /// Law: the limits, as numbers. It runs nothing.
 pub fn limits_as_numbers()

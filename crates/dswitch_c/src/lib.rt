@@ -1,41 +1,21 @@
-//! Classic BPF for programs in C: the verifier, the machine, the assembler, the compiler of filter expressions and the printer, as
-//! calls on numbers and slices (include/dswitch.h; docs/C.md).
+//! Classic BPF for programs in C: the calls of `c_calls` under their names in C (include/dswitch.h; docs/C.md).
 //!
 //! A slice is a pointer and a number of elements. No call keeps anything of what it is given, and none halts. Those that take memory
-//! answer `NO_MEMORY` where the C library refuses it.
+//! return `NO_MEMORY` if the C library refuses it.
 #![tactic(auto)]
 
 ghost use Rattle.std.specs.Prelude.{◌≡◌, ◌≤◌, ◌⊎◌, ◌↔◌, List, length, ℕ};
-ghost use Rattle.bpf_machine.specs.Meaning.{Ret, cost_of, ending_of};
 ghost use Rattle.bpf_verify.specs.Accepted.{IsAccepted};
 ghost use Rattle.filter_tree.specs.Tree.{Tree};
 ghost use Rattle.program_text.specs.Fault.{IsAssemblyFault, IsExpressionFault};
 ghost use Rattle.program_text.specs.Program.{IsAssembledTo, IsCompilable, assembly, expression};
 ghost use Rattle.program_text.specs.declared.fault.TextFault.{TextFault};
-ghost use Rattle.dswitch_c.specs.Answer.{AnswersPrinting, AnswersText, AnswersVerifying, HasProgram, no_memory, text_answer};
-ghost use Rattle.dswitch_c.specs.Outcome.{AnswersRun, IsRun};
+ghost use Rattle.c_calls.specs.Answer.{AnswersPrinting, AnswersText, AnswersVerifying, HasProgram, no_memory, text_answer};
+ghost use Rattle.c_calls.specs.Outcome.{AnswersRun, IsRun};
 
-mod answer;
-mod buffer;
-mod codes;
-mod outcome;
-
-pub use answer::Answer;
-use bpf_verify::{Program, verify};
-use buffer::{give, give_program};
-pub use codes::{NO_MEMORY, NO_ROOM, PACKET_TOO_LONG};
-use codes::{text_answer, words_answer};
-pub use outcome::Outcome;
-use outcome::ran;
-use program_text::{TextFault, assembled, compiled};
+pub use c_calls::{Answer, NO_MEMORY, NO_ROOM, Outcome, PACKET_TOO_LONG, codes_as_numbers};
+use c_calls::{assemble_into, compile_into, print_into, run_checked, run_words, verify_words};
 use std::alloc::Global;
-
-/// Law: the codes that name no fault of words or of a text, as numbers. It runs nothing.
-pub fn codes_as_numbers()
-    ensures no_memory { NO_MEMORY ≡ 1 }
-    ensures no_room { NO_ROOM ≡ 2 }
-    ensures packet_too_long { PACKET_TOO_LONG ≡ 3 }
-{}
 
 /// Tests whether words are a program (`bpf_verify::verify`). Takes no memory.
 #[unsafe(no_mangle)]
@@ -43,11 +23,7 @@ pub extern "C" fn dswitch_verify(words: &[u64]) -> Answer
     ensures accepts_exactly { result.fault ≡ 0 ↔ IsAccepted words.now }
     ensures answer { AnswersVerifying words.now result }
 {
-    let mut list = words;
-    match verify(&mut list, 0, words.len()) {
-        Ok(()) => Answer::done(words.len() as u32, words.len()),
-        Err(fault) => words_answer(fault),
-    }
+    verify_words(words)
 }
 
 /// Runs a program on a packet (`bpf_machine::run`). The words are accepted ones, and the packet has at most 65,535 bytes: the
@@ -59,7 +35,7 @@ pub extern "C" fn dswitch_run(words: &[u64], packet: &[u8]) -> Outcome
     ensures run { IsRun words.now packet.now result }
     ensures within_length { result.steps ≤ length words.now }
 {
-    ran(words, packet)
+    run_words(words, packet)
 }
 
 /// Verifies words, and runs them on a packet where they are a program. The caller owes nothing. Takes no memory.
@@ -71,14 +47,7 @@ pub extern "C" fn dswitch_run_checked(words: &[u64], packet: &[u8], outcome: &mu
     ensures answer { AnswersRun words.now packet.now outcome.old outcome.new result }
     ensures runs_exactly { result.fault ≡ 0 ↔ (IsAccepted words.now × (length packet.now ≤ 65535)) }
 {
-    if packet.len() > bpf_machine::MAX_PACKET {
-        return Answer::refused(PACKET_TOO_LONG, 0);
-    }
-    let answer = dswitch_verify(words);
-    if answer.fault == 0 {
-        *outcome = ran(words, packet);
-    }
-    answer
+    run_checked(words, packet, outcome)
 }
 
 /// Assembles a text to a program, in the caller's buffer (`program_text::assembled`).
@@ -88,7 +57,7 @@ pub extern "C" fn dswitch_assemble(alloc: Global, text: &[u8], words: &mut [u64]
     ensures every_program { (program : List ℕ) → IsAssembledTo text.now program → HasProgram result ⊎ (result ≡ no_memory) }
     ensures every_fault { (fault : TextFault) → IsAssemblyFault text.now fault → (result ≡ text_answer fault) ⊎ (result ≡ no_memory) }
 {
-    give_program(assembled(alloc, text), words)
+    assemble_into(alloc, text, words)
 }
 
 /// Compiles a filter expression to a program, in the caller's buffer (`program_text::compiled`).
@@ -98,7 +67,7 @@ pub extern "C" fn dswitch_compile(alloc: Global, text: &[u8], words: &mut [u64])
     ensures every_program { (tree : Tree) → IsCompilable text.now tree → HasProgram result ⊎ (result ≡ no_memory) }
     ensures every_fault { (fault : TextFault) → IsExpressionFault text.now fault → (result ≡ text_answer fault) ⊎ (result ≡ no_memory) }
 {
-    give_program(compiled(alloc, text), words)
+    compile_into(alloc, text, words)
 }
 
 /// Prints a program as assembly, in the caller's buffer, without a byte 0 behind it (`bpf_asm::print`). Words that are no program
@@ -108,16 +77,5 @@ pub extern "C" fn dswitch_print(alloc: Global, words: &[u64], text: &mut [u8]) -
     ensures answer { AnswersPrinting words.now text.old text.new result }
     ensures every_program { IsAccepted words.now → HasProgram result ⊎ (result ≡ no_memory) }
 {
-    let Ok(copy) = Vec::from_slice(alloc, words) else {
-        return text_answer(TextFault::OutOfMemory);
-    };
-    let program = match Program::new(copy) {
-        Ok(program) => program,
-        Err((fault, _words)) => return words_answer(fault),
-    };
-    let charge = program.charge();
-    match bpf_asm::print(alloc, &program) {
-        Ok(printed) => give(printed.as_bytes(), charge, text),
-        Err(_) => text_answer(TextFault::OutOfMemory),
-    }
+    print_into(alloc, words, text)
 }

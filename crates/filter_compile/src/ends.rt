@@ -4,6 +4,7 @@ ghost use Rattle.std.specs.Prelude.{◌≡◌, ◌+◌, ◌≤◌, IfOk, length,
 ghost use Rattle.bpf_verify.specs.declared.TheConstants.{MAX_INSTRUCTIONS};
 ghost use Rattle.backpatch.specs.Pieces.{Writes};
 ghost use Rattle.filter_tree.specs.Outcome.{tested};
+ghost use Rattle.filter_tree.specs.declared.primitive.Direction.TheVariants.{Both, Either};
 ghost use Rattle.packet_facts.specs.Known.{Holds, loaded_of};
 ghost use Rattle.packet_facts.specs.Told.{header_in_x_of};
 ghost use Rattle.filter_compile.specs.declared.ends.Part.TheVariants.{Port};
@@ -87,33 +88,65 @@ pub(crate) fn ends<'a, A: Allocator>(
     ensures writes { IfOk result (λ sides. Writes (Tests (Holds known) (Holds sides.yes) (Holds sides.no) (ends_pass part direction check.now)) (weight_of_ends direction check.now) code.old code.new yes.old yes.new no.old no.new) }
 {
     match direction {
-        Direction::Source => {
-            let behind = test_end(code, part.source(), check, known, yes, no)?;
-            Ok(Sides::both(behind))
-        }
-        Direction::Destination => {
-            let behind = test_end(code, part.destination(), check, known, yes, no)?;
-            Ok(Sides::both(behind))
-        }
-        Direction::Either => {
-            let mut on = code.exit(code.len() + ONE_END);
-            let first = test_end(code, part.source(), check, known, yes, &mut on)?;
-            code.land(&on);
-            let second = test_end(code, part.destination(), check, first, yes, no)?;
-            Ok(Sides {
-                yes: known.with_in_a(None),
-                no: second,
-            })
-        }
-        Direction::Both => {
-            let mut on = code.exit(code.len() + ONE_END);
-            let first = test_end(code, part.source(), check, known, &mut on, no)?;
-            code.land(&on);
-            let second = test_end(code, part.destination(), check, first, yes, no)?;
-            Ok(Sides {
-                yes: second,
-                no: known.with_in_a(None),
-            })
-        }
+        Direction::Source => match test_end(code, part.source(), check, known, yes, no) {
+            Ok(behind) => Ok(Sides::both(behind)),
+            Err(error) => Err(error),
+        },
+        Direction::Destination => match test_end(code, part.destination(), check, known, yes, no) {
+            Ok(behind) => Ok(Sides::both(behind)),
+            Err(error) => Err(error),
+        },
+        Direction::Either => either_end(code, part, check, known, yes, no),
+        Direction::Both => both_ends(code, part, check, known, yes, no),
     }
+}
+
+// Each of these holds an exit of its own, which `ends` would drop on all its ways out.
+
+fn either_end<'a, A: Allocator>(
+    code: &mut Code<'a, A>,
+    part: Part,
+    check: &Check,
+    known: Known,
+    yes: &mut Exit<'a, A>,
+    no: &mut Exit<'a, A>,
+) -> Result<Sides, AllocError>
+    requires header { part ≡ Port → header_in_x_of known ≡ true }
+    requires room { length code.old + weight_of_ends Either check.now ≤ MAX_INSTRUCTIONS }
+    requires yes_behind { length code.old + weight_of_ends Either check.now ≤ yes.old.by }
+    requires behind { length code.old + weight_of_ends Either check.now ≤ no.old.by }
+    ensures writes { IfOk result (λ sides. Writes (Tests (Holds known) (Holds sides.yes) (Holds sides.no) (ends_pass part Either check.now)) (weight_of_ends Either check.now) code.old code.new yes.old yes.new no.old no.new) }
+{
+    let mut on = code.exit(code.len() + ONE_END);
+    let first = test_end(code, part.source(), check, known, yes, &mut on)?;
+    code.land(&on);
+    let second = test_end(code, part.destination(), check, first, yes, no)?;
+    Ok(Sides {
+        yes: known.with_in_a(None),
+        no: second,
+    })
+}
+
+fn both_ends<'a, A: Allocator>(
+    code: &mut Code<'a, A>,
+    part: Part,
+    check: &Check,
+    known: Known,
+    yes: &mut Exit<'a, A>,
+    no: &mut Exit<'a, A>,
+) -> Result<Sides, AllocError>
+    requires header { part ≡ Port → header_in_x_of known ≡ true }
+    requires room { length code.old + weight_of_ends Both check.now ≤ MAX_INSTRUCTIONS }
+    requires yes_behind { length code.old + weight_of_ends Both check.now ≤ yes.old.by }
+    requires behind { length code.old + weight_of_ends Both check.now ≤ no.old.by }
+    ensures writes { IfOk result (λ sides. Writes (Tests (Holds known) (Holds sides.yes) (Holds sides.no) (ends_pass part Both check.now)) (weight_of_ends Both check.now) code.old code.new yes.old yes.new no.old no.new) }
+{
+    let mut on = code.exit(code.len() + ONE_END);
+    let first = test_end(code, part.source(), check, known, &mut on, no)?;
+    code.land(&on);
+    let second = test_end(code, part.destination(), check, first, yes, no)?;
+    Ok(Sides {
+        yes: second,
+        no: known.with_in_a(None),
+    })
 }

@@ -2,10 +2,10 @@
 
 ghost use Rattle.std.specs.Prelude.{◌≡◌, IfErr, IfOk, OnErr, OnOk};
 ghost use Rattle.command_line.specs.CommandLine.{packets};
-ghost use Rattle.text_commands.specs.Request.{MayFail, TellsCountsOf, WritesBefore, WritesPackets};
+ghost use Rattle.query_commands.specs.Query.{MayFail};
+ghost use Rattle.text_commands.specs.Request.{TellsCountsOf, WritesBefore, WritesPackets};
 
-use crate::input::read_whole;
-use command_line::{Failure, Status};
+use command_line::{Failure, Status, read_whole};
 use packet_lines::print_packets;
 use std::alloc::Global;
 use std::io::{Read, Write};

@@ -8,30 +8,17 @@ ghost use Rattle.std.specs.Prelude.{◌≡◌, ◌≢◌, ◌⊎◌, [], IfErr, 
 ghost use Rattle.clap.specs.Words.{kind_of};
 ghost use Rattle.command_line.specs.CommandLine.{AskToWait, AsksForText, HasMisuse, MayWait, faults_in, packets, request_in, request_of};
 ghost use Rattle.command_line.specs.Ending.{IsStatus, code_of};
-ghost use Rattle.text_commands.specs.Counted.{ChangesAreNotCounted, RefusalsAreCounted, ShowsAreNotCounted, SweepsAreNotCounted, VerdictsAreCounted};
-ghost use Rattle.text_commands.specs.Lines.{LinesAreReplies};
-ghost use Rattle.text_commands.specs.Request.{EndsInFailure, MayFail, MayFailBy, TellsCountsOf, Writes, WritesAnswerTo, WritesBefore, WritesBeforeBy};
+ghost use Rattle.query_commands.specs.Query.{MayFail};
+ghost use Rattle.text_commands.specs.Request.{EndsInFailure, MayFailBy, TellsCountsOf, Writes, WritesAnswerTo, WritesBefore, WritesBeforeBy};
 
 mod capturing;
-mod command_result;
-mod counted_output;
-mod explaining;
-mod expression_commands;
-mod first_path;
-mod format;
-mod input;
-mod program_commands;
-mod queries;
-mod replaying;
-mod stop;
-mod summarizing;
-mod unwritten;
 
 use capturing::run_packets;
 use clap::error::ErrorKind;
 use command_line::{Failure, Status, Subcommand, read_words};
-use queries::run_query;
-use replaying::run_replay;
+use query_commands::run_query;
+pub use script_commands::replies_are_counted;
+use script_commands::run_replay;
 use std::alloc::Global;
 use std::io::{Read, Write};
 
@@ -78,18 +65,6 @@ pub fn tool<R: Read + Drop, W: Write, E: Write>(
         Err(failure) => Some(failure.report(errs) as u8),
     }
 }
-
-/// Law: the kind of the reply to a packet is its verdict, the kind of the reply that refuses a line is its code, and other replies have
-/// no kind; and the lines of a script's text, which a summary counts by their kinds, are the replies to the script's lines, one to each,
-/// in their order. Verdicts are those of versions below 2^64, of keys that are endpoints, and of IDs below 2^32. It runs nothing.
-pub fn replies_are_counted()
-    ensures verdicts { VerdictsAreCounted }
-    ensures refusals { RefusalsAreCounted }
-    ensures changes { ChangesAreNotCounted }
-    ensures shows { ShowsAreNotCounted }
-    ensures sweeps { SweepsAreNotCounted }
-    ensures lines { LinesAreReplies }
-{}
 
 // `None` where the words ask for a command that may wait.
 fn run_words<R: Read + Drop, W: Write, E: Write>(

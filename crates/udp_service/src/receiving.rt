@@ -10,7 +10,7 @@ use std::sync::Wait;
 use worker_devices::WorkerQueues;
 
 /// Why the service receives no more.
-#[derive(Clone, Copy, Debug, PartialEq, Eq)]
+#[derive(Clone, Copy)]
 pub enum Ended {
     /// It was asked to stop.
     Stopped,

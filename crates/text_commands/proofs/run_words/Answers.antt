@@ -8,9 +8,8 @@ use Rattle.clap.specs.declared.error.kind.ErrorKind.TheVariants as kind
 use Rattle.text_commands.specs.Request.{MayFailBy, WritesBeforeBy}
 use Rattle.command_line.specs.CommandLine.{packets, request_of}
 use Rattle.text_commands.proofs.PacketsLemmas.{once_ended, same_request}
-use Rattle.text_commands.proofs.RepliesLemmas.{before_text}
-use Rattle.text_commands.proofs.RequestLemmas.{text_may_fail}
-use Rattle.text_commands.proofs.StopLemmas.{stopped_as}
+use Rattle.query_commands.proofs.StopLemmas.{stopped_as}
+use Rattle.text_commands.proofs.FailureLemmas.{before_text, text_may_fail}
 use Rattle.text_commands.proofs.run_words.Goals as goal
 
 pub returns-in_ok-answer-in-Err-clause-misused : goal.returns-in_ok-answer-in-Err-clause-misused

@@ -1,5 +1,4 @@
-use Rattle.std.proofs.Common.{arith, rules}
-use Rattle.std.proofs.lemmas.Grind.{common_steps}
+use Rattle.std.proofs.Common.{rules}
 use Rattle.bpf_asm.proofs.printing.print_insn.Goals as goal
 
 pub returns-in-CopyFromX : goal.returns-in-CopyFromX
@@ -47,14 +46,14 @@ returns-in-Store g c = search rules
 pub returns-in-StoreX : goal.returns-in-StoreX
 returns-in-StoreX g c = search rules
 
-pub returns-in_ok-print_operand-in-JumpIf : goal.returns-in_ok-print_operand-in-JumpIf
-returns-in_ok-print_operand-in-JumpIf g c = grind (arith, common_steps)
+pub returns-in-LoadAbsolute : goal.returns-in-LoadAbsolute
+returns-in-LoadAbsolute g c = search rules
 
-pub returns-in_ok-push_str-in-Alu-2 : goal.returns-in_ok-push_str-in-Alu-2
-returns-in_ok-push_str-in-Alu-2 g c = grind (arith, common_steps)
+pub returns-in-LoadIndexed : goal.returns-in-LoadIndexed
+returns-in-LoadIndexed g c = search rules
 
-pub returns-in_ok-push_str-in-LoadAbsolute : goal.returns-in_ok-push_str-in-LoadAbsolute
-returns-in_ok-push_str-in-LoadAbsolute g c = grind (arith, common_steps)
+pub returns-in-Alu : goal.returns-in-Alu
+returns-in-Alu g c = search rules
 
-pub returns-in_ok-push_str-in-LoadIndexed : goal.returns-in_ok-push_str-in-LoadIndexed
-returns-in_ok-push_str-in-LoadIndexed g c = grind (arith, common_steps)
+pub returns-in-JumpIf : goal.returns-in-JumpIf
+returns-in-JumpIf g c = search rules

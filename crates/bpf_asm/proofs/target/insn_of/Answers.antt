@@ -10,20 +10,20 @@ returns-in-Plain-clause-faultless g c = search rules
 pub returns-in-Plain-clause-insn : goal.returns-in-Plain-clause-insn
 returns-in-Plain-clause-insn g c = search rules
 
-pub returns-in_ok-jf-in-Branch-clause-fault : goal.returns-in_ok-jf-in-Branch-clause-fault
-returns-in_ok-jf-in-Branch-clause-fault g c = search rules
+pub returns-in-Ok-offset_of-2-clause-fault : goal.returns-in-Ok-offset_of-2-clause-fault
+returns-in-Ok-offset_of-2-clause-fault g c = search rules
 
-pub returns-in_ok-jf-in-Branch-clause-faultless : goal.returns-in_ok-jf-in-Branch-clause-faultless
-returns-in_ok-jf-in-Branch-clause-faultless g c = search rules
+pub returns-in-Ok-offset_of-2-clause-faultless : goal.returns-in-Ok-offset_of-2-clause-faultless
+returns-in-Ok-offset_of-2-clause-faultless g c = search rules
 
-pub returns-in_ok-jf-in-Branch-clause-insn : goal.returns-in_ok-jf-in-Branch-clause-insn
-returns-in_ok-jf-in-Branch-clause-insn g c = search rules
+pub returns-in-Ok-offset_of-2-clause-insn : goal.returns-in-Ok-offset_of-2-clause-insn
+returns-in-Ok-offset_of-2-clause-insn g c = search rules
 
-pub returns-in_ok-k-in-Jump-clause-fault : goal.returns-in_ok-k-in-Jump-clause-fault
-returns-in_ok-k-in-Jump-clause-fault g c = search rules
+pub returns-in-Ok-clause-fault : goal.returns-in-Ok-clause-fault
+returns-in-Ok-clause-fault g c = search rules
 
-pub returns-in_ok-k-in-Jump-clause-faultless : goal.returns-in_ok-k-in-Jump-clause-faultless
-returns-in_ok-k-in-Jump-clause-faultless g c = search rules
+pub returns-in-Ok-clause-faultless : goal.returns-in-Ok-clause-faultless
+returns-in-Ok-clause-faultless g c = search rules
 
-pub returns-in_ok-k-in-Jump-clause-insn : goal.returns-in_ok-k-in-Jump-clause-insn
-returns-in_ok-k-in-Jump-clause-insn g c = search rules
+pub returns-in-Ok-clause-insn : goal.returns-in-Ok-clause-insn
+returns-in-Ok-clause-insn g c = search rules

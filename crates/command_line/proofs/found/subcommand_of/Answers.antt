@@ -1,5 +1,32 @@
 use Rattle.std.proofs.Common.{rules}
 use Rattle.command_line.proofs.found.subcommand_of.Goals as goal
 
-pub returns : goal.returns
-returns c = search rules
+pub returns-in-first : goal.returns-in-first
+returns-in-first c = search rules
+
+pub returns-in-check : goal.returns-in-check
+returns-in-check c = search rules
+
+pub returns-in-compile : goal.returns-in-compile
+returns-in-compile c = search rules
+
+pub returns-in-run : goal.returns-in-run
+returns-in-run c = search rules
+
+pub returns-in-explain : goal.returns-in-explain
+returns-in-explain c = search rules
+
+pub returns-in-replay : goal.returns-in-replay
+returns-in-replay c = search rules
+
+pub returns-in-packets : goal.returns-in-packets
+returns-in-packets c = search rules
+
+pub returns-in-flood : goal.returns-in-flood
+returns-in-flood c = search rules
+
+pub returns-in-serve : goal.returns-in-serve
+returns-in-serve c = search rules
+
+pub returns-in-tell : goal.returns-in-tell
+returns-in-tell c = search rules

@@ -1,4 +1,5 @@
 use Rattle.std.proofs.Common.{◌*◌, ◌+◌, ◌<◌, ◌∙◌, Some, ap, arith, length, reverse, sym}
+use Rattle.std.proofs.lemmas.Grind.{common_steps}
 use Rattle.filter_parse.proofs.TakenLemmas.{arithmetic-top, fewer-below, has-index, has-left, has-right}
 use Rattle.filter_parse.proofs.build.+arithmetic.Goals as goal
 
@@ -44,3 +45,39 @@ arithmetic-unreachable-requires-in-Some-Disjoin g t c = arithmetic-top (reverse 
 
 pub arithmetic-unreachable-requires-in-None : goal.arithmetic-unreachable-requires-in-None
 arithmetic-unreachable-requires-in-None g t c = arithmetic-top (reverse c.args.parts.now.now) _ c.requires.parts (sym c.in-None.is ∙ c.take_last.ensures.top)
+
+pub arithmetic-returns-in-Some-Number-clause-taken : goal.arithmetic-returns-in-Some-Number-clause-taken
+arithmetic-returns-in-Some-Number-clause-taken g t c = grind (arith, common_steps)
+
+pub arithmetic-returns-in-Some-Number-clause-fewer : goal.arithmetic-returns-in-Some-Number-clause-fewer
+arithmetic-returns-in-Some-Number-clause-fewer g t c = grind (arith, common_steps)
+
+pub arithmetic-returns-in-Some-Length-clause-taken : goal.arithmetic-returns-in-Some-Length-clause-taken
+arithmetic-returns-in-Some-Length-clause-taken g t c = grind (arith, common_steps)
+
+pub arithmetic-returns-in-Some-Length-clause-fewer : goal.arithmetic-returns-in-Some-Length-clause-fewer
+arithmetic-returns-in-Some-Length-clause-fewer g t c = grind (arith, common_steps)
+
+pub arithmetic-returns-in_ok-index-in-Some-Access-clause-taken : goal.arithmetic-returns-in_ok-index-in-Some-Access-clause-taken
+arithmetic-returns-in_ok-index-in-Some-Access-clause-taken g t c = grind (arith, common_steps)
+
+pub arithmetic-returns-in_ok-index-in-Some-Access-clause-fewer : goal.arithmetic-returns-in_ok-index-in-Some-Access-clause-fewer
+arithmetic-returns-in_ok-index-in-Some-Access-clause-fewer g t c = grind (arith, common_steps)
+
+pub arithmetic-returns-in_ok-left-in-Some-Operate-clause-taken : goal.arithmetic-returns-in_ok-left-in-Some-Operate-clause-taken
+arithmetic-returns-in_ok-left-in-Some-Operate-clause-taken g t c = grind (arith, common_steps)
+
+pub arithmetic-returns-in_ok-left-in-Some-Operate-clause-fewer : goal.arithmetic-returns-in_ok-left-in-Some-Operate-clause-fewer
+arithmetic-returns-in_ok-left-in-Some-Operate-clause-fewer g t c = grind (arith, common_steps)
+
+pub operand-returns-in-Some-clause-taken : goal.operand-returns-in-Some-clause-taken
+operand-returns-in-Some-clause-taken g t c = grind (arith, common_steps)
+
+pub operand-returns-in-Some-clause-fewer : goal.operand-returns-in-Some-clause-fewer
+operand-returns-in-Some-clause-fewer g t c = grind (arith, common_steps)
+
+pub operand-returns-clause-taken : goal.operand-returns-clause-taken
+operand-returns-clause-taken g t c = grind (arith, common_steps)
+
+pub operand-returns-clause-fewer : goal.operand-returns-clause-fewer
+operand-returns-clause-fewer g t c = grind (arith, common_steps)

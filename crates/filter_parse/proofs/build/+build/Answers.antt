@@ -1,4 +1,5 @@
 use Rattle.std.proofs.Common.{◌*◌, ◌+◌, ◌<◌, ◌∙◌, ◌∷◌, Some, ap, arith, length, reverse, subst, sym}
+use Rattle.std.proofs.lemmas.Grind.{common_steps}
 use Rattle.filter_parse.specs.declared.item.Item.TheVariants.{Relate}
 use Rattle.filter_parse.specs.body.Postfix.{HasTree}
 use Rattle.filter_parse.proofs.TakenLemmas.{fewer-below, has-conjoined, has-conjoined-left, has-disjoined, has-disjoined-left, has-negated, split, truth-top}
@@ -66,3 +67,57 @@ build-unreachable-requires-in-Some-Operate g t c = truth-top (reverse c.args.par
 
 pub build-unreachable-requires-in-None : goal.build-unreachable-requires-in-None
 build-unreachable-requires-in-None g t c = truth-top (reverse c.args.parts.now.now) _ c.requires.parts (sym c.in-None.is ∙ c.take_last.ensures.top)
+
+pub build-returns-in-Some-Primitive-clause-taken : goal.build-returns-in-Some-Primitive-clause-taken
+build-returns-in-Some-Primitive-clause-taken g t c = grind (arith, common_steps)
+
+pub build-returns-in-Some-Primitive-clause-fewer : goal.build-returns-in-Some-Primitive-clause-fewer
+build-returns-in-Some-Primitive-clause-fewer g t c = grind (arith, common_steps)
+
+pub build-returns-in-Some-Relate-clause-taken : goal.build-returns-in-Some-Relate-clause-taken
+build-returns-in-Some-Relate-clause-taken g t c = grind (arith, common_steps)
+
+pub build-returns-in-Some-Relate-clause-fewer : goal.build-returns-in-Some-Relate-clause-fewer
+build-returns-in-Some-Relate-clause-fewer g t c = grind (arith, common_steps)
+
+pub build-returns-in_ok-part-in-Some-Negate-clause-taken : goal.build-returns-in_ok-part-in-Some-Negate-clause-taken
+build-returns-in_ok-part-in-Some-Negate-clause-taken g t c = grind (arith, common_steps)
+
+pub build-returns-in_ok-part-in-Some-Negate-clause-fewer : goal.build-returns-in_ok-part-in-Some-Negate-clause-fewer
+build-returns-in_ok-part-in-Some-Negate-clause-fewer g t c = grind (arith, common_steps)
+
+pub build-returns-in_ok-part-in-Some-Conjoin-clause-taken : goal.build-returns-in_ok-part-in-Some-Conjoin-clause-taken
+build-returns-in_ok-part-in-Some-Conjoin-clause-taken g t c = grind (arith, common_steps)
+
+pub build-returns-in_ok-part-in-Some-Conjoin-clause-fewer : goal.build-returns-in_ok-part-in-Some-Conjoin-clause-fewer
+build-returns-in_ok-part-in-Some-Conjoin-clause-fewer g t c = grind (arith, common_steps)
+
+pub build-returns-in_ok-part-in-Some-Disjoin-clause-taken : goal.build-returns-in_ok-part-in-Some-Disjoin-clause-taken
+build-returns-in_ok-part-in-Some-Disjoin-clause-taken g t c = grind (arith, common_steps)
+
+pub build-returns-in_ok-part-in-Some-Disjoin-clause-fewer : goal.build-returns-in_ok-part-in-Some-Disjoin-clause-fewer
+build-returns-in_ok-part-in-Some-Disjoin-clause-fewer g t c = grind (arith, common_steps)
+
+pub joined-returns-clause-taken : goal.joined-returns-clause-taken
+joined-returns-clause-taken g t c = grind (arith, common_steps)
+
+pub joined-returns-clause-fewer : goal.joined-returns-clause-fewer
+joined-returns-clause-fewer g t c = grind (arith, common_steps)
+
+pub part-returns-in-Some-clause-taken : goal.part-returns-in-Some-clause-taken
+part-returns-in-Some-clause-taken g t c = grind (arith, common_steps)
+
+pub part-returns-in-Some-clause-fewer : goal.part-returns-in-Some-clause-fewer
+part-returns-in-Some-clause-fewer g t c = grind (arith, common_steps)
+
+pub part-returns-in-Some-take_relator-clause-taken : goal.part-returns-in-Some-take_relator-clause-taken
+part-returns-in-Some-take_relator-clause-taken g t c = grind (arith, common_steps)
+
+pub part-returns-in-Some-take_relator-clause-fewer : goal.part-returns-in-Some-take_relator-clause-fewer
+part-returns-in-Some-take_relator-clause-fewer g t c = grind (arith, common_steps)
+
+pub part-returns-clause-taken : goal.part-returns-clause-taken
+part-returns-clause-taken g t c = grind (arith, common_steps)
+
+pub part-returns-clause-fewer : goal.part-returns-clause-fewer
+part-returns-clause-fewer g t c = grind (arith, common_steps)

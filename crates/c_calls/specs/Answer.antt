@@ -1,0 +1,136 @@
+-- What a call from C answers: a list in the caller's buffer, or a fault as a number (include/dswitch.h).
+use Rattle.std.specs.Prelude.{◌≡◌, ◌+◌, ◌*◌, ◌<◌, ◌≤◌, ◌⊎◌, ◌++◌, Err, List, Ok, Result, drop, length, ℕ}
+use Rattle.bpf_asm.specs.Text.{printed}
+use Rattle.bpf_asm.specs.declared.fault.AsmFault.{AsmFault}
+use Rattle.bpf_asm.specs.declared.fault.AsmFault.TheVariants as asm
+use Rattle.bpf_verify.specs.Accepted.{IsAccepted}
+use Rattle.bpf_verify.specs.Fault.{IsFirstFault}
+use Rattle.bpf_verify.specs.Program.{ProgramValue}
+use Rattle.bpf_verify.specs.declared.fault.Fault.{Fault}
+use Rattle.bpf_verify.specs.declared.fault.Fault.TheVariants as verify
+use Rattle.filter_compile.specs.declared.fault.CompileFault.{CompileFault}
+use Rattle.filter_compile.specs.declared.fault.CompileFault.TheVariants as compile
+use Rattle.filter_parse.specs.declared.fault.ParseFault.{ParseFault}
+use Rattle.filter_parse.specs.declared.fault.ParseFault.TheVariants as parse
+use Rattle.program_text.specs.Fault.{IsFaultOfText}
+use Rattle.program_text.specs.Program.{IsProgramOfAssembly, IsProgramOfExpression, Source, assembly, expression}
+use Rattle.program_text.specs.declared.fault.TextFault.{TextFault}
+use Rattle.program_text.specs.declared.fault.TextFault.TheVariants as text_fault
+use Rattle.c_calls.specs.declared.answer.Answer.{Answer}
+
+-- a program with this charge, and so many words or bytes
+abbrev pub done : ℕ → ℕ → Answer
+done charge count = record { fault = 0; charge = charge; number = count }
+
+-- the same, for which the buffer has no room
+abbrev pub wanting : ℕ → ℕ → Answer
+wanting charge count = record { fault = 2; charge = charge; number = count }
+
+-- a fault, and its line, place or pc, 0 where it has none
+abbrev pub refused : ℕ → ℕ → Answer
+refused fault place = record { fault = fault; charge = 0; number = place }
+
+abbrev pub no_memory : Answer
+no_memory = refused 1 0
+
+-- ---- faults
+
+-- the letter of a code as a byte, and its number
+abbrev pub coded : ℕ → ℕ → ℕ
+coded letter number = letter * 256 + number
+
+-- V1 to V11
+abbrev pub words_answer : Fault → Answer
+words_answer verify.Empty = refused (coded 86 1) 0
+words_answer verify.TooLong = refused (coded 86 2) 0
+words_answer (verify.BadOpcode pc) = refused (coded 86 3) pc
+words_answer (verify.StrayField pc) = refused (coded 86 4) pc
+words_answer (verify.ZeroDivisor pc) = refused (coded 86 5) pc
+words_answer (verify.BadShift pc) = refused (coded 86 6) pc
+words_answer (verify.BadCell pc) = refused (coded 86 7) pc
+words_answer (verify.JumpOutside pc) = refused (coded 86 8) pc
+words_answer (verify.Ancillary pc) = refused (coded 86 9) pc
+words_answer verify.NoReturn = refused (coded 86 10) 0
+words_answer (verify.UnstoredCell pc) = refused (coded 86 11) pc
+
+-- A1 to A5, at a line
+abbrev pub asm_answer : AsmFault → Answer
+asm_answer (asm.Syntax line) = refused (coded 65 1) line
+asm_answer (asm.UnknownLabel line) = refused (coded 65 2) line
+asm_answer (asm.DoubleLabel line) = refused (coded 65 3) line
+asm_answer (asm.BackwardJump line) = refused (coded 65 4) line
+asm_answer (asm.TooFar line) = refused (coded 65 5) line
+asm_answer asm.OutOfMemory = no_memory
+
+-- P1 to P5, at a place of the text
+abbrev pub parse_answer : ParseFault → Answer
+parse_answer (parse.Syntax place) = refused (coded 80 1) place
+parse_answer (parse.NumberTooBig place) = refused (coded 80 2) place
+parse_answer (parse.BadAddress place) = refused (coded 80 3) place
+parse_answer (parse.BadPrefix place) = refused (coded 80 4) place
+parse_answer (parse.TooDeep place) = refused (coded 80 5) place
+parse_answer parse.OutOfMemory = no_memory
+
+-- F1, F2
+abbrev pub compile_answer : CompileFault → Answer
+compile_answer compile.CellsExceeded = refused (coded 70 1) 0
+compile_answer compile.TooLong = refused (coded 70 2) 0
+compile_answer compile.OutOfMemory = no_memory
+
+abbrev pub text_answer : TextFault → Answer
+text_answer (text_fault.Assembly fault) = asm_answer fault
+text_answer (text_fault.Words fault) = words_answer fault
+text_answer (text_fault.Expression fault) = parse_answer fault
+text_answer (text_fault.Compiling fault) = compile_answer fault
+text_answer text_fault.OutOfMemory = no_memory
+
+-- ---- what is given
+
+-- the list stands in the front of the buffer, and behind it stands what stood there
+pub record IsGiven {T : Type 0} (list : List T) (charge : ℕ) (before after : List T) (answer : Answer) : Type 0 where
+  pub room : length list ≤ length before
+  pub written : after ≡ list ++ drop (length list) before
+  pub answer_is : answer ≡ done charge (length list)
+
+-- the buffer has no room for it, and is as it was
+pub record IsNotGiven {T : Type 0} (list : List T) (charge : ℕ) (before after : List T) (answer : Answer) : Type 0 where
+  pub no_room : length before < length list
+  pub kept : after ≡ before
+  pub answer_is : answer ≡ wanting charge (length list)
+
+abbrev pub Gives : {T : Type 0} → List T → ℕ → List T → List T → Answer → Type 0
+Gives list charge before after answer = IsGiven list charge before after answer ⊎ IsNotGiven list charge before after answer
+
+-- the program that was made is given, or its fault is answered
+abbrev pub GivesProgram : Result ProgramValue TextFault → List ℕ → List ℕ → Answer → Type 0
+GivesProgram (Ok program) before after answer = Gives program.words program.charge before after answer
+GivesProgram (Err fault) before after answer = (after ≡ before) × (answer ≡ text_answer fault)
+
+-- there is a program, whether the buffer had room for what was asked for or not
+abbrev pub HasProgram : Answer → Type 0
+HasProgram answer = (answer.fault ≡ 0) ⊎ (answer.fault ≡ 2)
+
+-- ---- the calls
+
+-- the words are a program, or the answer has their first fault
+abbrev pub AnswersVerifying : List ℕ → Answer → Type 0
+AnswersVerifying words answer =
+    (IsAccepted words × (answer ≡ done (length words) (length words)))
+    ⊎ ((fault : Fault) × IsFirstFault words fault × (answer ≡ words_answer fault))
+
+-- a program that is made of the text
+abbrev pub IsProgramOf : Source → ProgramValue → Type 0
+IsProgramOf (assembly text) program = IsProgramOfAssembly text program
+IsProgramOf (expression text) program = IsProgramOfExpression text program
+
+-- a program of the text is given, or the buffer is as it was and the answer has the text's fault, or memory was refused
+pub data AnswersText (source : Source) (before after : List ℕ) (answer : Answer) : Type 0 where
+  gives : (program : ProgramValue) → IsProgramOf source program → Gives program.words program.charge before after answer → AnswersText source before after answer
+  refuses : (fault : TextFault) → IsFaultOfText source fault → after ≡ before → answer ≡ text_answer fault → AnswersText source before after answer
+  wants : after ≡ before → answer ≡ no_memory → AnswersText source before after answer
+
+-- the text of the program is given, or the buffer is as it was and the answer has the words' first fault, or memory was refused
+pub data AnswersPrinting (words before after : List ℕ) (answer : Answer) : Type 0 where
+  gives : IsAccepted words → Gives (printed words) (length words) before after answer → AnswersPrinting words before after answer
+  refuses : (fault : Fault) → IsFirstFault words fault → after ≡ before → answer ≡ words_answer fault → AnswersPrinting words before after answer
+  wants : after ≡ before → answer ≡ no_memory → AnswersPrinting words before after answer

@@ -1,0 +1,51 @@
+//! What a call answers.
+
+ghost use Rattle.std.specs.Prelude.{◌≡◌};
+ghost use Rattle.c_calls.specs.Answer.{done, refused, wanting};
+
+use crate::codes::NO_ROOM;
+
+/// What a call answers.
+#[derive(Clone, Copy)]
+#[repr(C)]
+pub struct Answer {
+    /// 0, or a code: the letter of a fault's code times 256 and its number, as `'V' * 256 + 3` for V3, or `NO_MEMORY`, `NO_ROOM` or
+    /// `PACKET_TOO_LONG`.
+    pub fault: u32,
+    /// The charge of the program, 0 where there is none.
+    pub charge: u32,
+    /// How many words or bytes there are, also at `NO_ROOM`; else the line, place or `pc` of the fault, 0 where it has none.
+    pub number: u64,
+}
+
+impl Answer {
+    pub(crate) fn done(charge: u32, count: usize) -> Answer
+        ensures { result ≡ done charge count }
+    {
+        Answer {
+            fault: 0,
+            charge,
+            number: count as u64,
+        }
+    }
+
+    pub(crate) fn wanting(charge: u32, count: usize) -> Answer
+        ensures { result ≡ wanting charge count }
+    {
+        Answer {
+            fault: NO_ROOM,
+            charge,
+            number: count as u64,
+        }
+    }
+
+    pub(crate) fn refused(fault: u32, place: usize) -> Answer
+        ensures { result ≡ refused fault place }
+    {
+        Answer {
+            fault,
+            charge: 0,
+            number: place as u64,
+        }
+    }
+}

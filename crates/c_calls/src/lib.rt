@@ -1,0 +1,103 @@
+//! The calls for programs in C, on numbers and slices: the verifier, the machine, the assembler, the compiler of filter expressions and
+//! the printer (docs/C.md). `dswitch_c` gives each its name in C.
+//!
+//! No call keeps anything of what it is given, and none halts. Those that take memory return `NO_MEMORY` if it is refused.
+#![tactic(auto)]
+
+ghost use Rattle.std.specs.Prelude.{◌≡◌, ◌≤◌, ◌⊎◌, ◌↔◌, List, length, ℕ};
+ghost use Rattle.bpf_verify.specs.Accepted.{IsAccepted};
+ghost use Rattle.filter_tree.specs.Tree.{Tree};
+ghost use Rattle.program_text.specs.Fault.{IsAssemblyFault, IsExpressionFault};
+ghost use Rattle.program_text.specs.Program.{IsAssembledTo, IsCompilable, assembly, expression};
+ghost use Rattle.program_text.specs.declared.fault.TextFault.{TextFault};
+ghost use Rattle.c_calls.specs.Answer.{AnswersPrinting, AnswersText, AnswersVerifying, HasProgram, no_memory, text_answer};
+ghost use Rattle.c_calls.specs.Outcome.{AnswersRun};
+
+mod answer;
+mod buffer;
+mod codes;
+mod outcome;
+
+pub use answer::Answer;
+use bpf_verify::{Program, verify};
+use buffer::{give, give_program};
+pub use codes::{NO_MEMORY, NO_ROOM, PACKET_TOO_LONG};
+use codes::{text_answer, words_answer};
+pub use outcome::{Outcome, run_words};
+use program_text::{TextFault, assembled, compiled};
+use std::alloc::Global;
+
+/// Law: the codes that name no fault of words or of a text, as numbers. It runs nothing.
+pub fn codes_as_numbers()
+    ensures no_memory { NO_MEMORY ≡ 1 }
+    ensures no_room { NO_ROOM ≡ 2 }
+    ensures packet_too_long { PACKET_TOO_LONG ≡ 3 }
+{}
+
+/// Tests whether words are a program (`bpf_verify::verify`). Takes no memory.
+pub fn verify_words(words: &[u64]) -> Answer
+    ensures accepts_exactly { result.fault ≡ 0 ↔ IsAccepted words.now }
+    ensures answer { AnswersVerifying words.now result }
+{
+    let mut list = words;
+    match verify(&mut list, 0, words.len()) {
+        Ok(()) => Answer::done(words.len() as u32, words.len()),
+        Err(fault) => words_answer(fault),
+    }
+}
+
+/// Verifies words, and runs them on a packet where they are a program. The caller owes nothing. Takes no memory.
+///
+/// Where the packet has more than 65,535 bytes the answer is `PACKET_TOO_LONG`, whatever the words are. `outcome` is written only
+/// where the answer names no fault.
+pub fn run_checked(words: &[u64], packet: &[u8], outcome: &mut Outcome) -> Answer
+    ensures answer { AnswersRun words.now packet.now outcome.old outcome.new result }
+    ensures runs_exactly { result.fault ≡ 0 ↔ (IsAccepted words.now × (length packet.now ≤ 65535)) }
+{
+    if packet.len() > bpf_machine::MAX_PACKET {
+        return Answer::refused(PACKET_TOO_LONG, 0);
+    }
+    let answer = verify_words(words);
+    if answer.fault == 0 {
+        *outcome = run_words(words, packet);
+    }
+    answer
+}
+
+/// Assembles a text to a program, in the caller's buffer (`program_text::assembled`).
+pub fn assemble_into(alloc: Global, text: &[u8], words: &mut [u64]) -> Answer
+    ensures answer { AnswersText (assembly text.now) words.old words.new result }
+    ensures every_program { (program : List ℕ) → IsAssembledTo text.now program → HasProgram result ⊎ (result ≡ no_memory) }
+    ensures every_fault { (fault : TextFault) → IsAssemblyFault text.now fault → (result ≡ text_answer fault) ⊎ (result ≡ no_memory) }
+{
+    give_program(assembled(alloc, text), words)
+}
+
+/// Compiles a filter expression to a program, in the caller's buffer (`program_text::compiled`).
+pub fn compile_into(alloc: Global, text: &[u8], words: &mut [u64]) -> Answer
+    ensures answer { AnswersText (expression text.now) words.old words.new result }
+    ensures every_program { (tree : Tree) → IsCompilable text.now tree → HasProgram result ⊎ (result ≡ no_memory) }
+    ensures every_fault { (fault : TextFault) → IsExpressionFault text.now fault → (result ≡ text_answer fault) ⊎ (result ≡ no_memory) }
+{
+    give_program(compiled(alloc, text), words)
+}
+
+/// Prints a program as assembly, in the caller's buffer, without a byte 0 behind it (`bpf_asm::print`). Words that are no program
+/// are answered with their fault.
+pub fn print_into(alloc: Global, words: &[u64], text: &mut [u8]) -> Answer
+    ensures answer { AnswersPrinting words.now text.old text.new result }
+    ensures every_program { IsAccepted words.now → HasProgram result ⊎ (result ≡ no_memory) }
+{
+    let Ok(copy) = Vec::from_slice(alloc, words) else {
+        return text_answer(TextFault::OutOfMemory);
+    };
+    let program = match Program::new(copy) {
+        Ok(program) => program,
+        Err((fault, _words)) => return words_answer(fault),
+    };
+    let charge = program.charge();
+    match bpf_asm::print(alloc, &program) {
+        Ok(printed) => give(printed.as_bytes(), charge, text),
+        Err(_) => text_answer(TextFault::OutOfMemory),
+    }
+}

@@ -1,7 +1,0 @@
-use Rattle.program_text.specs.Program.{assembly}
-use Rattle.dswitch_c.proofs.AnswerLemmas.{answers_text}
-use Rattle.dswitch_c.proofs.dswitch_assemble.Goals as goal
-
-pub returns-clause-answer : goal.returns-clause-answer
-returns-clause-answer c =
-    answers_text (assembly c.args.text.now) c.assembled.result c.args.words.now c.give_program.new.buffer c.give_program.result c.assembled.ensures.program c.assembled.ensures.fault c.give_program.ensures

@@ -1,8 +1,0 @@
-use Rattle.std.proofs.Common.{refl, subst}
-use Rattle.bpf_verify.specs.Fault.{IsFirstFault}
-use Rattle.dswitch_c.specs.Answer as answer
-use Rattle.dswitch_c.proofs.dswitch_print.Goals as goal
-
-pub returns-in-Err-clause-answer : goal.returns-in-Err-clause-answer
-returns-in-Err-clause-answer c =
-    answer.refuses c.in-Err.fault (subst (λ words. IsFirstFault words c.in-Err.fault) c.in-Ok.ensures.items c.in-Err.ensures.program_fault) refl c.words_answer.ensures

@@ -1,0 +1,9 @@
+use Rattle.std.proofs.Common.{arith}
+use Rattle.std.proofs.lemmas.Grind.{common_steps}
+use Rattle.filter_parse.proofs.stack.Stack.pop.Goals as goal
+
+pub returns-clause-top : goal.returns-clause-top
+returns-clause-top g c = grind (arith, common_steps)
+
+pub returns-clause-below : goal.returns-clause-below
+returns-clause-below g c = grind (arith, common_steps)

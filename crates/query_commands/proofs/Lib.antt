@@ -1,0 +1,5 @@
+mod QueryLemmas
+pub mod StopLemmas
+mod WriteLemmas
+pub mod FirstLemmas
+mod TableLemmas

@@ -1,0 +1,5 @@
+pub mod Format
+pub mod CommandResult
+pub mod FirstPath
+pub mod Query
+pub mod body

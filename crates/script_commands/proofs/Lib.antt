@@ -1,0 +1,5 @@
+pub mod RepliesLemmas
+mod SummaryLemmas
+mod KindLemmas
+mod LinesLemmas
+mod StopLemmas

@@ -1,0 +1,213 @@
+-- The lines of a script's text are the replies to the script's lines: no reply has an LF.
+use Rattle.std.proofs.Common.{◌+◌, ◌≡◌, ◌≢◌, ◌∙◌, ◌==◌, ◌/◌, ◌%◌, ◌^◌, ◌∷◌, ◌++◌, All, Bool, List, None, Option, Some, [], ap, append-nil, append_assoc, arith, codes, decimal, false, if◌then◌else◌, nat_lt, refl, subst, suc, sym, true, zero, ℕ}
+use Rattle.std.proofs.lemmas.Bool.{and_parts, ltb-true}
+use Rattle.std.proofs.lemmas.List.Concat.{flat_map-append}
+use Rattle.std.specs.List.{list_all}
+use Rattle.std.specs.Fmt.{digit_glyph, digits, digits_onto}
+use Rattle.ipv4_fields.specs.Cut.{Lacks}
+use Rattle.ipv4_fields.specs.declared.endpoint.Endpoint.{Endpoint}
+use Rattle.ipv4_fields.proofs.TextLemmas.{lacks-append, lacks-cons}
+use Rattle.control.specs.Endpoint.{endpoint_text}
+use Rattle.control.specs.Reason.{number_text, reason_code, refusal_text}
+use Rattle.control.specs.Reply.{reply_text}
+use Rattle.control.specs.Script.{AreAnswered, RepliesTo, Standing, all_ended, at_start, judged_text, last_unended, no_line, one_more, text_value, to_control, to_long_packet, to_packet, verdict_text}
+use Rattle.dispatch.specs.Verdict.{verdict}
+use Rattle.control_line.specs.declared.reason.Reason.{Reason}
+use Rattle.control_line.specs.declared.reason.Reason.TheVariants.{PacketTooLong}
+use Rattle.control_line.specs.declared.reply.LineAnswer.{LineAnswer}
+use Rattle.control_line.specs.declared.reply.LineAnswer.TheVariants.{Published, Refused, Shown, Swept}
+use Rattle.packet_verdict.specs.declared.verdict.Verdict.{Verdict}
+use Rattle.packet_verdict.specs.declared.verdict.Verdict.TheVariants.{Deliver, Dropped, Malformed, NoGroup, NoMembers}
+use Rattle.reply_counts.specs.Summary.{lines_of}
+use Rattle.reply_counts.proofs.LineLemmas.{first_line, no_lines}
+use Rattle.script_commands.specs.Lines.{AreLinesOf, AreRepliesInTurn, LinesAreReplies, each_ended, ended, last_open, no_reply, one_reply_more}
+use Rattle.script_commands.proofs.KindLemmas.{above-reason, lacks-above}
+
+-- ---- no LF in a number
+
+lacks-glyph : (d : ℕ) → digit_glyph false d ≢ 10
+lacks-glyph d = by_size (nat_lt d 10)
+  where
+    by_size : (small : Bool) → (if small then 48 + d else 87 + d) ≢ 10
+    by_size true is = absurd (omega (arith, is))
+    by_size false is = absurd (omega (arith, is))
+
+-- a digit more in front
+onto_if : (last : Bool) (digit n k : ℕ) (acc : List ℕ) → digit ≢ 10 → Lacks 10 acc → (Lacks 10 (digit ∷ acc) → Lacks 10 (digits_onto k 10 false n (digit ∷ acc)))
+    → Lacks 10 (if last then digit ∷ acc else digits_onto k 10 false n (digit ∷ acc))
+onto_if true digit n k acc apart lacks more = lacks-cons 10 digit acc apart lacks
+onto_if false digit n k acc apart lacks more = more (lacks-cons 10 digit acc apart lacks)
+
+lacks-onto : (k n : ℕ) (acc : List ℕ) → Lacks 10 acc → Lacks 10 (digits_onto k 10 false n acc)
+lacks-onto zero n acc lacks = lacks
+lacks-onto (suc k) n acc lacks =
+    onto_if (n / 10 == 0) (digit_glyph false (n % 10)) (n / 10) k acc (lacks-glyph (n % 10)) lacks (lacks-onto k (n / 10) (digit_glyph false (n % 10) ∷ acc))
+
+lacks-decimal : (n : ℕ) → Lacks 10 (decimal n)
+unfolding digits
+lacks-decimal n = lacks-onto 64 n [] (λ k inside. absurd (omega arith))
+
+-- ---- no LF in a reply
+
+lacks-endpoint : (e : Endpoint) → Lacks 10 (endpoint_text e)
+lacks-endpoint e =
+    lacks-append 10 (decimal (e.address / 2 ^ 24)) _ (lacks-decimal (e.address / 2 ^ 24))
+    (lacks-cons 10 46 _ (λ e. absurd (omega arith)) (lacks-append 10 (decimal (e.address / 2 ^ 16 % 256)) _ (lacks-decimal (e.address / 2 ^ 16 % 256))
+    (lacks-cons 10 46 _ (λ e. absurd (omega arith)) (lacks-append 10 (decimal (e.address / 2 ^ 8 % 256)) _ (lacks-decimal (e.address / 2 ^ 8 % 256))
+    (lacks-cons 10 46 _ (λ e. absurd (omega arith)) (lacks-append 10 (decimal (e.address % 256)) _ (lacks-decimal (e.address % 256))
+    (lacks-cons 10 58 _ (λ e. absurd (omega arith)) (lacks-decimal e.port))))))))
+
+-- words that are written out
+lacks-words : (text : List ℕ) → list_all (λ b. nat_lt 10 b) text ≡ true → Lacks 10 text
+lacks-words [] all = λ k inside. absurd (omega arith)
+lacks-words (x ∷ text) all =
+    let both = and_parts (nat_lt 10 x) (list_all (λ b. nat_lt 10 b) text) all in
+    let above = ltb-true 10 x both.0 in
+    lacks-cons 10 x text (λ same. absurd (omega (arith, above, same))) (lacks-words text both.1)
+
+both : (one other : List ℕ) → Lacks 10 one → Lacks 10 other → Lacks 10 (one ++ other)
+both one other = lacks-append 10 one other
+
+named : (word : List ℕ) (n : ℕ) → Lacks 10 word → Lacks 10 (word ++ decimal n)
+named word n lacks = both word (decimal n) lacks (lacks-decimal n)
+
+blank : Lacks 10 (codes " ")
+blank = lacks-words (codes " ") refl
+
+refused : (name number : List ℕ) → Lacks 10 name → Lacks 10 number → Lacks 10 (codes "refused " ++ name ++ number)
+refused name number first last = both (codes "refused ") (name ++ number) (lacks-words (codes "refused ") refl) (both name number first last)
+
+lacks-refusal : (reason : Reason) → Lacks 10 (refusal_text reason)
+lacks-refusal reason =
+    refused (reason_code reason).name (number_text (reason_code reason).number) (lacks-above 10 (reason_code reason).name (omega arith) (above-reason reason))
+    (by_number (reason_code reason).number)
+  where
+    by_number : (number : Option ℕ) → Lacks 10 (number_text number)
+    by_number None = λ k inside. absurd (omega arith)
+    by_number (Some n) = named (codes " ") n blank
+
+-- a text, and a word behind a label
+labelled : (text label word : List ℕ) → Lacks 10 text → Lacks 10 label → Lacks 10 word → Lacks 10 (text ++ label ++ word)
+labelled text label word first second last = both (text ++ label) word (both text label first second) last
+
+spaced : (text word : List ℕ) → Lacks 10 text → Lacks 10 word → Lacks 10 (text ++ codes " " ++ word)
+spaced text word first last = labelled text (codes " ") word first blank last
+
+shown : (version groups members charge : List ℕ) → Lacks 10 version → Lacks 10 groups → Lacks 10 members → Lacks 10 charge
+    → Lacks 10 (codes "version " ++ version ++ codes " groups " ++ groups ++ codes " members " ++ members ++ codes " charge " ++ charge)
+shown version groups members charge first second third last =
+    let begun = both (codes "version ") version (lacks-words (codes "version ") refl) first in
+    let with_groups = labelled (codes "version " ++ version) (codes " groups ") groups begun (lacks-words (codes " groups ") refl) second in
+    let text : List ℕ = codes "version " ++ version ++ codes " groups " ++ groups in
+    let with_members = labelled text (codes " members ") members with_groups (lacks-words (codes " members ") refl) third in
+    labelled (text ++ codes " members " ++ members) (codes " charge ") charge with_members (lacks-words (codes " charge ") refl) last
+
+swept : (first count : List ℕ) → Lacks 10 first → Lacks 10 count → Lacks 10 (codes "reclaimed " ++ first ++ codes " " ++ count)
+swept first count one other = spaced (codes "reclaimed " ++ first) count (both (codes "reclaimed ") first (lacks-words (codes "reclaimed ") refl) one) other
+
+lacks-answer : (answer : LineAnswer) → Lacks 10 (reply_text answer)
+lacks-answer (Refused reason) = lacks-refusal reason
+lacks-answer (Published version) = named (codes "ok version ") version (lacks-words (codes "ok version ") refl)
+lacks-answer (Shown version groups members charge) =
+    shown (decimal version) (decimal groups) (decimal members) (decimal charge) (lacks-decimal version) (lacks-decimal groups) (lacks-decimal members) (lacks-decimal charge)
+lacks-answer (Swept reclaimed) =
+    swept (decimal reclaimed.first) (decimal reclaimed.count) (lacks-decimal reclaimed.first) (lacks-decimal reclaimed.count)
+
+-- a name, the group's key and the member's number
+with_member : (name key id : List ℕ) → Lacks 10 name → Lacks 10 key → Lacks 10 id → Lacks 10 (name ++ key ++ codes " " ++ id)
+with_member name key id first second last = spaced (name ++ key) id (both name key first second) last
+
+delivered : (key id receiver bytes : List ℕ) → Lacks 10 key → Lacks 10 id → Lacks 10 receiver → Lacks 10 bytes
+    → Lacks 10 (codes "deliver " ++ key ++ codes " " ++ id ++ codes " " ++ receiver ++ codes " " ++ bytes)
+delivered key id receiver bytes first second third last =
+    let text : List ℕ = codes "deliver " ++ key ++ codes " " ++ id in
+    let member = with_member (codes "deliver ") key id (lacks-words (codes "deliver ") refl) first second in
+    spaced (text ++ codes " " ++ receiver) bytes (spaced text receiver member third) last
+
+lacks-verdict : (judged : Verdict) → Lacks 10 (verdict_text judged)
+lacks-verdict Malformed = lacks-words (codes "malformed") refl
+lacks-verdict NoGroup = lacks-words (codes "nogroup") refl
+lacks-verdict NoMembers = lacks-words (codes "nomembers") refl
+lacks-verdict (Dropped key id) =
+    with_member (codes "dropped ") (endpoint_text key) (decimal id) (lacks-words (codes "dropped ") refl) (lacks-endpoint key) (lacks-decimal id)
+lacks-verdict (Deliver key id to bytes) =
+    delivered (endpoint_text key) (decimal id) (endpoint_text to) (decimal bytes) (lacks-endpoint key) (lacks-decimal id) (lacks-endpoint to) (lacks-decimal bytes)
+
+judged : (version told : List ℕ) → Lacks 10 version → Lacks 10 told → Lacks 10 (codes "version " ++ version ++ codes " " ++ told)
+judged version told first last = spaced (codes "version " ++ version) told (both (codes "version ") version (lacks-words (codes "version ") refl) first) last
+
+lacks-judged : (version : ℕ) (told : Verdict) → Lacks 10 (judged_text version told)
+lacks-judged version told = judged (decimal version) (verdict_text told) (lacks-decimal version) (lacks-verdict told)
+
+lacks-reply : (now : Standing) (line reply : List ℕ) (next : Standing) → RepliesTo now line reply next → Lacks 10 reply
+lacks-reply now line _ _ (to_control answer next no_packet answers comes) = lacks-answer answer
+lacks-reply now line _ _ (to_packet digits packet within is spells) = lacks-judged now.version (verdict text_value now.config packet)
+lacks-reply now line _ _ (to_long_packet digits within is spells) = lacks-refusal PacketTooLong
+
+-- ---- lines and their replies
+
+all_more : (lines : List (List ℕ)) (line : List ℕ) → All (Lacks 10) lines → Lacks 10 line → All (Lacks 10) (lines ++ line ∷ [])
+all_more [] line each lacks zero d inside = lacks
+all_more [] line each lacks (suc k) d inside = absurd (omega arith)
+all_more (first ∷ lines) line each lacks zero d inside = each 0 d (omega arith)
+all_more (first ∷ lines) line each lacks (suc k) d inside = all_more lines line (λ j e within. each (suc j) e (omega arith)) lacks k d (omega arith)
+
+ended_more : (lines : List (List ℕ)) (line : List ℕ) → ended (lines ++ line ∷ []) ≡ ended lines ++ (line ++ 10 ∷ [])
+ended_more lines line =
+    flat_map-append (λ (l : List ℕ). l ++ 10 ∷ []) lines (line ∷ []) ∙ ap (λ (t : List ℕ). ended lines ++ t) (append-nil (line ++ 10 ∷ []))
+
+-- a text whose lines are those of it, whatever stands behind
+abbrev IsOfLines : List ℕ → Type 0
+IsOfLines text = (rest : List ℕ) → lines_of (text ++ rest) ≡ lines_of text ++ lines_of rest
+
+one_line : (text reply : List ℕ) → IsOfLines text → Lacks 10 reply → lines_of (text ++ (reply ++ 10 ∷ [])) ≡ lines_of text ++ reply ∷ []
+one_line text reply whole lacks =
+    whole (reply ++ 10 ∷ []) ∙ ap (λ (lines : List (List ℕ)). lines_of text ++ lines) (first_line reply [] lacks ∙ ap (λ (lines : List (List ℕ)). reply ∷ lines) no_lines)
+
+more_lines : (text reply : List ℕ) → IsOfLines text → Lacks 10 reply → IsOfLines (text ++ (reply ++ 10 ∷ []))
+more_lines text reply whole lacks rest =
+    ap lines_of (append_assoc text (reply ++ 10 ∷ []) rest ∙ ap (λ (t : List ℕ). text ++ t) (append_assoc reply (10 ∷ []) rest))
+    ∙ (whole (reply ++ 10 ∷ rest)
+    ∙ (ap (λ (lines : List (List ℕ)). lines_of text ++ lines) (first_line reply rest lacks)
+    ∙ (sym (append_assoc (lines_of text) (reply ∷ []) (lines_of rest)) ∙ ap (λ (lines : List (List ℕ)). lines ++ lines_of rest) (sym (one_line text reply whole lacks)))))
+
+record Cut (script text : List ℕ) (last : Standing) : Type 0 where
+  lines : List (List ℕ)
+  is : ended lines ≡ script
+  each : All (Lacks 10) lines
+  in_turn : AreRepliesInTurn lines (lines_of text) last
+  whole : IsOfLines text
+
+cut : (script text : List ℕ) (last : Standing) → AreAnswered script text last → Cut script text last
+cut _ _ _ no_line = record {
+  lines = [];
+  is = refl;
+  each = λ k d inside. absurd (omega arith);
+  in_turn = subst (λ (lines : List (List ℕ)). AreRepliesInTurn [] lines at_start) (sym no_lines) no_reply;
+  whole = λ rest. ap (λ (lines : List (List ℕ)). lines ++ lines_of rest) (sym no_lines);
+}
+cut _ _ _ (one_more script text line reply now next before lacks replies) =
+    let cut = cut script text now before in
+    let lacks' = lacks-reply now line reply next replies in
+    record {
+      lines = cut.lines ++ line ∷ [];
+      is = ended_more cut.lines line ∙ ap (λ (t : List ℕ). t ++ (line ++ 10 ∷ [])) cut.is;
+      each = all_more cut.lines line cut.each lacks;
+      in_turn = subst (λ (found : List (List ℕ)). AreRepliesInTurn (cut.lines ++ line ∷ []) found next) (sym (one_line text reply cut.whole lacks'))
+          (one_reply_more cut.lines (lines_of text) line reply now next cut.in_turn replies);
+      whole = more_lines text reply cut.whole lacks';
+    }
+
+pub lines_are_replies : LinesAreReplies
+lines_are_replies _ _ (all_ended script text last answered) =
+    let cut = cut script text last answered in
+    (cut.lines, last, subst (λ (s : List ℕ). AreLinesOf s cut.lines) cut.is (each_ended cut.lines cut.each), cut.in_turn)
+lines_are_replies _ _ (last_unended script text line reply now last answered lacks more replies) =
+    let cut = cut script text now answered in
+    let lacks' = lacks-reply now line reply last replies in (
+      cut.lines ++ line ∷ [],
+      last,
+      subst (λ (s : List ℕ). AreLinesOf (s ++ line) (cut.lines ++ line ∷ [])) cut.is (last_open cut.lines line cut.each lacks more),
+      subst (λ (found : List (List ℕ)). AreRepliesInTurn (cut.lines ++ line ∷ []) found last) (sym (one_line text reply cut.whole lacks'))
+          (one_reply_more cut.lines (lines_of text) line reply now last cut.in_turn replies),
+    )

@@ -1,0 +1,4 @@
+pub mod Replaying
+pub mod Counted
+pub mod Lines
+pub mod body

@@ -1,5 +1,0 @@
-use Rattle.sample_group.proofs.AcceptedLemmas.{second_accepted}
-use Rattle.text_commands.proofs.first_path.publish_second.Goals as goal
-
-pub configuration-requires : goal.configuration-requires
-configuration-requires c = record { accepted = second_accepted }

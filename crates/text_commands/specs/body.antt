@@ -1,4 +1,0 @@
--- Models of the code: what the contracts of private functions cite. No public clause stands on them.
-pub mod FirstTable
-pub mod Stop
-pub mod Summarizing
