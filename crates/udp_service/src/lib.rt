@@ -5,13 +5,11 @@
 //! itself, by `control_datagram`.
 #![tactic(auto)]
 
-ghost use Rattle.std.specs.Prelude.{◌≡◌, ◌≢◌, ◌+◌, ◌≤◌, Err, IfErr, IfOk, OnOk, [], length, vec_len};
-ghost use Rattle.std.specs.List.{All};
-ghost use Rattle.dispatch.specs.declared.tally.TheConstants.{COUNTERS};
+ghost use Rattle.std.specs.Prelude.{◌≡◌, ◌≢◌, ◌≤◌, Err, IfErr, IfOk, OnOk, vec_len};
 ghost use Rattle.versions.specs.declared.layout.TheConstants.{WORKERS};
-ghost use Rattle.worker_threads.specs.Counted.{IsNew, IsNewWorker};
 ghost use Rattle.udp_service.specs.declared.jobs.TheConstants.{LIMIT};
-ghost use Rattle.udp_service.specs.Service.{HasNewDevices, HasRoom, IsServed, WritesReadyOrNothing, WritesServed};
+ghost use Rattle.udp_service.specs.Service.{IsServed, WritesReadyOrNothing, WritesServed};
+ghost use Rattle.udp_service.specs.body.Jobs.{AreOpened};
 
 mod jobs;
 mod opening;
@@ -51,15 +49,9 @@ fn count_served<N: TallyName, R: Threads + Wait + Sync, G: Gate + Sync>(
     gate: &G,
 ) -> Result<Totals, ServeFault>
     requires named { service.tally.table ≡ N.table }
-    requires counters { vec_len service.spare + vec_len jobs ≡ COUNTERS }
-    requires new_spare { All (IsNew service.tally.table) service.spare.items }
-    requires new_counters { All (λ job. IsNew service.tally.table job.counter) jobs.items }
-    requires new_workers { All (λ job. IsNewWorker [] service.receiver.operator.table job.worker) jobs.items }
-    requires new_devices { All (λ job. HasNewDevices job.source job.outbox) jobs.items }
-    requires rooms { All (λ job. HasRoom (length job.buffer.items) job.limit) jobs.items }
+    requires opened { AreOpened service.tally.table service.receiver.operator.table service.spare.items jobs.items }
     ensures totals { IfOk result (IsServed (vec_len jobs.entry)) }
     ensures bound { IfErr result (λ fault. fault ≢ ServeFault.BindFailed) }
-    ensures not_written { IfErr result (λ fault. fault ≢ ServeFault.WriteFailed) }
 {
     let mut named = NamedTally::<N>::new(service.tally);
     let mut ended = Ended::PollFailed;

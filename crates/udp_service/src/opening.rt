@@ -1,12 +1,10 @@
 //! The service before it receives: its sockets are bound, and its jobs are made.
 
-ghost use Rattle.std.specs.Prelude.{◌≡◌, ◌≢◌, ◌+◌, ◌≤◌, IfErr, IfOk, OnOk, [], length, vec_len};
+ghost use Rattle.std.specs.Prelude.{◌≡◌, ◌<◌, ◌≤◌, IfOk, [], vec_len};
 ghost use Rattle.std.specs.List.{All};
-ghost use Rattle.atomic_table.specs.Seated.{TableId};
-ghost use Rattle.dispatch.specs.declared.tally.TheConstants.{COUNTERS};
 ghost use Rattle.versions.specs.declared.layout.TheConstants.{WORKERS};
-ghost use Rattle.worker_threads.specs.Counted.{IsNew, IsNewWorker};
-ghost use Rattle.udp_service.specs.Service.{HasNewDevices, HasRoom};
+ghost use Rattle.worker_threads.specs.Counted.{IsNewWorker};
+ghost use Rattle.udp_service.specs.body.Jobs.{AreMade, AreOpened};
 
 use crate::jobs::{ServiceJob, jobs};
 use crate::receiving::Receiver;
@@ -68,17 +66,8 @@ fn connect<'a, R: Wait + Net>(
 ) -> Result<(Vec<ServiceJob<'a, R>>, Vec<WorkerQueue>, Connected), ServeFault>
     requires seats { workers ≤ vec_len seats.old }
     requires counters { workers ≤ vec_len counters.old }
-    ensures one_a_worker { IfOk result (λ parts. vec_len parts.0 ≡ workers) }
-    ensures queue_a_worker { IfOk result (λ parts. vec_len parts.1 ≡ workers) }
-    ensures devices { IfOk result (λ parts. All (λ job. HasNewDevices job.source job.outbox) parts.0.items) }
-    ensures rooms { IfOk result (λ parts. All (λ job. HasRoom (length job.buffer.items) job.limit) parts.0.items) }
-    ensures counters { (table : TableId) → All (IsNew table) counters.old.items
-        → IfOk result (λ parts. All (λ job. IsNew table job.counter) parts.0.items) }
-    ensures workers { (versions : TableId) → All (IsNewWorker [] versions) seats.old.items
-        → IfOk result (λ parts. All (λ job. IsNewWorker [] versions job.worker) parts.0.items) }
-    ensures left { OnOk result (vec_len counters.new + workers ≡ vec_len counters.old) }
-    ensures new { (table : TableId) → All (IsNew table) counters.old.items → OnOk result (All (IsNew table) counters.new.items) }
-    ensures not_written { IfErr result (λ fault. fault ≢ ServeFault.WriteFailed) }
+    ensures made { IfOk result (λ parts. AreMade workers seats.old.items seats.new.items counters.old.items counters.new.items
+        parts.0.items (vec_len parts.1)) }
 {
     let room = Room::new(alloc)?;
     let Some(bound) = BoundSockets::bind(rt, front, control) else {
@@ -99,6 +88,38 @@ fn connect<'a, R: Wait + Net>(
     Ok((jobs, queues, connected))
 }
 
+fn service_of(
+    alloc: Global,
+    connected: Connected,
+    queues: Vec<WorkerQueue>,
+    operator: Operator,
+    tally: Tally,
+    spare: Vec<Counter>,
+) -> Service
+    requires { 0 < vec_len queues }
+    ensures tally { result.tally ≡ tally }
+    ensures spare { result.spare ≡ spare }
+    ensures operator { result.receiver.operator ≡ operator }
+{
+    let Connected {
+        sockets,
+        front,
+        control,
+    } = connected;
+    let queues = WorkerQueues::new(alloc, queues);
+    Service {
+        front,
+        control,
+        tally,
+        spare,
+        receiver: Receiver {
+            sockets,
+            queues,
+            operator,
+        },
+    }
+}
+
 /// Binds both sockets, and makes so many jobs and all that they and receiving need. The jobs have new workers of the operator's
 /// table, and new counters of the tally.
 pub fn open_service<'a, R: Wait + Net>(
@@ -111,35 +132,16 @@ pub fn open_service<'a, R: Wait + Net>(
     requires at_least_one { 1 ≤ workers }
     requires at_most { workers ≤ WORKERS }
     ensures one_a_worker { IfOk result (λ opened. vec_len opened.0 ≡ workers) }
-    ensures counters { IfOk result (λ opened. vec_len opened.1.spare + vec_len opened.0 ≡ COUNTERS) }
-    ensures new_spare { IfOk result (λ opened. All (IsNew opened.1.tally.table) opened.1.spare.items) }
-    ensures new_counters { IfOk result (λ opened. All (λ job. IsNew opened.1.tally.table job.counter) opened.0.items) }
-    ensures new_workers { IfOk result (λ opened. All (λ job. IsNewWorker [] opened.1.receiver.operator.table job.worker) opened.0.items) }
-    ensures new_devices { IfOk result (λ opened. All (λ job. HasNewDevices job.source job.outbox) opened.0.items) }
-    ensures rooms { IfOk result (λ opened. All (λ job. HasRoom (length job.buffer.items) job.limit) opened.0.items) }
-    ensures not_written { IfErr result (λ fault. fault ≢ ServeFault.WriteFailed) }
+    ensures opened { IfOk result (λ opened. AreOpened opened.1.tally.table opened.1.receiver.operator.table opened.1.spare.items
+        opened.0.items) }
 {
     let (operator, mut seats) = open_table(alloc)?;
     let (tally, mut spare) = Tally::open(alloc)?;
     let (jobs, queues, connected) = connect(
         rt, alloc, front, control, &mut seats, &mut spare, workers,
     )?;
-    let Connected {
-        sockets,
-        front,
-        control,
-    } = connected;
-    let receiver = Receiver {
-        sockets,
-        queues: WorkerQueues::new(alloc, queues),
-        operator,
-    };
-    let service = Service {
-        front,
-        control,
-        tally,
-        spare,
-        receiver,
-    };
-    Ok((jobs, service))
+    Ok((
+        jobs,
+        service_of(alloc, connected, queues, operator, tally, spare),
+    ))
 }

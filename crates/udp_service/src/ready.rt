@@ -30,7 +30,11 @@ pub fn write_ready<W: Write>(
     ensures written { OnOk result (WritesReady front control (W.contents out.old) (W.contents out.new)) }
 {
     let line = ready_line(front, control);
-    out.write_all(line.bytes())
-        .map_err(|_| ServeFault::WriteFailed)?;
-    out.flush().map_err(|_| ServeFault::WriteFailed)
+    let Ok(()) = out.write_all(line.bytes()) else {
+        return Err(ServeFault::WriteFailed);
+    };
+    let Ok(()) = out.flush() else {
+        return Err(ServeFault::WriteFailed);
+    };
+    Ok(())
 }

@@ -1,4 +1,4 @@
-use Rattle.std.proofs.Common.{◌∙◌, [], ap, arith, length, subst, sym, vec_len}
+use Rattle.std.proofs.Common.{◌∙◌, [], ap, subst, sym, vec_len}
 use Rattle.std.proofs.lemmas.List.{length-map}
 use Rattle.std.proofs.lemmas.List.Elements.{All-map, All-weaker}
 use Rattle.dispatch.specs.Tally.{AreCountersOf}
@@ -12,20 +12,20 @@ use Rattle.worker_threads.proofs.CountedLemmas.{all_counters, counted}
 
 pub gather-requires : goal.gather-requires
 gather-requires g c =
-    let many = c.requires.counters in let of_spare = c.args.service.spare.ok.0 in let of_jobs = c.args.jobs.ok.0 in record {
+    let opened = c.requires.opened in record {
       counters = subst (λ table. AreCountersOf table c.in_ok-counters.counters.items) (c.requires.named ∙ sym c.named-2-1.given.is_named)
           (all_counters _ _ c.args.service.tally.table c.args.jobs.items c.args.service.spare.items c.in_ok-counters.counters.items c.in_ok-counters.ensures.counters_back
-          c.requires.new_spare c.requires.new_counters (omega arith));
+          opened.new_spare opened.new_counters opened.all_counters);
     }
 
 pub returns-in-Stopped-clause-totals : goal.returns-in-Stopped-clause-totals
 returns-in-Stopped-clause-totals g c =
-    let of_jobs = c.args.jobs.ok.0 in
+    let opened = c.requires.opened in
     counted _ _ c.args.service.tally.table c.args.jobs.items c.args.service.spare.items c.in_ok-counters.counters.items c.in_ok-counters.ensures.counters_back
-    c.requires.new_spare c.requires.new_counters [] c.args.service.receiver.operator.table LONGEST_DATAGRAM LIMIT (AreServiceStarts (vec_len c.args.jobs))
-    c.requires.new_workers c.requires.rooms (
-      length-map c.args.jobs.items (parts_of_job _ _) ∙ sym of_jobs,
+    opened.new_spare opened.new_counters [] c.args.service.receiver.operator.table LONGEST_DATAGRAM LIMIT (AreServiceStarts (vec_len c.args.jobs))
+    opened.new_workers opened.rooms (
+      length-map c.args.jobs.items (parts_of_job _ _) ∙ sym c.args.jobs.ok.0,
       All-map HasSilentDevices (parts_of_job _ _) c.args.jobs.items
-          (All-weaker (λ job. HasNewDevices job.source job.outbox) (λ job. HasSilentDevices (parts_of_job _ _ job)) (λ job new. (ap source_of new.0, new.1)) c.args.jobs.items c.requires.new_devices),
+          (All-weaker (λ job. HasNewDevices job.source job.outbox) (λ job. HasSilentDevices (parts_of_job _ _ job)) (λ job new. (ap source_of new.0, new.1)) c.args.jobs.items opened.new_devices),
     )
     c.gather.result c.gather.ensures.sum_exact

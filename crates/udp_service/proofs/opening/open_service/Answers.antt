@@ -1,10 +1,20 @@
+use Rattle.std.proofs.Common.{arith}
+use Rattle.udp_service.specs.body.Jobs.{AreOpened}
 use Rattle.udp_service.proofs.opening.open_service.Goals as goal
 
-pub returns-clause-new_spare : goal.returns-clause-new_spare
-returns-clause-new_spare g c = c.in_ok-jobs.ensures.new c.in_ok-tally.tally.table c.in_ok-tally.ensures.counters.each
-
-pub returns-clause-new_counters : goal.returns-clause-new_counters
-returns-clause-new_counters g c = c.in_ok-jobs.ensures.counters c.in_ok-tally.tally.table c.in_ok-tally.ensures.counters.each
-
-pub returns-clause-new_workers : goal.returns-clause-new_workers
-returns-clause-new_workers g c = c.in_ok-jobs.ensures.workers c.in_ok-operator.operator.table c.in_ok-operator.ensures.opening
+pub returns-clause-opened : goal.returns-clause-opened
+returns-clause-opened g c =
+    let made = c.in_ok-jobs.ensures.made in
+    let all = c.in_ok-tally.ensures.counters.count in
+    let job_count = made.job_count in
+    let counter_each = made.counter_each in
+    let counters = made.new_counters c.in_ok-tally.tally.table c.in_ok-tally.ensures.counters.each in
+    let opened : AreOpened c.in_ok-tally.tally.table c.in_ok-operator.operator.table c.connect.new.counters.items c.in_ok-jobs.jobs.items = record {
+      all_counters = omega arith;
+      new_spare = counters.0;
+      new_counters = counters.1;
+      new_workers = (made.new_workers c.in_ok-operator.operator.table c.in_ok-operator.ensures.opening).1;
+      new_devices = made.new_devices;
+      rooms = made.rooms;
+    } in
+    rw (c.service_of.ensures.tally, c.service_of.ensures.spare, c.service_of.ensures.operator) opened
