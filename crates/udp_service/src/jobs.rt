@@ -40,8 +40,12 @@ fn open_devices<'a, R: Wait + Net>(
     ensures new { IfOk result (λ devices. HasNewDevices devices.source devices.outbox) }
     ensures room { IfOk result (λ devices. HasRoom (length devices.buffer.items) LIMIT) }
 {
-    let (source, queue) = open_queue(rt, alloc)?;
-    let buffer = vec![in alloc; 0; LONGEST_DATAGRAM]?;
+    let Ok((source, queue)) = open_queue(rt, alloc) else {
+        return Err(ServeFault::OutOfMemory);
+    };
+    let Ok(buffer) = vec![in alloc; 0; LONGEST_DATAGRAM] else {
+        return Err(ServeFault::OutOfMemory);
+    };
     let any_port = Endpoint { address, port: 0 };
     let Ok(socket) = rt.bind_udp(socket_address(any_port)) else {
         return Err(ServeFault::BindFailed);
@@ -80,7 +84,10 @@ fn add_job<'a, R: Wait + Net>(
         outbox,
         buffer,
     } = devices;
-    let (Some(worker), Some(counter)) = (seats.pop(), counters.pop()) else {
+    let Some(worker) = seats.pop() else {
+        unreachable!()
+    };
+    let Some(counter) = counters.pop() else {
         unreachable!()
     };
     let job = Job {

@@ -69,7 +69,9 @@ fn connect<'a, R: Wait + Net>(
     ensures made { IfOk result (λ parts. AreMade workers seats.old.items seats.new.items counters.old.items counters.new.items
         parts.0.items (vec_len parts.1)) }
 {
-    let room = Room::new(alloc)?;
+    let Ok(room) = Room::new(alloc) else {
+        return Err(ServeFault::OutOfMemory);
+    };
     let Some(bound) = BoundSockets::bind(rt, front, control) else {
         return Err(ServeFault::BindFailed);
     };
@@ -135,8 +137,12 @@ pub fn open_service<'a, R: Wait + Net>(
     ensures opened { IfOk result (λ opened. AreOpened opened.1.tally.table opened.1.receiver.operator.table opened.1.spare.items
         opened.0.items) }
 {
-    let (operator, mut seats) = open_table(alloc)?;
-    let (tally, mut spare) = Tally::open(alloc)?;
+    let Ok((operator, mut seats)) = open_table(alloc) else {
+        return Err(ServeFault::OutOfMemory);
+    };
+    let Ok((tally, mut spare)) = Tally::open(alloc) else {
+        return Err(ServeFault::OutOfMemory);
+    };
     let (jobs, queues, connected) = connect(
         rt, alloc, front, control, &mut seats, &mut spare, workers,
     )?;
