@@ -41,14 +41,12 @@ run-len part same text len is within ends =
     ∙ length-take-le len text within
 
 pub plain-lexeme : (text : List ℕ) (len : ℕ) → len ≡ prefix_len is_ascii_digit text → len ≤ length text → is_plain (take len text) ≡ true →
-    ends_number (rest_of text len) ≡ true → (prefix_len is_number_part text ≡ len) × (record { token = Number (capped (value_of 10 (take len text))); len = len } ≡ number_lexeme text)
+    ends_number (rest_of text len) ≡ true → record { token = Number (capped (value_of 10 (take len text))); len = len } ≡ number_lexeme text
 plain-lexeme text len is within plain ends =
     let all : list_all is_ascii_digit (take len text) ≡ true = rw is (run-all is_ascii_digit text) in
-    let same = run-len is_ascii_digit digit-part text len is within ends in (
-      same,
-      ap (λ t. record { token = t; len = len }) (sym (plain-token (take len text) all plain))
-          ∙ ap (λ n. record { token = number_or_address (take n text); len = n }) (sym same),
-    )
+    let same = run-len is_ascii_digit digit-part text len is within ends in
+    ap (λ t. record { token = t; len = len }) (sym (plain-token (take len text) all plain))
+    ∙ ap (λ n. record { token = number_or_address (take n text); len = n }) (sym same)
 
 -- ---- hexadecimal numbers
 
@@ -80,22 +78,17 @@ behind-0x (c ∷ d ∷ rest) h =
     ap (λ x. x ∷ d ∷ rest) is.0 ∙ ap (λ x. 48 ∷ x ∷ rest) is.1 ∙ ap (λ (r : List ℕ). 48 ∷ 120 ∷ r) (sym (rest_of-drop (c ∷ d ∷ rest) 2))
 
 hex-at : (rest : List ℕ) (len : ℕ) → len ≡ prefix_len is_ascii_hexdigit rest → len ≤ length rest → 0 < len → ends_number (rest_of rest len) ≡ true →
-    (prefix_len is_number_part (48 ∷ 120 ∷ rest) ≡ suc (suc len))
-    × (record { token = Number (capped (value_of 16 (take len rest))); len = suc (suc len) } ≡ number_lexeme (48 ∷ 120 ∷ rest))
+    record { token = Number (capped (value_of 16 (take len rest))); len = suc (suc len) } ≡ number_lexeme (48 ∷ 120 ∷ rest)
 hex-at rest len is within some ends =
     let all : list_all is_ascii_hexdigit (take len rest) ≡ true = rw is (run-all is_ascii_hexdigit rest) in
     let more : 0 < length (take len rest) = rw (length-take-le len rest within) some in
     let same : prefix_len is_number_part (48 ∷ 120 ∷ rest) ≡ suc (suc len) =
-    ap (λ n. 1 + (1 + n)) (run-len is_ascii_hexdigit hex-part rest len is within ends) ∙ omega arith in (
-      same,
-      ap (λ t. record { token = t; len = suc (suc len) }) (sym (hex-token (take len rest) all more))
-          ∙ ap (λ n. record { token = number_or_address (take n (48 ∷ 120 ∷ rest)); len = n }) (sym same),
-    )
+    ap (λ n. 1 + (1 + n)) (run-len is_ascii_hexdigit hex-part rest len is within ends) ∙ omega arith in
+    ap (λ t. record { token = t; len = suc (suc len) }) (sym (hex-token (take len rest) all more))
+    ∙ ap (λ n. record { token = number_or_address (take n (48 ∷ 120 ∷ rest)); len = n }) (sym same)
 
 pub hex-lexeme : (text : List ℕ) (len : ℕ) → begins_hexadecimal text ≡ true → len ≡ prefix_len is_ascii_hexdigit (rest_of text 2) → len ≤ length (rest_of text 2) → 0 < len →
     ends_number (rest_of (rest_of text 2) len) ≡ true →
-    (prefix_len is_number_part text ≡ suc (suc len)) × (record { token = Number (capped (value_of 16 (take len (rest_of text 2)))); len = suc (suc len) } ≡ number_lexeme text)
+    record { token = Number (capped (value_of 16 (take len (rest_of text 2)))); len = suc (suc len) } ≡ number_lexeme text
 hex-lexeme text len begins is within some ends =
-    let at = hex-at (rest_of text 2) len is within some ends in
-    let whole = behind-0x text begins in
-    (ap (prefix_len is_number_part) whole ∙ at.0, at.1 ∙ sym (ap number_lexeme whole))
+    hex-at (rest_of text 2) len is within some ends ∙ sym (ap number_lexeme (behind-0x text begins))

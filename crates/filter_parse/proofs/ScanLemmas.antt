@@ -137,7 +137,7 @@ longest-run : (part : ℕ → Bool) (c : ℕ) (text : List ℕ) → part c ≡ t
 longest-run part c text is =
     record { all = ap (λ t. t && list_all part (take (prefix_len part text) text)) is ∙ run-all part text; ends = run-ends part text }
 
-word-part : (c : ℕ) → begins_word c ≡ true → is_word_part c ≡ true
+pub word-part : (c : ℕ) → begins_word c ≡ true → is_word_part c ≡ true
 word-part c h = grind (arith, nat_tests)
 
 spelt-pair : (c d : ℕ) (rest : List ℕ) → BeginsSign c → (pair : Option Token) → pair_sign c d ≡ pair → BeginsSpelt c (d ∷ rest)

@@ -109,6 +109,26 @@ pub fewer-below : (s below : List Item) (item : Item) → Some item ≡ top_of s
 fewer-below [] below item t e = absurd cc
 fewer-below (first ∷ s) below item t e = rw e (omega arith)
 
+arith-longer : (tree : ArithTree) (below : List Item) → length below < length (arith_parts tree below)
+arith-longer (number n) below = omega arith
+arith-longer packet_length below = omega arith
+arith-longer (accessor p index size) below = let inner = arith-longer index below in omega arith
+arith-longer (operation a o b) below = let left = arith-longer a below in let right = arith-longer b (arith_parts a below) in omega arith
+
+-- what is below a tree's parts is shorter
+pub fewer-arith : (tree : ArithTree) (below s : List Item) → s ≡ arith_parts tree below → length below < length s
+fewer-arith tree below s e = rw e (arith-longer tree below)
+
+tree-longer : (tree : Tree) (below : List Item) → length below < length (tree_parts tree below)
+tree-longer (primitive p) below = omega arith
+tree-longer (relation a r b) below = let left = arith-longer a below in let right = arith-longer b (arith_parts a below) in omega arith
+tree-longer (negation e) below = let inner = tree-longer e below in omega arith
+tree-longer (conjunction a b) below = let left = tree-longer a below in let right = tree-longer b (tree_parts a below) in omega arith
+tree-longer (disjunction a b) below = let left = tree-longer a below in let right = tree-longer b (tree_parts a below) in omega arith
+
+pub fewer-tree : (tree : Tree) (below s : List Item) → s ≡ tree_parts tree below → length below < length s
+fewer-tree tree below s e = rw e (tree-longer tree below)
+
 -- a part that may be the last of an arithmetic expression
 abbrev pub IsArithmetic : Option Item → Type 0
 IsArithmetic (Some (Number n)) = Unit {0}

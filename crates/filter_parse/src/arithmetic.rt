@@ -3,7 +3,7 @@
 ghost use Rattle.std.specs.Prelude.{◌≡◌, ◌∷◌, ◌++◌, MatchResult, None, [], Some};
 ghost use Rattle.filter_parse.specs.declared.fault.ParseFault.TheVariants.{OutOfMemory};
 ghost use Rattle.filter_parse.specs.declared.state.State.TheVariants.{Number, WantsEnd, WantsSize};
-ghost use Rattle.filter_parse.specs.body.Parser.{Meets, after_number, fault_in, judged_by, parsing, parsing_of, shifted, size_of_number, sized_by};
+ghost use Rattle.filter_parse.specs.body.Parser.{Meets, after_number, judged_by, parsing, parsing_of, shifted, size_of_number, sized_by};
 ghost use Rattle.filter_parse.specs.body.Stack.{from_top};
 
 use crate::fault::ParseFault;
@@ -17,9 +17,8 @@ use std::alloc::Allocator;
 
 impl<'a, A: Allocator> Parser<'a, A> {
     pub(crate) fn after_number(&mut self, lookahead: Token, at: usize) -> Result<(), ParseFault>
-        ensures met { Meets (judged_by None at
+        ensures { Meets (judged_by None at
             (after_number lookahead (from_top self.old.stack) self.old.output.entries.items)) result (parsing_of self.new) }
-        ensures brackets { self.new.brackets ≡ self.old.brackets }
     {
         match (lookahead, self.stack.top()) {
             (Token::Operates(operator), _) => self.push(Pending::Operated(operator)),
@@ -49,9 +48,8 @@ impl<'a, A: Allocator> Parser<'a, A> {
         lookahead: Token,
         at: usize,
     ) -> Result<(), ParseFault>
-        ensures met { Meets (judged_by (fault_in (WantsSize protocol) self.old.brackets lookahead at) at
+        ensures { Meets (judged_by None at
             (shifted lookahead (parsing (WantsSize protocol) (from_top self.old.stack) self.old.output.entries.items))) result (parsing_of self.new) }
-        ensures brackets { self.new.brackets ≡ self.old.brackets }
     {
         match lookahead {
             Token::Number(n) => self.shift_size(protocol, n, at),
@@ -66,9 +64,8 @@ impl<'a, A: Allocator> Parser<'a, A> {
         lookahead: Token,
         at: usize,
     ) -> Result<(), ParseFault>
-        ensures met { Meets (judged_by (fault_in (WantsEnd protocol size) self.old.brackets lookahead at) at
+        ensures { Meets (judged_by None at
             (shifted lookahead (parsing (WantsEnd protocol size) (from_top self.old.stack) self.old.output.entries.items))) result (parsing_of self.new) }
-        ensures brackets { self.new.brackets ≡ self.old.brackets }
     {
         match lookahead {
             Token::CloseIndex => self.put_operand(Item::Access(protocol, size)),
@@ -77,9 +74,8 @@ impl<'a, A: Allocator> Parser<'a, A> {
     }
 
     fn shift_size(&mut self, protocol: Protocol, n: u64, at: usize) -> Result<(), ParseFault>
-        ensures met { Meets (judged_by None at
+        ensures { Meets (judged_by None at
             (sized_by protocol (size_of_number n) (from_top self.old.stack) self.old.output.entries.items)) result (parsing_of self.new) }
-        ensures brackets { self.new.brackets ≡ self.old.brackets }
     {
         match size_of_number(n) {
             Some(size) => {
@@ -93,10 +89,9 @@ impl<'a, A: Allocator> Parser<'a, A> {
     /// Appends a whole operand to the output. What it is the right side of is reduced by the next lookahead.
     #[inline(always)]
     pub(crate) fn put_operand(&mut self, item: Item) -> Result<(), ParseFault>
-        ensures put { MatchResult result
+        ensures { MatchResult result
             (λ _. parsing_of self.new ≡ parsing Number (from_top self.old.stack) (self.old.output.entries.items ++ item ∷ []))
             (λ fault. fault ≡ OutOfMemory) }
-        ensures brackets { self.new.brackets ≡ self.old.brackets }
     {
         self.output.push(item)?;
         self.state = State::Number;

@@ -1,6 +1,6 @@
 //! The tree of an expression in postfix order: its last part is taken first, and then the parts that this one stands over.
 
-ghost use Rattle.std.specs.Prelude.{◌≡◌, ◌<◌, ◌∷◌, IfOk, MatchOption, OnOk, length, reverse};
+ghost use Rattle.std.specs.Prelude.{◌≡◌, ◌∷◌, IfOk, MatchOption, OnOk, reverse};
 ghost use Rattle.filter_tree.specs.View.{arith_tree_of, tree_of};
 ghost use Rattle.filter_parse.specs.declared.item.Item.TheVariants.{Number, Primitive as IsPrimitive, Relate};
 ghost use Rattle.filter_parse.specs.body.Place.{IsBlank, IsBlankArithmetic};
@@ -72,17 +72,10 @@ fn take_relator(parts: &mut &[Item]) -> Option<Relation>
 // Each part is made where it is to stand: else each turn of the recursions clears room for the whole parts that they answer.
 
 #[inline(always)]
-fn arithmetic_place<A: Allocator + Clone>(alloc: &A) -> Result<Box<Arith<A>, A>, OutOfMemory>
-    ensures blank { IfOk result (λ place. IsBlankArithmetic place.value) }
+fn boxed<A: Allocator + Clone, T: Drop>(alloc: &A, value: T) -> Result<Box<T, A>, OutOfMemory>
+    ensures { IfOk result (λ made. made.value ≡ value) }
 {
-    Ok(Box::new(alloc.clone()?, Arith::Length)?)
-}
-
-#[inline(always)]
-fn place<A: Allocator + Clone>(alloc: &A) -> Result<Box<Expr<A>, A>, OutOfMemory>
-    ensures blank { IfOk result (λ place. IsBlank place.value) }
-{
-    Ok(Box::new(alloc.clone()?, Expr::Primitive(Primitive::Ip))?)
+    Ok(Box::new(alloc.clone()?, value)?)
 }
 
 // A place is filled once. What stood in it has no parts, so nothing is read there to be dropped.
@@ -117,13 +110,12 @@ fn operand<A: Allocator + Clone>(
     parts: &mut &[Item],
 ) -> Result<Box<Arith<A>, A>, OutOfMemory>
     requires { HasArithmetic (reverse parts.old.now) }
-    ensures taken { IfOk result (λ made. reverse parts.old.now ≡ arith_parts (arith_tree_of made.value) (reverse parts.new.now)) }
-    ensures fewer { OnOk result (length (reverse parts.new.now) < length (reverse parts.old.now)) }
+    ensures { IfOk result (λ made. reverse parts.old.now ≡ arith_parts (arith_tree_of made.value) (reverse parts.new.now)) }
 {
     if let Some(n) = take_number(parts) {
-        return Ok(Box::new(alloc.clone()?, Arith::Number(n))?);
+        return boxed(alloc, Arith::Number(n));
     }
-    let mut made = arithmetic_place(alloc)?;
+    let mut made = boxed(alloc, Arith::Length)?;
     arithmetic(alloc, parts, &mut made)?;
     Ok(made)
 }
@@ -136,8 +128,7 @@ fn arithmetic<A: Allocator + Clone>(
 ) -> Result<(), OutOfMemory>
     requires parts { HasArithmetic (reverse parts.old.now) }
     requires blank { IsBlankArithmetic to.old }
-    ensures taken { OnOk result (reverse parts.old.now ≡ arith_parts (arith_tree_of to.new) (reverse parts.new.now)) }
-    ensures fewer { OnOk result (length (reverse parts.new.now) < length (reverse parts.old.now)) }
+    ensures { OnOk result (reverse parts.old.now ≡ arith_parts (arith_tree_of to.new) (reverse parts.new.now)) }
 {
     match take_last(parts) {
         Some(Item::Number(n)) => {
@@ -177,8 +168,7 @@ fn side<A: Allocator + Clone>(
 ) -> Result<(), OutOfMemory>
     requires parts { HasArithmetic (reverse parts.old.now) }
     requires blank { IsBlankArithmetic to.old }
-    ensures taken { OnOk result (reverse parts.old.now ≡ arith_parts (arith_tree_of to.new) (reverse parts.new.now)) }
-    ensures fewer { OnOk result (length (reverse parts.new.now) < length (reverse parts.old.now)) }
+    ensures { OnOk result (reverse parts.old.now ≡ arith_parts (arith_tree_of to.new) (reverse parts.new.now)) }
 {
     if let Some(n) = take_number(parts) {
         put_arithmetic(to, Arith::Number(n));
@@ -197,8 +187,7 @@ fn relation<A: Allocator + Clone>(
 ) -> Result<(), OutOfMemory>
     requires parts { HasTree (Relate relator ∷ reverse parts.old.now) }
     requires blank { IsBlank to.old }
-    ensures taken { OnOk result (Relate relator ∷ reverse parts.old.now ≡ tree_parts (tree_of to.new) (reverse parts.new.now)) }
-    ensures fewer { OnOk result (length (reverse parts.new.now) < length (reverse parts.old.now)) }
+    ensures { OnOk result (Relate relator ∷ reverse parts.old.now ≡ tree_parts (tree_of to.new) (reverse parts.new.now)) }
 {
     put(to, Expr::Relation(Arith::Length, relator, Arith::Length));
     match to {
@@ -216,14 +205,13 @@ fn part<A: Allocator + Clone>(
     parts: &mut &[Item],
 ) -> Result<Box<Expr<A>, A>, OutOfMemory>
     requires { HasTree (reverse parts.old.now) }
-    ensures taken { IfOk result (λ made. reverse parts.old.now ≡ tree_parts (tree_of made.value) (reverse parts.new.now)) }
-    ensures fewer { OnOk result (length (reverse parts.new.now) < length (reverse parts.old.now)) }
+    ensures { IfOk result (λ made. reverse parts.old.now ≡ tree_parts (tree_of made.value) (reverse parts.new.now)) }
 {
     if let Some(primitive) = take_primitive(parts) {
-        return Ok(Box::new(alloc.clone()?, Expr::Primitive(primitive))?);
+        return boxed(alloc, Expr::Primitive(primitive));
     }
     if let Some(relator) = take_relator(parts) {
-        let mut made = place(alloc)?;
+        let mut made = boxed(alloc, Expr::Primitive(Primitive::Ip))?;
         relation(alloc, parts, relator, &mut made)?;
         return Ok(made);
     }
@@ -238,10 +226,9 @@ fn joined<A: Allocator + Clone>(
     parts: &mut &[Item],
 ) -> Result<Box<Expr<A>, A>, OutOfMemory>
     requires { HasTree (reverse parts.old.now) }
-    ensures taken { IfOk result (λ made. reverse parts.old.now ≡ tree_parts (tree_of made.value) (reverse parts.new.now)) }
-    ensures fewer { OnOk result (length (reverse parts.new.now) < length (reverse parts.old.now)) }
+    ensures { IfOk result (λ made. reverse parts.old.now ≡ tree_parts (tree_of made.value) (reverse parts.new.now)) }
 {
-    let mut made = place(alloc)?;
+    let mut made = boxed(alloc, Expr::Primitive(Primitive::Ip))?;
     build(alloc, parts, &mut made)?;
     Ok(made)
 }
@@ -256,8 +243,7 @@ pub(crate) fn build<A: Allocator + Clone>(
 ) -> Result<(), OutOfMemory>
     requires parts { HasTree (reverse parts.old.now) }
     requires blank { IsBlank to.old }
-    ensures taken { OnOk result (reverse parts.old.now ≡ tree_parts (tree_of to.new) (reverse parts.new.now)) }
-    ensures fewer { OnOk result (length (reverse parts.new.now) < length (reverse parts.old.now)) }
+    ensures { OnOk result (reverse parts.old.now ≡ tree_parts (tree_of to.new) (reverse parts.new.now)) }
 {
     match take_last(parts) {
         Some(Item::Primitive(primitive)) => {

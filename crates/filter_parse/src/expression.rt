@@ -17,10 +17,14 @@ use filter_tree::Transport;
 use std::alloc::Allocator;
 
 impl<'a, A: Allocator> Parser<'a, A> {
-    pub(crate) fn begin(&mut self, lookahead: Token, at: usize) -> Result<(), ParseFault>
-        ensures met { Meets (judged_by (fault_in Expects self.old.brackets lookahead at) at
+    pub(crate) fn begin(
+        &mut self,
+        lookahead: Token,
+        at: usize,
+        brackets: usize,
+    ) -> Result<(), ParseFault>
+        ensures { Meets (judged_by (fault_in Expects brackets lookahead at) at
             (begins lookahead (from_top self.old.stack) self.old.output.entries.items)) result (parsing_of self.new) }
-        ensures brackets { self.new.brackets ≡ self.old.brackets }
     {
         match lookahead {
             Token::Number(n) => self.put_operand(Item::Number(number_to_u32(n, at)?)),
@@ -30,7 +34,7 @@ impl<'a, A: Allocator> Parser<'a, A> {
                 Ok(())
             }
             Token::Open => {
-                one_more_bracket(self.brackets, at)?;
+                one_more_bracket(brackets, at)?;
                 let numeric = is_numeric(&self.stack);
                 self.push(Pending::Bracket(numeric))
             }
@@ -40,9 +44,8 @@ impl<'a, A: Allocator> Parser<'a, A> {
     }
 
     fn begin_truth(&mut self, lookahead: Token, at: usize) -> Result<(), ParseFault>
-        ensures met { Meets (judged_by None at
+        ensures { Meets (judged_by None at
             (begins_truth lookahead (from_top self.old.stack) self.old.output.entries.items)) result (parsing_of self.new) }
-        ensures brackets { self.new.brackets ≡ self.old.brackets }
     {
         match lookahead {
             Token::Not => self.push(Pending::Negated),
@@ -60,9 +63,8 @@ impl<'a, A: Allocator> Parser<'a, A> {
 
     #[inline(always)]
     pub(crate) fn after_truth(&mut self, lookahead: Token, at: usize) -> Result<(), ParseFault>
-        ensures met { Meets (judged_by None at
+        ensures { Meets (judged_by None at
             (after_truth lookahead (from_top self.old.stack) self.old.output.entries.items)) result (parsing_of self.new) }
-        ensures brackets { self.new.brackets ≡ self.old.brackets }
     {
         match (lookahead, self.stack.top()) {
             (Token::Connects(word), _) => self.push(Pending::Joined(word)),
@@ -79,10 +81,9 @@ impl<'a, A: Allocator> Parser<'a, A> {
     /// Leaves pending what the lookahead began, until its right side is whole.
     #[inline(always)]
     pub(crate) fn push(&mut self, pending: Pending) -> Result<(), ParseFault>
-        ensures pushed { MatchResult result
+        ensures { MatchResult result
             (λ _. parsing_of self.new ≡ parsing Expects (pending ∷ from_top self.old.stack) self.old.output.entries.items)
             (λ fault. fault ≡ OutOfMemory) }
-        ensures brackets { self.new.brackets ≡ self.old.brackets }
     {
         self.stack.push(pending)?;
         self.state = State::Expects;

@@ -74,11 +74,9 @@ fn read_tree<'a, A: Allocator + Clone>(
     to: &mut Expr<A>,
 ) -> Result<(), ParseFault>
     requires start { parsing_of parser.old ≡ parsing Expects [] [] }
-    requires brackets { parser.old.brackets ≡ 0 }
     requires blank { IsBlank to.old }
     ensures parses { OnOk result (HasTree text.now (tree_of to.new)) }
     ensures fault { IfErr result (λ fault. (fault ≡ ParseFault.OutOfMemory) ⊎ HasFault text.now fault) }
-    ensures every_tree { (tree : Tree) → HasTree text.now tree → IfErr result (λ fault. fault ≡ ParseFault.OutOfMemory) }
 {
     parser.read(text)?;
     let mut parts = parser.output.entries();

@@ -38,7 +38,6 @@ pub(crate) fn value_of(base: u64, digits: &[u8]) -> u64
 }
 
 /// The digits that a text begins with: how many there are, and the number that they write, at most `TOO_BIG`.
-#[derive(Clone, Copy)]
 pub(crate) struct Digits {
     pub(crate) len: usize,
     pub(crate) worth: u64,

@@ -7,46 +7,45 @@ ghost use Rattle.filter_parse.specs.body.Parser.{accepted, at_end, parsing, pars
 
 use crate::fault::ParseFault;
 use crate::item::Item;
-use crate::scan::next_token;
+use crate::scan::{Found, next_token};
 use crate::stack::Stack;
 use crate::state::{Pending, State};
+use crate::step::open_after;
 use std::alloc::Allocator;
 
-/// What has been shifted last, what is pending, the output so far, and how many brackets are open.
+/// What has been shifted last, what is pending, and the output so far.
 #[derive(Drop)]
 pub(crate) struct Parser<'a, A: Allocator> {
     pub(crate) state: State,
     pub(crate) stack: Stack<'a, Pending, A>,
     pub(crate) output: Stack<'a, Item, A>,
-    pub(crate) brackets: usize,
 }
 
 impl<'a, A: Allocator> Parser<'a, A> {
     /// A parser before a text.
     pub(crate) fn new(alloc: &'a A) -> Parser<'a, A>
-        ensures start { parsing_of result ≡ parsing Expects [] [] }
-        ensures brackets { result.brackets ≡ 0 }
+        ensures { parsing_of result ≡ parsing Expects [] [] }
     {
         Parser {
             state: State::Expects,
             stack: Stack::new(alloc),
             output: Stack::new(alloc),
-            brackets: 0,
         }
     }
 
     /// Reads a whole text: its output is the parts of the text's expression in postfix order. Else gives the text's fault.
     pub(crate) fn read(&mut self, text: &[u8]) -> Result<(), ParseFault>
-        requires start { parsing_of self.old ≡ parsing Expects [] [] }
-        requires brackets { self.old.brackets ≡ 0 }
+        requires { parsing_of self.old ≡ parsing Expects [] [] }
         ensures { MatchResult result
             (λ _. postfix_of text.now ≡ Ok self.new.output.entries.items)
             (λ fault. (fault ≡ OutOfMemory) ⊎ (postfix_of text.now ≡ Err fault)) }
     {
         let mut at = 0;
-        while let Some(found) = next_token(text, at) {
-            self.step(found.token, found.place)?;
-            at = found.end;
+        let mut brackets = 0;
+        while let Some(Found { token, place, end }) = next_token(text, at) {
+            self.step(token, place, brackets)?;
+            brackets = open_after(token, brackets);
+            at = end;
         }
         self.finish(text.len())
     }

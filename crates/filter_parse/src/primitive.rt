@@ -4,7 +4,7 @@ ghost use Rattle.std.specs.Prelude.{◌≡◌, ◌++◌, ◌∷◌, MatchResult,
 ghost use Rattle.filter_parse.specs.declared.fault.ParseFault.TheVariants.{OutOfMemory};
 ghost use Rattle.filter_parse.specs.declared.item.Item.TheVariants.{Primitive as PutPrimitive};
 ghost use Rattle.filter_parse.specs.declared.token.Token.TheVariants.{Number};
-ghost use Rattle.filter_parse.specs.body.Parser.{Meets, fault_in, in_primitive, judged_by, parsing_of, reduced_connectives};
+ghost use Rattle.filter_parse.specs.body.Parser.{Meets, in_primitive, judged_by, limit_fault, parsing_of, reduced_connectives};
 ghost use Rattle.filter_parse.specs.body.Stack.{from_top};
 
 use crate::fault::ParseFault;
@@ -17,9 +17,8 @@ use std::alloc::Allocator;
 
 impl<'a, A: Allocator> Parser<'a, A> {
     pub(crate) fn in_primitive(&mut self, lookahead: Token, at: usize) -> Result<(), ParseFault>
-        ensures met { Meets (judged_by (fault_in self.old.state self.old.brackets lookahead at) at
+        ensures { Meets (judged_by (limit_fault self.old.state lookahead at) at
             (in_primitive self.old.state lookahead (from_top self.old.stack) self.old.output.entries.items)) result (parsing_of self.new) }
-        ensures brackets { self.new.brackets ≡ self.old.brackets }
     {
         match (self.state, lookahead) {
             (State::Directed(transport, Direction::Source), _) => {
@@ -51,9 +50,8 @@ impl<'a, A: Allocator> Parser<'a, A> {
     }
 
     fn number_in_primitive(&mut self, n: u64, at: usize) -> Result<(), ParseFault>
-        ensures met { Meets (judged_by (fault_in self.old.state self.old.brackets (Number n) at) at
+        ensures { Meets (judged_by (limit_fault self.old.state (Number n) at) at
             (in_primitive self.old.state (Number n) (from_top self.old.stack) self.old.output.entries.items)) result (parsing_of self.new) }
-        ensures brackets { self.new.brackets ≡ self.old.brackets }
     {
         let primitive = match self.state {
             State::WantsProtocol => Primitive::Proto(number_to_u8(n, at)?),
@@ -80,10 +78,9 @@ impl<'a, A: Allocator> Parser<'a, A> {
     }
 
     pub(crate) fn put_primitive(&mut self, primitive: Primitive) -> Result<(), ParseFault>
-        ensures put { MatchResult result
+        ensures { MatchResult result
             (λ _. parsing_of self.new ≡ reduced_connectives (from_top self.old.stack) (self.old.output.entries.items ++ PutPrimitive primitive ∷ []))
             (λ fault. fault ≡ OutOfMemory) }
-        ensures brackets { self.new.brackets ≡ self.old.brackets }
     {
         self.reduce_primitive(primitive)?;
         Ok(())

@@ -20,14 +20,14 @@ impl<'a, A: Allocator> Parser<'a, A> {
         protocol: Protocol,
         lookahead: Token,
         at: usize,
+        brackets: usize,
     ) -> Result<(), ParseFault>
-        ensures met { Meets (judged_by (fault_in (Named protocol) self.old.brackets lookahead at) at
+        ensures { Meets (judged_by (fault_in (Named protocol) brackets lookahead at) at
             (after_name protocol lookahead (from_top self.old.stack) self.old.output.entries.items)) result (parsing_of self.new) }
-        ensures brackets { self.new.brackets ≡ self.old.brackets }
     {
         match lookahead {
             Token::OpenIndex => {
-                one_more_bracket(self.brackets, at)?;
+                one_more_bracket(brackets, at)?;
                 self.push(Pending::Index(protocol))
             }
             _ if is_numeric(&self.stack) => Err(ParseFault::Syntax { at }),
@@ -41,9 +41,8 @@ impl<'a, A: Allocator> Parser<'a, A> {
         lookahead: Token,
         at: usize,
     ) -> Result<(), ParseFault>
-        ensures met { Meets (judged_by None at
+        ensures { Meets (judged_by None at
             (after_protocol protocol lookahead (from_top self.old.stack) self.old.output.entries.items)) result (parsing_of self.new) }
-        ensures brackets { self.new.brackets ≡ self.old.brackets }
     {
         match (protocol, lookahead) {
             (Protocol::Ip, Token::Proto) => {
@@ -62,9 +61,8 @@ impl<'a, A: Allocator> Parser<'a, A> {
         lookahead: Token,
         at: usize,
     ) -> Result<(), ParseFault>
-        ensures met { Meets (judged_by None at
+        ensures { Meets (judged_by None at
             (begins_direction transport lookahead (from_top self.old.stack) self.old.output.entries.items)) result (parsing_of self.new) }
-        ensures brackets { self.new.brackets ≡ self.old.brackets }
     {
         match lookahead {
             Token::Source => self.state = State::Directed(transport, Direction::Source),
@@ -80,9 +78,8 @@ impl<'a, A: Allocator> Parser<'a, A> {
         lookahead: Token,
         at: usize,
     ) -> Result<(), ParseFault>
-        ensures met { Meets (judged_by None at
+        ensures { Meets (judged_by None at
             (after_source transport lookahead (from_top self.old.stack) self.old.output.entries.items)) result (parsing_of self.new) }
-        ensures brackets { self.new.brackets ≡ self.old.brackets }
     {
         let direction = match lookahead {
             Token::Connects(Connective::Or) => Direction::Either,
@@ -100,9 +97,8 @@ impl<'a, A: Allocator> Parser<'a, A> {
         direction: Direction,
         at: usize,
     ) -> Result<(), ParseFault>
-        ensures met { Meets (judged_by None at
+        ensures { Meets (judged_by None at
             (in_direction lookahead transport direction (from_top self.old.stack) self.old.output.entries.items)) result (parsing_of self.new) }
-        ensures brackets { self.new.brackets ≡ self.old.brackets }
     {
         self.state = match (lookahead, transport) {
             (Token::Host, Transport::Unnamed) => State::WantsAddress(direction),

@@ -20,8 +20,7 @@ impl<'a, A: Allocator> Parser<'a, A> {
     /// Reduces what the lookahead leaves whole.
     #[inline(always)]
     pub(crate) fn reduce(&mut self, lookahead: Option<Token>) -> Result<(), OutOfMemory>
-        ensures reduced { OnOk result (parsing_of self.new ≡ reduced lookahead (parsing_of self.old)) }
-        ensures brackets { self.new.brackets ≡ self.old.brackets }
+        ensures { OnOk result (parsing_of self.new ≡ reduced lookahead (parsing_of self.old)) }
     {
         match self.state {
             State::Number => self.reduce_number(lookahead),
@@ -35,7 +34,6 @@ impl<'a, A: Allocator> Parser<'a, A> {
         requires { self.old.state ≡ Number }
         ensures reduced { OnOk result (parsing_of self.new ≡ reduced lookahead (parsing_of self.old)) }
         ensures state { OnOk result ((self.new.state ≡ Number) ⊎ (self.new.state ≡ Truth)) }
-        ensures brackets { self.new.brackets ≡ self.old.brackets }
     {
         reduce_operators(
             &mut self.stack,
@@ -62,7 +60,6 @@ impl<'a, A: Allocator> Parser<'a, A> {
         requires { self.old.state ≡ Named protocol }
         ensures reduced { OnOk result (parsing_of self.new ≡ reduced lookahead (parsing_of self.old)) }
         ensures state { OnOk result ((self.new.state ≡ Named protocol) ⊎ (self.new.state ≡ Truth)) }
-        ensures brackets { self.new.brackets ≡ self.old.brackets }
     {
         if ends(lookahead) && !is_numeric(&self.stack) {
             self.reduce_primitive(named(protocol))?;
@@ -76,7 +73,6 @@ impl<'a, A: Allocator> Parser<'a, A> {
         ensures state { OnOk result (self.new.state ≡ Truth) }
         ensures put { OnOk result (parsing_of self.new
             ≡ reduced_connectives (from_top self.old.stack) (self.old.output.entries.items ++ PutPrimitive primitive ∷ [])) }
-        ensures brackets { self.new.brackets ≡ self.old.brackets }
     {
         self.output.push(Item::Primitive(primitive))?;
         reduce_connectives(&mut self.stack, &mut self.output)?;

@@ -11,7 +11,6 @@ use crate::sign::{pair_sign, sign, word_token};
 use crate::token::{Lexeme, Token};
 
 /// A token, the place of its first byte, and the place behind its last.
-#[derive(Clone, Copy)]
 pub(crate) struct Found {
     pub(crate) token: Token,
     pub(crate) place: usize,
@@ -77,9 +76,7 @@ fn ends_number(rest: &[u8]) -> bool
 }
 
 fn number_lexeme(text: &[u8]) -> Lexeme
-    ensures exact { result ≡ number_lexeme text.now }
-    ensures len { result.len ≡ prefix_len is_number_part text.now }
-    ensures within { result.len ≤ length text.now }
+    ensures { result ≡ number_lexeme text.now }
 {
     let Digits { len, worth } = leading_digits(text);
     if is_plain(&text[..len]) && ends_number(&text[len..]) {
@@ -104,9 +101,7 @@ fn begins_hexadecimal(text: &[u8]) -> bool
 // A hexadecimal number, or what no digits alone tell.
 #[inline(never)]
 fn rare_number_lexeme(text: &[u8]) -> Lexeme
-    ensures exact { result ≡ number_lexeme text.now }
-    ensures len { result.len ≡ prefix_len is_number_part text.now }
-    ensures within { result.len ≤ length text.now }
+    ensures { result ≡ number_lexeme text.now }
 {
     if begins_hexadecimal(text) {
         let rest = &text[2..];
@@ -123,9 +118,7 @@ fn rare_number_lexeme(text: &[u8]) -> Lexeme
 
 // An address, or a number that is misspelt.
 fn other_number_lexeme(text: &[u8]) -> Lexeme
-    ensures exact { result ≡ number_lexeme text.now }
-    ensures len { result.len ≡ prefix_len is_number_part text.now }
-    ensures within { result.len ≤ length text.now }
+    ensures { result ≡ number_lexeme text.now }
 {
     let len = number_len(text);
     Lexeme {
@@ -135,9 +128,7 @@ fn other_number_lexeme(text: &[u8]) -> Lexeme
 }
 
 fn sign_lexeme(c: u8, rest: &[u8]) -> Lexeme
-    ensures exact { result ≡ sign_lexeme c rest.now }
-    ensures some { 1 ≤ result.len }
-    ensures within { result.len ≤ length rest.now + 1 }
+    ensures { result ≡ sign_lexeme c rest.now }
 {
     if let Some(d) = rest.first()
         && let Some(token) = pair_sign(c, *d)
@@ -152,9 +143,7 @@ fn sign_lexeme(c: u8, rest: &[u8]) -> Lexeme
 
 fn lexeme(text: &[u8], c: u8, rest: &[u8]) -> Lexeme
     requires { text.now ≡ c ∷ rest.now }
-    ensures exact { result ≡ lexeme c rest.now }
-    ensures some { 1 ≤ result.len }
-    ensures within { result.len ≤ length text.now }
+    ensures { result ≡ lexeme c rest.now }
 {
     if begins_word(c) {
         let len = word_len(text);
@@ -183,12 +172,9 @@ pub(crate) fn next_token(text: &[u8], at: usize) -> Option<Found>
     let mut place = at;
     while let [c, rest @ ..] = &text[place..] {
         if !is_blank(*c) {
-            let lexeme = lexeme(&text[place..], *c, rest);
-            return Some(Found {
-                token: lexeme.token,
-                place,
-                end: place + lexeme.len,
-            });
+            let Lexeme { token, len } = lexeme(&text[place..], *c, rest);
+            let end = place + len;
+            return Some(Found { token, place, end });
         }
         place += 1;
     }

@@ -71,7 +71,6 @@ pub(crate) enum Token {
 }
 
 /// A token and its number of bytes.
-#[derive(Clone, Copy)]
 pub(crate) struct Lexeme {
     pub(crate) token: Token,
     pub(crate) len: usize,

@@ -222,13 +222,17 @@ abbrev pub network_in : State → Option ℕ
 network_in (WantsBits direction a) = Some a
 network_in _ = None
 
+-- the fault of a number or an address by what it says
+abbrev pub limit_fault : State → Token → ℕ → Option ParseFault
+limit_fault state (Number n) at = if nat_le n (limit_in state) then prefix_fault (network_in state) n at else Some (NumberTooBig at)
+limit_fault state (Address a) at = if nat_le a 4294967295 then None else Some (BadAddress at)
+limit_fault state _ at = None
+
 -- the fault of a token by what it says, where so many brackets are open
 abbrev pub fault_in : State → ℕ → Token → ℕ → Option ParseFault
-fault_in state count (Number n) at = if nat_le n (limit_in state) then prefix_fault (network_in state) n at else Some (NumberTooBig at)
-fault_in state count (Address a) at = if nat_le a 4294967295 then None else Some (BadAddress at)
 fault_in state count Open at = bracket_fault count at
 fault_in state count OpenIndex at = bracket_fault count at
-fault_in state count _ at = None
+fault_in state count token at = limit_fault state token at
 
 -- what has been shifted last
 abbrev pub state_of : Parsing → State

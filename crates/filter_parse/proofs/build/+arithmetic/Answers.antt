@@ -1,6 +1,6 @@
 use Rattle.std.proofs.Common.{◌*◌, ◌+◌, ◌<◌, ◌∙◌, Some, ap, arith, length, reverse, sym}
 use Rattle.std.proofs.lemmas.Grind.{common_steps}
-use Rattle.filter_parse.proofs.TakenLemmas.{arithmetic-top, fewer-below, has-index, has-left, has-right}
+use Rattle.filter_parse.proofs.TakenLemmas.{arithmetic-top, fewer-arith, fewer-below, has-index, has-left, has-right}
 use Rattle.filter_parse.proofs.build.+arithmetic.Goals as goal
 
 pub arithmetic-operand-requires : goal.arithmetic-operand-requires
@@ -25,8 +25,8 @@ arithmetic-operand-requires-in-Some-Operate-2 g t c κs within =
     let top = ap Some (sym c.in-Some-Operate.field-0-is) ∙ sym c.in-Some-Operate.is ∙ c.take_last.ensures.top in
     let below = fewer-below s (reverse c.take_last.new.parts.now) _ top c.take_last.ensures.below in
     let right = c.in_ok-right-in-Some-Operate.ensures in
-    let fewer : 2 * length (reverse c.operand-in-Some-Operate.new.parts.now) + 1 < t = omega (arith, below, right.fewer, c.decreases) in
-    (fewer, (within, (has-left _ s _ _ c.requires.parts top (sym c.take_last.ensures.below ∙ right.taken))))
+    let fewer : 2 * length (reverse c.operand-in-Some-Operate.new.parts.now) + 1 < t = omega (arith, below, fewer-arith _ _ _ right, c.decreases) in
+    (fewer, (within, (has-left _ s _ _ c.requires.parts top (sym c.take_last.ensures.below ∙ right))))
 
 pub arithmetic-unreachable-requires : goal.arithmetic-unreachable-requires
 arithmetic-unreachable-requires g t c = arithmetic-top (reverse c.args.parts.now.now) _ c.requires.parts (ap Some (sym c.in-Some-Primitive.field-0-is) ∙ sym c.in-Some-Primitive.is ∙ c.take_last.ensures.top)
@@ -46,38 +46,20 @@ arithmetic-unreachable-requires-in-Some-Disjoin g t c = arithmetic-top (reverse 
 pub arithmetic-unreachable-requires-in-None : goal.arithmetic-unreachable-requires-in-None
 arithmetic-unreachable-requires-in-None g t c = arithmetic-top (reverse c.args.parts.now.now) _ c.requires.parts (sym c.in-None.is ∙ c.take_last.ensures.top)
 
-pub arithmetic-returns-in-Some-Number-clause-taken : goal.arithmetic-returns-in-Some-Number-clause-taken
-arithmetic-returns-in-Some-Number-clause-taken g t c = grind (arith, common_steps)
+pub arithmetic-returns-in-Some-Number : goal.arithmetic-returns-in-Some-Number
+arithmetic-returns-in-Some-Number g t c = grind (arith, common_steps)
 
-pub arithmetic-returns-in-Some-Number-clause-fewer : goal.arithmetic-returns-in-Some-Number-clause-fewer
-arithmetic-returns-in-Some-Number-clause-fewer g t c = grind (arith, common_steps)
+pub arithmetic-returns-in-Some-Length : goal.arithmetic-returns-in-Some-Length
+arithmetic-returns-in-Some-Length g t c = grind (arith, common_steps)
 
-pub arithmetic-returns-in-Some-Length-clause-taken : goal.arithmetic-returns-in-Some-Length-clause-taken
-arithmetic-returns-in-Some-Length-clause-taken g t c = grind (arith, common_steps)
+pub arithmetic-returns-in_ok-index-in-Some-Access : goal.arithmetic-returns-in_ok-index-in-Some-Access
+arithmetic-returns-in_ok-index-in-Some-Access g t c = grind (arith, common_steps)
 
-pub arithmetic-returns-in-Some-Length-clause-fewer : goal.arithmetic-returns-in-Some-Length-clause-fewer
-arithmetic-returns-in-Some-Length-clause-fewer g t c = grind (arith, common_steps)
+pub arithmetic-returns-in_ok-left-in-Some-Operate : goal.arithmetic-returns-in_ok-left-in-Some-Operate
+arithmetic-returns-in_ok-left-in-Some-Operate g t c = grind (arith, common_steps)
 
-pub arithmetic-returns-in_ok-index-in-Some-Access-clause-taken : goal.arithmetic-returns-in_ok-index-in-Some-Access-clause-taken
-arithmetic-returns-in_ok-index-in-Some-Access-clause-taken g t c = grind (arith, common_steps)
+pub operand-returns-in-Some : goal.operand-returns-in-Some
+operand-returns-in-Some g t c = grind (arith, common_steps)
 
-pub arithmetic-returns-in_ok-index-in-Some-Access-clause-fewer : goal.arithmetic-returns-in_ok-index-in-Some-Access-clause-fewer
-arithmetic-returns-in_ok-index-in-Some-Access-clause-fewer g t c = grind (arith, common_steps)
-
-pub arithmetic-returns-in_ok-left-in-Some-Operate-clause-taken : goal.arithmetic-returns-in_ok-left-in-Some-Operate-clause-taken
-arithmetic-returns-in_ok-left-in-Some-Operate-clause-taken g t c = grind (arith, common_steps)
-
-pub arithmetic-returns-in_ok-left-in-Some-Operate-clause-fewer : goal.arithmetic-returns-in_ok-left-in-Some-Operate-clause-fewer
-arithmetic-returns-in_ok-left-in-Some-Operate-clause-fewer g t c = grind (arith, common_steps)
-
-pub operand-returns-in-Some-clause-taken : goal.operand-returns-in-Some-clause-taken
-operand-returns-in-Some-clause-taken g t c = grind (arith, common_steps)
-
-pub operand-returns-in-Some-clause-fewer : goal.operand-returns-in-Some-clause-fewer
-operand-returns-in-Some-clause-fewer g t c = grind (arith, common_steps)
-
-pub operand-returns-clause-taken : goal.operand-returns-clause-taken
-operand-returns-clause-taken g t c = grind (arith, common_steps)
-
-pub operand-returns-clause-fewer : goal.operand-returns-clause-fewer
-operand-returns-clause-fewer g t c = grind (arith, common_steps)
+pub operand-returns : goal.operand-returns
+operand-returns g t c = grind (arith, common_steps)

@@ -2,7 +2,7 @@ use Rattle.std.proofs.Common.{◌*◌, ◌+◌, ◌<◌, ◌∙◌, ◌∷◌, S
 use Rattle.std.proofs.lemmas.Grind.{common_steps}
 use Rattle.filter_parse.specs.declared.item.Item.TheVariants.{Relate}
 use Rattle.filter_parse.specs.body.Postfix.{HasTree}
-use Rattle.filter_parse.proofs.TakenLemmas.{fewer-below, has-conjoined, has-conjoined-left, has-disjoined, has-disjoined-left, has-negated, split, truth-top}
+use Rattle.filter_parse.proofs.TakenLemmas.{fewer-below, fewer-tree, has-conjoined, has-conjoined-left, has-disjoined, has-disjoined-left, has-negated, split, truth-top}
 use Rattle.filter_parse.proofs.build.+build.Goals as goal
 
 pub build-relation-requires-clause-parts : goal.build-relation-requires-clause-parts
@@ -33,8 +33,8 @@ build-part-requires-in-Some-Conjoin-2 g t c κs within =
     let top = ap Some (sym c.in-Some-Conjoin.field-0-is) ∙ sym c.in-Some-Conjoin.is ∙ c.take_last.ensures.top in
     let below = fewer-below s (reverse c.take_last.new.parts.now) _ top c.take_last.ensures.below in
     let right = c.in_ok-right-in-Some-Conjoin.ensures in
-    let fewer : 3 * length (reverse c.part-in-Some-Conjoin.new.parts.now) + 2 < t = omega (arith, below, right.fewer, c.decreases) in
-    (fewer, (within, (has-conjoined-left _ s _ c.requires.parts top (sym c.take_last.ensures.below ∙ right.taken))))
+    let fewer : 3 * length (reverse c.part-in-Some-Conjoin.new.parts.now) + 2 < t = omega (arith, below, fewer-tree _ _ _ right, c.decreases) in
+    (fewer, (within, (has-conjoined-left _ s _ c.requires.parts top (sym c.take_last.ensures.below ∙ right))))
 
 pub build-part-requires-in-Some-Disjoin : goal.build-part-requires-in-Some-Disjoin
 build-part-requires-in-Some-Disjoin g t c κs within =
@@ -50,8 +50,8 @@ build-part-requires-in-Some-Disjoin-2 g t c κs within =
     let top = ap Some (sym c.in-Some-Disjoin.field-0-is) ∙ sym c.in-Some-Disjoin.is ∙ c.take_last.ensures.top in
     let below = fewer-below s (reverse c.take_last.new.parts.now) _ top c.take_last.ensures.below in
     let right = c.in_ok-right-in-Some-Disjoin.ensures in
-    let fewer : 3 * length (reverse c.part-in-Some-Disjoin.new.parts.now) + 2 < t = omega (arith, below, right.fewer, c.decreases) in
-    (fewer, (within, (has-disjoined-left _ s _ c.requires.parts top (sym c.take_last.ensures.below ∙ right.taken))))
+    let fewer : 3 * length (reverse c.part-in-Some-Disjoin.new.parts.now) + 2 < t = omega (arith, below, fewer-tree _ _ _ right, c.decreases) in
+    (fewer, (within, (has-disjoined-left _ s _ c.requires.parts top (sym c.take_last.ensures.below ∙ right))))
 
 pub build-unreachable-requires : goal.build-unreachable-requires
 build-unreachable-requires g t c = truth-top (reverse c.args.parts.now.now) _ c.requires.parts (ap Some (sym c.in-Some-Number.field-0-is) ∙ sym c.in-Some-Number.is ∙ c.take_last.ensures.top)
@@ -68,56 +68,29 @@ build-unreachable-requires-in-Some-Operate g t c = truth-top (reverse c.args.par
 pub build-unreachable-requires-in-None : goal.build-unreachable-requires-in-None
 build-unreachable-requires-in-None g t c = truth-top (reverse c.args.parts.now.now) _ c.requires.parts (sym c.in-None.is ∙ c.take_last.ensures.top)
 
-pub build-returns-in-Some-Primitive-clause-taken : goal.build-returns-in-Some-Primitive-clause-taken
-build-returns-in-Some-Primitive-clause-taken g t c = grind (arith, common_steps)
+pub build-returns-in-Some-Primitive : goal.build-returns-in-Some-Primitive
+build-returns-in-Some-Primitive g t c = grind (arith, common_steps)
 
-pub build-returns-in-Some-Primitive-clause-fewer : goal.build-returns-in-Some-Primitive-clause-fewer
-build-returns-in-Some-Primitive-clause-fewer g t c = grind (arith, common_steps)
+pub build-returns-in-Some-Relate : goal.build-returns-in-Some-Relate
+build-returns-in-Some-Relate g t c = grind (arith, common_steps)
 
-pub build-returns-in-Some-Relate-clause-taken : goal.build-returns-in-Some-Relate-clause-taken
-build-returns-in-Some-Relate-clause-taken g t c = grind (arith, common_steps)
+pub build-returns-in_ok-part-in-Some-Negate : goal.build-returns-in_ok-part-in-Some-Negate
+build-returns-in_ok-part-in-Some-Negate g t c = grind (arith, common_steps)
 
-pub build-returns-in-Some-Relate-clause-fewer : goal.build-returns-in-Some-Relate-clause-fewer
-build-returns-in-Some-Relate-clause-fewer g t c = grind (arith, common_steps)
+pub build-returns-in_ok-part-in-Some-Conjoin : goal.build-returns-in_ok-part-in-Some-Conjoin
+build-returns-in_ok-part-in-Some-Conjoin g t c = grind (arith, common_steps)
 
-pub build-returns-in_ok-part-in-Some-Negate-clause-taken : goal.build-returns-in_ok-part-in-Some-Negate-clause-taken
-build-returns-in_ok-part-in-Some-Negate-clause-taken g t c = grind (arith, common_steps)
+pub build-returns-in_ok-part-in-Some-Disjoin : goal.build-returns-in_ok-part-in-Some-Disjoin
+build-returns-in_ok-part-in-Some-Disjoin g t c = grind (arith, common_steps)
 
-pub build-returns-in_ok-part-in-Some-Negate-clause-fewer : goal.build-returns-in_ok-part-in-Some-Negate-clause-fewer
-build-returns-in_ok-part-in-Some-Negate-clause-fewer g t c = grind (arith, common_steps)
+pub joined-returns : goal.joined-returns
+joined-returns g t c = grind (arith, common_steps)
 
-pub build-returns-in_ok-part-in-Some-Conjoin-clause-taken : goal.build-returns-in_ok-part-in-Some-Conjoin-clause-taken
-build-returns-in_ok-part-in-Some-Conjoin-clause-taken g t c = grind (arith, common_steps)
+pub part-returns-in-Some : goal.part-returns-in-Some
+part-returns-in-Some g t c = grind (arith, common_steps)
 
-pub build-returns-in_ok-part-in-Some-Conjoin-clause-fewer : goal.build-returns-in_ok-part-in-Some-Conjoin-clause-fewer
-build-returns-in_ok-part-in-Some-Conjoin-clause-fewer g t c = grind (arith, common_steps)
+pub part-returns-in-Some-take_relator : goal.part-returns-in-Some-take_relator
+part-returns-in-Some-take_relator g t c = grind (arith, common_steps)
 
-pub build-returns-in_ok-part-in-Some-Disjoin-clause-taken : goal.build-returns-in_ok-part-in-Some-Disjoin-clause-taken
-build-returns-in_ok-part-in-Some-Disjoin-clause-taken g t c = grind (arith, common_steps)
-
-pub build-returns-in_ok-part-in-Some-Disjoin-clause-fewer : goal.build-returns-in_ok-part-in-Some-Disjoin-clause-fewer
-build-returns-in_ok-part-in-Some-Disjoin-clause-fewer g t c = grind (arith, common_steps)
-
-pub joined-returns-clause-taken : goal.joined-returns-clause-taken
-joined-returns-clause-taken g t c = grind (arith, common_steps)
-
-pub joined-returns-clause-fewer : goal.joined-returns-clause-fewer
-joined-returns-clause-fewer g t c = grind (arith, common_steps)
-
-pub part-returns-in-Some-clause-taken : goal.part-returns-in-Some-clause-taken
-part-returns-in-Some-clause-taken g t c = grind (arith, common_steps)
-
-pub part-returns-in-Some-clause-fewer : goal.part-returns-in-Some-clause-fewer
-part-returns-in-Some-clause-fewer g t c = grind (arith, common_steps)
-
-pub part-returns-in-Some-take_relator-clause-taken : goal.part-returns-in-Some-take_relator-clause-taken
-part-returns-in-Some-take_relator-clause-taken g t c = grind (arith, common_steps)
-
-pub part-returns-in-Some-take_relator-clause-fewer : goal.part-returns-in-Some-take_relator-clause-fewer
-part-returns-in-Some-take_relator-clause-fewer g t c = grind (arith, common_steps)
-
-pub part-returns-clause-taken : goal.part-returns-clause-taken
-part-returns-clause-taken g t c = grind (arith, common_steps)
-
-pub part-returns-clause-fewer : goal.part-returns-clause-fewer
-part-returns-clause-fewer g t c = grind (arith, common_steps)
+pub part-returns : goal.part-returns
+part-returns g t c = grind (arith, common_steps)

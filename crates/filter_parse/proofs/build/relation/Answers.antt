@@ -7,4 +7,4 @@ pub side-requires-clause-parts : goal.side-requires-clause-parts
 side-requires-clause-parts g c = has-relation-right (Relate c.args.relator ∷ reverse c.args.parts.now.now) c.args.relator c.requires.parts refl
 
 pub side-requires-in-Relation-clause-parts : goal.side-requires-in-Relation-clause-parts
-side-requires-in-Relation-clause-parts g c = has-relation-left _ (Relate c.args.relator ∷ reverse c.args.parts.now.now) _ c.args.relator c.requires.parts refl c.in_ok-side-in-Relation.ensures.taken
+side-requires-in-Relation-clause-parts g c = has-relation-left _ (Relate c.args.relator ∷ reverse c.args.parts.now.now) _ c.args.relator c.requires.parts refl c.in_ok-side-in-Relation.ensures

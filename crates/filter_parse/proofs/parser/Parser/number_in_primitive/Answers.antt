@@ -1,5 +1,5 @@
 use Rattle.std.proofs.Common.{rules}
 use Rattle.filter_parse.proofs.parser.Parser.number_in_primitive.Goals as goal
 
-pub returns-clause-met : goal.returns-clause-met
-returns-clause-met g c = search rules
+pub returns : goal.returns
+returns g c = search rules

@@ -7,5 +7,5 @@ returns g c = search rules
 pub returns-in_err-step : goal.returns-in_err-step
 returns-in_err-step g c = search rules
 
-pub loop-found-preserved : goal.loop-found-preserved
-loop-found-preserved g c = search rules
+pub loop-token-preserved : goal.loop-token-preserved
+loop-token-preserved g c = search rules
