@@ -9,6 +9,7 @@ use Rattle.bpf_asm.specs.body.Reading.{line_at}
 use Rattle.bpf_asm.specs.Statement.{Line, Statement}
 use Rattle.bpf_asm.specs.Target.{IsCode, count_of, first_of, statement_fault, statements_of, targets_fault, with_statement}
 use Rattle.bpf_asm.specs.body.View.{AddsWord, line_of, lines_left}
+use Rattle.bpf_asm.proofs.TargetLemmas.{no_statement_fault}
 
 -- the lines that are left of a text
 abbrev pub lines_at : Option (Bor (List ℕ)) → List Line
@@ -40,15 +41,19 @@ module _ (places : List ℕ → Option ℕ) where
   code_more (Some statement) words after rest statements whole (insn, is, added) code left =
       rw (added, append_assoc) (code (word_of insn ∷ rest) (insn, rest, refl, is, rw (added, length_push words (word_of insn)) at left))
 
+  no_added_fault : (statement : Option Statement) (n : ℕ) (words after : List ℕ) → AddsWord places words statement after → statement_fault places (length words) n statement ≡ None
+  no_added_fault None n words after added = refl
+  no_added_fault (Some statement) n words after (insn, is, added) = no_statement_fault places (length words) n statement insn is
+
   pub emits_none : (whole : List Line) → Emits places whole whole 1 []
   emits_none whole = record { code = λ rest code. code; fault = refl }
 
-  pub emits_more : (whole left : List Line) (line : Line) (n : ℕ) (words after : List ℕ) → Emits places whole (line ∷ left) n words → AddsWord places words line.statement after → statement_fault places (length words) n line.statement ≡ None → Emits places whole left (n + 1) after
-  emits_more whole left line n words after emits added faultless = record {
+  pub emits_more : (whole left : List Line) (line : Line) (n : ℕ) (words after : List ℕ) → Emits places whole (line ∷ left) n words → AddsWord places words line.statement after → Emits places whole left (n + 1) after
+  emits_more whole left line n words after emits added = record {
     code = λ rest code. code_more line.statement words after rest (statements_of left) (statements_of whole) added emits.code code;
     fault =
         ap (λ pc. targets_fault places pc (n + 1) left) (length-added line.statement words after added)
-        ∙ sym (ap (λ fault. first_of fault (targets_fault places (length words + count_of line.statement) (n + 1) left)) faultless)
+        ∙ sym (ap (λ fault. first_of fault (targets_fault places (length words + count_of line.statement) (n + 1) left)) (no_added_fault line.statement n words after added))
         ∙ emits.fault;
   }
 

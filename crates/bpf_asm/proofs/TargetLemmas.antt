@@ -35,14 +35,14 @@ module _ (places : List ℕ → Option ℕ) where
 
   -- ---- no fault where there is a value
 
-  no_target_fault : (pc most n offset : ℕ) (target : Target) → IsOffset places pc target offset → offset ≤ most → target_fault places pc most n target ≡ None
+  pub no_target_fault : (pc most n offset : ℕ) (target : Target) → IsOffset places pc target offset → offset ≤ most → target_fault places pc most n target ≡ None
   no_target_fault pc most n offset (skips k) is small = cond-true (nat_le k most) None (Some (TooFar n)) (le-leb k most (omega arith))
   no_target_fault pc most n offset (goes_to name) is small =
       ap (place_fault pc most n) is
       ∙ cond-false (nat_le (pc + 1 + offset) pc) (Some (BackwardJump n)) _ (lt-leb (pc + 1 + offset) pc (omega arith))
       ∙ cond-true (nat_le (pc + 1 + offset - (pc + 1)) most) None (Some (TooFar n)) (le-leb (pc + 1 + offset - (pc + 1)) most (omega arith))
 
-  no_statement_fault : (pc n : ℕ) (statement : Statement) (insn : Insn) → IsInsnOf places pc statement insn → statement_fault places pc n (Some statement) ≡ None
+  pub no_statement_fault : (pc n : ℕ) (statement : Statement) (insn : Insn) → IsInsnOf places pc statement insn → statement_fault places pc n (Some statement) ≡ None
   no_statement_fault pc n (plain insn) it own = refl
   no_statement_fault pc n (jump target) it (k, is, small, insn) = no_target_fault pc FARTHEST n k target is small
   no_statement_fault pc n (branch test right on_true on_false) it (jt, jf, is, small, other, less, insn) =

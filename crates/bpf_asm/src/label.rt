@@ -1,6 +1,6 @@
 //! Labels, and the places that they stand for (docs/MACHINE.md, "Assembly text").
 
-ghost use Rattle.std.specs.Prelude.{◌≡◌, ◌≤◌, IfErr, IfOk, List, None, OnOk, Some, [], is_none, map, ℕ};
+ghost use Rattle.std.specs.Prelude.{◌≡◌, ◌≤◌, IfErr, IfOk, List, MatchResult, None, OnOk, Some, [], is_none, map, ℕ};
 ghost use Rattle.std.specs.Map.{update};
 ghost use Rattle.std.specs.Option.{option_map};
 ghost use Rattle.std.specs.Str.{bytes_eq};
@@ -32,15 +32,16 @@ impl<'a, A: Allocator> Labels<'a, A> {
 impl<'a, A: Allocator + Clone> Labels<'a, A> {
     // Tells whether the name is new.
     fn define(&mut self, name: &'a [u8], place: usize) -> Result<bool, OutOfMemory>
-        ensures is_new { IfOk result (λ is_new. is_new ≡ is_none (place_among self.old.places name.entry.now)) }
-        ensures defined { OnOk result ((other : List ℕ) → place_among self.new.places other ≡ update bytes_eq (place_among self.old.places) name.entry.now (Some place) other) }
+        ensures { IfOk result (λ is_new. (is_new ≡ is_none (place_among self.old.places name.entry.now))
+            × ((other : List ℕ) → place_among self.new.places other ≡ update bytes_eq (place_among self.old.places) name.entry.now (Some place) other)) }
     {
         Ok(self.places.insert(name, place)?.is_none())
     }
 
     fn define_label(&mut self, line: Line<'a>, place: usize, number: usize) -> Result<(), AsmFault>
-        ensures defined { OnOk result (Defines (place_among self.old.places) (line_of line.entry).label place (place_among self.new.places)) }
-        ensures fault { IfErr result (IsDefinedAgain (place_among self.old.places) (line_of line.entry).label number) }
+        ensures { MatchResult result
+            (λ _. Defines (place_among self.old.places) (line_of line.entry).label place (place_among self.new.places))
+            (IsDefinedAgain (place_among self.old.places) (line_of line.entry).label number) }
     {
         match line.label {
             None => Ok(()),

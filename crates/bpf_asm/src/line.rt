@@ -1,6 +1,6 @@
 //! The lines of a text, and what stands on each (docs/MACHINE.md, "Assembly text").
 
-ghost use Rattle.std.specs.Prelude.{◌≡◌, ◌∷◌, ◌++◌, ◌≤◌, IfErr, IfOk, None, OnOk, Some, is_some, length, map};
+ghost use Rattle.std.specs.Prelude.{◌≡◌, ◌∷◌, ◌++◌, ◌≤◌, MatchResult, None, Some, is_some, length, map};
 ghost use Rattle.std.specs.Option.{option_map};
 ghost use Rattle.bpf_asm.specs.declared.fault.AsmFault.TheVariants.{OutOfMemory};
 ghost use Rattle.bpf_asm.specs.Line.{ends_line, lines_of};
@@ -89,9 +89,10 @@ fn push_line<'a, A: Allocator>(
     lines: &mut Vec<Line<'a>, A>,
     bytes: &'a [u8],
 ) -> Result<bool, AsmFault>
-    ensures in_form { IfOk result (λ in_form. in_form ≡ is_some (read_line bytes.entry.now)) }
-    ensures pushed { OnOk result (map line_of lines.new.items ≡ map line_of lines.old.items ++ one_or_none (read_line bytes.entry.now)) }
-    ensures fault { IfErr result (λ fault. fault ≡ OutOfMemory) }
+    ensures { MatchResult result
+        (λ in_form. (in_form ≡ is_some (read_line bytes.entry.now))
+        × (map line_of lines.new.items ≡ map line_of lines.old.items ++ one_or_none (read_line bytes.entry.now)))
+        (λ fault. fault ≡ OutOfMemory) }
 {
     let Some(heading) = read_heading(bytes) else {
         return Ok(false);
@@ -112,9 +113,9 @@ fn push_line<'a, A: Allocator>(
 
 /// Reads the lines of a text, or tells the first that is in no form.
 pub(crate) fn read_lines<A: Allocator>(alloc: A, text: &[u8]) -> Result<Vec<Line<'_>, A>, AsmFault>
-    ensures lines { IfOk result (λ lines. map line_of lines.items ≡ lines_read text.now) }
-    ensures in_form { OnOk result (forms_fault 1 (lines_of text.now) ≡ None) }
-    ensures fault { IfErr result (λ fault. UnlessMemory fault (forms_fault 1 (lines_of text.now))) }
+    ensures { MatchResult result
+        (λ lines. (map line_of lines.items ≡ lines_read text.now) × (forms_fault 1 (lines_of text.now) ≡ None))
+        (λ fault. UnlessMemory fault (forms_fault 1 (lines_of text.now))) }
 {
     let mut lines = Vec::new(alloc);
     let mut number = 1;

@@ -1,6 +1,6 @@
 //! Where each jump goes, and the words of a text whose labels are known (docs/MACHINE.md, "Assembly text").
 
-ghost use Rattle.std.specs.Prelude.{◌≡◌, ◌+◌, ◌^◌, ◌<◌, ◌≤◌, IfErr, IfOk, None, OnOk, Some, length, map};
+ghost use Rattle.std.specs.Prelude.{◌≡◌, ◌+◌, ◌^◌, ◌<◌, ◌≤◌, IfErr, IfOk, MatchResult, Some, length, map};
 ghost use Rattle.std.specs.Option.{option_map};
 ghost use Rattle.bpf_asm.specs.Target.{IsCode, IsInsnOf, IsOffset, statement_fault, statements_of, target_fault, targets_fault};
 ghost use Rattle.bpf_asm.specs.body.View.{AddsWord, UnlessMemory, distance_to, line_of, place_among, statement_of, target_of};
@@ -45,10 +45,9 @@ fn offset_of<'a, A: Allocator>(
     most: usize,
     target: Target<'a>,
 ) -> Result<usize, AsmFault>
-    ensures offset { IfOk result (IsOffset (place_among labels.now.places) at.pc (target_of target.entry)) }
-    ensures within { IfOk result (λ offset. offset ≤ most) }
-    ensures faultless { OnOk result (target_fault (place_among labels.now.places) at.pc most at.line (target_of target.entry) ≡ None) }
-    ensures fault { IfErr result (λ fault. target_fault (place_among labels.now.places) at.pc most at.line (target_of target.entry) ≡ Some fault) }
+    ensures { MatchResult result
+        (λ offset. IsOffset (place_among labels.now.places) at.pc (target_of target.entry) offset × (offset ≤ most))
+        (λ fault. target_fault (place_among labels.now.places) at.pc most at.line (target_of target.entry) ≡ Some fault) }
 {
     let offset = match target {
         Target::Skips(k) => k as usize,
@@ -68,9 +67,9 @@ fn insn_of<'a, A: Allocator>(
     at: Position,
     statement: Statement<'a>,
 ) -> Result<Insn, AsmFault>
-    ensures insn { IfOk result (IsInsnOf (place_among labels.now.places) at.pc (statement_of statement.entry)) }
-    ensures faultless { OnOk result (statement_fault (place_among labels.now.places) at.pc at.line (Some (statement_of statement.entry)) ≡ None) }
-    ensures fault { IfErr result (λ fault. statement_fault (place_among labels.now.places) at.pc at.line (Some (statement_of statement.entry)) ≡ Some fault) }
+    ensures { MatchResult result
+        (IsInsnOf (place_among labels.now.places) at.pc (statement_of statement.entry))
+        (λ fault. statement_fault (place_among labels.now.places) at.pc at.line (Some (statement_of statement.entry)) ≡ Some fault) }
 {
     match statement {
         Statement::Plain(insn) => Ok(insn),
@@ -101,9 +100,9 @@ fn push_word<'a, A: Allocator, B: Allocator>(
     statement: Option<Statement<'a>>,
     line: usize,
 ) -> Result<(), AsmFault>
-    ensures word { OnOk result (AddsWord (place_among labels.now.places) words.old.items (option_map statement_of statement.entry) words.new.items) }
-    ensures faultless { OnOk result (statement_fault (place_among labels.now.places) (length words.old.items) line (option_map statement_of statement.entry) ≡ None) }
-    ensures fault { IfErr result (λ fault. UnlessMemory fault (statement_fault (place_among labels.now.places) (length words.old.items) line (option_map statement_of statement.entry))) }
+    ensures { MatchResult result
+        (λ _. AddsWord (place_among labels.now.places) words.old.items (option_map statement_of statement.entry) words.new.items)
+        (λ fault. UnlessMemory fault (statement_fault (place_among labels.now.places) (length words.old.items) line (option_map statement_of statement.entry))) }
 {
     let Some(statement) = statement else {
         return Ok(());
@@ -128,7 +127,6 @@ pub(crate) fn words_of<'a, A: Allocator, B: Allocator>(
     lines: &[Line<'a>],
 ) -> Result<Vec<u64, B>, AsmFault>
     ensures code { IfOk result (λ words. IsCode (place_among labels.now.places) 0 (statements_of (map line_of lines.entry.now)) words.items) }
-    ensures faultless { OnOk result (targets_fault (place_among labels.now.places) 0 1 (map line_of lines.entry.now) ≡ None) }
     ensures fault { IfErr result (λ fault. UnlessMemory fault (targets_fault (place_among labels.now.places) 0 1 (map line_of lines.entry.now))) }
 {
     let mut words = Vec::new(alloc);

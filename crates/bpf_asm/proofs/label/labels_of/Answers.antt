@@ -13,7 +13,7 @@ returns-in_err-define_label-clause-fault g c =
     let line = line_of (get_or lines i blank) in
     let tracks = rw (lines_more lines i (omega arith)) at c.loop-line.invariant.0 in
     let p = err_from_is_err_and c.from_residual.result c.from_residual.ensures.1 in
-    rw (p.1, p.2) (tracks_fault (place_among c.loop-line.labels.places) (map line_of lines) (map line_of (drop (i + 1) lines)) line.statement c.loop-line.number c.loop-line.place line.label c.in_err-define_label.field-0.0 tracks c.in_err-define_label.ensures.fault)
+    rw (p.1, p.2) (tracks_fault (place_among c.loop-line.labels.places) (map line_of lines) (map line_of (drop (i + 1) lines)) line.statement c.loop-line.number c.loop-line.place line.label c.in_err-define_label.field-0.0 tracks c.in_err-define_label.ensures)
 
 pub loop-line-preserved : goal.loop-line-preserved
 loop-line-preserved g c =
@@ -21,7 +21,7 @@ loop-line-preserved g c =
     let i = c.loop-line.line-index in
     let line = line_of (get_or lines i blank) in
     let tracks = rw (lines_more lines i (omega arith)) at c.loop-line.invariant.0 in (
-      rw c.count_of-count.ensures.count (tracks_more (place_among c.loop-line.labels.places) (place_among c.define_label.new.self.places) (map line_of lines) (map line_of (drop (i + 1) lines)) line.statement c.loop-line.number c.loop-line.place line.label tracks c.in_ok-define_label.ensures.defined),
+      rw c.count_of-count.ensures.count (tracks_more (place_among c.loop-line.labels.places) (place_among c.define_label.new.self.places) (map line_of lines) (map line_of (drop (i + 1) lines)) line.statement c.loop-line.number c.loop-line.place line.label tracks c.in_ok-define_label.ensures),
       omega (arith, c.loop-line.invariant.1),
       omega (arith, c.loop-line.invariant.2, c.count_of-count.ensures.one),
     )
