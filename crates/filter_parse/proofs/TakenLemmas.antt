@@ -1,5 +1,5 @@
 -- What stands on top of a tree's parts, and what is below it.
-use Rattle.std.proofs.Common.{◌≡◌, ◌<◌, ◌∙◌, ◌∷◌, List, Option, Some, [], ap, arith, length, refl, sym}
+use Rattle.std.proofs.Common.{◌≡◌, ◌<◌, ◌∙◌, ◌∷◌, List, Option, Some, ap, arith, length, subst, sym}
 use Rattle.filter_tree.specs.declared.arithmetic.Operator.{Operator}
 use Rattle.filter_tree.specs.declared.arithmetic.Protocol.{Protocol}
 use Rattle.filter_tree.specs.declared.arithmetic.Size.{Size}
@@ -11,103 +11,86 @@ use Rattle.filter_parse.specs.body.Stack.{below_top, top_of}
 use Rattle.filter_parse.specs.body.Postfix.{HasArithmetic, HasTree, arith_parts, tree_parts}
 use Rattle.filter_parse.proofs.PostfixLemmas.{same-arith, same-tree}
 
--- a list with a top is that top and what is below it
-pub split : (s : List Item) (item : Item) → Some item ≡ top_of s → s ≡ item ∷ below_top s
-split [] item t = absurd cc
-split (first ∷ s) item t = let e : item ≡ first = cc in rw e refl
-
-index-at : (tree : ArithTree) (below s : List Item) (p : Protocol) (size : Size) → s ≡ arith_parts tree below → Some (Access p size) ≡ top_of s → HasArithmetic (below_top s)
-index-at (accessor q index bytes) below s p size e t = (index, below, ap below_top e)
-index-at _ below s p size e t = absurd (let f = t ∙ ap top_of e in cc)
+index-at : (tree : ArithTree) (under below : List Item) (p : Protocol) (size : Size) → Access p size ∷ below ≡ arith_parts tree under → HasArithmetic below
+index-at (accessor q index bytes) under below p size e = (index, under, ap below_top e)
+index-at _ under below p size e = absurd cc
 
 -- the index of an accessor
-pub has-index : (s : List Item) (p : Protocol) (size : Size) → HasArithmetic s → Some (Access p size) ≡ top_of s → HasArithmetic (below_top s)
-has-index s p size h t = index-at h.0 h.1 s p size h.2 t
+pub has-index : (s below : List Item) (p : Protocol) (size : Size) → s ≡ Access p size ∷ below → HasArithmetic s → HasArithmetic below
+has-index s below p size e h = index-at h.0 h.1 below p size (sym e ∙ h.2)
 
-right-at : (tree : ArithTree) (below s : List Item) (o : Operator) → s ≡ arith_parts tree below → Some (Operate o) ≡ top_of s → HasArithmetic (below_top s)
-right-at (operation a u b) below s o e t = (b, arith_parts a below, ap below_top e)
-right-at _ below s o e t = absurd (let f = t ∙ ap top_of e in cc)
+right-at : (tree : ArithTree) (under below : List Item) (o : Operator) → Operate o ∷ below ≡ arith_parts tree under → HasArithmetic below
+right-at (operation a u b) under below o e = (b, arith_parts a under, ap below_top e)
+right-at _ under below o e = absurd cc
 
 -- the right side of an operation
-pub has-right : (s : List Item) (o : Operator) → HasArithmetic s → Some (Operate o) ≡ top_of s → HasArithmetic (below_top s)
-has-right s o h t = right-at h.0 h.1 s o h.2 t
+pub has-right : (s below : List Item) (o : Operator) → s ≡ Operate o ∷ below → HasArithmetic s → HasArithmetic below
+has-right s below o e h = right-at h.0 h.1 below o (sym e ∙ h.2)
 
-left-at : (tree right : ArithTree) (below s rest : List Item) (o : Operator) → s ≡ arith_parts tree below → Some (Operate o) ≡ top_of s →
-    below_top s ≡ arith_parts right rest → HasArithmetic rest
-left-at (operation a u b) right below s rest o e t h =
-    (a, below, sym (same-arith b right (arith_parts a below) rest (sym (ap below_top e) ∙ h)).1)
-left-at _ right below s rest o e t h = absurd (let f = t ∙ ap top_of e in cc)
+left-at : (tree right : ArithTree) (under below rest : List Item) (o : Operator) → Operate o ∷ below ≡ arith_parts tree under → below ≡ arith_parts right rest → HasArithmetic rest
+left-at (operation a u b) right under below rest o e h = (a, under, sym (same-arith b right (arith_parts a under) rest (sym (ap below_top e) ∙ h)).1)
+left-at _ right under below rest o e h = absurd cc
 
 -- the left side of an operation, once its right side was taken
-pub has-left : (right : ArithTree) (s rest : List Item) (o : Operator) → HasArithmetic s → Some (Operate o) ≡ top_of s → below_top s ≡ arith_parts right rest →
-    HasArithmetic rest
-has-left right s rest o h t taken = left-at h.0 right h.1 s rest o h.2 t taken
+pub has-left : (right : ArithTree) (s below rest : List Item) (o : Operator) → s ≡ Operate o ∷ below → HasArithmetic s → below ≡ arith_parts right rest → HasArithmetic rest
+has-left right s below rest o e h taken = left-at h.0 right h.1 below rest o (sym e ∙ h.2) taken
 
-relation-at : (tree : Tree) (below s : List Item) (r : Relation) → s ≡ tree_parts tree below → Some (Relate r) ≡ top_of s → HasArithmetic (below_top s)
-relation-at (relation a u b) below s r e t = (b, arith_parts a below, ap below_top e)
-relation-at _ below s r e t = absurd (let f = t ∙ ap top_of e in cc)
+relation-at : (tree : Tree) (under below : List Item) (r : Relation) → Relate r ∷ below ≡ tree_parts tree under → HasArithmetic below
+relation-at (relation a u b) under below r e = (b, arith_parts a under, ap below_top e)
+relation-at _ under below r e = absurd cc
 
 -- the right side of a relation
-pub has-relation-right : (s : List Item) (r : Relation) → HasTree s → Some (Relate r) ≡ top_of s → HasArithmetic (below_top s)
-has-relation-right s r h t = relation-at h.0 h.1 s r h.2 t
+pub has-relation-right : (below : List Item) (r : Relation) → HasTree (Relate r ∷ below) → HasArithmetic below
+has-relation-right below r h = relation-at h.0 h.1 below r h.2
 
-relation-left-at : (tree : Tree) (right : ArithTree) (below s rest : List Item) (r : Relation) → s ≡ tree_parts tree below → Some (Relate r) ≡ top_of s →
-    below_top s ≡ arith_parts right rest → HasArithmetic rest
-relation-left-at (relation a u b) right below s rest r e t h =
-    (a, below, sym (same-arith b right (arith_parts a below) rest (sym (ap below_top e) ∙ h)).1)
-relation-left-at _ right below s rest r e t h = absurd (let f = t ∙ ap top_of e in cc)
+relation-left-at : (tree : Tree) (right : ArithTree) (under below rest : List Item) (r : Relation) → Relate r ∷ below ≡ tree_parts tree under → below ≡ arith_parts right rest →
+    HasArithmetic rest
+relation-left-at (relation a u b) right under below rest r e h = (a, under, sym (same-arith b right (arith_parts a under) rest (sym (ap below_top e) ∙ h)).1)
+relation-left-at _ right under below rest r e h = absurd cc
 
 -- the left side of a relation, once its right side was taken
-pub has-relation-left : (right : ArithTree) (s rest : List Item) (r : Relation) → HasTree s → Some (Relate r) ≡ top_of s → below_top s ≡ arith_parts right rest →
-    HasArithmetic rest
-has-relation-left right s rest r h t taken = relation-left-at h.0 right h.1 s rest r h.2 t taken
+pub has-relation-left : (right : ArithTree) (below rest : List Item) (r : Relation) → HasTree (Relate r ∷ below) → below ≡ arith_parts right rest → HasArithmetic rest
+has-relation-left right below rest r h taken = relation-left-at h.0 right h.1 below rest r h.2 taken
 
-negated-at : (tree : Tree) (below s : List Item) → s ≡ tree_parts tree below → Some Negate ≡ top_of s → HasTree (below_top s)
-negated-at (negation inner) below s e t = (inner, below, ap below_top e)
-negated-at _ below s e t = absurd (let f = t ∙ ap top_of e in cc)
+negated-at : (tree : Tree) (under below : List Item) → Negate ∷ below ≡ tree_parts tree under → HasTree below
+negated-at (negation inner) under below e = (inner, under, ap below_top e)
+negated-at _ under below e = absurd cc
 
 -- what `not` stands over
-pub has-negated : (s : List Item) → HasTree s → Some Negate ≡ top_of s → HasTree (below_top s)
-has-negated s h t = negated-at h.0 h.1 s h.2 t
+pub has-negated : (s below : List Item) → s ≡ Negate ∷ below → HasTree s → HasTree below
+has-negated s below e h = negated-at h.0 h.1 below (sym e ∙ h.2)
 
-conjoined-at : (tree : Tree) (below s : List Item) → s ≡ tree_parts tree below → Some Conjoin ≡ top_of s → HasTree (below_top s)
-conjoined-at (conjunction a b) below s e t = (b, tree_parts a below, ap below_top e)
-conjoined-at _ below s e t = absurd (let f = t ∙ ap top_of e in cc)
+conjoined-at : (tree : Tree) (under below : List Item) → Conjoin ∷ below ≡ tree_parts tree under → HasTree below
+conjoined-at (conjunction a b) under below e = (b, tree_parts a under, ap below_top e)
+conjoined-at _ under below e = absurd cc
 
 -- the right side of `and`
-pub has-conjoined : (s : List Item) → HasTree s → Some Conjoin ≡ top_of s → HasTree (below_top s)
-has-conjoined s h t = conjoined-at h.0 h.1 s h.2 t
+pub has-conjoined : (s below : List Item) → s ≡ Conjoin ∷ below → HasTree s → HasTree below
+has-conjoined s below e h = conjoined-at h.0 h.1 below (sym e ∙ h.2)
 
-conjoined-left-at : (tree right : Tree) (below s rest : List Item) → s ≡ tree_parts tree below → Some Conjoin ≡ top_of s → below_top s ≡ tree_parts right rest → HasTree rest
-conjoined-left-at (conjunction a b) right below s rest e t h =
-    (a, below, sym (same-tree b right (tree_parts a below) rest (sym (ap below_top e) ∙ h)).1)
-conjoined-left-at _ right below s rest e t h = absurd (let f = t ∙ ap top_of e in cc)
+conjoined-left-at : (tree right : Tree) (under below rest : List Item) → Conjoin ∷ below ≡ tree_parts tree under → below ≡ tree_parts right rest → HasTree rest
+conjoined-left-at (conjunction a b) right under below rest e h = (a, under, sym (same-tree b right (tree_parts a under) rest (sym (ap below_top e) ∙ h)).1)
+conjoined-left-at _ right under below rest e h = absurd cc
 
 -- the left side of `and`, once its right side was taken
-pub has-conjoined-left : (right : Tree) (s rest : List Item) → HasTree s → Some Conjoin ≡ top_of s → below_top s ≡ tree_parts right rest → HasTree rest
-has-conjoined-left right s rest h t taken = conjoined-left-at h.0 right h.1 s rest h.2 t taken
+pub has-conjoined-left : (right : Tree) (s below rest : List Item) → s ≡ Conjoin ∷ below → HasTree s → below ≡ tree_parts right rest → HasTree rest
+has-conjoined-left right s below rest e h taken = conjoined-left-at h.0 right h.1 below rest (sym e ∙ h.2) taken
 
-disjoined-at : (tree : Tree) (below s : List Item) → s ≡ tree_parts tree below → Some Disjoin ≡ top_of s → HasTree (below_top s)
-disjoined-at (disjunction a b) below s e t = (b, tree_parts a below, ap below_top e)
-disjoined-at _ below s e t = absurd (let f = t ∙ ap top_of e in cc)
+disjoined-at : (tree : Tree) (under below : List Item) → Disjoin ∷ below ≡ tree_parts tree under → HasTree below
+disjoined-at (disjunction a b) under below e = (b, tree_parts a under, ap below_top e)
+disjoined-at _ under below e = absurd cc
 
 -- the right side of `or`
-pub has-disjoined : (s : List Item) → HasTree s → Some Disjoin ≡ top_of s → HasTree (below_top s)
-has-disjoined s h t = disjoined-at h.0 h.1 s h.2 t
+pub has-disjoined : (s below : List Item) → s ≡ Disjoin ∷ below → HasTree s → HasTree below
+has-disjoined s below e h = disjoined-at h.0 h.1 below (sym e ∙ h.2)
 
-disjoined-left-at : (tree right : Tree) (below s rest : List Item) → s ≡ tree_parts tree below → Some Disjoin ≡ top_of s → below_top s ≡ tree_parts right rest → HasTree rest
-disjoined-left-at (disjunction a b) right below s rest e t h =
-    (a, below, sym (same-tree b right (tree_parts a below) rest (sym (ap below_top e) ∙ h)).1)
-disjoined-left-at _ right below s rest e t h = absurd (let f = t ∙ ap top_of e in cc)
+disjoined-left-at : (tree right : Tree) (under below rest : List Item) → Disjoin ∷ below ≡ tree_parts tree under → below ≡ tree_parts right rest → HasTree rest
+disjoined-left-at (disjunction a b) right under below rest e h = (a, under, sym (same-tree b right (tree_parts a under) rest (sym (ap below_top e) ∙ h)).1)
+disjoined-left-at _ right under below rest e h = absurd cc
 
 -- the left side of `or`, once its right side was taken
-pub has-disjoined-left : (right : Tree) (s rest : List Item) → HasTree s → Some Disjoin ≡ top_of s → below_top s ≡ tree_parts right rest → HasTree rest
-has-disjoined-left right s rest h t taken = disjoined-left-at h.0 right h.1 s rest h.2 t taken
-
--- what is below a top is shorter
-pub fewer-below : (s below : List Item) (item : Item) → Some item ≡ top_of s → below ≡ below_top s → length below < length s
-fewer-below [] below item t e = absurd cc
-fewer-below (first ∷ s) below item t e = rw e (omega arith)
+pub has-disjoined-left : (right : Tree) (s below rest : List Item) → s ≡ Disjoin ∷ below → HasTree s → below ≡ tree_parts right rest → HasTree rest
+has-disjoined-left right s below rest e h taken = disjoined-left-at h.0 right h.1 below rest (sym e ∙ h.2) taken
 
 arith-longer : (tree : ArithTree) (below : List Item) → length below < length (arith_parts tree below)
 arith-longer (number n) below = omega arith
@@ -143,8 +126,8 @@ arithmetic-on packet_length below = tt
 arithmetic-on (accessor p index size) below = tt
 arithmetic-on (operation a o b) below = tt
 
-pub arithmetic-top : (s : List Item) (top : Option Item) → HasArithmetic s → top ≡ top_of s → IsArithmetic top
-arithmetic-top s top h t = rw (t, h.2) (arithmetic-on h.0 h.1)
+pub arithmetic-top : (s : List Item) (top : Option Item) → top_of s ≡ top → HasArithmetic s → IsArithmetic top
+arithmetic-top s top t h = subst IsArithmetic (ap top_of (sym h.2) ∙ t) (arithmetic-on h.0 h.1)
 
 -- a part that may be the last of an expression
 abbrev pub IsTruth : Option Item → Type 0
@@ -162,5 +145,5 @@ truth-on (negation e) below = tt
 truth-on (conjunction a b) below = tt
 truth-on (disjunction a b) below = tt
 
-pub truth-top : (s : List Item) (top : Option Item) → HasTree s → top ≡ top_of s → IsTruth top
-truth-top s top h t = rw (t, h.2) (truth-on h.0 h.1)
+pub truth-top : (s : List Item) (top : Option Item) → top_of s ≡ top → HasTree s → IsTruth top
+truth-top s top t h = subst IsTruth (ap top_of (sym h.2) ∙ t) (truth-on h.0 h.1)

@@ -1,10 +1,9 @@
 //! The tree of an expression in postfix order: its last part is taken first, and then the parts that this one stands over.
 
-ghost use Rattle.std.specs.Prelude.{◌≡◌, ◌∷◌, IfOk, MatchOption, OnOk, reverse};
+ghost use Rattle.std.specs.Prelude.{◌≡◌, ◌∷◌, [], IfOk, MatchOption, OnOk, reverse};
 ghost use Rattle.filter_tree.specs.View.{arith_tree_of, tree_of};
 ghost use Rattle.filter_parse.specs.declared.item.Item.TheVariants.{Number, Primitive as IsPrimitive, Relate};
 ghost use Rattle.filter_parse.specs.body.Place.{IsBlank, IsBlankArithmetic};
-ghost use Rattle.filter_parse.specs.body.Stack.{below_top, top_of};
 ghost use Rattle.filter_parse.specs.body.Postfix.{HasArithmetic, HasTree, arith_parts, tree_parts};
 
 use crate::OutOfMemory;
@@ -14,8 +13,9 @@ use std::alloc::Allocator;
 use std::mem;
 
 fn take_last(parts: &mut &[Item]) -> Option<Item>
-    ensures top { result ≡ top_of (reverse parts.old.now) }
-    ensures below { reverse parts.new.now ≡ below_top (reverse parts.old.now) }
+    ensures { MatchOption result
+        (reverse parts.old.now ≡ [])
+        (λ item. reverse parts.old.now ≡ item ∷ reverse parts.new.now) }
 {
     match parts.split_last() {
         Some((last, others)) => {

@@ -1,4 +1,4 @@
-use Rattle.std.proofs.Common.{◌≡◌, ◌≤◌, ◌∙◌, ◌⊎◌, Bool, List, None, Option, Some, ap, arith, cond, false, inl, inr, nat_le, refl, subst, sym, true, ℕ}
+use Rattle.std.proofs.Common.{◌≡◌, ◌∙◌, ◌⊎◌, Bool, List, None, Some, ap, arith, cond, false, inl, inr, nat_le, refl, subst, sym, true, ℕ}
 use Rattle.std.proofs.lemmas.Bool.Decides.{nat_tests}
 use Rattle.filter_tree.specs.declared.arithmetic.Protocol.{Protocol}
 use Rattle.filter_tree.specs.declared.arithmetic.Size.{Size}
