@@ -20,6 +20,12 @@ pub fn four_datagrams(rt: &impl Abort, alloc: Global) -> Datagrams {
     datagrams
 }
 
+pub fn one_datagram(rt: &impl Abort, alloc: Global) -> Datagrams {
+    let mut datagrams = Datagrams::new(alloc);
+    push(rt, alloc, &mut datagrams, &PACKET);
+    datagrams
+}
+
 pub fn new_worker(rt: &impl Abort, alloc: Global) -> Worker {
     worker_of(rt, three_members(rt, alloc))
 }

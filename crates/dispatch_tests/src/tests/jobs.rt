@@ -2,45 +2,84 @@
 
 use super::batches::{failing_after, new_tally, new_worker, totals, two_sends};
 use dispatch::{Gate, Job, finish};
+use std::alloc::Global;
 use std::cell::Cell;
+use std::process::Abort;
+use std::sync::Wait;
 
-// The sums of the numbers that it was told.
+// Expects batches of these numbers, each to start and then to end.
 #[derive(Drop)]
-struct Sums {
-    started: Cell<u64>,
-    ended: Cell<u64>,
+struct Expected {
+    next: Cell<u64>,
+    step: u64,
+    // How often a batch started, how often one ended, and how often it was another one.
+    started: Cell<u32>,
+    ended: Cell<u32>,
+    wrong: Cell<u32>,
 }
 
-impl Gate for Sums {
+fn add_one(count: &Cell<u32>) {
+    count.set(count.get().wrapping_add(1));
+}
+
+impl Expected {
+    fn compare(&self, batch: u64) {
+        if batch != self.next.get() {
+            add_one(&self.wrong);
+        }
+    }
+}
+
+impl Gate for Expected {
     fn start(&self, batch: u64) {
-        self.started.set(self.started.get().wrapping_add(batch));
+        self.compare(batch);
+        add_one(&self.started);
     }
 
     fn done(&self, batch: u64) {
-        self.ended.set(self.ended.get().wrapping_add(batch));
+        self.compare(batch);
+        add_one(&self.ended);
+        self.next.set(self.next.get().wrapping_add(self.step));
     }
 }
 
-// Two batches of a datagram, one that fails to receive, two of a datagram, and one at the end: 2 + 5 + 8 + 11 + 14 + 17.
-#[test]
-fn job_runs_to_its_end(rt: HostRuntime) {
-    let (mut tally, counter) = new_tally(&rt, rt.alloc());
+// Two batches of a datagram, one that fails to receive, two of a datagram, and one at the end.
+fn runs_to_its_end(rt: &(impl Wait + Abort), alloc: Global, first: u64, last: u64) {
+    let (mut tally, counter) = new_tally(rt, alloc);
     let job = Job {
-        worker: new_worker(&rt, rt.alloc()),
+        worker: new_worker(rt, alloc),
         counter,
-        source: failing_after(&rt, rt.alloc(), 2),
-        outbox: two_sends(&rt, rt.alloc()),
-        buffer: vec![in rt.alloc(); 0; 64].expect(&rt, "a buffer"),
+        source: failing_after(rt, alloc, 2),
+        outbox: two_sends(rt, alloc),
+        buffer: vec![in alloc; 0; 64].expect(rt, "a buffer"),
         limit: 1,
     };
-    let gate = Sums {
+    let gate = Expected {
+        next: Cell::new(first),
+        step: 3,
         started: Cell::new(0),
         ended: Cell::new(0),
+        wrong: Cell::new(0),
     };
-    let done = finish(&rt, &gate, (2, 3), job);
-    assert_eq!(rt; (gate.started.get(), gate.ended.get()), (57, 57));
+    let done = finish(rt, &gate, (first, 3), job);
+    assert_eq!(rt;
+        (gate.started.get(), gate.ended.get(), gate.wrong.get()),
+        (6, 6, 0)
+    );
+    assert_eq!(rt; gate.next.get(), last.wrapping_add(3));
     assert_eq!(rt;
         (totals(&mut tally), done.outbox.count()),
         ([1, 1, 0, 0, 2, 0, 1], 2)
     );
+}
+
+#[test]
+fn job_runs_to_its_end(rt: HostRuntime) {
+    runs_to_its_end(&rt, rt.alloc(), 2, 17);
+}
+
+// The second of its batches is the last number, 2^64 - 1.
+#[test]
+fn numbers_of_batches_go_on_from_zero(rt: HostRuntime) {
+    runs_to_its_end(&rt, rt.alloc(), 0xffff_ffff_ffff_fffc, 11);
 }

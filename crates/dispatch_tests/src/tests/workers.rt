@@ -2,7 +2,7 @@
 
 ghost use Rattle.std.specs.Prelude.{◌≡◌, ◌≤◌};
 
-use super::batches::{four_datagrams, totals, two_sends};
+use super::batches::{four_datagrams, one_datagram, totals, two_sends};
 use super::configurations::{three_members, workers_of};
 use dispatch::{Counter, Datagrams, Done, Gate, Job, Sends, Tally, run_workers};
 use read_section::Worker;
@@ -11,12 +11,13 @@ use std::process::Abort;
 use std::sync::atomic::{AtomicU64, Ordering};
 use std::thread;
 
-// A job over four datagrams, by the last worker and the last counter.
+// A job over these datagrams, by the last worker and the last counter.
 fn job(
     rt: &impl Abort,
     alloc: Global,
     workers: &mut Vec<Worker>,
     counters: &mut Vec<Counter>,
+    source: Datagrams,
     limit: u64,
 ) -> Job<Datagrams, Sends>
     requires limit { 1 ≤ limit }
@@ -25,22 +26,27 @@ fn job(
     Job {
         worker: workers.pop().expect(rt, "a worker"),
         counter: counters.pop().expect(rt, "a counter"),
-        source: four_datagrams(rt, alloc),
+        source,
         outbox: two_sends(rt, alloc),
         buffer: vec![in alloc; 0; 64].expect(rt, "a buffer"),
         limit,
     }
 }
 
-// Two of them, and their tally.
-fn two_jobs(rt: &impl Abort, alloc: Global, limit: u64) -> (Tally, Vec<Job<Datagrams, Sends>>)
+// One over four datagrams and one over others, and their tally.
+fn two_jobs(
+    rt: &impl Abort,
+    alloc: Global,
+    others: Datagrams,
+    limit: u64,
+) -> (Tally, Vec<Job<Datagrams, Sends>>)
     requires { 1 ≤ limit }
 {
     let mut workers = workers_of(rt, three_members(rt, alloc));
     let (tally, mut counters) = Tally::open(alloc).expect(rt, "a tally opens");
     let mut jobs = Vec::new(alloc);
-    for _ in 0..2usize {
-        let job = job(rt, alloc, &mut workers, &mut counters, limit);
+    for source in [four_datagrams(rt, alloc), others] {
+        let job = job(rt, alloc, &mut workers, &mut counters, source, limit);
         jobs.push(job).expect(rt, "one job more");
     }
     (tally, jobs)
@@ -92,7 +98,8 @@ impl Gate for Meeting {
 
 #[test]
 fn two_jobs_and_side_run_at_once(rt: HostRuntime) {
-    let (mut tally, jobs) = two_jobs(&rt, rt.alloc(), 10);
+    let others = four_datagrams(&rt, rt.alloc());
+    let (mut tally, jobs) = two_jobs(&rt, rt.alloc(), others, 10);
     let meeting = Meeting {
         came: AtomicU64::new(0),
         failures: AtomicU64::new(0),
@@ -106,7 +113,7 @@ fn two_jobs_and_side_run_at_once(rt: HostRuntime) {
     are_both_done(&rt, &mut tally, &dones);
 }
 
-// How often each number was told: in hexadecimal, digit n counts number n, from 1 to 10, and digit 0 any other.
+// How often each number was told: in hexadecimal, digit n counts number n, from 1 to 9, and digit 0 any other.
 #[derive(Drop)]
 struct Numbers {
     started: AtomicU64,
@@ -114,7 +121,7 @@ struct Numbers {
 }
 
 fn digit(batch: u64) -> u64 {
-    if batch <= 10 { 1 << (4 * batch) } else { 1 }
+    if batch <= 9 { 1 << (4 * batch) } else { 1 }
 }
 
 impl Gate for Numbers {
@@ -127,19 +134,20 @@ impl Gate for Numbers {
     }
 }
 
-// Each job has four batches of a datagram, and one at the end: the numbers 1 to 10, each once.
+// The first job has four batches of a datagram, and one at the end: 1, 3, 5, 7 and 9. The second has one of each: 2 and 4.
 #[test]
 fn two_jobs_number_their_batches(rt: HostRuntime) {
-    let (mut tally, jobs) = two_jobs(&rt, rt.alloc(), 1);
+    let one = one_datagram(&rt, rt.alloc());
+    let (mut tally, jobs) = two_jobs(&rt, rt.alloc(), one, 1);
     let numbers = Numbers {
         started: AtomicU64::new(0),
         ended: AtomicU64::new(0),
     };
     let dones = run_workers(&rt, rt.alloc(), jobs, &numbers, || {}).expect(&rt, "both jobs run");
-    are_both_done(&rt, &mut tally, &dones);
+    assert_eq!(rt; (dones.len(), totals(&mut tally)), (2, [1, 1, 0, 0, 3, 0, 0]));
     assert_eq!(rt;
         (numbers.started.into_inner(), numbers.ended.into_inner()),
-        (0x111_1111_1110, 0x111_1111_1110)
+        (0x10_1011_1110, 0x10_1011_1110)
     );
 }
 

@@ -18,6 +18,18 @@ pub fn config_of(alloc: Global, number: u32) -> Result<Config, Fail> {
     applied(&Config::new(alloc), Command::AddGroup { key })
 }
 
+/// Whether it is what `config_of` gives: the whole of it.
+pub fn is_config_of(config: &Config, number: u32) -> bool {
+    let [group] = config.groups() else {
+        return false;
+    };
+    let key = Endpoint {
+        address: number,
+        port: 53,
+    };
+    group.key() == key && group.selector().is_none() && group.members().is_empty()
+}
+
 pub fn applied(config: &Config, command: Command) -> Result<Config, Fail> {
     match config.apply(&command) {
         Ok(next) => Ok(next),

@@ -2,7 +2,7 @@
 
 ghost use Rattle.std.specs.Prelude.{◌<◌};
 
-use super::numbered::{applied, config_of, differing};
+use super::numbered::{applied, config_of, differing, is_config_of};
 use super::sections::read_whole;
 use super::tables::{on_table, on_workers};
 use bpf_insn::Words;
@@ -26,7 +26,7 @@ fn is_published(alloc: Global, operator: &mut Operator, number: u64) -> Result<b
 // Tries to publish, and tells whether no row was free and the configuration came back.
 fn is_busy(alloc: Global, operator: &mut Operator) -> Result<bool, Fail> {
     let refused = operator.publish(config_of(alloc, 1)?);
-    Ok(matches!(&refused, Err((PublishFault::Busy, config)) if config.charge() == 6))
+    Ok(matches!(&refused, Err((PublishFault::Busy, config)) if is_config_of(config, 1)))
 }
 
 // The last version that finds a row while a worker stays in version 0.
@@ -226,7 +226,7 @@ fn reclaims(operator: &mut Operator, first: u64, count: u64) -> bool {
     operator.sweep() == (Reclaimed { first, count })
 }
 
-// A worker stays in version 0: fifteen more versions have a row, and then none is free before it leaves.
+// Worker 0 stays in version 0: fifteen more versions have a row, and then none is free before it leaves.
 fn is_busy_beside(
     rt: &impl Abort,
     alloc: Global,
@@ -242,8 +242,9 @@ fn is_busy_beside(
 
 #[test]
 fn busy_when_no_row_is_free(rt: HostRuntime) -> Result<(), Fail> {
-    on_table(config_of(rt.alloc(), 0)?, |operator, worker| {
-        is_busy_beside(&rt, rt.alloc(), operator, worker)
+    on_workers(config_of(rt.alloc(), 0)?, |operator, workers| match workers.first_mut() {
+        Some(worker) => is_busy_beside(&rt, rt.alloc(), operator, worker),
+        None => Err(Fail::from("a table has workers")),
     })
 }
 
@@ -258,9 +259,10 @@ fn stays_busy(rt: &impl Abort, alloc: Global, operator: &mut Operator) -> Result
     Ok(())
 }
 
-// A worker abandons its section, and is gone.
+// Worker 0 abandons its section, and is gone.
 fn loses_a_worker(rt: &impl Abort, workers: &mut Vec<Worker>) {
-    let mut worker = workers.pop().expect(rt, "a table has workers");
+    assert!(rt; !workers.is_empty());
+    let mut worker = workers.swap_remove(0);
     worker.enter().abandon();
 }
 

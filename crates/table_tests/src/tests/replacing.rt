@@ -1,6 +1,8 @@
 //! Verdicts of versions that are replaced while a worker is inside.
 
-use super::tables::on_table;
+ghost use Rattle.std.specs.Prelude.{◌≡◌};
+
+use super::sections::opened;
 use bpf_verify::Program;
 use ipv4_fields::Endpoint;
 use member_group::{Command, Config};
@@ -77,14 +79,18 @@ fn selecting(alloc: Global, number: u32) -> Result<Config, Fail> {
     Ok(config)
 }
 
-fn published(operator: &mut Operator, config: Config) -> Result<u64, Fail> {
+fn published(operator: &mut Operator, config: Config) -> Result<u64, Fail>
+    ensures same_table { operator.new.table ≡ operator.old.table }
+{
     match operator.publish(config) {
         Ok(number) => Ok(number),
         Err(_) => Err(Fail::from("a row is free")),
     }
 }
 
-fn judged(worker: &mut Worker) -> (u64, Verdict) {
+fn judged(worker: &mut Worker) -> (u64, Verdict)
+    ensures same_table { worker.new.table ≡ worker.old.table }
+{
     let mut section = worker.enter();
     let number = section.number();
     let verdict = judge(&mut section, &PACKET);
@@ -106,7 +112,10 @@ fn published_inside(
     operator: &mut Operator,
     worker: &mut Worker,
     config: Config,
-) -> Result<(u64, u64, Verdict), Fail> {
+) -> Result<(u64, u64, Verdict), Fail>
+    ensures same_table { operator.new.table ≡ operator.old.table }
+    ensures worker_table { worker.new.table ≡ worker.old.table }
+{
     let mut section = worker.enter();
     let number = published(operator, config);
     let verdict = judge(&mut section, &PACKET);
@@ -120,19 +129,21 @@ fn keeps_its_version(
     alloc: Global,
     operator: &mut Operator,
     worker: &mut Worker,
-) -> Result<(), Fail> {
+) -> Result<(), Fail>
+    requires { worker.old.table ≡ operator.old.table }
+{
     assert!(rt; judged(worker) == (0, Verdict::NoGroup));
     let first = published(operator, selecting(alloc, 0)?)?;
     let inside = published_inside(operator, worker, selecting(alloc, 1)?)?;
     assert!(rt; (first, inside) == (1, (2, 1, delivered(1))));
+    worker.meet(operator);
     assert!(rt; judged(worker) == (2, delivered(2)));
     Ok(())
 }
 
-// A worker that entered at version 1 judges by it while version 2 is current; once it has left, by version 2.
+// Worker 0, which entered at version 1, judges by it while version 2 is current; once it has left and met the operator, by version 2.
 #[test]
 fn section_keeps_its_version(rt: HostRuntime) -> Result<(), Fail> {
-    on_table(Config::new(rt.alloc()), |operator, worker| {
-        keeps_its_version(&rt, rt.alloc(), operator, worker)
-    })
+    let (mut operator, mut worker, _) = opened(&rt, Config::new(rt.alloc()))?;
+    keeps_its_version(&rt, rt.alloc(), &mut operator, &mut worker)
 }

@@ -51,11 +51,11 @@ pub fn read_whole(worker: &mut Worker) -> (u64, usize)
 }
 
 // A table at version 0, with its first worker and its last.
-fn opened(rt: &impl Abort, alloc: Global) -> Result<(Operator, Worker, Worker), Fail>
+pub fn opened(rt: &impl Abort, config: Config) -> Result<(Operator, Worker, Worker), Fail>
     ensures first { IfOk result (λ parts. parts.1.table ≡ parts.0.table) }
     ensures last { IfOk result (λ parts. parts.2.table ≡ parts.0.table) }
 {
-    let (operator, mut workers) = open(config_of(alloc, 0)?)?;
+    let (operator, mut workers) = open(config)?;
     assert!(rt; workers.len() == WORKERS);
     let last = workers.swap_remove(WORKERS - 1);
     let first = workers.swap_remove(0);
@@ -125,7 +125,7 @@ fn counts_as_inside(rt: &impl Abort, operator: &mut Operator, worker: &mut Worke
 
 #[test]
 fn entering_after_abandon(rt: HostRuntime) -> Result<(), Fail> {
-    let (mut operator, _, mut worker) = opened(&rt, rt.alloc())?;
+    let (mut operator, _, mut worker) = opened(&rt, config_of(rt.alloc(), 0)?)?;
     counts_as_inside(&rt, &mut operator, &mut worker);
     Ok(())
 }
@@ -140,7 +140,7 @@ fn is_at_version_zero(rt: &impl Abort, operator: &mut Operator, worker: &mut Wor
 
 #[test]
 fn table_at_version_zero(rt: HostRuntime) -> Result<(), Fail> {
-    let (mut operator, mut worker, _) = opened(&rt, rt.alloc())?;
+    let (mut operator, mut worker, _) = opened(&rt, config_of(rt.alloc(), 0)?)?;
     is_at_version_zero(&rt, &mut operator, &mut worker);
     Ok(())
 }
@@ -169,7 +169,7 @@ fn keeps_its_version(
 
 #[test]
 fn section_keeps_its_version(rt: HostRuntime) -> Result<(), Fail> {
-    let (mut operator, mut worker, _) = opened(&rt, rt.alloc())?;
+    let (mut operator, mut worker, _) = opened(&rt, config_of(rt.alloc(), 0)?)?;
     keeps_its_version(&rt, rt.alloc(), &mut operator, &mut worker)
 }
 
@@ -192,7 +192,7 @@ fn is_told(
 
 #[test]
 fn told_by_another_worker(rt: HostRuntime) -> Result<(), Fail> {
-    let (mut operator, mut first, mut last) = opened(&rt, rt.alloc())?;
+    let (mut operator, mut first, mut last) = opened(&rt, config_of(rt.alloc(), 0)?)?;
     is_told(&rt, rt.alloc(), &mut operator, &mut first, &mut last)
 }
 
