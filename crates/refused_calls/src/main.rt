@@ -4,9 +4,9 @@
 //! the end, and how often it was refused before. It gives up after `TRIES` times.
 #![tactic(auto)]
 
-use dispatch::{Datagrams, Gate, Job, RunFault, Sends, Tally, run_workers};
+use dispatch::{Counter, Datagrams, Done, Gate, Job, RunFault, Sends, Tally, run_workers};
 use member_group::Config;
-use read_section::{OpenFault, open};
+use read_section::{OpenFault, Worker, open};
 use std::alloc::{AllocError, Global};
 use std::io;
 use std::io::Write;
@@ -14,6 +14,15 @@ use std::sync::Wait;
 use std::thread::Threads;
 
 const TRIES: u32 = 16;
+
+// What a call came to.
+#[derive(Clone, Copy)]
+enum Outcome {
+    Returned(usize),
+    NoArguments,
+    NoMemory,
+    NoThread,
+}
 
 // How often a call was refused: for want of memory, while its arguments were made, and for want of a thread.
 #[derive(Clone, Copy)]
@@ -23,32 +32,28 @@ struct Refusals {
     threads: u32,
 }
 
-const NONE: Refusals = Refusals {
-    memory: 0,
-    arguments: 0,
-    threads: 0,
-};
+fn workers_of(alloc: Global) -> Result<Vec<Worker>, OpenFault> {
+    let (_operator, workers) = open(Config::new(alloc))?;
+    Ok(workers)
+}
 
-// The number of workers that a table opens with.
-fn workers_opened(alloc: Global, refusals: &mut Refusals) -> Option<usize> {
-    match open(Config::new(alloc)) {
-        Ok((_operator, workers)) => Some(workers.len()),
-        Err(OpenFault::OutOfMemory) => {
-            refusals.memory = refusals.memory.saturating_add(1);
-            None
-        }
-        Err(OpenFault::TooBig) => Some(0),
+fn counters_of(alloc: Global) -> Result<Vec<Counter>, AllocError> {
+    let (_tally, counters) = Tally::open(alloc)?;
+    Ok(counters)
+}
+
+fn open_outcome(alloc: Global) -> Outcome {
+    match workers_of(alloc) {
+        Ok(workers) => Outcome::Returned(workers.len()),
+        Err(OpenFault::OutOfMemory) => Outcome::NoMemory,
+        Err(OpenFault::TooBig) => Outcome::Returned(0),
     }
 }
 
-// The number of counters that a tally opens with.
-fn counters_opened(alloc: Global, refusals: &mut Refusals) -> Option<usize> {
-    match Tally::open(alloc) {
-        Ok((_tally, counters)) => Some(counters.len()),
-        Err(_) => {
-            refusals.memory = refusals.memory.saturating_add(1);
-            None
-        }
+fn tally_outcome(alloc: Global) -> Outcome {
+    match counters_of(alloc) {
+        Ok(counters) => Outcome::Returned(counters.len()),
+        Err(_) => Outcome::NoMemory,
     }
 }
 
@@ -61,96 +66,101 @@ impl Gate for Idle {
     fn done(&self, _batch: u64) {}
 }
 
-// Two jobs without datagrams.
-fn two_jobs(alloc: Global) -> Result<Vec<Job<Datagrams, Sends>>, AllocError> {
-    let Ok((_operator, mut workers)) = open(Config::new(alloc)) else {
-        return Err(AllocError);
-    };
-    let (_tally, mut counters) = Tally::open(alloc)?;
+fn job_of(
+    alloc: Global,
+    worker: Worker,
+    counter: Counter,
+) -> Result<Job<Datagrams, Sends>, AllocError> {
+    Ok(Job {
+        worker,
+        counter,
+        source: Datagrams::new(alloc),
+        outbox: Sends::with_room(alloc, 0, 0)?,
+        buffer: Vec::new(alloc),
+        limit: 1,
+    })
+}
+
+// A job without datagrams for each worker.
+fn jobs_of(
+    alloc: Global,
+    workers: Vec<Worker>,
+    counters: Vec<Counter>,
+) -> Result<Vec<Job<Datagrams, Sends>>, AllocError> {
     let mut jobs = Vec::new(alloc);
-    for _ in 0..2usize {
-        let (Some(worker), Some(counter)) = (workers.pop(), counters.pop()) else {
-            return Ok(jobs);
-        };
-        jobs.push(Job {
-            worker,
-            counter,
-            source: Datagrams::new(alloc),
-            outbox: Sends::with_room(alloc, 0, 0)?,
-            buffer: Vec::new(alloc),
-            limit: 1,
-        })?;
+    for (worker, counter) in workers.into_iter().zip(counters) {
+        jobs.push(job_of(alloc, worker, counter)?)?;
     }
     Ok(jobs)
 }
 
-// The number of jobs that were run to their end.
-fn jobs_done<R: Threads + Wait + Sync>(
-    rt: &R,
-    alloc: Global,
-    refusals: &mut Refusals,
-) -> Option<usize> {
-    let Ok(jobs) = two_jobs(alloc) else {
-        refusals.arguments = refusals.arguments.saturating_add(1);
-        return None;
-    };
-    match run_workers(rt, alloc, jobs, &Idle, || {}) {
-        Ok(dones) => Some(dones.len()),
-        Err(RunFault::OutOfMemory) => {
-            refusals.memory = refusals.memory.saturating_add(1);
-            None
-        }
-        Err(RunFault::SpawnFailed) => {
-            refusals.threads = refusals.threads.saturating_add(1);
-            None
-        }
+// Two jobs without datagrams.
+fn two_jobs(alloc: Global) -> Option<Vec<Job<Datagrams, Sends>>> {
+    let mut workers = workers_of(alloc).ok()?;
+    workers.truncate(2);
+    let counters = counters_of(alloc).ok()?;
+    jobs_of(alloc, workers, counters).ok()
+}
+
+fn outcome_of(ran: Result<Vec<Done<Datagrams, Sends>>, RunFault>) -> Outcome {
+    match ran {
+        Ok(dones) => Outcome::Returned(dones.len()),
+        Err(RunFault::OutOfMemory) => Outcome::NoMemory,
+        Err(RunFault::SpawnFailed) => Outcome::NoThread,
     }
 }
 
-fn write_line<W: Write>(
+fn run_outcome<R: Threads + Wait + Sync>(rt: &R, alloc: Global) -> Outcome {
+    match two_jobs(alloc) {
+        Some(jobs) => outcome_of(run_workers(rt, alloc, jobs, &Idle, || {})),
+        None => Outcome::NoArguments,
+    }
+}
+
+// Adds a refusal. What the call returned, if it was none.
+fn count(outcome: Outcome, refusals: &mut Refusals) -> Option<usize> {
+    let refused = match outcome {
+        Outcome::Returned(count) => return Some(count),
+        Outcome::NoArguments => &mut refusals.arguments,
+        Outcome::NoMemory => &mut refusals.memory,
+        Outcome::NoThread => &mut refusals.threads,
+    };
+    *refused = refused.saturating_add(1);
+    None
+}
+
+// Makes a call until it is not refused, and prints its line.
+fn write_outcome<W: Write, F: FnMut() -> Outcome>(
     out: &mut W,
     name: &str,
-    given: Option<usize>,
-    refusals: Refusals,
-) -> io::Result<()> {
-    let Refusals {
-        memory,
-        arguments,
-        threads,
-    } = refusals;
-    match given {
-        Some(count) => writeln!(out, "{name}: {count}; refused: {memory} memory, {arguments} arguments, {threads} threads"),
-        None => writeln!(out, "{name}: refused each time"),
+    mut call: F,
+) -> io::Result<()>
+    requires { F.IsAlwaysCallable call }
+{
+    let mut refusals = Refusals {
+        memory: 0,
+        arguments: 0,
+        threads: 0,
+    };
+    for _ in 0..TRIES {
+        if let Some(given) = count(call(), &mut refusals) {
+            let Refusals {
+                memory,
+                arguments,
+                threads,
+            } = refusals;
+            return writeln!(
+                out,
+                "{name}: {given}; refused: {memory} memory, {arguments} arguments, {threads} threads"
+            );
+        }
     }
+    writeln!(out, "{name}: refused each time")
 }
 
 fn main(rt: HostRuntime) -> io::Result<()> {
     let mut out = rt.stdout();
-    let mut refusals = NONE;
-    let mut given = None;
-    for _ in 0..TRIES {
-        given = workers_opened(rt.alloc(), &mut refusals);
-        if given.is_some() {
-            break;
-        }
-    }
-    write_line(&mut out, "open", given, refusals)?;
-    let mut refusals = NONE;
-    let mut given = None;
-    for _ in 0..TRIES {
-        given = counters_opened(rt.alloc(), &mut refusals);
-        if given.is_some() {
-            break;
-        }
-    }
-    write_line(&mut out, "Tally::open", given, refusals)?;
-    let mut refusals = NONE;
-    let mut given = None;
-    for _ in 0..TRIES {
-        given = jobs_done(&rt, rt.alloc(), &mut refusals);
-        if given.is_some() {
-            break;
-        }
-    }
-    write_line(&mut out, "run_workers", given, refusals)
+    write_outcome(&mut out, "open", || open_outcome(rt.alloc()))?;
+    write_outcome(&mut out, "Tally::open", || tally_outcome(rt.alloc()))?;
+    write_outcome(&mut out, "run_workers", || run_outcome(&rt, rt.alloc()))
 }
