@@ -140,6 +140,8 @@ no groups, and is version 0. KEY and TO are ADDRESS:PORT, ID is a number, HEX an
   show                                             version N groups G members M charge C
   sweep                                            reclaimed FIRST COUNT
 A line that is refused prints `refused CODE` or `refused CODE NUMBER` and changes nothing.
+Without a selector the packet's addresses and ports pick the member. With 2, 4, 8, 16, 32 or 64
+members the source port does not count: all packets of a client to a group go to one member.
 With --summary these lines come after the replies, those whose COUNT is not 0, in rising order of
 their bytes:
   deliver KEY ID COUNT, dropped KEY ID COUNT       packets of this member
@@ -158,7 +160,8 @@ pub const PACKETS: &str = "Print the packets of a capture as lines for `replay`"
 pub const PACKETS_MORE: &str = "\
 Reads a capture file of libpcap (pcap) from standard input: of link type raw IP, Ethernet with at
 most two VLAN tags, Linux cooked v1 and v2, or loopback. Prints `packet HEX` for each IPv4 packet
-in it, as far as its total length tells. At the end the counts come to standard error:
+in it, as far as its total length tells. Capture on the tunnel's device: at the front of a switch
+each packet is inside another one. At the end the counts come to standard error:
   packets P cut C other O
 of the packets that were printed, those that the capture cut, and the records that hold no IPv4.
 Prints, with status 1:
@@ -200,6 +203,7 @@ and send what is to be delivered to the members. Each that comes to CONTROL is o
 `replay` takes them but for `packet`, and is replied to by one datagram. CONTROL takes two more:
   totals   the line of totals so far
   stop     ok stop, and the workers judge what they were given, and end
+Whoever can send to CONTROL controls the switch: give it one address, and never 0.0.0.0.
 A new switch has no groups. With port 0 the system picks a port. Prints `ready FRONT CONTROL` with
 the bound addresses before it reads, and the line of totals after `stop`, with status 0:
   malformed A nogroup B nomembers C dropped D delivered E sendfailed F receivefailed G
@@ -223,7 +227,8 @@ Sends each LINE to the CONTROL of `dswitch serve`, or each line of standard inpu
 no LINE. Prints the reply to one line before it sends the next. Ends with status 0 where no
 reply is `refused ..` or `failed ..`, else with status 1; it goes on after such a reply.
 Prints `refused C1`, with status 1, where CONTROL is no address. Fails with status 3 and
-`failed E4` where a line has no reply; then no later line is sent.
+`failed E4` where a line has no reply; then no later line is sent. The line may be done all the
+same, even later.
 
 Examples:
   $ dswitch tell --control 127.0.0.1:5301 'add 10.0.0.2:53' show

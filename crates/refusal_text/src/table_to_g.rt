@@ -52,10 +52,11 @@ is refused the program says `failed E3` in its place.",
         "\
 B1: The new configuration is too large to be published. Its charge is above
 8192.
-Usual mistake: too many or too large programs; `show` tells the charge, and a
-shorter expression lowers it.
-What to do: clear programs that are not used, or write them shorter, and send
-the line again.",
+Usual mistake: too many or too large programs; groups and members count 4 each,
+so 64 groups have room for 1983 members without programs; `show` has the charge,
+and a shorter expression lowers it.
+What to do: clear programs that are not used or write them shorter, take groups
+or members away, and send the line again.",
     ),
     (
         "B2",
@@ -81,10 +82,11 @@ C1: The text is not one that was asked for. HEX has an odd number of digits or
 another character; a control line is none of its table; an address is no
 `a.b.c.d:p`; the CODE of `explain` is none of this page; the NAME of `--format`
 is none of the command's.
-Usual mistake: `0x` before HEX, a digit lost in copying, or HEX with the
-spaces of `tcpdump -x`; two spaces in a line, a space at its end, a CR or an
-LF in a control datagram (`echo` adds an LF, `printf` does not), a leading
-zero as in `010.0.0.2:53`, a host name for an address, `packet` sent to
+Usual mistake: `0x` before HEX, a digit lost in copying, or HEX with the spaces
+of `tcpdump -x`; two spaces in a line, a space at its end, a CR or an LF in a
+control datagram (`echo` adds an LF, `printf` does not), a leading zero as in
+`010.0.0.2:53`, a host name for an address, a line of `tell` without quotes, so
+that each of its words is a line, a comment or an empty line, `packet` sent to
 `serve`, a code in small letters, `--format dd` where a program is read.
 What to do: write it in the form that `dswitch help COMMAND` shows;
 `dswitch help replay` shows the control lines.",
@@ -135,10 +137,12 @@ raise it (`ulimit -v`), or make the input shorter, and try again.",
 E4: A line had no reply.
 No reply came in the seconds of `--timeout`, the line could not be sent, or 4096
 datagrams came from elsewhere first. `tell` sent no later line. No switch runs
-at that address (`ss -ulpn` shows who listens; one at 0.0.0.0 is told by an
-address of its machine, as 127.0.0.1), a firewall drops the datagrams, or the
-switch is busy; start it, correct the address, or raise `--timeout`. The line
-may have been carried out all the same: `show` tells the version.",
+at that address (`ss -ulpn` shows who listens), it is bound to 0.0.0.0 and
+replies from another address (on its machine give 127.0.0.1), a firewall drops
+the datagrams, or the switch is busy; start it, correct the address, or raise
+`--timeout`. The line may be done all the same, even after `tell` has ended.
+Before it is sent again, send `show` until a reply comes: by then the line is
+done, or it was lost.",
     ),
     (
         "F1",
