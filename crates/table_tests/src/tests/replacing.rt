@@ -1,6 +1,6 @@
 //! Verdicts of versions that are replaced while a worker is inside.
 
-ghost use Rattle.std.specs.Prelude.{◌≡◌};
+ghost use Rattle.std.specs.Prelude.{◌≡◌, OnOk};
 
 use super::sections::opened;
 use bpf_verify::Program;
@@ -80,7 +80,7 @@ fn selecting(alloc: Global, number: u32) -> Result<Config, Fail> {
 }
 
 fn published(operator: &mut Operator, config: Config) -> Result<u64, Fail>
-    ensures same_table { operator.new.table ≡ operator.old.table }
+    ensures same_table { OnOk result (operator.new.table ≡ operator.old.table) }
 {
     match operator.publish(config) {
         Ok(number) => Ok(number),
@@ -113,7 +113,7 @@ fn published_inside(
     worker: &mut Worker,
     config: Config,
 ) -> Result<(u64, u64, Verdict), Fail>
-    ensures same_table { operator.new.table ≡ operator.old.table }
+    ensures same_table { OnOk result (operator.new.table ≡ operator.old.table) }
     ensures worker_table { worker.new.table ≡ worker.old.table }
 {
     let mut section = worker.enter();
