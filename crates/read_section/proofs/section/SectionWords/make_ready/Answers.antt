@@ -1,4 +1,4 @@
-use Rattle.std.proofs.Common.{◌≡◌, ◌+◌, arith, subst, sym, ◌∙◌}
+use Rattle.std.proofs.Common.{◌≡◌, ◌<◌, arith, subst, sym}
 use Rattle.versions.specs.declared.view.Stage.TheVariants.{Inside}
 use Rattle.read_section.specs.Section.{borrow_of, worker_of}
 use Rattle.read_section.specs.Worker.{WorkerValue}
@@ -19,7 +19,7 @@ invariant_of-self c = let s = c.args.self.now in let w = worker_of s in let t = 
 
 pub returns-in-Some-clause-room : goal.returns-in-Some-clause-room
 returns-in-Some-clause-room c = let s = c.args.self.now in let w = worker_of s in let t = held_stage w.view.stage w.view.seen c.args.i c.requires in let p = c.in-Some.extent in let told = c.in-Some.ensures in let is = extent_recalled w s.kept.row s.kept.heads s.kept.extent p s.known told.0 in
-    let some = (let a = told.1.0 in let b = told.1.1 in omega arith) in let limit = extent_limit w p is t.0 t.1 t.2 t.3 some in let shift = c.ready_words.ensures.shift in let room = extent_room w p is some (omega arith) in omega arith
+    let some : p.at < p.end = (let a = told.1.0 in let b = told.1.1 in omega arith) in let limit = extent_limit w p is t.0 t.1 t.2 t.3 some in let shift = c.ready_words.ensures.shift in let room = extent_room w p is some (omega arith) in omega arith
 
 pub ready_words-requires-in-Some-recall : goal.ready_words-requires-in-Some-recall
 ready_words-requires-in-Some-recall c = let s = c.args.self.now in let w = worker_of s in let t = held_stage w.view.stage w.view.seen c.args.i c.requires in let read = c.read_by_row-word.ensures.few_fetches in let after = c.read_by_row-word.new.worker in let stage : after.view.stage ≡ Inside t.0 t.1 t.2 = subst (λ (v : WorkerValue). v.view.stage ≡ Inside t.0 t.1 t.2) (sym read.only) t.3 in let known = subst (λ (v : WorkerValue). Knows v.view s.kept.row s.kept.heads s.kept.extent) (sym read.only) s.known in let p = c.in-Some-recall.extent in let told = c.in-Some-recall.ensures in
@@ -31,7 +31,7 @@ invariant_of-self-in-Some-recall c = let s = c.args.self.now in let w = worker_o
 
 pub returns-in-Some-recall-clause-room : goal.returns-in-Some-recall-clause-room
 returns-in-Some-recall-clause-room c = let s = c.args.self.now in let w = worker_of s in let t = held_stage w.view.stage w.view.seen c.args.i c.requires in let read = c.read_by_row-word.ensures.few_fetches in let after = c.read_by_row-word.new.worker in let stage : after.view.stage ≡ Inside t.0 t.1 t.2 = subst (λ (v : WorkerValue). v.view.stage ≡ Inside t.0 t.1 t.2) (sym read.only) t.3 in let known = subst (λ (v : WorkerValue). Knows v.view s.kept.row s.kept.heads s.kept.extent) (sym read.only) s.known in let p = c.in-Some-recall.extent in let told = c.in-Some-recall.ensures in let is = extent_recalled after s.kept.row s.kept.heads s.kept.extent p known told.0 in
-    let some = (let a = told.1.0 in let b = told.1.1 in omega arith) in let limit = extent_limit after p is t.0 t.1 t.2 stage some in let shift = c.ready_words-in-Some-recall.ensures.shift in let room = extent_room after p is some (omega arith) in omega arith
+    let some : p.at < p.end = (let a = told.1.0 in let b = told.1.1 in omega arith) in let limit = extent_limit after p is t.0 t.1 t.2 stage some in let shift = c.ready_words-in-Some-recall.ensures.shift in let room = extent_room after p is some (omega arith) in omega arith
 
 pub returns-in-Some-recall-clause-few_fetches : goal.returns-in-Some-recall-clause-few_fetches
 returns-in-Some-recall-clause-few_fetches c = let s = c.args.self.now in fetched_in 13 c.args.i c.read_by_row-word.result (worker_of s) c.read_by_row-word.new.worker c.read_by_row-word.ensures.few_fetches
