@@ -27,10 +27,10 @@ pub trait Words {
     ghost rest: { Self → Rest };
 
     // The ready words are those at the places from `ready_from` on that are less than `ready_to`. If an implementor does not say
-    // otherwise there are none.
+    // otherwise all words are ready: no list has more than this number.
     ghost ready_from: { Self → ℕ } = { λ _. 0 };
 
-    ghost ready_to: { Self → ℕ } = { λ _. 0 };
+    ghost ready_to: { Self → ℕ } = { λ _. 2 ^ 64 - 1 };
 
     // What is added to the place of a ready word to get its number.
     ghost ready_shift: { Self → ℕ } = { λ _. 0 };
@@ -49,7 +49,8 @@ pub trait Words {
         ensures ready_to { ready_to self.new ≡ ready_to self.old }
         ensures shift { ready_shift self.new ≡ ready_shift self.old };
 
-    /// Makes word `i` ready, and words after it, as many as it likes. `None` if it does not: then `word` reads word `i`.
+    /// Makes word `i` ready, and words after it, as many as it likes. `None` if it does not say which words are ready: then `word`
+    /// reads word `i`.
     ///
     /// Programs are run by this call and the next two. They go from each place to a later one, so an implementor may make it fast to
     /// go on from a word that was read.
