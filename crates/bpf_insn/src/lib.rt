@@ -11,4 +11,4 @@ mod word_list;
 
 pub use decoding::instruction_words;
 pub use instruction::{Insn, Offsets, Operand, Operation, Size, Test, WordFault};
-pub use word_list::Words;
+pub use word_list::{ReadyWords, Words};

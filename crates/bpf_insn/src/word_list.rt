@@ -1,10 +1,24 @@
 //! Lists of words that are read one at a time.
 
-ghost use Rattle.std.specs.Prelude.{◌≡◌, ◌+◌, ◌-◌, ◌<◌, ◌≤◌, ◌^◌, ◌↔◌, ℕ, IfSome, IsNone, IsTrue, List, length, slice_get};
+ghost use Rattle.std.specs.Prelude.{◌≡◌, ◌+◌, ◌-◌, ◌<◌, ◌≤◌, ◌^◌, ◌↔◌, ℕ, IfSome, IsTrue, List, length, slice_get};
+
+/// The words of a list that are ready, by number. The number of a word is its place plus `shift`.
+#[derive(Clone, Copy)]
+pub struct ReadyWords {
+    pub shift: usize,
+    /// The number after that of the last ready word.
+    pub limit: usize,
+}
 
 /// A list of 64-bit words, which need not lie in memory as a slice: reading one takes `&mut self`, so that an
 /// implementor can note that it was read.
+///
+/// An implementor writes `count` and `word`, and for contracts `words` and `rest`. `make_ready`, `is_ready` and `ready_word` have
+/// bodies that are right for every list. An implementor writes them itself, with `ready_from`, `ready_to` and `ready_shift`, if
+/// programs are to run faster over it.
 pub trait Words {
+    ghost use Rattle.bpf_insn.specs.declared.word_list.ReadyWords.{ReadyWords};
+
     // What an implementor keeps beside its list: a type and a value for contracts alone.
     ghost Rest: { Type 0 } = { Unit {0} };
 
@@ -12,13 +26,14 @@ pub trait Words {
 
     ghost rest: { Self → Rest };
 
-    // The words that are ready are those at the places from `ready_from` on that are less than `ready_to`.
-    ghost ready_from: { Self → ℕ };
+    // The ready words are those at the places from `ready_from` on that are less than `ready_to`. If an implementor does not say
+    // otherwise all words are ready: no list has more than this number.
+    ghost ready_from: { Self → ℕ } = { λ _. 0 };
 
-    ghost ready_to: { Self → ℕ };
+    ghost ready_to: { Self → ℕ } = { λ _. 2 ^ 64 - 1 };
 
-    // How much greater than a word's place the number is by which `ready_word` is asked for it.
-    ghost shift: { Self → ℕ };
+    // What is added to the place of a ready word to get its number.
+    ghost ready_shift: { Self → ℕ } = { λ _. 0 };
 
     /// Tells the number of words.
     fn count(&self) -> usize
@@ -29,42 +44,59 @@ pub trait Words {
         requires { i < length (words self.old) }
         ensures value { slice_get (words self.old) i ≡ Some result }
         ensures words_kept { words self.new ≡ words self.old }
-        ensures rest_kept { rest self.new ≡ rest self.old };
-
-    /// Makes word `i` ready, and words behind it, as many as it likes; or answers the word, as `word` does. Programs are run by this call
-    /// and the next three: they go from each place to a later one. So an implementor may make it fast to go on from a word that was
-    /// read. After a call of `word`, or of this one that answers, no word need be ready.
-    fn make_ready(&mut self, i: usize) -> Option<u64>
-        requires { i < length (words self.old) }
-        ensures ready { IsNone result → (ready_from self.new ≤ i) × (i < ready_to self.new) }
-        ensures value { IfSome result (λ word. slice_get (words self.old) i ≡ Some word) }
-        ensures words_kept { words self.new ≡ words self.old }
-        ensures rest_kept { rest self.new ≡ rest self.old };
-
-    /// Tells, where words are ready, how much greater than a word's place the number is by which `is_ready` and `ready_word` are asked
-    /// for it.
-    fn shift(&self) -> usize
-        requires { ready_from self.now < ready_to self.now }
-        ensures shift { result ≡ shift self.now }
-        ensures room { result + length (words self.now) < 2 ^ 64 };
-
-    /// Tells whether the number stands before the end of the words that are ready. So it tells whether the word of this number is ready, if
-    /// that is not before the first ready one. If it is ready, so are all words from the first ready one to it.
-    fn is_ready(&self, number: usize) -> bool
-        requires { number < shift self.now + length (words self.now) }
-        ensures { IsTrue result ↔ (number < shift self.now + ready_to self.now) };
-
-    /// Reads the word of this number, which is ready, as `word` does.
-    fn ready_word(&mut self, number: usize) -> u64
-        requires within { number < shift self.old + length (words self.old) }
-        requires from { shift self.old + ready_from self.old ≤ number }
-        requires to { number < shift self.old + ready_to self.old }
-        ensures value { slice_get (words self.old) (number - shift self.old) ≡ Some result }
+        ensures rest_kept { rest self.new ≡ rest self.old }
         ensures ready_from { ready_from self.new ≡ ready_from self.old }
         ensures ready_to { ready_to self.new ≡ ready_to self.old }
-        ensures shift { shift self.new ≡ shift self.old }
+        ensures shift { ready_shift self.new ≡ ready_shift self.old };
+
+    /// Makes word `i` ready, and words after it, as many as it likes. `None` if it does not say which words are ready: then `word`
+    /// reads word `i`.
+    ///
+    /// Programs are run by this call and the next two. They go from each place to a later one, so an implementor may make it fast to
+    /// go on from a word that was read.
+    fn make_ready(&mut self, i: usize) -> Option<ReadyWords>
+        requires { i < length (words self.old) }
+        ensures from { IfSome result (λ ready. ready_from self.new ≤ i) }
+        ensures to { IfSome result (λ ready. i < ready_to self.new) }
+        ensures shift { IfSome result (λ ready. ready.shift ≡ ready_shift self.new) }
+        ensures limit { IfSome result (λ ready. ready.limit ≡ ready_shift self.new + ready_to self.new) }
+        ensures room { IfSome result (λ ready. ready.shift + length (words self.new) < 2 ^ 64) }
         ensures words_kept { words self.new ≡ words self.old }
-        ensures rest_kept { rest self.new ≡ rest self.old };
+        ensures rest_kept { rest self.new ≡ rest self.old }
+    {
+        let _place = i;
+        None
+    }
+
+    /// Tests whether a number is less than the limit of the ready words. The word of that number is then ready, unless it is before
+    /// the first ready one; and so are all words between the two.
+    ///
+    /// If all words of a list are always ready, no test is needed.
+    #[inline(always)]
+    fn is_ready(&self, number: usize, limit: usize) -> bool
+        requires within { number < ready_shift self.now + length (words self.now) }
+        requires limit { limit ≡ ready_shift self.now + ready_to self.now }
+        ensures { IsTrue result ↔ (number < limit) }
+    {
+        number < limit
+    }
+
+    /// Reads the ready word of a number, as `word` does. `shift` is that of the ready words.
+    #[inline(always)]
+    fn ready_word(&mut self, number: usize, shift: usize) -> u64
+        requires shift { shift ≡ ready_shift self.old }
+        requires within { number < ready_shift self.old + length (words self.old) }
+        requires from { ready_shift self.old + ready_from self.old ≤ number }
+        requires to { number < ready_shift self.old + ready_to self.old }
+        ensures value { slice_get (words self.old) (number - ready_shift self.old) ≡ Some result }
+        ensures ready_from { ready_from self.new ≡ ready_from self.old }
+        ensures ready_to { ready_to self.new ≡ ready_to self.old }
+        ensures shift { ready_shift self.new ≡ ready_shift self.old }
+        ensures words_kept { words self.new ≡ words self.old }
+        ensures rest_kept { rest self.new ≡ rest self.old }
+    {
+        self.word(number - shift)
+    }
 }
 
 impl<'a> Words for &'a [u64] {
@@ -72,11 +104,7 @@ impl<'a> Words for &'a [u64] {
 
     ghost rest = { λ _. tt };
 
-    ghost ready_from = { λ _. 0 };
-
     ghost ready_to = { λ list. length list.now };
-
-    ghost shift = { λ _. 0 };
 
     fn count(&self) -> usize {
         self.len()
@@ -87,22 +115,15 @@ impl<'a> Words for &'a [u64] {
     }
 
     #[inline(always)]
-    fn make_ready(&mut self, _i: usize) -> Option<u64> {
-        None
+    fn make_ready(&mut self, _i: usize) -> Option<ReadyWords> {
+        Some(ReadyWords {
+            shift: 0,
+            limit: self.len(),
+        })
     }
 
     #[inline(always)]
-    fn shift(&self) -> usize {
-        0
-    }
-
-    #[inline(always)]
-    fn is_ready(&self, _number: usize) -> bool {
+    fn is_ready(&self, _number: usize, _limit: usize) -> bool {
         true
-    }
-
-    #[inline(always)]
-    fn ready_word(&mut self, number: usize) -> u64 {
-        self.word(number)
     }
 }

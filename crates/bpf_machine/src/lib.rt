@@ -2,7 +2,7 @@
 //! docs/MACHINE.md, "The machine"). No call takes memory.
 #![tactic(auto)]
 
-ghost use Rattle.std.specs.Prelude.{◌≡◌, ◌+◌, ◌-◌, ◌<◌, ◌≤◌, IfSome, IsNone, IsTrue, List, Ok, Some, length, slice_get, ℕ};
+ghost use Rattle.std.specs.Prelude.{◌≡◌, ◌+◌, ◌-◌, ◌<◌, ◌≤◌, ◌^◌, IfSome, IsNone, IsTrue, List, Ok, Some, length, slice_get, ℕ};
 ghost use Rattle.bpf_insn.specs.Word.{instruction_of};
 ghost use Rattle.bpf_verify.specs.Path.{IsAt, program_at};
 ghost use Rattle.bpf_verify.specs.Accepted.{IsAccepted};
@@ -15,7 +15,7 @@ mod execute;
 mod packet;
 
 use crate::execute::{CELL_COUNT, Next, Registers, execute, step_apart};
-use bpf_insn::{Insn, Words};
+use bpf_insn::{Insn, ReadyWords, Words};
 
 /// The greatest number of bytes of a packet.
 pub const MAX_PACKET: usize = 65_535;
@@ -106,7 +106,8 @@ pub fn run_copy<W: Words, const COPY: usize>(
         x: 0,
     };
     'running: loop {
-        if let Some(word) = words.make_ready(state.place) {
+        let Some(ready) = words.make_ready(state.place) else {
+            let word = words.word(state.place);
             let _insn = instruction(words, from, len, state.place, word);
             let step = step_apart(word, state.a, state.x, &mut cells, packet);
             state.a = step.a;
@@ -124,13 +125,13 @@ pub fn run_copy<W: Words, const COPY: usize>(
                     return Outcome { value, steps };
                 }
             }
-        }
-        // Where the program's last word is ready, so are all its words from here on. Then none of them is asked about.
-        let last = from + (len - 1) + words.shift();
-        let (next, end) = if words.is_ready(last) {
-            run_ready::<W, COPY, true>(words, from, len, packet, state, &mut cells)
+        };
+        // If the program's last word is ready, so are all its words from here on. Then none of them is tested.
+        let last = from + (len - 1) + ready.shift;
+        let (next, end) = if words.is_ready(last, ready.limit) {
+            run_ready::<W, COPY, true>(words, from, len, packet, state, ready, &mut cells)
         } else {
-            run_ready::<W, COPY, false>(words, from, len, packet, state, &mut cells)
+            run_ready::<W, COPY, false>(words, from, len, packet, state, ready, &mut cells)
         };
         state = next;
         if let Some(value) = end {
@@ -151,6 +152,7 @@ fn run_ready<W: Words, const COPY: usize, const ALL: bool>(
     len: usize,
     packet: &[u8],
     state: Running,
+    ready: ReadyWords,
     cells: &mut [u32; CELL_COUNT],
 ) -> (Running, Option<u32>)
     requires within { from + len ≤ length (W.words words.old) }
@@ -158,6 +160,9 @@ fn run_ready<W: Words, const COPY: usize, const ALL: bool>(
     requires packet { length packet.now ≤ MAX_PACKET }
     requires inside { from ≤ state.place }
     requires ready { (W.ready_from words.old ≤ state.place) × (state.place < W.ready_to words.old) }
+    requires shift { ready.shift ≡ W.ready_shift words.old }
+    requires limit { ready.limit ≡ W.ready_shift words.old + W.ready_to words.old }
+    requires room { ready.shift + length (W.words words.old) < 2 ^ 64 }
     requires all { IsTrue ALL → from + len ≤ W.ready_to words.old }
     requires running { IsRunning (program_at (W.words words.old) from len) packet.now (state.place - from) state.passed_over state.a state.x cells.old }
     ensures value { IfSome result.1 (λ value. ending_of (program_at (W.words words.old) from len) packet.now ≡ Ret value) }
@@ -175,11 +180,11 @@ fn run_ready<W: Words, const COPY: usize, const ALL: bool>(
         a,
         x,
     } = state;
-    let shift = words.shift();
+    let ReadyWords { shift, limit } = ready;
     let mut number = place + shift;
     let mut machine = Registers { a, x };
-    'ready: while ALL || words.is_ready(number) {
-        let word = words.ready_word(number);
+    'ready: while ALL || words.is_ready(number, limit) {
+        let word = words.ready_word(number, shift);
         let insn = instruction(words, from, len, number - shift, word);
         number += 1;
         match execute(&mut machine, cells, insn, packet) {

@@ -1,11 +1,11 @@
 //! Read-side critical sections.
 
-ghost use Rattle.std.specs.Prelude.{◌≡◌, ◌+◌};
+ghost use Rattle.std.specs.Prelude.{◌≡◌, ◌+◌, ◌<◌, ◌^◌};
 ghost use Rattle.read_section.specs.body.Found.{Knows, KnowsIn-prop};
 
 use crate::reading::{heads_of, length_of, read_by_row};
 use crate::worker::Worker;
-use bpf_insn::Words;
+use bpf_insn::{ReadyWords, Words};
 use config_image::ROW_WORDS;
 use extent_memory::Extent;
 use versions::{ROWS, ROWS_BEGIN};
@@ -17,34 +17,8 @@ struct Kept {
     row: usize,
     // Where the programs begin in the image; 0 where that is not known yet. What is before them stands in the row.
     heads: usize,
-    // The extent whose words are ready, and the place in the table behind its last word.
+    // The extent whose words are ready.
     extent: Extent,
-    limit: usize,
-}
-
-impl Kept {
-    ghost use Rattle.std.specs.Prelude.{◌≡◌, ◌+◌, ◌<◌, ◌^◌};
-
-    // A call's result is known to be a number of 64 bits.
-    #[inline(always)]
-    fn shift(self) -> usize
-        ensures { result ≡ self.extent.shift }
-    {
-        self.extent.shift
-    }
-
-    #[inline(always)]
-    fn with_extent(self, extent: Extent) -> Kept
-        requires { extent.shift + extent.end < 2 ^ 64 }
-        ensures { result ≡ record { row = self.row; heads = self.heads; extent = extent; limit = extent.shift + extent.end } }
-    {
-        Kept {
-            row: self.row,
-            heads: self.heads,
-            extent,
-            limit: extent.shift + extent.end,
-        }
-    }
 }
 
 // It has no word.
@@ -55,6 +29,19 @@ const NO_EXTENT: Extent = Extent {
     shift: 0,
 };
 
+// The words of an extent. Their numbers are their places in the table.
+#[inline(always)]
+fn ready_words(extent: Extent) -> ReadyWords
+    requires { extent.shift + extent.end < 2 ^ 64 }
+    ensures shift { result.shift ≡ extent.shift }
+    ensures limit { result.limit ≡ extent.shift + extent.end }
+{
+    ReadyWords {
+        shift: extent.shift,
+        limit: extent.shift + extent.end,
+    }
+}
+
 /// A worker's read-side critical section: the words of one version's row.
 ///
 /// A section cannot be dropped: `leave` or `abandon` spends it.
@@ -63,14 +50,13 @@ const NO_EXTENT: Extent = Extent {
 pub struct Section<'a> {
     worker: &'a mut Worker,
     kept: Kept,
-    ghost limit: { kept.limit ≡ kept.extent.shift + kept.extent.end },
     ghost known: { Knows worker.now.view kept.row kept.heads kept.extent } by { KnowsIn-prop worker.now.view.stage worker.now.view.seen worker.now.view.pages kept.row kept.heads kept.extent },
 }
 
 /// The words of the section's row, `ROW_WORDS` of them: the image of the configuration, and then zeros. Each is read by a few
 /// fetches, of which the last tells it. A word that is ready takes one.
 impl Words for Section<'_> {
-    ghost use Rattle.std.specs.Prelude.{◌≡◌, ◌+◌, ◌-◌, ◌<◌, ◌≤◌, IfSome, IsNone, Some, length, slice_get};
+    ghost use Rattle.std.specs.Prelude.{◌≡◌, ◌+◌, ◌-◌, ◌<◌, ◌≤◌, ◌^◌, IfSome, Some, length, slice_get};
     ghost use Rattle.read_section.specs.Reads.{FetchedAtMost, FewFetches, Reads};
     ghost use Rattle.read_section.specs.Section.{SectionRest, borrow_of, held_words, ready_from, ready_to, section_rest, shift_of, worker_of};
 
@@ -84,7 +70,7 @@ impl Words for Section<'_> {
 
     ghost ready_to = { λ section. ready_to section };
 
-    ghost shift = { λ section. shift_of section };
+    ghost ready_shift = { λ section. shift_of section };
 
     fn count(&self) -> usize {
         if self.worker.is_inside() {
@@ -102,6 +88,9 @@ impl Words for Section<'_> {
         ensures same_worker { borrow_of self.new ≡ borrow_of self.old }
         ensures words_kept { held_words (worker_of self.new) ≡ held_words (worker_of self.old) }
         ensures rest_kept { section_rest self.new ≡ section_rest self.old }
+        ensures ready_from { ready_from self.new ≡ ready_from self.old }
+        ensures ready_to { ready_to self.new ≡ ready_to self.old }
+        ensures shift { shift_of self.new ≡ shift_of self.old }
     {
         if i == 0 {
             let form = self.worker.fetch(ROWS_BEGIN + self.kept.row * ROW_WORDS);
@@ -123,45 +112,36 @@ impl Words for Section<'_> {
     // The words of the extent that has word i are ready then. An extent that is not remembered is searched for by a call that is not
     // inlined: it leaves the registers to the program's run.
     #[inline(always)]
-    fn make_ready(&mut self, i: usize) -> Option<u64>
+    fn make_ready(&mut self, i: usize) -> Option<ReadyWords>
         requires { i < length (held_words (worker_of self.old)) }
-        ensures ready { IsNone result → (ready_from self.new ≤ i) × (i < ready_to self.new) }
-        ensures value { IfSome result (λ word. slice_get (held_words (worker_of self.old)) i ≡ Some word) }
+        ensures from { IfSome result (λ ready. ready_from self.new ≤ i) }
+        ensures to { IfSome result (λ ready. i < ready_to self.new) }
+        ensures shift { IfSome result (λ ready. ready.shift ≡ shift_of self.new) }
+        ensures limit { IfSome result (λ ready. ready.limit ≡ shift_of self.new + ready_to self.new) }
+        ensures room { IfSome result (λ ready. ready.shift + length (held_words (worker_of self.new)) < 2 ^ 64) }
         ensures few_fetches { FetchedAtMost 13 (worker_of self.old) (worker_of self.new) }
-        ensures answered { IfSome result (λ word. FewFetches i word (worker_of self.old) (worker_of self.new)) }
         ensures same_worker { borrow_of self.new ≡ borrow_of self.old }
         ensures words_kept { held_words (worker_of self.new) ≡ held_words (worker_of self.old) }
         ensures rest_kept { section_rest self.new ≡ section_rest self.old }
     {
         if let Some(extent) = self.worker.recall(i) {
-            self.kept = self.kept.with_extent(extent);
-            return None;
+            self.kept.extent = extent;
+            return Some(ready_words(extent));
         }
-        let word = read_by_row(self.worker, self.kept.row, i);
+        // The read notes the extent of the word.
+        let _word = read_by_row(self.worker, self.kept.row, i);
         match self.worker.recall(i) {
             Some(extent) => {
-                self.kept = self.kept.with_extent(extent);
-                None
+                self.kept.extent = extent;
+                Some(ready_words(extent))
             }
-            None => {
-                self.kept = self.kept.with_extent(NO_EXTENT);
-                Some(word)
-            }
+            None => None,
         }
     }
 
     #[inline(always)]
-    fn shift(&self) -> usize {
-        self.kept.shift()
-    }
-
-    #[inline(always)]
-    fn is_ready(&self, number: usize) -> bool {
-        number < self.kept.limit
-    }
-
-    #[inline(always)]
-    fn ready_word(&mut self, number: usize) -> u64
+    fn ready_word(&mut self, number: usize, shift: usize) -> u64
+        requires shift { shift ≡ shift_of self.old }
         requires within { number < shift_of self.old + length (held_words (worker_of self.old)) }
         requires from { shift_of self.old + ready_from self.old ≤ number }
         requires to { number < shift_of self.old + ready_to self.old }
@@ -174,6 +154,8 @@ impl Words for Section<'_> {
         ensures words_kept { held_words (worker_of self.new) ≡ held_words (worker_of self.old) }
         ensures rest_kept { section_rest self.new ≡ section_rest self.old }
     {
+        // The clauses alone need it: the number is the place in the table.
+        let _shift = shift;
         self.worker.fetch(number)
     }
 }
@@ -197,7 +179,6 @@ impl<'a> Section<'a> {
                 row,
                 heads,
                 extent: NO_EXTENT,
-                limit: 0,
             },
         }
     }

@@ -114,10 +114,10 @@ impl<'a> PagedPrograms<'a> {
         ensures behind { IsBehind self.old.programs self.old.pages.now self.new.programs self.new.pages.now }
         ensures counted { IsCounted self.new.programs self.new.pages.now }
     {
-        let Some((other, own)) = self.next() else {
+        let Some((passed, own)) = self.next() else {
             return None;
         };
-        if same_words(words, other) {
+        if same_words(words, passed) {
             return Some(own);
         }
         None

@@ -4,7 +4,7 @@ ghost use Rattle.std.specs.Prelude.{◌≡◌};
 
 use super::numbered::applied;
 use super::tables::on_table;
-use bpf_insn::Words;
+use bpf_insn::{ReadyWords, Words};
 use bpf_verify::Program;
 use ipv4_fields::Endpoint;
 use member_group::{Command, Config};
@@ -73,14 +73,13 @@ fn ready_count<W: Words>(words: &mut W, first: usize, last: usize, i: usize) -> 
     if count <= i {
         return 0;
     }
-    if let Some(_word) = words.make_ready(i) {
+    let Some(ReadyWords { shift, limit }) = words.make_ready(i) else {
         return 0;
-    }
-    let shift = words.shift();
+    };
     let mut ready = 0usize;
     for place in i..count {
-        if words.is_ready(place + shift) {
-            if words.ready_word(place + shift) != load_at(first, last, place) {
+        if words.is_ready(place + shift, limit) {
+            if words.ready_word(place + shift, shift) != load_at(first, last, place) {
                 return 0;
             }
             ready = ready.saturating_add(1);

@@ -1,9 +1,14 @@
-use Rattle.std.proofs.Common.{Some, ap, arith, inl, subst, sym, ◌≡◌, ◌∙◌}
+use Rattle.std.proofs.Common.{Some, ap, arith, inl, rules, slice_get, subst, sym, ◌*◌, ◌+◌, ◌/◌, ◌^◌, ◌≡◌, ◌∙◌, ℕ}
+use Rattle.config_image.specs.declared.TheConstants.{ROW_WORDS}
 use Rattle.extent_memory.specs.Memory.{Holds}
+use Rattle.versions.specs.declared.layout.TheConstants.{ROWS_BEGIN}
 use Rattle.versions.specs.declared.view.Stage.TheVariants.{Inside}
-use Rattle.read_section.specs.Section.{borrow_of, worker_of}
-use Rattle.read_section.specs.Worker.{WorkerValue}
+use Rattle.versions.specs.View.{after_fetch}
+use Rattle.read_section.specs.Reads.{FewFetches}
+use Rattle.read_section.specs.Section.{borrow_of, held_words, worker_of}
+use Rattle.read_section.specs.Worker.{WorkerValue, steps}
 use Rattle.read_section.specs.body.Found.{Knows}
+use Rattle.read_section.specs.body.Steps.{SeesWord}
 use Rattle.read_section.proofs.FrontLemmas.{front_held, front_reads, front_value, front_within}
 use Rattle.read_section.proofs.HeldWordLemmas.{held_stage}
 use Rattle.read_section.proofs.ExtentReadLemmas.{extent_held, extent_kept, extent_reads, extent_value, extent_within}
@@ -28,7 +33,7 @@ returns-then-i-self-clause-few_fetches c = let s = c.args.self.now in front_read
 
 pub invariant_of-self-2 : goal.invariant_of-self-2
 invariant_of-self-2 c = let s = c.args.self.now in let w = worker_of s in let read = c.read_by_row-word.ensures.few_fetches in let t = held_stage w.view.stage w.view.seen c.args.i c.requires in let after = c.read_by_row-word.new.worker in
-    record { limit = s.limit; known = heads_found after s.kept.row s.kept.heads s.kept.extent t.0 t.1 t.2 (subst (λ (v : WorkerValue). v.view.stage ≡ Inside t.0 t.1 t.2) (sym read.only) t.3) (subst (λ (v : WorkerValue). Knows v.view s.kept.row s.kept.heads s.kept.extent) (sym read.only) s.known) c.form.result c.form.ensures c.heads_of-self.result c.heads_of-self.ensures }
+    record { known = heads_found after s.kept.row s.kept.heads s.kept.extent t.0 t.1 t.2 (subst (λ (v : WorkerValue). v.view.stage ≡ Inside t.0 t.1 t.2) (sym read.only) t.3) (subst (λ (v : WorkerValue). Knows v.view s.kept.row s.kept.heads s.kept.extent) (sym read.only) s.known) c.form.result c.form.ensures c.heads_of-self.result c.heads_of-self.ensures }
 
 pub returns-clause-rest_kept : goal.returns-clause-rest_kept
 returns-clause-rest_kept c = let s = c.args.self.now in λ j. record { borrow = borrow_of s; pinned = pinned_kept 13 c.args.i c.read_by_row-word.result (worker_of s) c.read_by_row-word.new.worker c.read_by_row-word.ensures.few_fetches j }
@@ -38,12 +43,15 @@ fetch-form-requires-clause-held c = let s = c.args.self.now in let w = worker_of
 
 pub returns-then-i-eq0-clause-value : goal.returns-then-i-eq0-clause-value
 returns-then-i-eq0-clause-value c = let s = c.args.self.now in let w = worker_of s in
-    first_word w s.kept.row c.args.i (row_alone w s.kept.row s.kept.heads s.kept.extent c.args.i c.requires s.known) c.requires c.fetch-form.result c.fetch-form.ensures.word c.if-i-eq0.true ∙ ap Some (sym c.length_of.ensures)
+    let told : (x length : ℕ) → SeesWord w (ROWS_BEGIN + s.kept.row * ROW_WORDS) x → length ≡ x / 2 ^ 32 → slice_get (held_words w) c.args.i ≡ Some length =
+    λ x length sees is. first_word w s.kept.row c.args.i (row_alone w s.kept.row s.kept.heads s.kept.extent c.args.i c.requires s.known) c.requires x sees c.if-i-eq0.true ∙ ap Some (sym is) in
+    search (rules, told)
 
 pub returns-then-i-eq0-clause-few_fetches : goal.returns-then-i-eq0-clause-few_fetches
 returns-then-i-eq0-clause-few_fetches c = let s = c.args.self.now in let w = worker_of s in let row = row_alone w s.kept.row s.kept.heads s.kept.extent c.args.i c.requires s.known in
-    read_last 0 w w (none_fetched w) c.fetch-form.new.self _ c.fetch-form.result c.fetch-form.ensures.one_fetch (first_held w s.kept.row c.args.i row c.requires) 13 c.args.i _ (omega arith)
-    (first_newest w s.kept.row c.args.i row c.requires c.fetch-form.result c.fetch-form.ensures.word _ (inl c.if-i-eq0.true))
+    let fetched : (x answer : ℕ) (after : WorkerValue) → SeesWord w (ROWS_BEGIN + s.kept.row * ROW_WORDS) x → after ≡ steps (after_fetch (ROWS_BEGIN + s.kept.row * ROW_WORDS) x) w → FewFetches c.args.i answer w after =
+    λ x answer after sees e. read_last 0 w w (none_fetched w) after _ x e (first_held w s.kept.row c.args.i row c.requires) 13 c.args.i answer (omega arith) (first_newest w s.kept.row c.args.i row c.requires x sees answer (inl c.if-i-eq0.true)) in
+    search (rules, fetched)
 
 pub overflow_add-self-then-i-self-2-2 : goal.overflow_add-self-then-i-self-2-2
 overflow_add-self-then-i-self-2-2 c = let s = c.args.self.now in let w = worker_of s in let there : Holds s.kept.extent c.args.i = (c.if-self-i.true, c.if-i-self-2.true) in let is = extent_kept w s.kept.row s.kept.heads s.kept.extent s.known (let low = c.if-self-i.true in let high = c.if-i-self-2.true in omega arith) in
