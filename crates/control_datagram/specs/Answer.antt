@@ -1,13 +1,16 @@
 -- What a control datagram is answered, and what that does (docs/COMMANDS.md, "serve").
-use Rattle.std.specs.Prelude.{◌≡◌, ◌≢◌, List, codes, ℕ}
+use Rattle.std.specs.Prelude.{◌≡◌, ◌≢◌, List, None, Option, Some, codes, ℕ}
 use Rattle.control_line.specs.Answer.{IsAnswered}
 use Rattle.control_line.specs.Reply.{reply_text}
 use Rattle.control_line.specs.declared.reply.LineAnswer.{LineAnswer}
+use Rattle.ipv4_fields.specs.declared.endpoint.Endpoint.{Endpoint}
 use Rattle.dispatch.specs.Tally.{TallyValue, loaded, place_of}
 use Rattle.dispatch.specs.Totals.{totals_text}
 use Rattle.dispatch.specs.declared.kind.Totals.{Totals}
 use Rattle.packet_verdict.specs.declared.kind.Kind.TheVariants as kind
 use Rattle.read_section.specs.Operator.{OperatorValue}
+use Rattle.control_datagram.specs.Ignored.{IsIgnored}
+use Rattle.control_datagram.specs.declared.ignored.BoundAddresses.{BoundAddresses}
 use Rattle.control_datagram.specs.declared.ControlAnswer.{ControlAnswer}
 use Rattle.control_datagram.specs.declared.ControlAnswer.TheVariants.{Line, Stop, Totals as TotalsAnswer}
 
@@ -33,12 +36,19 @@ pub data RepliesToLine (text : List ℕ) (before after : OperatorValue) : List �
   no_memory : after ≡ before → RepliesToLine text before after (codes "failed E3")
 
 -- one case a kind of text; an operator and a tally of which a case says nothing else stay as they were
-pub data AnswersDatagram (text : List ℕ) (operator operator' : OperatorValue) (tally tally' : TallyValue) : ControlAnswer → Type 0 where
-  stops : text ≡ codes "stop" → operator' ≡ operator → tally' ≡ tally → AnswersDatagram text operator operator' tally tally' Stop
+pub data AnswersText (text : List ℕ) (operator operator' : OperatorValue) (tally tally' : TallyValue) : ControlAnswer → Type 0 where
+  stops : text ≡ codes "stop" → operator' ≡ operator → tally' ≡ tally → AnswersText text operator operator' tally tally' Stop
   tells_totals : (totals : Totals) → text ≡ codes "totals" → operator' ≡ operator → tally' ≡ all_loaded totals tally →
-      AnswersDatagram text operator operator' tally tally' (TotalsAnswer totals)
+      AnswersText text operator operator' tally tally' (TotalsAnswer totals)
   answers_line : (reply : List ℕ) → IsOther text → RepliesToLine text operator operator' reply → tally' ≡ tally →
-      AnswersDatagram text operator operator' tally tally' (Line reply)
+      AnswersText text operator operator' tally tally' (Line reply)
+
+-- a datagram is ignored, and nothing is done; or its text is answered
+pub data AnswersDatagram (bound : BoundAddresses) (sender : Endpoint) (text : List ℕ) (operator operator' : OperatorValue) (tally tally' : TallyValue)
+    : Option ControlAnswer → Type 0 where
+  ignores : IsIgnored bound sender text → operator' ≡ operator → tally' ≡ tally → AnswersDatagram bound sender text operator operator' tally tally' None
+  answers : (answer : ControlAnswer) → ¬ IsIgnored bound sender text → AnswersText text operator operator' tally tally' answer →
+      AnswersDatagram bound sender text operator operator' tally tally' (Some answer)
 
 -- what is sent back
 abbrev pub bytes_of : ControlAnswer → List ℕ

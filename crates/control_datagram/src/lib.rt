@@ -1,19 +1,27 @@
-//! Control datagrams, one answer each (docs/COMMANDS.md, "serve"): `stop`, `totals`, and every other text as a control line.
+//! Control datagrams (docs/COMMANDS.md, "serve"): `stop`, `totals`, and every other text as a control line, one answer each. A
+//! datagram that looks like a reply, or that comes from the switch itself, is ignored.
 //!
-//! Nothing here knows of a socket: a datagram is the bytes that it carried, and its answer the bytes to send back.
+//! Nothing here knows of a socket: a datagram is its sender's address and the bytes that it carried, and its answer the bytes to
+//! send back.
 #![tactic(auto)]
 
-ghost use Rattle.std.specs.Prelude.{◌≡◌, ◌≤◌, ◌++◌, OnOk, length};
+ghost use Rattle.std.specs.Prelude.{◌≡◌, ◌≤◌, ◌++◌, IfSome, OnOk, length};
 ghost use Rattle.control_line.specs.declared.reply.TheConstants.{REPLY_LIMIT};
-ghost use Rattle.control_datagram.specs.Answer.{AnswersDatagram, RepliesToLine, all_loaded, bytes_of};
+ghost use Rattle.control_datagram.specs.Answer.{AnswersDatagram, AnswersText, RepliesToLine, all_loaded, bytes_of};
+ghost use Rattle.control_datagram.specs.Ignored.{IsAlwaysIgnored};
+
+mod ignored;
 
 use control_line::{Reply, is_word, line};
 use dispatch::{Kind, Tally, Totals};
+pub use ignored::BoundAddresses;
+use ignored::is_ignored;
+use ipv4_fields::Endpoint;
 use read_section::Operator;
 use std::alloc::{AllocError, Global};
 use std::io::Write;
 
-/// What a control datagram is answered.
+/// The answer to a control datagram.
 #[derive(Drop)]
 pub enum ControlAnswer {
     /// `ok stop`: the switch is asked to stop.
@@ -74,17 +82,14 @@ fn line_reply(alloc: Global, text: &[u8], operator: &mut Operator) -> Reply
     }
 }
 
-/// Answers the text of a control datagram, and does what it asks for.
-///
-/// `stop` changes nothing here: its caller stops. `totals` reads each total by one load, in the order of their line. Every other
-/// text is answered and done by `line`; where memory is refused then, the reply is `failed E3` and nothing was changed.
-pub fn answer(
+// Answers a text, and does what it asks for.
+fn answer_text(
     alloc: Global,
     text: &[u8],
     operator: &mut Operator,
     tally: &mut Tally,
 ) -> ControlAnswer
-    ensures answered { AnswersDatagram text.now operator.old operator.new tally.old tally.new result }
+    ensures answered { AnswersText text.now operator.old operator.new tally.old tally.new result }
     ensures table { tally.new.table ≡ tally.old.table }
 {
     if is_word(text, "stop") {
@@ -94,4 +99,29 @@ pub fn answer(
         return ControlAnswer::Totals(read_totals(tally));
     }
     ControlAnswer::Line(line_reply(alloc, text, operator))
+}
+
+/// Answers a control datagram, and does what it asks for. `None` if the datagram is ignored; then nothing was done.
+///
+/// A datagram is ignored if its text begins with a word that begins replies and a space, or if its sender is one of the switch's
+/// two sockets. Each answer is such a text, so no switch answers an answer.
+///
+/// `stop` changes nothing here: its caller stops. `totals` reads each total by one load, in the order of their line. Every other
+/// text is answered and done by `line`; if memory is refused then, the reply is `failed E3` and nothing was changed.
+pub fn answer(
+    alloc: Global,
+    bound: &BoundAddresses,
+    sender: Endpoint,
+    text: &[u8],
+    operator: &mut Operator,
+    tally: &mut Tally,
+) -> Option<ControlAnswer>
+    ensures answered { AnswersDatagram bound.now sender text.now operator.old operator.new tally.old tally.new result }
+    ensures no_loop { IfSome result (λ answer. IsAlwaysIgnored (bytes_of answer)) }
+    ensures table { tally.new.table ≡ tally.old.table }
+{
+    if is_ignored(bound, sender, text) {
+        return None;
+    }
+    Some(answer_text(alloc, text, operator, tally))
 }

@@ -6,7 +6,7 @@ mod StandardFacts
 mod PrecedeLemmas
 mod JudgeLemmas
 mod TokenLemmas
-pub mod ScanLemmas
+mod ScanLemmas
 mod PostfixLemmas
 mod TakenLemmas
 mod ParseLemmas

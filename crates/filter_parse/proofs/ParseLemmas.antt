@@ -9,7 +9,7 @@ use Rattle.filter_parse.specs.declared.item.Item.{Item}
 use Rattle.filter_parse.specs.declared.token.Token.{Token}
 use Rattle.filter_parse.specs.Fault.{HasFault, HasTree, IsFaultOf, IsFaultless, IsTreeOf, deep, faulty, own_fault, unexpected, unfinished}
 use Rattle.filter_parse.specs.Grammar.{Spells}
-use Rattle.filter_parse.specs.Laws.{IsUnambiguous}
+use Rattle.filter_parse.specs.Laws.{HasOneTree, IsUnambiguous}
 use Rattle.filter_parse.specs.body.Parser.{postfix_of}
 use Rattle.filter_parse.proofs.Gathered.{with_tree}
 use Rattle.filter_parse.specs.body.Postfix.{HasTree as HasPartsOfTree, depths_of, first_depth, tree_parts}
@@ -26,6 +26,10 @@ unambiguous tokens one other d e =
     let parts : Some (with_tree one []) ≡ Some (with_tree other []) = sym (run-spelt d) ∙ run-spelt e in
     let same : with_tree one [] ≡ with_tree other [] = cc in
     (same-tree one other [] [] (sym (reverse-tree one []) ∙ ap reverse same ∙ reverse-tree other [])).0
+
+pub one-tree : HasOneTree
+one-tree text one other has also =
+    unambiguous (kinds (tokens_of text)) one other (tree-by text one has).spelt (tree-by text other also).spelt
 
 pub fault-says : (text : List ℕ) (fault : ParseFault) → postfix_of text ≡ Err fault → HasFault text fault
 fault-says text fault h = fault-there text fault (subst (Says text) h (postfix_of-says text))

@@ -9,7 +9,11 @@ use Rattle.filter_parse.specs.declared.token.Token.{Token}
 use Rattle.filter_parse.specs.Fault.{HasFault, HasTree}
 use Rattle.filter_parse.specs.Grammar.{Spells}
 
--- no tokens spell two trees
+-- a text has at most one tree
+abbrev pub HasOneTree : Type 0
+HasOneTree = (text : List ℕ) (one other : Tree) → HasTree text one → HasTree text other → one ≡ other
+
+-- no tokens spell two trees, be the trees within the limits or not
 abbrev pub IsUnambiguous : Type 0
 IsUnambiguous = (tokens : List Token) (one other : Tree) → Spells tokens one → Spells tokens other → one ≡ other
 

@@ -9,7 +9,7 @@ ghost use Rattle.filter_tree.specs.Tree.{Tree};
 ghost use Rattle.filter_tree.specs.View.{tree_of};
 ghost use Rattle.filter_parse.specs.declared.state.State.TheVariants.{Expects};
 ghost use Rattle.filter_parse.specs.Fault.{HasFault, HasTree};
-ghost use Rattle.filter_parse.specs.Laws.{ExcludesFaults, HasOneFault, IsUnambiguous, ReadsBack};
+ghost use Rattle.filter_parse.specs.Laws.{ExcludesFaults, HasOneFault, HasOneTree, IsUnambiguous, ReadsBack};
 ghost use Rattle.filter_parse.specs.body.Parser.{parsing, parsing_of};
 ghost use Rattle.filter_parse.specs.body.Place.{IsBlank};
 
@@ -87,9 +87,11 @@ fn read_tree<'a, A: Allocator + Clone>(
     Ok(())
 }
 
-/// No tokens spell two trees, so a text has at most one. A text with a tree has no fault, and each other text at most one.
+/// Law: a text has at most one tree and at most one fault, and never both. No tokens spell two trees, not even trees that are too
+/// deep. It runs nothing.
 pub fn one_value()
-    ensures one_value { IsUnambiguous }
+    ensures one_value { HasOneTree }
+    ensures unambiguous { IsUnambiguous }
     ensures no_fault { ExcludesFaults }
     ensures one_fault { HasOneFault }
 {}

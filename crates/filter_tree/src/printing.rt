@@ -1,6 +1,6 @@
 //! How an expression is printed (docs/EXPRESSIONS.md, "How an expression is printed").
 
-ghost use Rattle.std.specs.Prelude.{◌≡◌, ◌++◌, IfOk, OnOk, string_bytes};
+ghost use Rattle.std.specs.Prelude.{◌≡◌, ◌++◌, IfOk, OnOk, codes, string_bytes};
 ghost use Rattle.std.specs.Fmt.{decimal};
 ghost use Rattle.filter_tree.specs.Text.{beside, printed, printed_address, printed_arith, printed_direction, printed_operator, printed_primitive, printed_protocol, printed_relation, printed_size, printed_transport};
 ghost use Rattle.filter_tree.specs.Tree.{IsArithInRange, IsInRange, IsPrimitiveInRange};
@@ -22,6 +22,18 @@ impl<A: Allocator> Expr<A> {
     {
         let mut text = String::new(alloc);
         print_expr(&mut text, self)?;
+        Ok(text)
+    }
+}
+
+impl<A: Allocator> Arith<A> {
+    /// Prints the arithmetic expression as a text in memory of `alloc`, as a side of a relation is printed.
+    pub fn print<B: Allocator>(&self, alloc: B) -> Result<String<B>, OutOfMemory>
+        ensures printed { IfOk result (λ text. string_bytes text ≡ printed_arith (codes " ") (arith_tree_of self.now)) }
+        ensures in_range { IfOk result (λ _. IsArithInRange (arith_tree_of self.now)) }
+    {
+        let mut text = String::new(alloc);
+        print_arith(&mut text, " ", self)?;
         Ok(text)
     }
 }

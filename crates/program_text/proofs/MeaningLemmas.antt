@@ -15,10 +15,7 @@ use Rattle.bpf_verify.specs.declared.fault.Fault.TheVariants.{Ancillary, BadCell
 use Rattle.bpf_verify.proofs.FaultLemmas.{fault_refutes}
 use Rattle.filter_compile.specs.declared.fault.CompileFault.TheVariants as compile
 use Rattle.filter_parse.specs.Fault.{HasFault as HasParseFault, HasTree}
-use Rattle.filter_parse.proofs.ScanLemmas.{tree-by}
-use Rattle.filter_parse.specs.Laws.{ExcludesFaults, HasOneFault as HasOneParseFault, IsUnambiguous}
-use Rattle.filter_parse.specs.Token.{kinds}
-use Rattle.filter_parse.specs.body.Scan.{tokens_of}
+use Rattle.filter_parse.specs.Laws.{ExcludesFaults, HasOneFault as HasOneParseFault, HasOneTree}
 use Rattle.filter_parse.specs.declared.fault.ParseFault.{ParseFault}
 use Rattle.filter_parse.specs.declared.fault.ParseFault.TheVariants as parse
 use Rattle.filter_tree.specs.Measure.{cells_of, size_of}
@@ -132,7 +129,7 @@ one_first program one other first also = two_firsts program one other (as_first 
 
 -- what holds of the grammar of expressions
 pub record GrammarLaws : Type 0 where
-  pub one_tree : IsUnambiguous
+  pub one_tree : HasOneTree
   pub no_fault : ExcludesFaults
   pub one_fault : HasOneParseFault
 
@@ -174,19 +171,15 @@ as_expression text (Compiling compile.TooLong) (tree, has, within, above) = larg
 as_expression text (Compiling compile.OutOfMemory) fault = absurd fault
 as_expression text OutOfMemory fault = absurd fault
 
-one_tree : GrammarLaws → (text : List ℕ) (one other : Tree) → HasTree text one → HasTree text other → one ≡ other
-one_tree laws text one other has also =
-    laws.one_tree (kinds (tokens_of text)) one other (tree-by text one has).spelt (tree-by text other also).spelt
-
 two_expression_faults : GrammarLaws → (text : List ℕ) (one other : TextFault) → ExpressionWhy text one → ExpressionWhy text other → one ≡ other
 two_expression_faults laws text one other (unparsed fault is) (unparsed another also) = ap Expression (laws.one_fault text fault another is also)
 two_expression_faults laws text one other (unparsed fault is) (spread tree has above) = absurd (laws.no_fault text tree fault has is)
 two_expression_faults laws text one other (unparsed fault is) (large tree has within above) = absurd (laws.no_fault text tree fault has is)
 two_expression_faults laws text one other (spread tree has above) (unparsed fault is) = absurd (laws.no_fault text tree fault has is)
 two_expression_faults laws text one other (spread tree has above) (spread another also more) = refl
-two_expression_faults laws text one other (spread tree has above) (large another also within more) = let same = ap cells_of (one_tree laws text tree another has also) in absurd (omega arith)
+two_expression_faults laws text one other (spread tree has above) (large another also within more) = let same = ap cells_of (laws.one_tree text tree another has also) in absurd (omega arith)
 two_expression_faults laws text one other (large tree has within above) (unparsed fault is) = absurd (laws.no_fault text tree fault has is)
-two_expression_faults laws text one other (large tree has within above) (spread another also more) = let same = ap cells_of (one_tree laws text tree another has also) in absurd (omega arith)
+two_expression_faults laws text one other (large tree has within above) (spread another also more) = let same = ap cells_of (laws.one_tree text tree another has also) in absurd (omega arith)
 two_expression_faults laws text one other (large tree has within above) (large another also inside more) = refl
 
 pub one_fault : GrammarLaws → HasOneFault
@@ -197,7 +190,7 @@ pub one_program : GrammarLaws → HasOneProgram
 one_program laws (assembly text) (of_words words) (of_words others) is also = ap of_words (asm_laws.one_value text words others is.assembled also.assembled)
 one_program laws (assembly text) (of_words words) (of_tree tree) is also = absurd also
 one_program laws (assembly text) (of_tree tree) other is also = absurd is
-one_program laws (expression text) (of_tree tree) (of_tree other) is also = ap of_tree (one_tree laws text tree other is.tree_is also.tree_is)
+one_program laws (expression text) (of_tree tree) (of_tree other) is also = ap of_tree (laws.one_tree text tree other is.tree_is also.tree_is)
 one_program laws (expression text) (of_tree tree) (of_words words) is also = absurd also
 one_program laws (expression text) (of_words words) other is also = absurd is
 
@@ -208,8 +201,8 @@ no_assembly text words fault is (unaccepted why others also first) =
 
 no_expression : GrammarLaws → (text : List ℕ) (tree : Tree) (fault : TextFault) → IsCompilable text tree → ExpressionWhy text fault → ⊥
 no_expression laws text tree fault is (unparsed why unparsed_why) = laws.no_fault text tree why is.tree_is unparsed_why
-no_expression laws text tree fault is (spread other also above) = let same = ap cells_of (one_tree laws text tree other is.tree_is also) in let few = is.cells in omega arith
-no_expression laws text tree fault is (large other also within above) = let same = ap size_of (one_tree laws text tree other is.tree_is also) in let small = is.size in omega arith
+no_expression laws text tree fault is (spread other also above) = let same = ap cells_of (laws.one_tree text tree other is.tree_is also) in let few = is.cells in omega arith
+no_expression laws text tree fault is (large other also within above) = let same = ap size_of (laws.one_tree text tree other is.tree_is also) in let small = is.size in omega arith
 
 pub not_both : GrammarLaws → HasNotBoth
 not_both laws (assembly text) (of_words words) fault is why = no_assembly text words fault is (as_assembly text fault why)

@@ -9,6 +9,7 @@ ghost use Rattle.udp_service.specs.body.Jobs.{AreMade, AreOpened};
 use crate::jobs::{ServiceJob, jobs};
 use crate::receiving::Receiver;
 use crate::sockets::{BoundSockets, Room, Sockets};
+use control_datagram::BoundAddresses;
 use dispatch::{Counter, Tally};
 use ipv4_fields::Endpoint;
 use member_group::Config;
@@ -47,13 +48,6 @@ fn open_table(alloc: Global) -> Result<(Operator, Vec<Worker>), AllocError>
     }
 }
 
-// The sockets, and the addresses that they are bound to.
-struct Connected {
-    sockets: Sockets,
-    front: Endpoint,
-    control: Endpoint,
-}
-
 // Binds both sockets, and makes so many jobs of the workers and the counters, with the queues that lead to them.
 fn connect<'a, R: Wait + Net>(
     rt: &'a R,
@@ -63,7 +57,7 @@ fn connect<'a, R: Wait + Net>(
     seats: &mut Vec<Worker>,
     counters: &mut Vec<Counter>,
     workers: usize,
-) -> Result<(Vec<ServiceJob<'a, R>>, Vec<WorkerQueue>, Connected), ServeFault>
+) -> Result<(Vec<ServiceJob<'a, R>>, Vec<WorkerQueue>, Sockets), ServeFault>
     requires seats { workers ≤ vec_len seats.old }
     requires counters { workers ≤ vec_len counters.old }
     ensures made { IfOk result (λ parts. AreMade workers seats.old.items seats.new.items counters.old.items counters.new.items
@@ -72,27 +66,22 @@ fn connect<'a, R: Wait + Net>(
     let Ok(room) = Room::new(alloc) else {
         return Err(ServeFault::OutOfMemory);
     };
-    let Some(bound) = BoundSockets::bind(rt, front, control) else {
+    let Some(sockets) = BoundSockets::bind(rt, front, control) else {
         return Err(ServeFault::BindFailed);
     };
-    let Some((front, control)) = bound.addresses() else {
+    let Some(bound) = sockets.addresses() else {
         return Err(ServeFault::BindFailed);
     };
-    let (jobs, queues) = jobs(rt, alloc, seats, counters, front.address, workers)?;
-    let Ok(sockets) = Sockets::open(rt, bound, room) else {
+    let (jobs, queues) = jobs(rt, alloc, seats, counters, bound.front.address, workers)?;
+    let Ok(sockets) = Sockets::open(rt, sockets, bound, room) else {
         return Err(ServeFault::PollFailed);
     };
-    let connected = Connected {
-        sockets,
-        front,
-        control,
-    };
-    Ok((jobs, queues, connected))
+    Ok((jobs, queues, sockets))
 }
 
 fn service_of(
     alloc: Global,
-    connected: Connected,
+    sockets: Sockets,
     queues: Vec<WorkerQueue>,
     operator: Operator,
     tally: Tally,
@@ -103,11 +92,7 @@ fn service_of(
     ensures spare { result.spare ≡ spare }
     ensures operator { result.receiver.operator ≡ operator }
 {
-    let Connected {
-        sockets,
-        front,
-        control,
-    } = connected;
+    let BoundAddresses { front, control } = sockets.bound;
     let queues = WorkerQueues::new(alloc, queues);
     Service {
         front,
@@ -143,11 +128,11 @@ pub fn open_service<'a, R: Wait + Net>(
     let Ok((tally, mut spare)) = Tally::open(alloc) else {
         return Err(ServeFault::OutOfMemory);
     };
-    let (jobs, queues, connected) = connect(
+    let (jobs, queues, sockets) = connect(
         rt, alloc, front, control, &mut seats, &mut spare, workers,
     )?;
     Ok((
         jobs,
-        service_of(alloc, connected, queues, operator, tally, spare),
+        service_of(alloc, sockets, queues, operator, tally, spare),
     ))
 }

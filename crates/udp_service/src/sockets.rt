@@ -1,8 +1,10 @@
 //! The two sockets of the service, and the turns that they get (docs/COMMANDS.md, "serve").
 
-ghost use Rattle.std.specs.Prelude.{◌≡◌};
+ghost use Rattle.std.specs.Prelude.{◌≡◌, IfSome};
+ghost use Rattle.std.specs.Net.Addr.{IsV4And, ipv4_bits};
+ghost use Rattle.std.specs.Net.Socket.{socket_ip, socket_port};
 
-use control_datagram::{ControlAnswer, answer};
+use control_datagram::{BoundAddresses, ControlAnswer, answer};
 use dispatch::Tally;
 use ipv4_fields::Endpoint;
 use mio::net::UdpSocket;
@@ -60,15 +62,37 @@ pub struct BoundSockets {
     control: UdpSocket,
 }
 
-// The address that a socket is bound to.
-fn bound_address(socket: &UdpSocket) -> Option<Endpoint> {
-    match socket.local_addr() {
-        Ok(SocketAddr::V4(address)) => Some(Endpoint {
+// The endpoint of a socket address. Both sockets are bound to IPv4 addresses, so no other comes.
+fn endpoint_of(address: SocketAddr) -> Option<Endpoint>
+    ensures address { IfSome result (λ of. IsV4And (socket_ip address) (λ ip. of.address ≡ ipv4_bits ip)) }
+    ensures port { IfSome result (λ of. of.port ≡ socket_port address) }
+{
+    match address {
+        SocketAddr::V4(address) => Some(Endpoint {
             address: u32::from(*address.ip()),
             port: address.port(),
         }),
-        _ => None,
+        SocketAddr::V6(_) => None,
     }
+}
+
+// The address that a socket is bound to.
+fn bound_address(socket: &UdpSocket) -> Option<Endpoint> {
+    endpoint_of(socket.local_addr().ok()?)
+}
+
+// Answers a datagram of this text, unless it is ignored.
+fn answer_from(
+    alloc: Global,
+    bound: &BoundAddresses,
+    sender: SocketAddr,
+    text: &[u8],
+    operator: &mut Operator,
+    tally: &mut Tally,
+) -> Option<ControlAnswer>
+    ensures { tally.new.table ≡ tally.old.table }
+{
+    answer(alloc, bound, endpoint_of(sender)?, text, operator, tally)
 }
 
 impl BoundSockets {
@@ -80,8 +104,11 @@ impl BoundSockets {
     }
 
     /// The addresses that the front and control are bound to.
-    pub fn addresses(&self) -> Option<(Endpoint, Endpoint)> {
-        Some((bound_address(&self.front)?, bound_address(&self.control)?))
+    pub fn addresses(&self) -> Option<BoundAddresses> {
+        Some(BoundAddresses {
+            front: bound_address(&self.front)?,
+            control: bound_address(&self.control)?,
+        })
     }
 }
 
@@ -95,18 +122,25 @@ pub struct Sockets {
     room: Room,
     front: UdpSocket,
     control: UdpSocket,
+    // What is sent to control from these is ignored.
+    pub bound: BoundAddresses,
     // Not known to be empty.
     front_ready: bool,
     control_ready: bool,
 }
 
 impl Sockets {
-    /// Waits for both sockets from now on.
-    pub fn open<N: Net>(net: &N, bound: BoundSockets, room: Room) -> io::Result<Sockets> {
+    /// Waits for both sockets, which are bound to these addresses, from now on.
+    pub fn open<N: Net>(
+        net: &N,
+        sockets: BoundSockets,
+        bound: BoundAddresses,
+        room: Room,
+    ) -> io::Result<Sockets> {
         let BoundSockets {
             mut front,
             mut control,
-        } = bound;
+        } = sockets;
         let poll = Poll::new(net)?;
         let registry = poll.registry();
         registry.register(&mut front, FRONT, Interest::READABLE)?;
@@ -116,6 +150,7 @@ impl Sockets {
             room,
             front,
             control,
+            bound,
             front_ready: true,
             control_ready: true,
         })
@@ -163,7 +198,8 @@ impl Sockets {
         }
     }
 
-    /// Gives control its turn: each datagram is answered, by one datagram to its sender. True where the switch is asked to stop.
+    /// Gives control its turn: each datagram is answered by one datagram to its sender, unless it is ignored. True if the switch
+    /// is asked to stop.
     pub fn answer_control(
         &mut self,
         alloc: Global,
@@ -178,7 +214,17 @@ impl Sockets {
         for _ in 0..CONTROL_TURN {
             match self.control.recv_from(&mut self.room.buf) {
                 Ok((size, sender)) => {
-                    let answer = answer(alloc, &self.room.buf[..size], operator, tally);
+                    let text = &self.room.buf[..size];
+                    let Some(answer) = answer_from(
+                        alloc,
+                        &self.bound,
+                        sender,
+                        text,
+                        operator,
+                        tally,
+                    ) else {
+                        continue;
+                    };
                     self.reply(&answer, sender);
                     if let ControlAnswer::Stop = answer {
                         return true;

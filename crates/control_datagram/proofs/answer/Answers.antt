@@ -1,25 +1,14 @@
+use Rattle.std.proofs.Common.{refl}
 use Rattle.std.proofs.lemmas.Bool.{false≢true}
-use Rattle.std.proofs.Common.{refl, rules}
-use Rattle.control_datagram.specs.Answer.{answers_line, stops, tells_totals}
+use Rattle.control_datagram.specs.Answer.{answers, ignores}
+use Rattle.control_datagram.proofs.IgnoredLemmas.{answer_is_ignored}
 use Rattle.control_datagram.proofs.answer.Goals as goal
 
-pub returns-then-is_word-clause-answered : goal.returns-then-is_word-clause-answered
-returns-then-is_word-clause-answered c = stops (c.if-is_word.ensures.0 refl) refl refl
-
-pub returns-then-is_word-2-clause-answered : goal.returns-then-is_word-2-clause-answered
-returns-then-is_word-2-clause-answered c = tells_totals c.read_totals.result (c.if-is_word-2.ensures.0 refl) refl c.read_totals.ensures
+pub returns-then-is_ignored-clause-answered : goal.returns-then-is_ignored-clause-answered
+returns-then-is_ignored-clause-answered c = ignores (c.if-is_ignored.ensures.0 refl) refl refl
 
 pub returns-clause-answered : goal.returns-clause-answered
-returns-clause-answered c =
-    answers_line c.line_reply.result
-    (record { not_stop = λ e. false≢true (c.if-is_word.ensures.1 e); not_totals = λ e. false≢true (c.if-is_word-2.ensures.1 e) })
-    c.line_reply.ensures refl
+returns-clause-answered c = answers c.answer_text.result (λ is. false≢true (c.if-is_ignored.ensures.1 is)) c.answer_text.ensures.answered
 
-pub returns-clause-table : goal.returns-clause-table
-returns-clause-table c = search rules
-
-pub returns-then-is_word-2-clause-table : goal.returns-then-is_word-2-clause-table
-returns-then-is_word-2-clause-table c = search rules
-
-pub returns-then-is_word-clause-table : goal.returns-then-is_word-clause-table
-returns-then-is_word-clause-table c = search rules
+pub returns-clause-no_loop : goal.returns-clause-no_loop
+returns-clause-no_loop c = answer_is_ignored _ _ _ _ _ _ c.answer_text.ensures.answered

@@ -129,6 +129,12 @@ impl Client {
         Ok(&buf[..size] == reply)
     }
 
+    /// Whether this text is sent nothing back: what comes next is the reply to the case after it.
+    pub fn is_ignored(&self, text: &[u8], after: &Case) -> io::Result<bool> {
+        self.socket.send_to(text, self.control)?;
+        self.is_answered(after.0, after.1)
+    }
+
     /// The first case whose reply is another, if there is one.
     pub fn first_wrong(&self, cases: &[Case]) -> io::Result<Option<usize>> {
         for (place, (line, reply)) in cases.iter().enumerate() {

@@ -1,7 +1,8 @@
 //! Answers to control datagrams.
 
-use control_datagram::{ControlAnswer, answer};
+use control_datagram::{BoundAddresses, ControlAnswer, answer};
 use dispatch::{Counter, Kind, Tally};
+use ipv4_fields::Endpoint;
 use member_group::Config;
 use read_section::{Operator, open};
 use std::alloc::Global;
@@ -20,8 +21,41 @@ fn opened(rt: &impl Abort, alloc: Global) -> (Switch, Vec<Counter>) {
     (Switch { operator, tally }, counters)
 }
 
+// 127.0.0.1
+const LOOPBACK: u32 = 0x7f00_0001;
+
+// The front is at 127.0.0.1 alone, control at all addresses.
+const BOUND: BoundAddresses = BoundAddresses {
+    front: Endpoint {
+        address: LOOPBACK,
+        port: 5300,
+    },
+    control: Endpoint {
+        address: 0,
+        port: 5301,
+    },
+};
+
+const CLIENT: Endpoint = Endpoint {
+    address: LOOPBACK,
+    port: 40000,
+};
+
+impl Switch {
+    fn answer(&mut self, alloc: Global, sender: Endpoint, text: &[u8]) -> Option<ControlAnswer> {
+        answer(
+            alloc,
+            &BOUND,
+            sender,
+            text,
+            &mut self.operator,
+            &mut self.tally,
+        )
+    }
+}
+
 fn expect(rt: &impl Abort, alloc: Global, switch: &mut Switch, text: &[u8], reply: &[u8]) {
-    let answer = answer(alloc, text, &mut switch.operator, &mut switch.tally);
+    let answer = switch.answer(alloc, CLIENT, text).expect(rt, "an answer");
     let mut bytes = Vec::new(alloc);
     answer.append_to(&mut bytes).expect(rt, "memory");
     assert_eq!(rt; bytes.as_slice(), reply, "{text:?}");
@@ -56,6 +90,82 @@ fn datagrams_are_answered_in_turn(rt: HostRuntime) {
     for (text, reply) in &ANSWERS {
         expect(&rt, rt.alloc(), &mut switch, text, reply);
     }
+}
+
+// Each word that begins replies, and what looks like one otherwise.
+const REPLIES: [&[u8]; 11] = [
+    b"ok stop",
+    b"ok version 1",
+    b"ok ",
+    b"refused C1",
+    b"failed E3",
+    b"version 0 groups 0 members 0 charge 2",
+    b"reclaimed 0 3",
+    b"malformed 0 nogroup 0 nomembers 0 dropped 0 delivered 0 sendfailed 0 receivefailed 0",
+    b"delivered 0 dropped 0",
+    b"ready 127.0.0.1:5300 127.0.0.1:5301",
+    b"version \xff\x00\n",
+];
+
+// No reply begins so.
+const ALMOST_REPLIES: [&[u8]; 10] = [
+    b"ok",
+    b"ready",
+    b"ok\tversion 1",
+    b" ok version 1",
+    b"Ok version 1",
+    b"okay version 1",
+    b"versions 0",
+    b"o k",
+    b"group 0",
+    b"dropped 0",
+];
+
+#[test]
+fn replies_are_ignored(rt: HostRuntime) {
+    let (mut switch, _counters) = opened(&rt, rt.alloc());
+    for text in &REPLIES {
+        let answer = switch.answer(rt.alloc(), CLIENT, text);
+        assert!(rt; answer.is_none(), "{text:?}");
+    }
+    for text in &ALMOST_REPLIES {
+        expect(&rt, rt.alloc(), &mut switch, text, b"refused C1");
+    }
+}
+
+// A sender's address and port, and whether it is the switch. Each address with control's port is the switch's.
+const SENDERS: [(u32, u16, bool); 8] = [
+    (LOOPBACK, 5300, true),
+    (0x7f00_0002, 5300, false),
+    (0, 5300, false),
+    (LOOPBACK, 5301, true),
+    (0x0a00_0001, 5301, true),
+    (0, 5301, true),
+    (LOOPBACK, 5302, false),
+    (LOOPBACK, 40000, false),
+];
+
+// `show` is a line, so it is answered if its sender is not ignored.
+#[test]
+fn own_datagrams_are_ignored(rt: HostRuntime) {
+    let (mut switch, _counters) = opened(&rt, rt.alloc());
+    for (address, port, is_own) in &SENDERS {
+        let sender = Endpoint {
+            address: *address,
+            port: *port,
+        };
+        let answer = switch.answer(rt.alloc(), sender, b"show");
+        assert!(rt; answer.is_none() == *is_own, "{sender:?}");
+    }
+    let ignored = switch.answer(rt.alloc(), BOUND.front, b"add 10.0.0.2:53");
+    assert!(rt; ignored.is_none());
+    expect(
+        &rt,
+        rt.alloc(),
+        &mut switch,
+        b"add 10.0.0.2:53",
+        b"ok version 1",
+    );
 }
 
 // The longest that one datagram carries is no line, and not too long for one.
@@ -102,8 +212,10 @@ const STOPS: [(&[u8], bool); 4] = [
 ];
 
 fn stops(alloc: Global, switch: &mut Switch, text: &[u8]) -> bool {
-    let answer = answer(alloc, text, &mut switch.operator, &mut switch.tally);
-    matches!(answer, ControlAnswer::Stop)
+    matches!(
+        switch.answer(alloc, CLIENT, text),
+        Some(ControlAnswer::Stop)
+    )
 }
 
 #[test]

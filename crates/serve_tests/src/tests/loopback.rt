@@ -147,6 +147,55 @@ fn serve_on_one_address(rt: HostRuntime) {
     assert!(rt; out.is_empty());
 }
 
+// A reply of each kind.
+const REPLIES: [&[u8]; 8] = [
+    b"ok version 1",
+    b"refused C1",
+    b"failed E3",
+    b"version 0 groups 0 members 0 charge 2",
+    b"reclaimed 0 3",
+    b"malformed 0 nogroup 0 nomembers 0 dropped 0 delivered 0 sendfailed 0 receivefailed 0",
+    b"delivered 0 dropped 0 nomembers 0 sendfailed 0",
+    b"ready 127.0.0.1:5300 127.0.0.1:5301",
+];
+
+const SHOW: Case = (b"show", b"version 0 groups 0 members 0 charge 2");
+
+// The first reply that is answered, if there is one.
+fn first_answered(client: &Client) -> io::Result<Option<usize>> {
+    for (place, reply) in REPLIES.iter().enumerate() {
+        if !client.is_ignored(reply, &SHOW)? {
+            return Ok(Some(place));
+        }
+    }
+    Ok(None)
+}
+
+// That, and whether `ok` alone and then `stop` are answered.
+fn answered_of(client: &Client) -> io::Result<(Option<usize>, bool, bool)> {
+    let replied = first_answered(client)?;
+    let alone = client.is_answered(b"ok", b"refused C1")?;
+    let stopped = client.is_answered(b"stop", b"ok stop")?;
+    Ok((replied, alone, stopped))
+}
+
+fn answered<N: Net>(net: &N, ports: &Ports) -> io::Result<(Option<usize>, bool, bool)> {
+    let client = new_client(net, ports)?;
+    answered_of(&client)
+}
+
+#[test]
+fn replies_are_not_answered(rt: HostRuntime) {
+    let (mut out, ports) = new_output(&rt, rt.alloc());
+    let (served, found) = thread::join(
+        &rt,
+        || serve(&rt, rt.alloc(), at(0), at(0), 1, &Open, &mut out),
+        || answered(&rt, &ports),
+    );
+    assert!(rt; served == Ok(()), "{served:?}");
+    assert_eq!(rt; found.expect(&rt, "a client"), (None, true, true));
+}
+
 // A group whose first member gets the packets, until its selector picks the second, which has no port.
 fn rules(rt: &impl Abort, alloc: Global, client: &Client, member: &UdpSocket) -> io::Result<bool> {
     let port = member.local_addr()?.port();
