@@ -24,3 +24,6 @@ pub use tally::{COUNT_LIMIT, COUNTERS, CountFull, Counter, Tally, gather, limits
 pub use tally_rule::{CountView, Load, TallyRule};
 pub use worker_job::{Done, Job, finish};
 pub use workers::{RunFault, run_workers};
+
+/// The answer of a call that was refused memory.
+pub use std::alloc::AllocError as OutOfMemory;

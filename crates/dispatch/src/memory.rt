@@ -3,9 +3,10 @@
 ghost use Rattle.std.specs.Prelude.{◌≡◌, ◌++◌, ◌∷◌, IfOk, OnErr, OnOk, [], false, flat_map, length, option_map, slice_get, true};
 ghost use Rattle.dispatch.specs.Device.{Sent};
 
+use crate::OutOfMemory;
 use crate::device::{Failed, Outbox, Source};
 use ipv4_fields::Endpoint;
-use std::alloc::{AllocError, Global};
+use std::alloc::Global;
 use std::collections::VecDeque;
 use std::marker::Model;
 
@@ -33,11 +34,11 @@ impl Datagrams {
     }
 
     /// Puts a datagram behind the others.
-    pub fn push(&mut self, datagram: Vec<u8>) -> Result<(), AllocError>
+    pub fn push(&mut self, datagram: Vec<u8>) -> Result<(), OutOfMemory>
         ensures behind { OnOk result (self.new ≡ self.old ++ datagram.items ∷ []) }
         ensures kept { OnErr result (self.new ≡ self.old) }
     {
-        self.waiting.push_back(datagram).map_err(|_| AllocError)
+        self.waiting.push_back(datagram).map_err(|_| OutOfMemory)
     }
 }
 
@@ -87,7 +88,7 @@ impl Model for Sends {
 
 impl Sends {
     /// Room for so many sends, and for so many bytes in all of them.
-    pub fn with_room(alloc: Global, sends: usize, bytes: usize) -> Result<Sends, AllocError>
+    pub fn with_room(alloc: Global, sends: usize, bytes: usize) -> Result<Sends, OutOfMemory>
         ensures none { IfOk result (λ outbox. outbox ≡ record { sent = []; failures = 0 }) }
     {
         Ok(Sends {

@@ -7,11 +7,12 @@ ghost use Rattle.packet_verdict.specs.declared.kind.Kind.{Kind as KindValue};
 ghost use Rattle.dispatch.specs.Tally.{AreCountersOf, AreOpenedCounters, GaveAtMost, counted, loaded, place_of, sum_of_counts, times, total_of};
 ghost use Rattle.dispatch.specs.body.TallyRule.{IsSeatOf, spent_seat, opening_view, without_counter};
 
+use crate::OutOfMemory;
 use crate::kind::{KINDS, Totals, place};
 use crate::tally_rule::{Count, Read, SeatCounter, TakeCounter, TallySeat, TallyTable};
 use atomic_table::Table;
 use packet_verdict::Kind;
-use std::alloc::{AllocError, Global};
+use std::alloc::Global;
 use std::marker::Model;
 use std::sync::Arc;
 use versions::WORKERS;
@@ -72,7 +73,10 @@ impl Model for Tally {
 }
 
 // A counter at a seat of its own, split off a seat that has counters to give.
-fn new_counter(table: &Arc<TallyTable, Global>, seat: &mut TallySeat) -> Result<Counter, AllocError>
+fn new_counter(
+    table: &Arc<TallyTable, Global>,
+    seat: &mut TallySeat,
+) -> Result<Counter, OutOfMemory>
     requires counters { 0 < seat.old.me.0.counters }
     requires nothing { seat.old.me.0.added ≡ [] }
     requires seat { IsSeatOf seat.old.me.1 seat.old.table_id (arc_value table.now).shared.table_id }
@@ -93,7 +97,7 @@ fn new_counters(
     alloc: Global,
     table: &Arc<TallyTable, Global>,
     seat: &mut TallySeat,
-) -> Result<Vec<Counter>, AllocError>
+) -> Result<Vec<Counter>, OutOfMemory>
     requires view { seat.old.me.0 ≡ opening_view }
     requires seat { IsSeatOf seat.old.me.1 seat.old.table_id (arc_value table.now).shared.table_id }
     ensures view { IfOk result (λ counters. seat.new.me.0 ≡ spent_seat) }
@@ -128,13 +132,13 @@ impl Counter {
 
 impl Tally {
     /// Opens a tally in which nothing was counted, with its counters. Takes their memory from the allocator.
-    pub fn open(alloc: Global) -> Result<(Tally, Vec<Counter>), AllocError>
+    pub fn open(alloc: Global) -> Result<(Tally, Vec<Counter>), OutOfMemory>
         ensures tally { IfOk result (λ parts. parts.0.log ≡ []) }
         ensures counters { IfOk result (λ parts. AreOpenedCounters parts.0.table parts.1.items) }
     {
         let (table, mut seat) = Table::of_words(alloc, &[0; KINDS], &0)?;
         let Ok(table) = Arc::new(alloc, table) else {
-            return Err(AllocError);
+            return Err(OutOfMemory);
         };
         let counters = new_counters(alloc, &table, &mut seat)?;
         Ok((Tally { table, seat }, counters))

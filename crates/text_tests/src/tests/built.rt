@@ -108,6 +108,18 @@ pub fn is_printed<A: Allocator, B: Allocator>(
     }
 }
 
+/// Whether an arithmetic expression alone is printed so in an allocator's memory; none if memory is refused.
+pub fn is_arith_printed<B: Allocator>(
+    arith: &Arith<Global>,
+    alloc: B,
+    text: &str,
+) -> Option<bool> {
+    match arith.print(alloc) {
+        Ok(printed) => Some(printed.as_str() == text),
+        Err(_) => None,
+    }
+}
+
 /// Whether a copy by an allocator is printed so; none where memory is refused.
 pub fn is_copied<B: Allocator + Clone>(
     tree: &Expr<Global>,

@@ -4,13 +4,14 @@ mod memory;
 
 use super::assert_numbered;
 use super::built::{
-    PORT_53, SAMPLE_PACKET, Tree, UDP, accessor, and, byte_is, compared, is_tree_of, load_or_ip,
-    net, not, not_a_load, operation, or, packet_with, udp_or_ip_and_port_53,
+    Number, PORT_53, SAMPLE_PACKET, Tree, UDP, accessor, and, byte_is, compared, is_arith_printed,
+    is_tree_of, load_or_ip, net, not, not_a_load, operation, or, packet_with,
+    udp_or_ip_and_port_53,
 };
 use Direction::{Both, Destination, Either, Source};
 use Transport::{Tcp, Udp, Unnamed};
 use filter_tree::{
-    Arith, Direction, Expr, Operator, OutOfMemory, Prefix, Primitive, Protocol, Relation, Size,
+    Arith, Direction, Expr, Operator, Prefix, Primitive, Protocol, Relation, Size,
     Transport, Truth,
 };
 use std::alloc::Global;
@@ -22,7 +23,7 @@ fn connected(alloc: Global) -> Tree {
 }
 
 /// `1+2*len`.
-fn sum(alloc: Global) -> Result<Arith<Global>, OutOfMemory> {
+fn sum(alloc: Global) -> Number {
     let product = operation(alloc, Arith::Number(2), Operator::Multiply, Arith::Length)?;
     operation(alloc, Arith::Number(1), Operator::Add, product)
 }
@@ -35,7 +36,7 @@ fn computed(alloc: Global) -> Tree {
 }
 
 /// `(1 << len) / 3`.
-fn third(alloc: Global) -> Result<Arith<Global>, OutOfMemory> {
+fn third(alloc: Global) -> Number {
     let power = operation(alloc, Arith::Number(1), Operator::ShiftLeft, Arith::Length)?;
     operation(alloc, power, Operator::Divide, Arith::Number(3))
 }
@@ -97,6 +98,8 @@ fn is_so(alloc: Global, tree: Tree, asked: Asked) -> bool {
 
 const CONNECTED: &str = "( ( not ip proto 17 or ip ) and port 53 )";
 
+const SUM: &str = "( 1 + ( 2 * len ) )";
+
 const COMPUTED: &str = "( 1 + ( 2 * len ) ) = ip[0:2]";
 
 const SHORT_UDP: &str = "( ip proto 17 and less 28 )";
@@ -122,6 +125,23 @@ fn printed_trees_and_their_measures(rt: HostRuntime) {
         )
     );
     assert!(rt; is_so(alloc, divided(alloc), Asked::Text(DIVIDED, 5, 1, 37)));
+}
+
+fn is_printed_alone(alloc: Global, arith: Number, text: &str) -> bool {
+    match arith {
+        Ok(arith) => is_arith_printed(&arith, alloc, text).unwrap_or(false),
+        Err(_) => false,
+    }
+}
+
+// An arithmetic expression by itself has the text of a relation's side.
+#[test]
+fn printed_arithmetic(rt: HostRuntime) {
+    let alloc = rt.alloc();
+    let word = accessor(alloc, Protocol::Tcp, Arith::Length, Size::Four);
+    assert!(rt; is_printed_alone(alloc, sum(alloc), SUM));
+    assert!(rt; is_printed_alone(alloc, third(alloc), "( ( 1 << len )/3 )"));
+    assert!(rt; is_printed_alone(alloc, word, "tcp[len:4]"));
 }
 
 // A primitive, its text and size. The sizes are those of the table in docs/EXPRESSIONS.md, "Measures", and 2 more.
