@@ -200,7 +200,8 @@ pub const SERVE_WORKERS: &str = "How many worker threads judge, from 1 to 64";
 pub const SERVE_MORE: &str = "\
 Reads UDP datagrams. Each that comes to FRONT is a whole IPv4 packet: the workers take them in turn,
 and send what is to be delivered to the members. Each that comes to CONTROL is one control line, as
-`replay` takes them but for `packet`, and is replied to by one datagram. CONTROL takes two more:
+`replay` takes them but for `packet`, and is replied to by one datagram. What looks like a reply
+itself is ignored. CONTROL takes two more:
   totals   the line of totals so far
   stop     ok stop, and the workers judge what they were given, and end
 Whoever can send to CONTROL controls the switch: give it one address, and never 0.0.0.0.
