@@ -109,11 +109,7 @@ pub fn is_printed<A: Allocator, B: Allocator>(
 }
 
 /// Whether an arithmetic expression alone is printed so in an allocator's memory; none if memory is refused.
-pub fn is_arith_printed<B: Allocator>(
-    arith: &Arith<Global>,
-    alloc: B,
-    text: &str,
-) -> Option<bool> {
+pub fn is_arith_printed<B: Allocator>(arith: &Arith<Global>, alloc: B, text: &str) -> Option<bool> {
     match arith.print(alloc) {
         Ok(printed) => Some(printed.as_str() == text),
         Err(_) => None,

@@ -11,8 +11,7 @@ use super::built::{
 use Direction::{Both, Destination, Either, Source};
 use Transport::{Tcp, Udp, Unnamed};
 use filter_tree::{
-    Arith, Direction, Expr, Operator, Prefix, Primitive, Protocol, Relation, Size,
-    Transport, Truth,
+    Arith, Direction, Expr, Operator, Prefix, Primitive, Protocol, Relation, Size, Transport, Truth,
 };
 use std::alloc::Global;
 
