@@ -135,7 +135,13 @@ impl Words for Section<'_> {
                 self.kept.extent = extent;
                 Some(ready_words(extent))
             }
-            None => None,
+            None => {
+                // The caller reads the word by `word`, which then makes no use of what was kept before: while a program runs, that needs
+                // no register.
+                self.kept.heads = 0;
+                self.kept.extent = NO_EXTENT;
+                None
+            }
         }
     }
 

@@ -1,12 +1,12 @@
-use Rattle.std.proofs.Common.{◌≡◌, ◌<◌, arith, subst, sym}
+use Rattle.std.proofs.Common.{◌≡◌, ◌<◌, arith, length, subst, sym}
 use Rattle.versions.specs.declared.view.Stage.TheVariants.{Inside}
-use Rattle.read_section.specs.Section.{borrow_of, worker_of}
+use Rattle.read_section.specs.Section.{borrow_of, held_words, worker_of}
 use Rattle.read_section.specs.Worker.{WorkerValue}
 use Rattle.read_section.specs.body.Found.{Knows}
 use Rattle.read_section.proofs.HeldWordLemmas.{held_stage}
 use Rattle.read_section.proofs.ExtentReadLemmas.{extent_limit, extent_recalled, extent_room}
 use Rattle.read_section.proofs.ReadLemmas.{fetched_in, pinned_kept}
-use Rattle.read_section.proofs.RowReadLemmas.{knows_extent}
+use Rattle.read_section.proofs.RowReadLemmas.{knows_extent, row_alone}
 use Rattle.read_section.proofs.section.SectionWords.make_ready.Goals as goal
 
 pub ready_words-requires : goal.ready_words-requires
@@ -40,8 +40,8 @@ pub returns-in-Some-recall-clause-rest_kept : goal.returns-in-Some-recall-clause
 returns-in-Some-recall-clause-rest_kept c = let s = c.args.self.now in λ j. record { borrow = borrow_of s; pinned = pinned_kept 13 c.args.i c.read_by_row-word.result (worker_of s) c.read_by_row-word.new.worker c.read_by_row-word.ensures.few_fetches j }
 
 pub invariant_of-self-in-None : goal.invariant_of-self-in-None
-invariant_of-self-in-None c = let s = c.args.self.now in let read = c.read_by_row-word.ensures.few_fetches in
-    record { known = subst (λ (v : WorkerValue). Knows v.view s.kept.row s.kept.heads s.kept.extent) (sym read.only) s.known }
+invariant_of-self-in-None c = let s = c.args.self.now in let read = c.read_by_row-word.ensures.few_fetches in let after = c.read_by_row-word.new.worker in let known = subst (λ (v : WorkerValue). Knows v.view s.kept.row s.kept.heads s.kept.extent) (sym read.only) s.known in
+    record { known = row_alone after s.kept.row s.kept.heads s.kept.extent c.args.i (subst (λ (v : WorkerValue). c.args.i < length (held_words v)) (sym read.only) c.requires) known }
 
 pub returns-in-None-clause-few_fetches : goal.returns-in-None-clause-few_fetches
 returns-in-None-clause-few_fetches c = let s = c.args.self.now in fetched_in 13 c.args.i c.read_by_row-word.result (worker_of s) c.read_by_row-word.new.worker c.read_by_row-word.ensures.few_fetches
