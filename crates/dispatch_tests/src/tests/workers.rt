@@ -144,7 +144,10 @@ fn two_jobs_number_their_batches(rt: HostRuntime) {
         ended: AtomicU64::new(0),
     };
     let dones = run_workers(&rt, rt.alloc(), jobs, &numbers, || {}).expect(&rt, "both jobs run");
-    assert_eq!(rt; (dones.len(), totals(&mut tally)), (2, [1, 1, 0, 0, 3, 0, 0]));
+    assert_eq!(rt;
+        (dones.len(), totals(&mut tally)),
+        (2, [1, 1, 0, 0, 3, 0, 0])
+    );
     assert_eq!(rt;
         (numbers.started.into_inner(), numbers.ended.into_inner()),
         (0x10_1011_1110, 0x10_1011_1110)

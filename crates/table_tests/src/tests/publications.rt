@@ -242,10 +242,13 @@ fn is_busy_beside(
 
 #[test]
 fn busy_when_no_row_is_free(rt: HostRuntime) -> Result<(), Fail> {
-    on_workers(config_of(rt.alloc(), 0)?, |operator, workers| match workers.first_mut() {
-        Some(worker) => is_busy_beside(&rt, rt.alloc(), operator, worker),
-        None => Err(Fail::from("a table has workers")),
-    })
+    on_workers(
+        config_of(rt.alloc(), 0)?,
+        |operator, workers| match workers.first_mut() {
+            Some(worker) => is_busy_beside(&rt, rt.alloc(), operator, worker),
+            None => Err(Fail::from("a table has workers")),
+        },
+    )
 }
 
 // Fifteen more versions have a row, and then none is free for good.
