@@ -204,8 +204,3 @@ Extends-writes {n = n} and g h = Guards-writes and (Extends-guard n g) h
 pub Extends-guards : {one : Step} {two both : Meaning} {v w : ℕ} {c0 c1 c2 : List ℕ} {n n' : Open} → ((at_yes at_no mid words : List ℕ) → one mid words → two at_yes at_no mid → both at_yes at_no words)
     → Extends one v c0 c1 → Guards two w c1 c2 n n' → Guards both (v + w) c0 c2 n n'
 Extends-guards {n = n} and g h = Guards-guards and (Extends-guard n g) h
-
--- straight code behind a guard
-pub Guards-extends : {one : Meaning} {two : Step} {both : Meaning} {v w : ℕ} {c0 c1 c2 : List ℕ} {n n' : Open} → ((at_yes at_no mid words : List ℕ) → one mid at_no words → two at_yes mid → both at_yes at_no words)
-    → Guards one v c0 c1 n n' → Extends two w c1 c2 → Guards both (v + w) c0 c2 n n'
-Guards-extends {n' = n'} and g h = Guards-guards and g (Extends-guard n' h)

@@ -45,9 +45,6 @@ module _ (places : List ℕ → Option ℕ) where
   no_added_fault None n words after added = refl
   no_added_fault (Some statement) n words after (insn, is, added) = no_statement_fault places (length words) n statement insn is
 
-  pub emits_none : (whole : List Line) → Emits places whole whole 1 []
-  emits_none whole = record { code = λ rest code. code; fault = refl }
-
   pub emits_more : (whole left : List Line) (line : Line) (n : ℕ) (words after : List ℕ) → Emits places whole (line ∷ left) n words → AddsWord places words line.statement after → Emits places whole left (n + 1) after
   emits_more whole left line n words after emits added = record {
     code = λ rest code. code_more line.statement words after rest (statements_of left) (statements_of whole) added emits.code code;

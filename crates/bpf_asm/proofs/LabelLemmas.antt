@@ -27,14 +27,6 @@ pub record Tracks (places : List ℕ → Option ℕ) (whole left : List Line) (n
   pub fault : doubles_fault earlier n left ≡ doubles_fault [] 1 whole
   pub found : (name : List ℕ) → first_place (places name) (place_in (labels_from place left) name) ≡ places_of whole name
 
-pub tracks_none : (places : List ℕ → Option ℕ) (whole : List Line) → ((name : List ℕ) → places name ≡ None) → Tracks places whole whole 1 0
-tracks_none places whole empty = record {
-  earlier = [];
-  names = λ name. rw (empty name) refl;
-  fault = refl;
-  found = λ name. ap (λ place. first_place place (place_in (labels_from 0 whole) name)) (empty name);
-}
-
 same_names : (name other : List ℕ) → bytes_eq other name ≡ bytes_eq name other
 same_names name other = nat_list_eq_equiv.symm other name
 

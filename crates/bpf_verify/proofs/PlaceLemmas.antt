@@ -1,8 +1,8 @@
 -- Places of a program: what stands there, and where it leads.
-use Rattle.std.proofs.Common.{◌++◌, ◌+◌, ◌-◌, ◌<◌, ◌∙◌, ◌∷◌, ◌≡◌, ◌≤◌, ◌⊎◌, Bool, Err, List, None, Ok, Result, Some, [], ap, arith, cond, drop, false, get_or, inl, inr, length, length-drop, refl, subst, suc, sym, take, true, zero, ℕ}
+use Rattle.std.proofs.Common.{◌+◌, ◌-◌, ◌<◌, ◌∙◌, ◌∷◌, ◌≡◌, ◌≤◌, ◌⊎◌, Bool, Err, List, None, Ok, Result, Some, [], ap, arith, cond, drop, false, get_or, inl, inr, length, length-drop, refl, subst, suc, sym, true, zero, ℕ}
 use Rattle.std.specs.Prelude.{◌&&◌, Contains, nat_lt, slice_get}
 use Rattle.std.specs.List.{AllByRecursion, list_all}
-use Rattle.std.proofs.Math.Seq.{drop-append_seam, take-append_seam, take-length}
+use Rattle.std.proofs.Math.Seq.{take-length}
 use Rattle.std.proofs.lemmas.Bool.{cases_eq, ltb-true}
 use Rattle.std.proofs.lemmas.Grind.{common_steps}
 use Rattle.std.proofs.lemmas.List.{length-take-le}
@@ -23,11 +23,6 @@ length-program_at words from len within = length-take-le len (drop from words) (
 
 pub program_at-whole : (words : List ℕ) → program_at words 0 (length words) ≡ words
 program_at-whole words = take-length words
-
-pub program_at-append : (front program back : List ℕ) → program_at (front ++ (program ++ back)) (length front) (length program) ≡ program
-program_at-append front program back =
-    let behind : drop (length front) (front ++ (program ++ back)) ≡ program ++ back = drop-append_seam front (program ++ back) in
-    ap (λ words. take (length program) words) behind ∙ take-append_seam program back
 
 pub slice_get-program_at : (words : List ℕ) (from len pc : ℕ) → from + len ≤ length words → pc < len → slice_get (program_at words from len) pc ≡ slice_get words (from + pc)
 slice_get-program_at words from len pc within inside =

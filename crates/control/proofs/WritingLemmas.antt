@@ -17,13 +17,6 @@ appends_more (Some a) None after first then one two = absurd one
 appends_more (Some a) (Some b) None first then one two = absurd two
 appends_more (Some a) (Some b) (Some c) first then one two = two ∙ (ap (λ bytes. bytes ++ then) one ∙ append_assoc a first then)
 
--- so far told, and then a failed write
-pub written_before_failure : (failures : ℕ) (before mid after : Option (List ℕ)) (told : List ℕ) → Appends before mid told → KeepsOrForgets failures mid after → WasWritten failures before after told
-written_before_failure failures None mid after told one kept = tt
-written_before_failure failures (Some a) None after told one kept = absurd one
-written_before_failure failures (Some a) (Some b) None told one kept = kept
-written_before_failure failures (Some a) (Some b) (Some c) told one kept = kept ∙ one
-
 pub written_more : (failures : ℕ) (before mid after : Option (List ℕ)) (first then : List ℕ) → Appends before mid first → WasWritten failures mid after then → WasWritten failures before after (first ++ then)
 written_more failures None mid after first then one two = tt
 written_more failures (Some a) None after first then one two = absurd one
@@ -36,9 +29,6 @@ pub record IsWrittenUpTo (before after : Option (List ℕ)) (bytes left : List �
   pub is : bytes ≡ told ++ left
   pub written : Appends before after told
 
-pub written_none : (known : Option (List ℕ)) (bytes : List ℕ) → IsWrittenUpTo known known bytes bytes
-written_none known bytes = record { told = []; is = refl; written = appends_nothing known }
-
 behind_size : (size : ℕ) (left : List ℕ) → take (length left - size) (drop size left) ≡ drop size left
 behind_size size left = let n = length-drop size left in take_all (length left - size) (drop size left) (omega arith)
 
@@ -49,15 +39,6 @@ written_further before mid after bytes left size so_far more = record {
   is = so_far.is ∙ (ap (λ rest. so_far.told ++ rest) (sym (take-append-drop size left))
       ∙ (sym (append_assoc so_far.told (take size left) (drop size left)) ∙ ap (λ rest. (so_far.told ++ take size left) ++ rest) (sym (behind_size size left))));
   written = appends_more before mid after so_far.told (take size left) so_far.written more;
-}
-
--- a failed write leaves what was told
-pub failed_in_part : (failures : ℕ) (before mid after : Option (List ℕ)) (bytes left : List ℕ) → IsWrittenUpTo before mid bytes left → KeepsOrForgets failures mid after → IsWrittenInPart failures before after bytes
-failed_in_part failures before mid after bytes left so_far kept = record {
-  told = so_far.told;
-  untold = left;
-  beginning = so_far.is;
-  written = written_before_failure failures before mid after so_far.told so_far.written kept;
 }
 
 -- an error that is told by its fault

@@ -30,17 +30,9 @@ pub yes_where : (used : Bool) (truth : Truth) → truth ≡ Yes → where_so use
 yes_where true truth is = is
 yes_where false truth is = refl
 
-pub where_used : (used : Bool) (truth : Truth) → used ≡ true → truth ≡ where_so used truth
-where_used true truth is = refl
-where_used false truth is = absurd cc
-
 pub unused : (used : Bool) (truth : Truth) → used ≡ false → where_so used truth ≡ Yes
 unused true truth is = absurd cc
 unused false truth is = refl
-
-pub weight_used : (used : Bool) (w : ℕ) → used ≡ true → weight_where used w ≡ w
-weight_used true w is = refl
-weight_used false w is = absurd cc
 
 -- ---- what is known
 

@@ -136,15 +136,6 @@ Brings-load insn given loaded later words plain loads pushed = record {
       loaded_on (loaded_of loaded packet) later words packet a x cells (mean_pushed insn later words pushed a x cells packet ∙ ap (λ e. after_effect e later packet) (loads packet a x cells knows));
 }
 
--- ports are loaded by X
-pub source_header : (part : Part) → by_header (source_of part) ≡ true → part ≡ Port
-source_header Address is = cc
-source_header Port is = refl
-
-pub destination_header : (part : Part) → by_header (destination_of part) ≡ true → part ≡ Port
-destination_header Address is = cc
-destination_header Port is = refl
-
 known_if : (needed held : Bool) → (needed ≡ true → held ≡ true) → (packet : List ℕ) (x : ℕ) → Knows held packet x → Knows needed packet x
 known_if false held is packet x knows = tt
 known_if true held is packet x knows = subst (λ b. Knows b packet x) (is refl) knows
@@ -258,11 +249,6 @@ module _ (check : Check) (known : Known) where
     Tests-both h = Tests-same (Holds known) (Holds second) (Holds forgot) (λ packet. end_passes source packet and_then end_passes destination packet) (ends_pass part Both check) at_yes at_no words
         (λ packet a x ok g. ap (λ s. end_passes s packet and_then end_passes destination packet) source_is ∙ ap (λ d. end_passes (source_of part) packet and_then end_passes d packet) destination_is)
         (Tests-and (Holds known) (Holds first) (Holds second) (Holds first) (Holds second) (Holds forgot) (end_passes source) (end_passes destination) first_forgets second_forgets at_yes at_no mid words later h)
-
-pub and_then_assoc : (t u v : Truth) → (t and_then (u and_then v)) ≡ ((t and_then u) and_then v)
-and_then_assoc Yes u v = refl
-and_then_assoc No u v = refl
-and_then_assoc Fails u v = refl
 
 -- a prefix of no bits covers each address
 pub covered_by_none : (prefix : NetworkPrefix) (a : ℕ) → prefix.bits ≡ 0 → prefix.address < 2 ^ 32 → a < 2 ^ 32 → (bit_and a 0 == 0) ≡ covers prefix a

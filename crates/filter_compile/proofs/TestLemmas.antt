@@ -115,13 +115,6 @@ on_from Yes when_yes when_yes' when_no when_no' weaker weaker' at_yes at_no mid 
 on_from No when_yes when_yes' when_no when_no' weaker weaker' at_yes at_no mid words packet a a' x x' cells cells' on h = (h.0, h.1, h.2, weaker' packet h.0 h.1 h.3, on ∙ h.4)
 on_from Fails when_yes when_yes' when_no when_no' weaker weaker' at_yes at_no mid words packet a a' x x' cells cells' on h = on ∙ h
 
-pub Tests-weaker : (given given' when_yes when_yes' when_no when_no' : Facts) (truth : List ℕ → Truth) → ((packet : List ℕ) (a x : ℕ) → given' packet a x → given packet a x) → ((packet : List ℕ) (a x : ℕ) → when_yes packet a x → when_yes' packet a x)
-    → ((packet : List ℕ) (a x : ℕ) → when_no packet a x → when_no' packet a x) → (at_yes at_no words : List ℕ) → Tests given when_yes when_no truth at_yes at_no words → Tests given' when_yes' when_no' truth at_yes at_no words
-Tests-weaker given given' when_yes when_yes' when_no when_no' truth stronger weaker weaker' at_yes at_no words h = record {
-  loads_stored = h.loads_stored;
-  goes = λ packet ok a x cells g. on_from (truth packet) when_yes when_yes' when_no when_no' weaker weaker' at_yes at_no words words packet a a x x cells cells refl (h.goes packet ok a x cells (stronger packet a x g));
-}
-
 opposite_goes : (t : Truth) (when_yes when_no : Facts) (at_yes at_no words packet : List ℕ) (a x : ℕ) (cells : Cells) → GoesBy t when_no when_yes at_no at_yes words packet a x cells → GoesBy (opposite t) when_yes when_no at_yes at_no words packet a x cells
 opposite_goes Yes when_yes when_no at_yes at_no words packet a x cells h = h
 opposite_goes No when_yes when_no at_yes at_no words packet a x cells h = h

@@ -214,10 +214,6 @@ pub step-precedes : (before : List Token) (token : Token) (parser : Parsing) →
     PrecedesIfAny (shifted token (reduced (Some token) parser)) (token ∷ before)
 step-precedes before token parser p = shifted-precedes before token (reduced (Some token) parser) (reduced-precedes before (Some token) parser p)
 
--- where no number fits, none is at fault by what it says
-abbrev IsRefused : Option Parsing → Type 0
-IsRefused parser = parser ≡ None
-
 reduced_operators-refuses : (n : ℕ) (stack : List Pending) (output : List Item) → shifted (Number n) (reduced_operators 0 stack output) ≡ None
 reduced_operators-refuses n [] output = refl
 reduced_operators-refuses n (Joined word ∷ stack) output = refl

@@ -151,9 +151,6 @@ ip_by_ports header_is.Any b told = cc
 ip_by_ports header_is.NotIpv4 b told = cc
 ip_by_ports (header_is.Ipv4 protocol ports first) b told = refl
 
-pub ip_by_protocol : (known : Known) (n : ℕ) (b : Bool) → protocol_of known n ≡ Some b → ip_of known ≡ Some true
-ip_by_protocol known n b told = ip_by_number known.header n b told
-
 pub ip_by_transport : (known : Known) (transport : Transport) (b : Bool) → transport_of known transport ≡ Some b → ip_of known ≡ Some true
 ip_by_transport known Tcp b told = ip_by_number known.header 6 b told
 ip_by_transport known Udp b told = ip_by_number known.header 17 b told

@@ -29,15 +29,6 @@ digits_are_ascii (c ∷ item) all (suc i) = digits_are_ascii item all.1 i
 pub spelled-utf8 : (item : List ℕ) (it : ℕ) → SpellsDigits item it → IsUtf8 item
 spelled-utf8 item it spelled = IsUtf8-from_ascii item (digits_are_ascii item spelled.digits)
 
-no_plus : (item : List ℕ) → AllDigits 16 item → get_or item 0 0 ≢ 43
-no_plus [] all same = absurd (omega arith)
-no_plus (c ∷ item) all same =
-    let value : digit_value c ≡ 36 = ap digit_value same in
-    let digit = all.0 in omega arith
-
-pub spelled-no_plus : (item : List ℕ) (it : ℕ) → SpellsDigits item it → get_or item 0 0 ≢ 43
-spelled-no_plus item it spelled = no_plus item spelled.digits
-
 -- sixteen digits fit a word
 fits : (item : List ℕ) → length item ≡ 16 → AllDigits 16 item → digits_value 16 item < 2 ^ 64
 fits item sixteen all = subst (λ n. digits_value 16 item < 16 ^ n) sixteen (digits_value-lt 16 item all)
