@@ -5,6 +5,7 @@
 mod answers;
 mod captures;
 mod packets;
+mod replies;
 mod texts;
 mod words;
 
@@ -27,6 +28,8 @@ fn answer(alloc: Global, row: &str) -> io::Result<String> {
         "fields" => packets::describe_fields(alloc, argument),
         "capture" => captures::describe_capture(alloc, argument),
         "flow" => packets::describe_flow(alloc, argument),
+        "kind" => replies::describe_kind(alloc, argument),
+        "summary" => replies::describe_summary(alloc, argument),
         _ => Ok(String::from_str(alloc, "no such call")?),
     }
 }

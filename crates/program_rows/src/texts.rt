@@ -10,7 +10,7 @@ use std::fmt::Write;
 use std::io;
 
 // The text with its ends of lines, which are written `\` in a row.
-fn with_lines(alloc: Global, row: &str) -> io::Result<String> {
+pub fn with_lines(alloc: Global, row: &str) -> io::Result<String> {
     let mut text = String::new(alloc);
     for (place, line) in row.split('\\').enumerate() {
         if place > 0 {
