@@ -1,9 +1,6 @@
 -- Words that are put into a sink, one behind the other.
-use Rattle.std.proofs.Common.{◌≡◌, ◌∙◌, ◌∷◌, ◌+◌, ◌++◌, ◌≤◌, List, [], ap, append_assoc, arith, length, length-append, refl, sym, ℕ}
+use Rattle.std.proofs.Common.{◌≡◌, ◌∙◌, ◌+◌, ◌++◌, ◌≤◌, List, [], ap, append_assoc, arith, length, length-append, refl, sym, ℕ}
 use Rattle.std.proofs.lemmas.List.{append-nil}
-use Rattle.config_image.specs.Image.{Group, all_member_records, group_records, image, members_begin, program_words, programs_begin}
-use Rattle.config_image.proofs.ImageLemmas.{image-before_programs}
-use Rattle.config_image.proofs.LengthLemmas.{length_image}
 
 -- of all words these are still to be written, and there is room for them
 pub record IsWriting (taken_first : List ℕ) (room_first : ℕ) (taken : List ℕ) (room : ℕ) (left all : List ℕ) : Type 0 where
@@ -32,33 +29,3 @@ pub writing_last : (taken_first : List ℕ) (room_first : ℕ) (taken : List ℕ
     → (taken ≡ taken_first ++ all) × (room + length all ≡ room_first)
 writing_last taken_first room_first taken room all writing =
     let kept = writing.room_kept in (sym (append-nil taken) ∙ writing.words, omega arith)
-
--- ---- the parts of an image
-
-module _ (config : List Group) where
-  abbrev head : List ℕ
-  head = length (image config) ∷ length config ∷ []
-
-  abbrev records : List ℕ
-  records = group_records (members_begin config) (programs_begin config) config
-
-  abbrev members : List ℕ
-  members = all_member_records (programs_begin config) config
-
-  image-written : image config ≡ (head ++ (records ++ members)) ++ program_words config
-  image-written =
-      image-before_programs config
-      ∙ ap (λ (n : ℕ). ((n ∷ length config ∷ []) ++ (records ++ members)) ++ program_words config) (sym (length_image config))
-
-  pub image_size : length (image config) ≡ 2 + (length records + (length members + length (program_words config)))
-  image_size =
-      ap length image-written ∙ length-append (head ++ (records ++ members)) (program_words config)
-      ∙ (let first = length-append head (records ++ members) in let second = length-append records members in omega arith)
-
-  pub written_parts : (t0 t1 t2 t3 t4 : List ℕ) → t1 ≡ t0 ++ head → t2 ≡ t1 ++ records → t3 ≡ t2 ++ members → t4 ≡ t3 ++ program_words config → t4 ≡ t0 ++ image config
-  written_parts t0 t1 t2 t3 t4 first second third fourth =
-      fourth ∙ ap (λ (ws : List ℕ). ws ++ program_words config)
-      (third ∙ ap (λ (ws : List ℕ). ws ++ members) (second ∙ ap (λ (ws : List ℕ). ws ++ records) first)
-      ∙ append_assoc (t0 ++ head) records members ∙ append_assoc t0 head (records ++ members))
-      ∙ append_assoc t0 (head ++ (records ++ members)) (program_words config)
-      ∙ ap (λ (ws : List ℕ). t0 ++ ws) (sym image-written)

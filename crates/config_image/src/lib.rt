@@ -26,7 +26,7 @@ pub use pooled::{stored_word, write_pooled};
 pub use size::image_len;
 pub use walk::Programs;
 pub use word::image_word;
-pub use writing::{WordSink, write_image};
+pub use writing::WordSink;
 
 /// The number of words of a row of the table.
 pub const ROW_WORDS: usize = 8192;

@@ -1,13 +1,13 @@
 //! Images that were written down by hand, and what is found in them again.
 
-ghost use Rattle.std.specs.Prelude.{◌≡◌, ◌<◌, ◌-◌, IfOk, length, take};
+ghost use Rattle.std.specs.Prelude.{◌≡◌, ◌<◌, IfOk, length};
 ghost use Rattle.config_image.specs.Image.{image};
 ghost use Rattle.config_image.specs.Lookup.{BeginsWithImage};
 
 use bpf_verify::Program;
 use config_image::{
-    FoundGroup, MemberEntry, ProgramPlace, WordSink, filter_of, find_group, image_len, image_word,
-    member_at, selector_of, write_image,
+    FoundGroup, MemberEntry, ProgramPlace, filter_of, find_group, image_len, image_word, member_at,
+    selector_of,
 };
 use ipv4_fields::Endpoint;
 use member_group::{Command, Config};
@@ -191,25 +191,6 @@ fn locked_image(rt: HostRuntime) -> Result<(), Fail> {
     Ok(())
 }
 
-// Room for 32 words.
-#[derive(Drop)]
-struct ArraySink {
-    words: [u64; 32],
-    count: usize,
-}
-
-impl WordSink for ArraySink {
-    ghost taken = { λ sink. take sink.count sink.words };
-
-    ghost room = { λ sink. 32 - sink.count };
-
-    #[tactic(auto, using(std::proofs::lemmas::List::take_more_set))]
-    fn put(&mut self, word: u64) {
-        self.words[self.count] = word;
-        self.count += 1;
-    }
-}
-
 // The configurations of these tests: without groups, with one group, with two, and with a locked member.
 pub(super) fn sample(alloc: Global, number: usize) -> Result<Config, Fail> {
     match number {
@@ -218,29 +199,6 @@ pub(super) fn sample(alloc: Global, number: usize) -> Result<Config, Fail> {
         2 => two_groups(alloc),
         _ => with_locked_member(alloc),
     }
-}
-
-// The image is written as its words are told by their places.
-fn is_written(alloc: Global, config: &Config) -> Result<bool, Fail> {
-    if image_len(config) > 32 {
-        return Ok(false);
-    }
-    let mut sink = ArraySink {
-        words: [0; 32],
-        count: 0,
-    };
-    write_image(config, &mut sink);
-    let words = words_of(alloc, config)?;
-    Ok(sink.words.get(..sink.count) == Some(words.as_slice()))
-}
-
-#[test]
-fn images_are_written(rt: HostRuntime) -> Result<(), Fail> {
-    for number in 0..4 {
-        let config = sample(rt.alloc(), number)?;
-        assert!(rt; is_written(rt.alloc(), &config)?);
-    }
-    Ok(())
 }
 
 // The words at a place are a program's; there is no place where there is no program.
