@@ -21,7 +21,7 @@ pub use lookup::{
     FoundGroup, MemberEntry, ProgramPlace, filter_of, find_group, member_at, member_with_filter,
     selector_of,
 };
-pub use pages::page_count;
+pub use pages::{page_count, pages_for};
 pub use pooled::{stored_word, write_pooled};
 pub use size::image_len;
 pub use walk::Programs;

@@ -1,6 +1,6 @@
 //! How many pages of the pool the programs of a configuration take.
 
-ghost use Rattle.std.specs.Prelude.{◌≡◌, ◌+◌, ◌*◌, ◌≤◌, length};
+ghost use Rattle.std.specs.Prelude.{◌≡◌, ◌+◌, ◌*◌, ◌<◌, ◌≤◌, ◌^◌, length};
 ghost use Rattle.std.specs.List.{sum_by};
 ghost use Rattle.std.specs.Option.{option_map};
 ghost use Rattle.member_group.specs.Charge.{charge_of};
@@ -14,13 +14,21 @@ use bpf_verify::{MAX_INSTRUCTIONS, Program};
 use member_group::{Config, Group, MEMBER_LIMIT, Member};
 use std::alloc::Allocator;
 
+/// Tells how many pages a program of so many words takes: one for each `PAGE_WORDS` words, and one for what is left.
+#[inline(always)]
+pub fn pages_for(len: usize) -> usize
+    requires { len + PAGE_WORDS < 2 ^ 64 }
+    ensures { result ≡ pages_for len }
+{
+    (len + (PAGE_WORDS - 1)) / PAGE_WORDS
+}
+
 // How many pages a program takes, none where there is no program.
 fn program_pages<A: Allocator>(program: Option<&Program<A>>) -> u32
     ensures pages { result ≡ pages_for (length (words_of (option_map (λ lent. lent.now) program.entry))) }
     ensures limited { result ≤ pages_for MAX_INSTRUCTIONS }
 {
-    let len = words(program).len();
-    ((len + (PAGE_WORDS - 1)) / PAGE_WORDS) as u32
+    pages_for(words(program).len()) as u32
 }
 
 fn filters_pages<A: Allocator>(members: &[Member<Program<A>>]) -> u32
@@ -55,8 +63,7 @@ fn pages_in<A: Allocator>(groups: &[Group<A>]) -> u32
     pages
 }
 
-/// Tells how many pages the programs of a configuration take: one for each `PAGE_WORDS` words of a program, and one for what is
-/// left of it.
+/// Tells how many pages the programs of a configuration take, each as `pages_for` tells.
 ///
 /// It takes time for each group and each member, and none for the words of a program.
 #[tactic(auto, using(crate::proofs::PooledLemmas::few_pages))]

@@ -8,6 +8,7 @@ ghost use Rattle.member_group.specs.Group.{IsConfig};
 ghost use Rattle.config_image.specs.Image.{members_begin, programs_begin};
 ghost use Rattle.config_image.specs.Pooled.{ArePages, form_word, page_names, pages_for, parts, parts_of, pooled_row};
 
+use crate::pages::pages_for;
 use crate::size::{members_in, words_in};
 use crate::walk::Programs;
 use crate::word::{PLACE_LIMIT, record_word};
@@ -16,14 +17,6 @@ use crate::{PAGE_WORDS, ROW_WORDS};
 use bpf_verify::MAX_INSTRUCTIONS;
 use member_group::{Config, GROUP_WORDS, Group, HEAD_WORDS, MEMBER_WORDS};
 use std::alloc::Allocator;
-
-// How many pages a program of `len` words takes.
-fn pages_for(len: usize) -> usize
-    requires { len ≤ PLACE_LIMIT }
-    ensures { result ≡ pages_for len }
-{
-    (len + (PAGE_WORDS - 1)) / PAGE_WORDS
-}
 
 // The first word of a row of `count` parts.
 fn form_word<A: Allocator>(groups: &[Group<A>], programs_at: usize, count: usize) -> u64

@@ -9,8 +9,9 @@ ghost use Rattle.member_group.specs.Charge.{programs_of_group};
 ghost use Rattle.retire.specs.body.Alike.{AllAlike, AreAlike, AreAlikeGroups, AreAlikeMembers, AreOfOneLength};
 ghost use Rattle.retire.specs.body.Change.{GoesOn, IsPassed, filters_in, pages_in, words_in};
 
-use crate::standing::{pages_of_len, same_words};
+use crate::standing::same_words;
 use bpf_verify::Program;
+use config_image::pages_for;
 use member_group::{Config, Group, Member};
 use std::alloc::Global;
 
@@ -38,7 +39,7 @@ impl<'a> Walk<'a> {
             }
             self.differs = Some((words, self.pages));
         }
-        self.pages += pages_of_len(words.len());
+        self.pages += pages_for(words.len());
         true
     }
 }

@@ -12,9 +12,9 @@ ghost use Rattle.retire.specs.body.Filling.{AreFreeBelow, AreFreePages, AreReady
 ghost use Rattle.retire.specs.body.Alike.{IsLikeCurrent};
 ghost use Rattle.retire.specs.body.Taking.{AreTaken, ChoosesPages, IsBehindNoneFree, IsCounted, IsPassing, NoneFree, ReplacesOne, TakesOneMore};
 
-use crate::standing::{Current, pages_of_len};
+use crate::standing::Current;
 use crate::taken::TakenPages;
-use config_image::{PAGE_WORDS, Programs};
+use config_image::{PAGE_WORDS, Programs, pages_for};
 use member_group::Config;
 use read_section::Operator;
 use std::alloc::Global;
@@ -39,7 +39,7 @@ fn take_for<const N: usize>(
 {
     match current.find_equal(words) {
         Some(own) => taken.share(own),
-        None => taken.take_free(operator, pages_of_len(words.len())),
+        None => taken.take_free(operator, pages_for(words.len())),
     }
 }
 
@@ -91,7 +91,7 @@ fn replace_one<const N: usize>(
     let pages = current.pages();
     taken.share(&pages[..at]);
     take_for(operator, current, taken, words);
-    taken.share(&pages[at + pages_of_len(words.len())..]);
+    taken.share(&pages[at + pages_for(words.len())..]);
 }
 
 /// What was found where the pages of a version were chosen.
@@ -189,7 +189,7 @@ fn fill_new<'a>(operator: &mut Operator, words: &[u64], pages: &'a [u32]) -> (&'
     ensures filled { (index page : ℕ) → slice_get result.0.now index ≡ Some page → (slice_get pages.now index ≡ Some page) × (index < pages_for (length words.now)) × IsFreePage the_shape operator.old.view page }
     ensures left { result.1.now ≡ drop (pages_for (length words.now)) pages.now }
 {
-    let (own, left) = pages.split_at(pages_of_len(words.len()));
+    let (own, left) = pages.split_at(pages_for(words.len()));
     if begins_free(operator, own) {
         fill_program(operator, words, own);
         return (own, left);
@@ -255,7 +255,7 @@ pub(crate) fn fill_pages(
         return;
     }
     if let Some((words, at)) = first {
-        let own = &pages[at..at + pages_of_len(words.len())];
+        let own = &pages[at..at + pages_for(words.len())];
         if fill_last(operator, words, own, end) {
             return;
         }

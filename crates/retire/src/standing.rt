@@ -13,7 +13,7 @@ ghost use Rattle.retire.specs.body.Taking.{IsBehind, IsCounted, IsNext, IsPassin
 
 use crate::change::{Walk, compare};
 use crate::taken::TakenPages;
-use config_image::{PAGE_WORDS, Programs};
+use config_image::{Programs, pages_for};
 use member_group::Config;
 use read_section::Operator;
 use std::alloc::Global;
@@ -23,14 +23,6 @@ use std::alloc::Global;
 pub(crate) struct PagedPrograms<'a> {
     programs: Programs<'a, Global>,
     pages: &'a [u32],
-}
-
-/// The number of pages that a program of so many words takes.
-pub(crate) fn pages_of_len(len: usize) -> usize
-    requires { len + PAGE_WORDS < 2 ^ 64 }
-    ensures { result ≡ pages_for len }
-{
-    (len + (PAGE_WORDS - 1)) / PAGE_WORDS
 }
 
 // Tests up to three words.
@@ -102,7 +94,7 @@ impl<'a> PagedPrograms<'a> {
         let Some(words) = self.programs.next() else {
             return None;
         };
-        let (own, left) = self.pages.split_at(pages_of_len(words.len()));
+        let (own, left) = self.pages.split_at(pages_for(words.len()));
         self.pages = left;
         Some((words, own))
     }

@@ -19,7 +19,9 @@ use crate::fault::StepFault;
 use crate::layout::{CHARGE_LIMIT, POOL_BEGIN, ROWS_BEGIN, TABLE_WORDS};
 use crate::progress::Progress;
 use crate::step::{Event, Step};
-use config_image::{PAGE_LIMIT, PAGE_WORDS, Programs, ROW_WORDS, page_count, stored_word};
+use config_image::{
+    PAGE_LIMIT, PAGE_WORDS, Programs, ROW_WORDS, page_count, pages_for, stored_word,
+};
 use member_group::Config;
 use std::alloc::{AllocError, Allocator, Global};
 use std::marker::Model;
@@ -78,7 +80,7 @@ fn push_programs<A: Allocator, B: Allocator>(
     ensures pushed { IfOk result (λ unit. words.new.items ≡ words.old.items ++ flat_map in_pages programs.entry) }
 {
     for program in programs {
-        let end = words.len() + (program.len() + (PAGE_WORDS - 1)) / PAGE_WORDS * PAGE_WORDS;
+        let end = words.len() + pages_for(program.len()) * PAGE_WORDS;
         words.extend_from_slice(program)?;
         words.resize(end, 0)?;
     }

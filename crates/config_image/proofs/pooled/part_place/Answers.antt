@@ -1,11 +1,11 @@
-use Rattle.std.proofs.Common.{◌≡◌, ◌∷◌}
+use Rattle.std.proofs.Common.{◌≡◌, ◌∷◌, arith}
 use Rattle.config_image.proofs.NameLemmas.{first_fits, left_behind, no_part_left, part_fits, place_fits, place_behind, place_in_first, size_step}
 use Rattle.config_image.proofs.pooled.part_place.Goals as goal
 
 pub pages_for-count-requires : goal.pages_for-count-requires
 pages_for-count-requires g c =
     let step : c.loop-words.words-iterator ≡ c.in-Some.words.now ∷ c.next.new.self = c.in-Some.ensures.steps in
-    (first_fits _ _ _ step c.loop-words.place _ _ c.loop-words.invariant.2 c.requires.limited).0
+    let fits = (first_fits _ _ _ step c.loop-words.place _ _ c.loop-words.invariant.2 c.requires.limited).0 in omega arith
 
 pub overflow_mul-result : goal.overflow_mul-result
 overflow_mul-result g c =

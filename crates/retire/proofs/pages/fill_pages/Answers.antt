@@ -17,19 +17,19 @@ returns-then-end-eq0 c = let none = c.if-end-eq0.true in
 pub slice_bounds-own-end : goal.slice_bounds-own-end
 slice_bounds-own-end c = let all = words_of_programs c.args.config.now in
     let first = subst (λ o. IfSome o (λ first. IsBehindNoneFree c.args.operator.now.view all c.args.pages.now first.0.now first.1)) c.in-Some.is c.requires.first in
-    let inside = own_inside c.args.operator.now c.args.operator.now c.args.pages.now all c.requires.ready c.requires.counted c.in-Some.words.now c.in-Some.at first in let count = c.pages_of_len.ensures in omega arith
+    let inside = own_inside c.args.operator.now c.args.operator.now c.args.pages.now all c.requires.ready c.requires.counted c.in-Some.words.now c.in-Some.at first in let count = c.pages_for.ensures in omega arith
 
 pub fill_last-requires-clause-ready : goal.fill_last-requires-clause-ready
 fill_last-requires-clause-ready c = let all = words_of_programs c.args.config.now in
     let first = subst (λ o. IfSome o (λ first. IsBehindNoneFree c.args.operator.now.view all c.args.pages.now first.0.now first.1)) c.in-Some.is c.requires.first in
     own_ready c.args.operator.now c.args.operator.now c.args.pages.now all c.requires.ready c.requires.counted c.in-Some.words.now c.in-Some.at first _
-    (ap (λ (n : ℕ). take n (drop c.in-Some.at c.args.pages.now)) (let g : (c.in-Some.at + c.pages_of_len.result) - c.in-Some.at ≡ pages_for (length c.in-Some.words.now) = omega (arith, c.pages_of_len.ensures) in g))
+    (ap (λ (n : ℕ). take n (drop c.in-Some.at c.args.pages.now)) (let g : (c.in-Some.at + c.pages_for.result) - c.in-Some.at ≡ pages_for (length c.in-Some.words.now) = omega (arith, c.pages_for.ensures) in g))
 
 pub returns-then-fill_last : goal.returns-then-fill_last
 returns-then-fill_last c = let all = words_of_programs c.args.config.now in
     let first = subst (λ o. IfSome o (λ first. IsBehindNoneFree c.args.operator.now.view all c.args.pages.now first.0.now first.1)) c.in-Some.is c.requires.first in
     only_filled c.args.operator.now c.fill_last.new.operator c.args.pages.now all c.requires.ready c.requires.counted c.in-Some.words.now c.in-Some.at first _ c.args.end
-    (ap (λ (n : ℕ). take n (drop c.in-Some.at c.args.pages.now)) (let g : (c.in-Some.at + c.pages_of_len.result) - c.in-Some.at ≡ pages_for (length c.in-Some.words.now) = omega (arith, c.pages_of_len.ensures) in g))
+    (ap (λ (n : ℕ). take n (drop c.in-Some.at c.args.pages.now)) (let g : (c.in-Some.at + c.pages_for.result) - c.in-Some.at ≡ pages_for (length c.in-Some.words.now) = omega (arith, c.pages_for.ensures) in g))
     c.requires.below (c.fill_last.ensures.filled c.if-fill_last.true)
 
 pub fill_programs-requires-clause-below : goal.fill_programs-requires-clause-below

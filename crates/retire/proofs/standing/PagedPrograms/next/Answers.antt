@@ -3,7 +3,7 @@ use Rattle.retire.proofs.SharingLemmas.{first_of}
 use Rattle.retire.proofs.standing.PagedPrograms.next.Goals as goal
 
 pub split_at-requires : goal.split_at-requires
-split_at-requires c = let fits = first_of c.args.self.now.programs c.args.self.now.pages.now c.in-Some.words.now c.next.new.self c.in-Some.ensures.steps c.requires.counted in omega (arith, c.pages_of_len.ensures)
+split_at-requires c = let fits = first_of c.args.self.now.programs c.args.self.now.pages.now c.in-Some.words.now c.next.new.self c.in-Some.ensures.steps c.requires.counted in omega (arith, c.pages_for.ensures)
 
 pub returns-clause-none : goal.returns-clause-none
 returns-clause-none c = search rules
