@@ -28,9 +28,6 @@ alike_from P xs ys i x y inside within x_is y_is alike rest =
     subst (λ l. AllAlike P l (drop i ys)) (sym (drop_more xs i x inside)) (subst (λ l. AllAlike P (get_or xs i x ∷ drop (i + 1) xs) l) (sym (drop_more ys i y within))
     (subst (λ a. P a (get_or ys i y)) x_is (subst (P x) y_is alike), rest))
 
-pub alike_behind : {A : Type 0} (P : A → A → Type 0) (xs ys : List A) (i : ℕ) → length xs ≤ i → length xs ≡ length ys → AllAlike P (drop i xs) (drop i ys)
-alike_behind P xs ys i past same = subst (λ l. AllAlike P l (drop i ys)) (sym (drop_all i xs past)) (subst (AllAlike P []) (sym (drop_all i ys (omega arith))) tt)
-
 -- ---- lists of words that have as many words each
 
 abbrev HaveOneLength : List ℕ → List ℕ → Type 0

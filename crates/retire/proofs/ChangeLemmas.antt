@@ -3,7 +3,7 @@ use Rattle.std.proofs.Common.{◌≡◌, ◌∙◌, ◌∷◌, ◌+◌, ◌++◌
 use Rattle.std.specs.Borrow.{Bor}
 use Rattle.std.specs.List.{cons_option, filter_map, flat_map}
 use Rattle.std.specs.Option.{is_some, option_to_list}
-use Rattle.std.proofs.lemmas.List.{append-nil, drop_all, drop_more, map-append}
+use Rattle.std.proofs.lemmas.List.{append-nil, drop_all, drop_more}
 use Rattle.std.proofs.lemmas.List.Concat.{flat_map-append}
 use Rattle.bpf_verify.specs.Program.{ProgramValue}
 use Rattle.member_group.specs.declared.member.Member.{Member}
@@ -91,9 +91,6 @@ goes_further before now after xs ys us vs h k = record {
 }
 
 -- ---- members and groups
-
-words-append : (xs ys : List ProgramValue) → words_in (xs ++ ys) ≡ words_in xs ++ words_in ys
-words-append xs ys = map-append (λ (program : ProgramValue). program.words) xs ys
 
 words-cons : (o : Option ProgramValue) (rest : List ProgramValue) → words_in (cons_option o rest) ≡ words_in (option_to_list o) ++ words_in rest
 words-cons None rest = refl

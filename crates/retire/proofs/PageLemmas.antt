@@ -329,9 +329,6 @@ first_free operator words own page h at free = record {
     all_free : AllFree operator.view own
     all_free = ⊎_elim (λ t. t) (λ stands. absurd (stands.none_free 0 page at free)) h.ready
 
-pub new_filled : (before after : OperatorValue) (words own : List ℕ) → AreFreePages before own → FillsParts before after own (parts_of words) → FillsNew before after words own
-new_filled before after words own free filled = inl (free.free, filled)
-
 -- no page is free, or there is none
 pub stays : (operator after : OperatorValue) (words own : List ℕ) → IsReady operator words own → ((page : ℕ) → slice_get own 0 ≡ Some page → IsFreePage the_shape operator.view page → ⊥) → length own ≡ pages_for (length words) → after ≡ operator → FillsNew operator after words own
 stays operator after words [] h none counted e = inr (

@@ -1,17 +1,15 @@
 -- The programs of a version whose pages are chosen: each is ready to be filled, or stands there.
-use Rattle.std.proofs.Common.{◌≡◌, ◌∙◌, ◌⊎◌, ℕ, ◌+◌, ◌*◌, ◌<◌, ◌≤◌, List, Some, [], ◌∷◌, ap, arith, drop, inl, inr, length, refl, slice_get, slice_index, subst, suc, sym, take, zero, ⊎_elim}
+use Rattle.std.proofs.Common.{◌≡◌, ◌∙◌, ◌⊎◌, ℕ, ◌+◌, ◌*◌, ◌<◌, List, Some, [], ◌∷◌, ap, arith, drop, inl, inr, length, refl, slice_get, slice_index, subst, suc, sym, take, zero, ⊎_elim}
 use Rattle.std.specs.List.{flat_map}
 use Rattle.std.proofs.lemmas.List.{take-append-drop}
 use Rattle.std.proofs.lemmas.List.Concat.{flat_map-cons}
-use Rattle.config_image.specs.declared.TheConstants.{PAGE_LIMIT, PAGE_WORDS, ROW_WORDS}
+use Rattle.config_image.specs.declared.TheConstants.{PAGE_WORDS, ROW_WORDS}
 use Rattle.config_image.specs.Image.{Group}
 use Rattle.config_image.specs.Pooled.{pages_for, parts, parts_of}
 use Rattle.config_image.specs.Walk.{words_of_programs}
 use Rattle.config_image.proofs.PartsLemmas.{length-parts_of}
-use Rattle.config_image.proofs.PooledLemmas.{parts_stand}
 use Rattle.config_image.proofs.ProgramLemmas.{parts-by_words}
 use Rattle.versions.specs.declared.layout.TheConstants.{PAGES, ROWS}
-use Rattle.versions.specs.Pooled.{HasRoom}
 use Rattle.versions.specs.Table.{the_shape}
 use Rattle.versions.proofs.MirrorLemmas.{none_some, some_same}
 use Rattle.versions.proofs.OpenedLemmas.{slice_get-front_or_back}
@@ -87,7 +85,3 @@ module _ (operator : OperatorValue) where
 
     pub chosen_counted : length pages ≡ length (parts config)
     chosen_counted = chosen.counted ∙ ap length (sym (parts-by_words config))
-
--- a version has no more parts than pages may be named
-pub few_parts : (config : List Group) → HasRoom config → length (flat_map parts_of (words_of_programs config)) ≤ PAGE_LIMIT
-few_parts config room = omega (arith, (parts_stand config).few, room, ap length (parts-by_words config))

@@ -113,9 +113,6 @@ module _ (programs standing : List (List ℕ)) (pages own : List ℕ) (rest : Li
   pub run_counted : IsCounted h.same own
   run_counted = ap length h.own_is ∙ length-take-le (length (flat_map parts_of h.same)) pages h.fits
 
-  pub run_room : (n limit : ℕ) → n + length (flat_map parts_of programs) ≤ limit → n + length own ≤ limit
-  run_room n limit room = omega (arith, room, run_counted, ap length (ap (flat_map parts_of) h.programs_are ∙ flat_map-append parts_of h.same rest), length-append (flat_map parts_of h.same) (flat_map parts_of rest))
-
   -- they are pages of programs that stood, where these are among all that stand
   pub run_shared : (earlier : List (List ℕ)) (all : List ℕ) → IsBehind earlier all standing pages → (before after : TakenValue) → after ≡ record { pages = before.pages ++ own; from = before.from } → SharesRun earlier all programs rest before after
   run_shared earlier all behind before after e = record {

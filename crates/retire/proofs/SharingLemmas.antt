@@ -80,27 +80,15 @@ pub further_behind : (all : List (List ℕ)) (pages : List ℕ) (programs : List
 further_behind all pages programs behind others left far near words own has = far words own (near words own has)
 
 module _ (programs : List (List ℕ)) (pages words own : List ℕ) (others : List (List ℕ)) (left : List ℕ) (next : IsNext programs pages words own others left) where
-  pub next_has : HasPages programs pages words own
-  next_has = subst (λ l. HasPages l pages words own) (sym next.first) (0, refl, ap Some (sym next.front))
-
   pub next_behind : IsBehind programs pages others left
   next_behind other its (index, at, there) = subst (λ l. HasPages l pages other its) (sym next.first)
       (suc index, at, ap (λ l. slice_get (pages_of_each others l) index) (sym next.behind) ∙ there)
 
-  pub next_fits : IsCounted programs pages → pages_for (length words) ≤ length pages
-  next_fits counted = first_fits words others pages (subst (λ l. IsCounted l pages) next.first counted)
-
   pub next_counted : IsCounted programs pages → IsCounted others left
   next_counted counted = subst (IsCounted others) (sym next.behind) (others_counted words others pages (subst (λ l. IsCounted l pages) next.first counted))
 
-  pub next_fewer : length others < length programs
-  next_fewer = omega (arith, ap length next.first)
-
   pub next_or_later : (other : List ℕ) → Contains programs other → (words ≡ other) ⊎ Contains others other
   next_or_later other c = contains_first words other others (subst (λ l. Contains l other) next.first c)
-
-pub none_contained : (programs : List (List ℕ)) (words : List ℕ) → programs ≡ [] → Contains programs words → ⊥
-none_contained programs words none c = let t = subst (λ l. Contains l words) none c in let low = t.1 in omega arith
 
 -- ---- the current version
 

@@ -1,5 +1,5 @@
 -- Pages that are taken one after the other: free ones, or those of the current version.
-use Rattle.std.proofs.Common.{Contains, ◌≡◌, ◌∙◌, ℕ, ◌+◌, ◌-◌, ◌<◌, ◌≤◌, List, Some, [], ◌∷◌, ◌++◌, ap, append_assoc, arith, inl, inr, length, length-append, refl, slice_get, subst, sym, ⊎_elim}
+use Rattle.std.proofs.Common.{◌≡◌, ◌∙◌, ℕ, ◌+◌, ◌-◌, ◌<◌, ◌≤◌, List, Some, [], ◌∷◌, ◌++◌, ap, append_assoc, arith, inl, length, length-append, refl, slice_get, subst, sym, ⊎_elim}
 use Rattle.std.specs.List.{flat_map}
 use Rattle.std.proofs.lemmas.Bool.{cases_lt}
 use Rattle.std.proofs.lemmas.List.{append-nil}
@@ -60,9 +60,6 @@ module _ (view : OperatorView (List Group)) where
         let t = enough row taken.pages few in
         ⊎_elim (λ (under : t.0 < taken.from). let there = h.all t.0 t.1 under in t.2 there.0 there.1) (λ (up : taken.from ≤ t.0). none t.0 up t.1) (cases_lt t.0 taken.from)
 
-  pub no_free_yet : (taken : TakenValue) → TakesFree view taken taken 0
-  no_free_yet taken = record { own = []; counted = refl; free = λ index page at. absurd (none_some page at); pages = sym (append-nil taken.pages) }
-
   pub one_free_more : (before now : TakenValue) (n page from : ℕ) → TakesFree view before now n → IsFreePage the_shape view page → TakesFree view before (record { pages = now.pages ++ page ∷ []; from = from }) (n + 1)
   one_free_more before now n page from h free = record {
     own = h.own ++ page ∷ [];
@@ -82,9 +79,6 @@ module _ (view : OperatorView (List Group)) where
   module _ (programs : List (List ℕ)) (pages words : List ℕ) (before after : TakenValue) where
     pub equal_shared : (own : List ℕ) → IsCounted programs pages → HasPages programs pages words own → after ≡ record { pages = before.pages ++ own; from = before.from } → TakesOneMore view programs pages words before after
     equal_shared own counted has e = record { own = own; counted = own_counted programs pages words own counted has; takes = inl has; pages = ap (λ (v : TakenValue). v.pages) e }
-
-    pub new_taken : (n : ℕ) → n ≡ pages_for (length words) → (Contains programs words → ⊥) → TakesFree view before after n → TakesOneMore view programs pages words before after
-    new_taken n is none h = record { own = h.own; counted = h.counted ∙ is; takes = inr (none, h.free); pages = h.pages }
 
   -- ---- all programs, one after the other
 

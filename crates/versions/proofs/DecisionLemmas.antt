@@ -26,9 +26,6 @@ stored_behind s h = ext_get_or 0 (drop (rows_begin the_shape) s.words) s.operato
     (omega (arith, length-drop (rows_begin the_shape) s.words, h.words_length, h.stored_length))
     (λ i inside. get_or-drop (rows_begin the_shape) s.words i 0 ∙ h.stored i (omega (arith, length-drop (rows_begin the_shape) s.words, h.words_length)))
 
-peeked_same : (m n : ℕ) → Peeked m ≡ Peeked n → m ≡ n
-peeked_same m n e = cc
-
 module _ {A : Type 0} (s : State (List Group)) (reached : IsReached the_shape s) (words : List ℕ) (progress : Progress A) (m : IsMirror the_shape s words progress) where
   -- the row and the pages of a version that a worker holds, in the words of the table
   pub record IsKeptIn (n r : ℕ) : Type 0 where

@@ -1,5 +1,5 @@
 -- The kept numbers after a legal step mirror the state after it.
-use Rattle.std.proofs.Common.{◌≡◌, ℕ, ◌+◌, ◌-◌, ◌/◌, ◌<◌, ◌≤◌, List, Some, [], ap, arith, length, refl, set, slice_get, slice_index_or, subst, sym, ◌∙◌, ⊎_elim}
+use Rattle.std.proofs.Common.{◌≡◌, ℕ, ◌+◌, ◌-◌, ◌/◌, ◌<◌, List, Some, [], ap, arith, length, refl, set, slice_get, slice_index_or, subst, sym, ◌∙◌, ⊎_elim}
 use mathlib.Core.Option.{some}
 use lib.ListN.{get_elem?}
 use Rattle.config_image.specs.Image.{Group}
@@ -72,9 +72,6 @@ module _ {A : Type 0} (s : State (List Group)) (reached : IsReached the_shape s)
 
   pub fill_below : (place word x : ℕ) → IsLegalStep the_shape s (Fill place word) x → place < TABLE_WORDS
   fill_below place word x legal = ⊎_elim (λ t. place_below t.0 place t.1.0 t.2) (λ t. page_below t.0 place t.1.0 t.2) legal.0
-
-  pub scan_below : (place x : ℕ) → IsLegalStep the_shape s (Scan place) x → (0 < place) × (place ≤ WORKERS)
-  scan_below place x legal = let low = legal.1 in let e = legal.2 in (omega arith, omega (arith, workers_is))
 
   pub publish_below : (r x : ℕ) → IsLegalStep the_shape s (Publish r) x → (r < ROWS) × (progress.book.number < LAST_NUMBER)
   publish_below r x legal = let low = legal.0.free.0 in let number = legal.0.number in (omega (arith, rows_is), omega (arith, last_number_is, m.book.number))

@@ -226,9 +226,6 @@ module _ (words : List ℕ) (r : ℕ) (config : List Group) (pages : List ℕ) (
   row_held = ext_get_or 0 (row_in words r) (pooled_row config pages) (length-row_in words r whole low ∙ sym (tells config pages room are_held).whole)
       (λ i inside. let small : i < ROW_WORDS = omega (arith, length-row_in words r whole low) in word-row_in words r i small ∙ words_held words r config pages h i small)
 
-  pub pages_held : pages_in words r ≡ pages
-  pages_held = pages_in_row words r ∙ (ap pages_of row_held ∙ (tells config pages room are_held).pages_are)
-
   -- the place of a word of a part, and the word at a place
   place_part : (place : ℕ) → POOL_BEGIN ≤ place → IsPartIn (names_in (pooled_row config pages)) (length (image config)) ((place - POOL_BEGIN) / PAGE_WORDS) ((place - POOL_BEGIN) % PAGE_WORDS) → IsPartPlace the_shape config pages place
   unfolding the_shape

@@ -116,9 +116,6 @@ module _ {C : Type 0} (shape : Shape C) where
     pub held_place : (place : ℕ) → IsWordOf shape s n place → IsHeldPlace shape view place
     held_place place word = subst (λ stage. IsHeldPlaceAt shape stage view.seen view.pages place) (sym is.3) (word_seen place word)
 
-    pub word_of_held : (place : ℕ) → IsHeldPlace shape view place → IsWordOf shape s n place
-    word_of_held place held = word_of_seen place (subst (λ stage. IsHeldPlaceAt shape stage view.seen view.pages place) is.3 held)
-
     may_fetch_seen : (place : ℕ) → IsSeenPlace shape view.seen view.pages n r place → IsInRow shape r place ⊎ IsInPool shape place
     may_fetch_seen place (inl in_row) = inl in_row
     may_fetch_seen place (inr (config, at, part)) =
