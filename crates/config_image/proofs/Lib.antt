@@ -9,6 +9,7 @@ pub mod LookupLemmas
 pub mod SearchLemmas
 pub mod WritingLemmas
 pub mod RowLemmas
+pub mod PageTableLemmas
 pub mod PartsLemmas
 pub mod PooledLemmas
 pub mod NameLemmas

@@ -8,6 +8,7 @@ use Rattle.std.proofs.lemmas.List.Sums.{sum_by-append, sum_by-cons, sum_by-take-
 use Rattle.config_image.specs.declared.TheConstants.{PAGE_WORDS}
 use Rattle.config_image.specs.declared.word.TheConstants.{PLACE_LIMIT}
 use Rattle.std.proofs.lemmas.Option.{get_or_from_slice_get, slice_get-get_or}
+use Rattle.config_image.specs.PageTable.{entry_word}
 use Rattle.config_image.specs.Pooled.{page_names, pages_for, parts_from, parts_of}
 use Rattle.config_image.proofs.PartsLemmas.{length-page_names, length-parts_of, name_at, size_of}
 use Rattle.config_image.proofs.WritingLemmas.{IsWriting, writing_first, writing_last, writing_piece, writing_room}
@@ -68,7 +69,7 @@ no_more_parts_than_words (words ∷ rest) =
 
 abbrev pub names_from : ℕ → List ℕ → List ℕ
 names_from place [] = []
-names_from place (page ∷ rest) = (place * 65536 + page) ∷ names_from (place + PAGE_WORDS) rest
+names_from place (page ∷ rest) = entry_word place page ∷ names_from (place + PAGE_WORDS) rest
 
 pub length-names_from : (place : ℕ) (pages : List ℕ) → length (names_from place pages) ≡ length pages
 length-names_from place [] = refl
@@ -83,8 +84,8 @@ names_of_parts_from (suc (suc n)) words place (page ∷ rest) few enough =
     let left = length-drop PAGE_WORDS words in
     let first = length-take-le PAGE_WORDS words (omega arith) in
     let more = names_of_parts_from (suc n) (drop PAGE_WORDS words) (place + PAGE_WORDS) rest (omega arith) (omega arith) in
-    ap (λ (m : ℕ). (place * 65536 + page) ∷ page_names (place + m) (parts_from (suc n) (drop PAGE_WORDS words)) rest) first
-    ∙ ap (λ (names : List ℕ). (place * 65536 + page) ∷ names) more
+    ap (λ (m : ℕ). entry_word place page ∷ page_names (place + m) (parts_from (suc n) (drop PAGE_WORDS words)) rest) first
+    ∙ ap (λ (names : List ℕ). entry_word place page ∷ names) more
 
 pub names_of_program : (words : List ℕ) (place : ℕ) (pages : List ℕ) → pages_for (length words) ≤ length pages
     → page_names place (parts_of words) pages ≡ names_from place (take (pages_for (length words)) pages)
@@ -99,8 +100,8 @@ names-append (part ∷ first) rest place (page ∷ pages) enough =
     let more = names-append first rest (place + length part) pages (omega arith) in
     let sum = size_of-cons part first in
     let same : place + length part + size_of first ≡ place + size_of (part ∷ first) = omega arith in
-    ap (λ (names : List ℕ). (place * 65536 + page) ∷ names) more
-    ∙ ap (λ (n : ℕ). (place * 65536 + page) ∷ (page_names (place + length part) first pages ++ page_names n rest (drop (length first) pages))) same
+    ap (λ (names : List ℕ). entry_word place page ∷ names) more
+    ∙ ap (λ (n : ℕ). entry_word place page ∷ (page_names (place + length part) first pages ++ page_names n rest (drop (length first) pages))) same
 
 pub names_of_more : (words : List ℕ) (rest : List (List ℕ)) (place : ℕ) (pages : List ℕ) → pages_for (length words) ≤ length pages
     → page_names place (flat_map parts_of (words ∷ rest)) pages
@@ -114,10 +115,10 @@ names_of_more words rest place pages enough =
 
 -- the name of a part: its page, behind the place where the parts before it end
 pub name_of_part : (place : ℕ) (parts : List (List ℕ)) (pages : List ℕ) (k : ℕ) → length pages ≡ length parts → k < length parts
-    → get_or (page_names place parts pages) k 0 ≡ (place + size_of (take k parts)) * 65536 + get_or pages k 0
+    → get_or (page_names place parts pages) k 0 ≡ entry_word (place + size_of (take k parts)) (get_or pages k 0)
 name_of_part place parts pages k counted inside =
     let page = get_or pages k 0 in
-    get_or_from_slice_get (page_names place parts pages) k ((place + size_of (take k parts)) * 65536 + page) 0 (name_at place parts pages k page counted (slice_get-get_or pages k 0 (omega arith)))
+    get_or_from_slice_get (page_names place parts pages) k (entry_word (place + size_of (take k parts)) page) 0 (name_at place parts pages k page counted (slice_get-get_or pages k 0 (omega arith)))
 
 -- the place of a part of the first program, or of one behind it
 pub part_of_first : (words : List ℕ) (rest : List (List ℕ)) (k : ℕ) → k < pages_for (length words) → size_of (take k (flat_map parts_of (words ∷ rest))) ≡ k * PAGE_WORDS

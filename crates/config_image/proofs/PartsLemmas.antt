@@ -1,5 +1,5 @@
 -- Words in parts of a page each, and the names of the pages where the parts stand.
-use Rattle.std.proofs.Common.{◌≡◌, ◌∙◌, ◌∷◌, ◌*◌, ◌+◌, ◌++◌, ◌-◌, ◌%◌, ◌<◌, ◌≤◌, List, Some, [], ap, arith, drop, inl, inr, length, map, refl, subst, suc, take, zero, ℕ}
+use Rattle.std.proofs.Common.{◌≡◌, ◌∙◌, ◌∷◌, ◌*◌, ◌+◌, ◌++◌, ◌-◌, ◌<◌, ◌≤◌, List, Some, [], ap, arith, drop, inl, inr, length, map, refl, subst, suc, take, zero, ℕ}
 use Rattle.std.specs.List.{All, flat_map, slice_get, sum_by}
 use Rattle.std.proofs.lemmas.Bool.{cases_lt}
 use Rattle.std.proofs.lemmas.List.{length-drop, length-take, nil_from_length, take-append-drop}
@@ -9,7 +9,9 @@ use Rattle.std.proofs.lemmas.List.Sums.{sum_by-cons, sum_by_more}
 use Rattle.std.proofs.lemmas.Option.{get_or_from_slice_get, slice_get_within}
 use Rattle.bpf_verify.specs.Program.{ProgramValue}
 use Rattle.config_image.specs.declared.TheConstants.{PAGE_WORDS}
-use Rattle.config_image.specs.Pooled.{IsCut, joined, page_names, page_of, pages_for, parts_from, parts_of}
+use Rattle.config_image.specs.PageTable.{entry_word, page_of}
+use Rattle.config_image.specs.Pooled.{IsCut, joined, page_names, pages_for, parts_from, parts_of}
+use Rattle.config_image.proofs.PageTableLemmas.{page_told}
 use Rattle.config_image.proofs.WordLemmas.{slice_get-append_add, slice_get-append_left}
 
 -- how many words parts have together
@@ -157,16 +159,16 @@ length-page_names place (part ∷ rest) (page ∷ pages) counted =
     let more = length-page_names (place + length part) rest pages (omega arith) in omega arith
 
 pub name_at : (place : ℕ) (parts : List (List ℕ)) (pages : List ℕ) (index page : ℕ) → length pages ≡ length parts → slice_get pages index ≡ Some page
-    → slice_get (page_names place parts pages) index ≡ Some ((place + size_of (take index parts)) * 65536 + page)
+    → slice_get (page_names place parts pages) index ≡ Some (entry_word (place + size_of (take index parts)) page)
 name_at place [] [] index page counted there = absurd cc
 name_at place [] (first ∷ pages) index page counted there = absurd (omega arith)
 name_at place (part ∷ rest) [] index page counted there = absurd cc
 name_at place (part ∷ rest) (first ∷ pages) zero page counted there =
     let same : first ≡ page = cc in
-    let name : place * 65536 + first ≡ (place + 0) * 65536 + page = omega arith in ap (λ (n : ℕ). Some n) name
+    let name : entry_word place first ≡ entry_word (place + 0) page = omega arith in ap (λ (n : ℕ). Some n) name
 name_at place (part ∷ rest) (first ∷ pages) (suc index) page counted there =
     let sum = sum_by-cons (λ (one : List ℕ). length one) part (take index rest) in
-    let name : (place + length part + size_of (take index rest)) * 65536 + page ≡ (place + size_of (part ∷ take index rest)) * 65536 + page = omega arith in
+    let name : entry_word (place + length part + size_of (take index rest)) page ≡ entry_word (place + size_of (part ∷ take index rest)) page = omega arith in
     name_at (place + length part) rest pages index page (omega arith) there ∙ ap (λ (n : ℕ). Some n) name
 
 abbrev pub IsPage : ℕ → Type 0
@@ -177,7 +179,5 @@ pages-page_names place [] [] counted below = refl
 pages-page_names place [] (page ∷ pages) counted below = absurd (omega arith)
 pages-page_names place (part ∷ rest) [] counted below = refl
 pages-page_names place (part ∷ rest) (page ∷ pages) counted below =
-    let small = All-head IsPage page pages below in
-    let low : (place * 65536 + page) % 65536 ≡ page = omega arith in
-    ap (λ (n : ℕ). n ∷ map page_of (page_names (place + length part) rest pages)) low
+    ap (λ (n : ℕ). n ∷ map page_of (page_names (place + length part) rest pages)) (page_told place page (All-head IsPage page pages below))
     ∙ ap (λ (ns : List ℕ). page ∷ ns) (pages-page_names (place + length part) rest pages (omega arith) (All-tail IsPage page pages below))

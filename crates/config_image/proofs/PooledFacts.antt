@@ -5,6 +5,7 @@ use Rattle.std.proofs.lemmas.List.{take-append-le, take-take}
 use Rattle.std.proofs.lemmas.List.Elements.{All-cons, All-nil}
 use Rattle.config_image.specs.declared.TheConstants.{ROW_WORDS}
 use Rattle.config_image.specs.Image.{Group, image, programs_begin}
+use Rattle.config_image.specs.PageTable.{entry_word, page_of, start_of}
 use Rattle.config_image.specs.Pooled.{IsPooledForm, form_word, page_names, pages_for, pages_of, parts, parts_of, pooled_row}
 
 -- the words of a row before its zeros
@@ -14,6 +15,16 @@ written config pages = form_word config ∷ (drop 1 (take (programs_begin config
 first_words : (config : List Group) (pages : List ℕ) (n : ℕ) → n ≤ ROW_WORDS → n ≤ length (written config pages) → take n (pooled_row config pages) ≡ take n (written config pages)
 unfolding pooled_row
 first_words config pages n fits inside = take-take n ROW_WORDS (written config pages ++ replicate ROW_WORDS 0) fits ∙ take-append-le n (written config pages) (replicate ROW_WORDS 0) inside
+
+-- the name of the part that starts at image place 8191, in page 32767
+packed_entry : entry_word 8191 32767 ≡ 0x1fff7fff
+packed_entry = refl
+
+entry_start : start_of 0x1fff7fff ≡ 8191
+entry_start = refl
+
+entry_page : page_of 0x1fff7fff ≡ 32767
+entry_page = refl
 
 empty_form : form_word [] ≡ 0x200020000
 unfolding image

@@ -1,5 +1,5 @@
 -- What a row in the pooled form tells of the configuration and of the pages, and how many pages there are at most.
-use Rattle.std.proofs.Common.{◌≡◌, ◌∙◌, ◌∷◌, ◌*◌, ◌+◌, ◌++◌, ◌-◌, ◌/◌, ◌%◌, ◌^◌, ◌<◌, ◌≤◌, List, None, Option, Some, [], ap, append-nil, append_assoc, arith, drop, get_or, length, length-append, map, refl, replicate, slice_index, suc, sym, take, zero, ℕ}
+use Rattle.std.proofs.Common.{◌≡◌, ◌∙◌, ◌∷◌, ◌*◌, ◌+◌, ◌++◌, ◌-◌, ◌<◌, ◌≤◌, List, None, Option, Some, [], ap, append-nil, append_assoc, arith, drop, get_or, length, length-append, map, refl, replicate, slice_index, suc, sym, take, zero, ℕ}
 use Rattle.std.specs.List.{cons_option, filter_map, slice_get, sum_by}
 use Rattle.std.specs.Option.{option_to_list}
 use Rattle.std.proofs.Math.Seq.{drop-append_seam, take-append-add, take-append_seam}
@@ -14,9 +14,11 @@ use Rattle.member_group.specs.Charge.{charge_of, members_of, programs_of, progra
 use Rattle.member_group.specs.Group.{IsConfig}
 use Rattle.config_image.specs.declared.TheConstants.{PAGE_LIMIT, ROW_WORDS}
 use Rattle.config_image.specs.Image.{Group, filter_words, group_program_words, image, program_words, programs_begin, words_of}
-use Rattle.config_image.specs.Pooled.{ArePages, PartsStand, PooledRowTells, RowTellsItsParts, RowTellsItsPartsWithRoom, form_word, joined, page_names, page_of, pages_for, pages_of, part_begin, parts, parts_of, pooled_row}
+use Rattle.config_image.specs.PageTable.{entry_word, header_begin, header_count, header_len, page_of}
+use Rattle.config_image.specs.Pooled.{ArePages, PartsStand, PooledRowTells, RowTellsItsParts, RowTellsItsPartsWithRoom, form_word, joined, page_names, pages_for, pages_of, part_begin, parts, parts_of, pooled_row}
 use Rattle.config_image.proofs.ImageLemmas.{before_programs, image-before_programs, length-before_programs}
 use Rattle.config_image.proofs.LengthLemmas.{length_image, members_of-cons, within_charge}
+use Rattle.config_image.proofs.PageTableLemmas.{header_parts}
 use Rattle.config_image.proofs.PartsLemmas.{IsSized, at_least_one, joined-parts_of_all, length-joined, length-page_names, length-parts_of, name_at, pages-page_names, pages_covered, parts_of_all, parts_of_all-sized, part_at, size_before_next, size_of, sized_part, word_of_part, words_of_all}
 use Rattle.config_image.proofs.WordLemmas.{from_item, slice_get-append_add, slice_get-append_left, slice_get-append_right}
 
@@ -215,11 +217,6 @@ parts_stand config =
 
 -- ---- the words of a row
 
--- the first word is cut into its three parts
-form_parts : (size begin count : ℕ) → begin < 65536 → count < 65536
-    → ((size * 2 ^ 32 + begin * 65536 + count) / 2 ^ 32 ≡ size) × ((size * 2 ^ 32 + begin * 65536 + count) / 65536 % 65536 ≡ begin) × ((size * 2 ^ 32 + begin * 65536 + count) % 65536 ≡ count)
-form_parts size begin count small few = (omega arith, omega arith, omega arith)
-
 -- words of which the first is another one
 other_first : (word : ℕ) (words : List ℕ) (i : ℕ) → 0 < i → slice_get (word ∷ drop 1 words) i ≡ slice_get words i
 other_first word words zero behind = absurd (omega arith)
@@ -306,7 +303,7 @@ module _ (config : List Group) (pages : List ℕ) (image_short : length (image c
       word_written i (omega arith) ∙ slice_get-append_left (front config) names i (omega arith) ∙ word_of_front config i behind before
 
   row-name : (index page : ℕ) → slice_get pages index ≡ Some page
-      → slice_get (pooled_row config pages) (programs_begin config + index) ≡ Some (part_begin config index * 65536 + page)
+      → slice_get (pooled_row config pages) (programs_begin config + index) ≡ Some (entry_word (part_begin config index) page)
   row-name index page there =
       let inside = slice_get_within pages index page there in
       let counted = are.counted in
@@ -332,20 +329,20 @@ module _ (config : List Group) (pages : List ℕ) (image_short : length (image c
   few : length (parts config) ≤ PAGE_LIMIT
   few = few_in_row config image_short
 
-  form_cut : (form_word config / 2 ^ 32 ≡ length (image config)) × (form_word config / 65536 % 65536 ≡ programs_begin config) × (form_word config % 65536 ≡ length (parts config))
+  form_cut : (header_len (form_word config) ≡ length (image config)) × (header_begin (form_word config) ≡ programs_begin config) × (header_count (form_word config) ≡ length (parts config))
   form_cut =
       let inside = parts_inside config in
-      form_parts (length (image config)) (programs_begin config) (length (parts config)) (omega arith) (omega arith)
+      header_parts (length (image config)) (programs_begin config) (length (parts config)) (omega arith) (omega arith)
 
   row-pages : pages_of (pooled_row config pages) ≡ pages
   row-pages =
       let first : slice_index (pooled_row config pages) 0 ≡ form_word config = get_or_from_slice_get (pooled_row config pages) 0 (form_word config) 0 row-form in
-      let begin : slice_index (pooled_row config pages) 0 / 65536 % 65536 ≡ length (front config) = ap (λ (n : ℕ). n / 65536 % 65536) first ∙ form_cut.1 ∙ sym (length-front config) in
-      let count : slice_index (pooled_row config pages) 0 % 65536 ≡ length names = ap (λ (n : ℕ). n % 65536) first ∙ form_cut.2 ∙ sym length-names in
+      let begin : header_begin (slice_index (pooled_row config pages) 0) ≡ length (front config) = ap header_begin first ∙ form_cut.1 ∙ sym (length-front config) in
+      let count : header_count (slice_index (pooled_row config pages) 0) ≡ length names = ap header_count first ∙ form_cut.2 ∙ sym length-names in
       let split : pooled_row config pages ≡ front config ++ (names ++ zeros_behind) = row-padded ∙ append_assoc (front config) names zeros_behind in
       let behind : drop (length (front config)) (pooled_row config pages) ≡ names ++ zeros_behind = ap (drop (length (front config))) split ∙ drop-append_seam (front config) (names ++ zeros_behind) in
       let named : take (length names) (drop (length (front config)) (pooled_row config pages)) ≡ names = ap (take (length names)) behind ∙ take-append_seam names zeros_behind in
-      ap (λ (n : ℕ). map page_of (take n (drop (slice_index (pooled_row config pages) 0 / 65536 % 65536) (pooled_row config pages)))) count
+      ap (λ (n : ℕ). map page_of (take n (drop (header_begin (slice_index (pooled_row config pages) 0)) (pooled_row config pages)))) count
       ∙ ap (λ (n : ℕ). map page_of (take (length names) (drop n (pooled_row config pages)))) begin
       ∙ ap (map page_of) named
       ∙ pages-page_names (programs_begin config) (parts config) pages are.counted are.below

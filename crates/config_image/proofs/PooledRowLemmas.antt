@@ -1,5 +1,5 @@
 -- The words of a row in pooled form.
-use Rattle.std.proofs.Common.{◌≡◌, ◌∙◌, ◌∷◌, ◌+◌, ◌++◌, ◌-◌, ◌*◌, ◌<◌, ◌≤◌, List, [], ap, append_assoc, arith, drop, get_or, inl, inr, length, length-append, lit<, refl, replicate, suc, sym, take, zero, ℕ}
+use Rattle.std.proofs.Common.{◌≡◌, ◌∙◌, ◌∷◌, ◌+◌, ◌++◌, ◌-◌, ◌<◌, ◌≤◌, List, [], ap, append_assoc, arith, drop, get_or, inl, inr, length, length-append, lit<, refl, replicate, suc, sym, take, zero, ℕ}
 use Rattle.std.specs.List.{flat_map}
 use Rattle.std.proofs.Math.ListN.{get_or-append}
 use Rattle.std.proofs.Math.Seq.{take-append_seam}
@@ -7,6 +7,7 @@ use Rattle.std.proofs.lemmas.Bool.{cases_lt}
 use Rattle.std.proofs.lemmas.List.{get_or-append-add, get_or-replicate, get_or-take, get_or_past, length-replicate, take-take}
 use Rattle.config_image.specs.declared.TheConstants.{ROW_WORDS}
 use Rattle.config_image.specs.Image.{Group, all_member_records, group_records, image, members_begin, program_words, programs_begin}
+use Rattle.config_image.specs.PageTable.{entry_word}
 use Rattle.config_image.specs.Pooled.{form_word, page_names, parts, parts_of, pooled_row}
 use Rattle.config_image.specs.Walk.{words_of_programs}
 use Rattle.config_image.proofs.ImageLemmas.{before_programs, image-before_programs, length-before_programs}
@@ -74,7 +75,7 @@ module _ (config : List Group) (pages : List ℕ) where
       ∙ sym (get_or-append (before_programs config) (program_words config) 0 i (omega arith)) ∙ ap (λ (ws : List ℕ). get_or ws i 0) (sym (image-before_programs config))
 
   pub name_of_row : (k : ℕ) → length pages ≡ length (parts config) → k < length (parts config) → programs_begin config + k < ROW_WORDS
-      → get_or (pooled_row config pages) (programs_begin config + k) 0 ≡ (programs_begin config + size_of (take k (parts config))) * 65536 + get_or pages k 0
+      → get_or (pooled_row config pages) (programs_begin config + k) 0 ≡ entry_word (programs_begin config + size_of (take k (parts config))) (get_or pages k 0)
   name_of_row k counted is_part inside =
       let size = length-front counted in
       word_of_front (programs_begin config + k) inside (omega arith)
@@ -128,11 +129,11 @@ module _ (config : List Group) (pages : List ℕ) where
   -- the name at a place of the row, by the walk over the programs
   pub named_word : (walk : List (List ℕ)) (i at part place : ℕ) → length pages ≡ length (parts config) → walk ≡ words_of_programs config → at ≡ programs_begin config
       → part + at ≡ i → part < length pages → i < ROW_WORDS → place ≡ at + size_of (take part (flat_map parts_of walk))
-      → place * 65536 + get_or pages part 0 ≡ get_or (pooled_row config pages) i 0
+      → entry_word place (get_or pages part 0) ≡ get_or (pooled_row config pages) i 0
   named_word walk i at part place counted walked begins stands inside in_row ends =
       let all : flat_map parts_of walk ≡ parts config = ap (λ (some : List (List ℕ)). flat_map parts_of some) walked ∙ sym (parts-by_words config) in
       let before_it = ap (λ (some : List (List ℕ)). size_of (take part some)) all in
       let begin : place ≡ programs_begin config + size_of (take part (parts config)) = omega arith in
       let same : programs_begin config + part ≡ i = omega arith in
-      ap (λ (n : ℕ). n * 65536 + get_or pages part 0) begin
+      ap (λ (n : ℕ). entry_word n (get_or pages part 0)) begin
       ∙ sym (name_of_row part counted (omega arith) (omega arith)) ∙ ap (λ (n : ℕ). get_or (pooled_row config pages) n 0) same

@@ -1,5 +1,6 @@
 pub mod Image
 pub mod Lookup
+pub mod PageTable
 pub mod Pooled
 pub mod Walk
 pub use Rattle.bpf_insn.specs.Word

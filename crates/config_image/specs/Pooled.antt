@@ -1,7 +1,7 @@
 -- The words in which the table stores a configuration when programs stand in pages of a pool (docs/SWITCH.md, "The pooled form").
 -- A row has a first word of its own, then what the image has before its programs, and in place of the programs the names of the
 -- pages where their words stand.
-use Rattle.std.specs.Prelude.{◌≡◌, ◌*◌, ◌+◌, ◌-◌, ◌/◌, ◌%◌, ◌^◌, ◌<◌, ◌≤◌, ◌++◌, ◌∷◌, List, Some, [], drop, flat_map, length, map, replicate, slice_get, slice_index, suc, take, zero, ℕ}
+use Rattle.std.specs.Prelude.{◌≡◌, ◌*◌, ◌+◌, ◌-◌, ◌/◌, ◌<◌, ◌≤◌, ◌++◌, ◌∷◌, List, Some, [], drop, flat_map, length, map, replicate, slice_get, slice_index, suc, take, zero, ℕ}
 use Rattle.std.specs.List.{All, sum_by}
 use Rattle.bpf_verify.specs.Program.{ProgramValue}
 use Rattle.member_group.specs.declared.TheConstants.{HEAD_WORDS}
@@ -9,6 +9,7 @@ use Rattle.member_group.specs.Charge.{charge_of, programs_of}
 use Rattle.member_group.specs.Group.{IsConfig}
 use Rattle.config_image.specs.declared.TheConstants.{PAGE_LIMIT, PAGE_WORDS, ROW_WORDS}
 use Rattle.config_image.specs.Image.{Group, image, programs_begin, row}
+use Rattle.config_image.specs.PageTable.{entry_word, header_begin, header_count, header_len, header_word, page_of}
 
 -- so many parts of words: each has as many words as a page, as long as there are words; words behind the last part are left out
 abbrev pub parts_from : ℕ → List ℕ → List (List ℕ)
@@ -27,16 +28,15 @@ parts_of words = parts_from (pages_for (length words)) words
 abbrev pub parts : List Group → List (List ℕ)
 parts config = flat_map (λ (program : ProgramValue). parts_of program.words) (programs_of config)
 
--- the names of parts that stand in these pages: the place in the image of a part's first word, and behind it 16 bits of page;
--- the first part begins at this place
+-- the names of parts that stand in these pages; the first part begins at this place
 abbrev pub page_names : ℕ → List (List ℕ) → List ℕ → List ℕ
 page_names place [] pages = []
 page_names place (part ∷ rest) [] = []
-page_names place (part ∷ rest) (page ∷ pages) = (place * 65536 + page) ∷ page_names (place + length part) rest pages
+page_names place (part ∷ rest) (page ∷ pages) = entry_word place page ∷ page_names (place + length part) rest pages
 
 -- the first word of a row: the image's length, where its programs begin, and how many parts there are
 abbrev pub form_word : List Group → ℕ
-form_word config = length (image config) * 2 ^ 32 + programs_begin config * 65536 + length (parts config)
+form_word config = header_word (length (image config)) (programs_begin config) (length (parts config))
 
 -- the row of a configuration whose parts stand in these pages: the first word, the image's words before the programs, the names,
 -- and then zeros
@@ -45,14 +45,10 @@ pooled_row config pages =
     take ROW_WORDS (form_word config ∷ (drop 1 (take (programs_begin config) (image config))
     ++ page_names (programs_begin config) (parts config) pages ++ replicate ROW_WORDS 0))
 
--- the page of a name
-abbrev pub page_of : ℕ → ℕ
-page_of name = name % 65536
-
 -- the pages that the words of a row name, in the order of the names
 abbrev pub pages_of : List ℕ → List ℕ
 pages_of words =
-    map page_of (take (slice_index words 0 % 65536) (drop (slice_index words 0 / 65536 % 65536) words))
+    map page_of (take (header_count (slice_index words 0)) (drop (header_begin (slice_index words 0)) words))
 
 -- the place in the image of the first word of the part at an index; behind the last part that is the image's length
 abbrev pub part_begin : List Group → ℕ → ℕ
@@ -106,15 +102,15 @@ pub record ArePages (config : List Group) (pages : List ℕ) : Type 0 where
 pub record PooledRowTells (config : List Group) (pages : List ℕ) : Type 0 where
   pub whole : length (pooled_row config pages) ≡ ROW_WORDS
   pub form : slice_get (pooled_row config pages) 0 ≡ Some (form_word config)
-  pub length_part : form_word config / 2 ^ 32 ≡ length (image config)
-  pub begin_part : form_word config / 65536 % 65536 ≡ programs_begin config
-  pub count_part : form_word config % 65536 ≡ length (parts config)
+  pub length_part : header_len (form_word config) ≡ length (image config)
+  pub begin_part : header_begin (form_word config) ≡ programs_begin config
+  pub count_part : header_count (form_word config) ≡ length (parts config)
   pub short : length (image config) ≤ ROW_WORDS
   pub few : length (parts config) ≤ PAGE_LIMIT
   pub inside : programs_begin config + length (parts config) ≤ length (image config)
   pub image_words : (i : ℕ) → 0 < i → i < programs_begin config → slice_get (pooled_row config pages) i ≡ slice_get (image config) i
   pub names : (index page : ℕ) → slice_get pages index ≡ Some page
-      → slice_get (pooled_row config pages) (programs_begin config + index) ≡ Some (part_begin config index * 65536 + page)
+      → slice_get (pooled_row config pages) (programs_begin config + index) ≡ Some (entry_word (part_begin config index) page)
   pub zeros : (i : ℕ) → programs_begin config + length (parts config) ≤ i → i < ROW_WORDS → slice_get (pooled_row config pages) i ≡ Some 0
   pub pages_are : pages_of (pooled_row config pages) ≡ pages
   pub parts_stand : PartsStand config

@@ -10,6 +10,7 @@ ghost use Rattle.config_image.specs.Pooled.{EachImageHasItsParts, EachProgramIsC
 use member_group::HEAD_WORDS;
 
 mod lookup;
+mod page_table;
 mod pages;
 mod pooled;
 mod size;
@@ -21,6 +22,7 @@ pub use lookup::{
     FoundGroup, MemberEntry, ProgramPlace, filter_of, find_group, member_at, member_with_filter,
     selector_of,
 };
+pub use page_table::{PageEntry, RowHeader};
 pub use pages::{page_count, pages_for};
 pub use pooled::{stored_word, write_pooled};
 pub use size::image_len;

@@ -8,6 +8,7 @@ ghost use Rattle.member_group.specs.Group.{IsConfig};
 ghost use Rattle.config_image.specs.Image.{members_begin, programs_begin};
 ghost use Rattle.config_image.specs.Pooled.{ArePages, form_word, page_names, pages_for, parts, parts_of, pooled_row};
 
+use crate::page_table::{PageEntry, RowHeader};
 use crate::pages::pages_for;
 use crate::size::{members_in, words_in};
 use crate::walk::Programs;
@@ -25,15 +26,7 @@ fn form_word<A: Allocator>(groups: &[Group<A>], programs_at: usize, count: usize
     requires counted { count ≡ length (parts groups.now) }
     ensures { result ≡ form_word groups.now }
 {
-    words_in(groups) as u64 * (1 << 32) + programs_at as u64 * 65536 + count as u64
-}
-
-// A name: the place in the image of a part's first word, and behind it the part's page.
-fn name(place: usize, page: u32) -> u64
-    requires { place ≤ PLACE_LIMIT }
-    ensures { result ≡ place * 65536 + page }
-{
-    place as u64 * 65536 + u64::from(page)
+    RowHeader::new(words_in(groups), programs_at, count).0
 }
 
 // The place of the first word of part `part`, where the programs begin at `programs_at`.
@@ -72,7 +65,7 @@ fn stored<A: Allocator>(groups: &[Group<A>], pages: &[u32], i: usize) -> u64
         let count = pages.len();
         if part < count {
             let place = part_place(Programs::of_groups(groups), part, programs_at);
-            name(place, pages[part])
+            PageEntry::new(place, pages[part]).0
         } else {
             0
         }
@@ -107,7 +100,7 @@ fn write_program_names<'a, S: WordSink>(
     let (own, left) = pages.split_at(pages_for(words.len()));
     let mut part_at = place;
     for page in own {
-        sink.put(name(part_at, *page));
+        sink.put(PageEntry::new(part_at, *page).0);
         part_at += PAGE_WORDS;
     }
     left

@@ -11,10 +11,9 @@ use std::marker::Model;
 /// The number of slots. Places that are less than 1023 apart have slots of their own (`slots_apart`).
 pub const SLOTS: usize = 1024;
 
-/// The memory of one reader: the first word of one version's row, and extents of its image.
+/// The memory of one reader: the first word of one version's row, its header, and extents of its image.
 ///
-/// The first word of a row has the image's length from bit 32 on, the place where the programs begin in bits 16 to 31, and the number
-/// of parts in the 16 bits below. It is never 0, so 0 stands for a word that is not kept.
+/// A header is never 0, so 0 means that it is not kept.
 #[derive(Drop)]
 pub struct ExtentMemory {
     version: u64,

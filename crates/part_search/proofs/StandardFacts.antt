@@ -1,14 +1,6 @@
--- Worked names, by the definitions alone.
+-- Worked numbers of digits, by the definitions alone.
 use Rattle.std.proofs.Common.{◌≡◌, refl}
-use Rattle.part_search.specs.Names.{page_of, start_of}
 use Rattle.part_search.specs.Search.{digits}
-
--- the part that starts at image place 8191, in page 32767
-start : start_of 0x1fff7fff ≡ 8191
-start = refl
-
-page : page_of 0x1fff7fff ≡ 32767
-page = refl
 
 -- eleven digits hold 2047, and ten 1023
 eleven : digits 11 2047 ≡ 11

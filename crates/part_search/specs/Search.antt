@@ -1,8 +1,9 @@
 -- What a contract sees of a Search.
-use Rattle.std.specs.Prelude.{◌≡◌, ◌+◌, ◌-◌, ◌*◌, ◌/◌, ◌<◌, ◌≤◌, List, Some, length, slice_get, suc, zero, ℕ}
+use Rattle.std.specs.Prelude.{◌≡◌, ◌+◌, ◌-◌, ◌/◌, ◌<◌, ◌≤◌, List, Some, length, slice_get, suc, zero, ℕ}
 use Rattle.part_search.specs.declared.search.Search.{Search}
 use Rattle.part_search.specs.declared.TheConstants.{READ_LIMIT}
-use Rattle.part_search.specs.Names.{IsWithin, start_of}
+use Rattle.config_image.specs.PageTable.{entry_word, start_of}
+use Rattle.part_search.specs.Names.{IsWithin}
 
 -- the indexes of the names that the search may still ask for, and how many there are
 abbrev pub IsOpen : Search → ℕ → Type 0
@@ -29,11 +30,11 @@ reads_left search = digits READ_LIMIT (unread search)
 -- or before it, the name at `high`, or behind all names the end, starts later
 pub record IsSearchOf (names : List ℕ) (end place : ℕ) (search : Search) : Type 0 where
   pub within : IsWithin names end place
-  pub greatest : search.greatest ≡ place * 65536 + 65535
+  pub greatest : search.greatest ≡ entry_word place 0xffff
   pub inside : search.high ≤ length names
   pub not_none : 0 < search.high
   pub named : 0 < search.low → slice_get names (search.low - 1) ≡ Some search.name
   pub from : 0 < search.low → start_of search.name ≤ place
   pub to : place < start_of search.next
   pub next : (name : ℕ) → slice_get names search.high ≡ Some name → search.next ≡ name
-  pub last : search.high ≡ length names → search.next ≡ end * 65536
+  pub last : search.high ≡ length names → search.next ≡ entry_word end 0

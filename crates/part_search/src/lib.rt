@@ -1,9 +1,9 @@
 //! The search for the part that holds a place of an image, among the names of all parts.
 //!
-//! A part is 1 to 16 words of an image, in a page of a pool. Its name is one number: the place in the image of its first word,
-//! its start, and behind it 16 bits with the number of its page. A row has the names of an image's parts one behind the other,
-//! their starts rising, and is read one name at a time. So `Search` is a value that is asked which name to read next, and is
-//! told the name; whoever holds it makes the reads. Of 2047 names it asks for at most eleven. No call takes memory.
+//! A part is 1 to 16 words of an image, in a page of a pool. Its name, a `config_image::PageEntry`, has the part's start and its page.
+//! A row has the names of an image's parts one after the other, their starts rising, and is read one name at a time. So `Search` is a
+//! value that is asked which name to read next, and is told the name; whoever holds it makes the reads. Of 2047 names it asks for at
+//! most eleven. No call takes memory.
 #![tactic(auto)]
 
 ghost use Rattle.std.specs.Prelude.{◌≡◌, ◌<◌, ◌≤◌, ◌^◌, ◌↔◌, IfSome, IsSome, length, ℕ};
@@ -12,6 +12,7 @@ ghost use Rattle.part_search.specs.Names.{HoldsPlace, IsWithin, OnePartHolds};
 mod found;
 mod search;
 
+use config_image::PageEntry;
 pub use found::FoundPart;
 pub use search::Search;
 
@@ -34,7 +35,7 @@ pub fn search_slice(names: &[u64], end: usize, place: usize) -> Option<(FoundPar
     ensures at_most { IfSome result (λ found. found.1 ≤ READ_LIMIT) }
 {
     let first = names.first()?;
-    if place < (*first >> 16) as usize || end <= place {
+    if place < PageEntry(*first).start() || end <= place {
         return None;
     }
     let mut search = Search::new(names.len(), end, place);

@@ -4,6 +4,7 @@ ghost use Rattle.std.specs.Prelude.{◌≡◌, ◌≢◌, ◌<◌, ◌≤◌, �
 ghost use Rattle.part_search.specs.declared.TheConstants.{NAME_LIMIT, READ_LIMIT};
 
 use crate::FoundPart;
+use config_image::PageEntry;
 
 /// A search by halving for the last name that starts at a place or before it.
 ///
@@ -44,11 +45,11 @@ impl Search {
         ensures at_most { reads_left result ≤ READ_LIMIT }
     {
         Search {
-            greatest: place as u64 * 65536 + 65535,
+            greatest: PageEntry::new(place, 0xffff).0,
             low: 0,
             high: entries,
             name: 0,
-            next: end as u64 * 65536,
+            next: PageEntry::new(end, 0).0,
         }
     }
 
@@ -91,8 +92,8 @@ impl Search {
     {
         FoundPart {
             index: self.low - 1,
-            name: self.name,
-            next: self.next,
+            name: PageEntry(self.name),
+            next: PageEntry(self.next),
         }
     }
 

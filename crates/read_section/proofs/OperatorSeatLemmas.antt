@@ -6,12 +6,12 @@ use Rattle.atomic_table.specs.Table.{Allows, step}
 use Rattle.atomic_table.specs.Seated.{TableId}
 use Rattle.config_image.specs.Image.{Group}
 use Rattle.member_group.specs.Charge.{charge_of}
-use Rattle.versions.specs.declared.layout.TheConstants.{LAST_NUMBER, ROWS, WORKERS}
+use Rattle.versions.specs.declared.layout.TheConstants.{ROWS, WORKERS}
 use Rattle.versions.specs.declared.view.OperatorView.{OperatorView}
 use Rattle.versions.specs.Layout.{current_word, page_begin, row_begin}
 use Rattle.versions.specs.Free.{IsFreePage, IsFreeRow, number_after}
 use Rattle.versions.specs.Table.{the_shape}
-use Rattle.versions.proofs.ShapeLemmas.{last_number_is, rows_is, workers_is}
+use Rattle.versions.proofs.ShapeLemmas.{rows_is, workers_is}
 use Rattle.versions.proofs.WorldLemmas.{light}
 use Rattle.read_section.specs.Layout.{IsPublishable}
 use Rattle.read_section.specs.body.Seat.{HoldsNamed, OperatorSeatValue, acts, operator_at, operator_or_none}
@@ -63,9 +63,6 @@ current_is n r = λ i. n * sym rows_is i + r
 
 pub row_of_current : (n r : ℕ) → r < the_shape.rows → (n * ROWS + r) % the_shape.rows ≡ r
 row_of_current n r low = ap (λ (k : ℕ). k % the_shape.rows) (current_is n r) ∙ mod-mul-add n the_shape.rows r low
-
-pub number_fits : (n : ℕ) → n ≤ the_shape.last_number → n ≤ LAST_NUMBER
-number_fits n low = subst (λ (k : ℕ). n ≤ k) last_number_is low
 
 pub worker_fits : (w : ℕ) → w < the_shape.workers → w < WORKERS
 worker_fits w low = subst (λ (k : ℕ). w < k) workers_is low

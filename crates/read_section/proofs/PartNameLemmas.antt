@@ -1,16 +1,18 @@
 -- What the names in a row in the pooled form tell of the parts, and what a search among them finds.
-use Rattle.std.proofs.Common.{◌≡◌, ℕ, suc, zero, ◌+◌, ◌-◌, ◌*◌, ◌/◌, ◌<◌, ◌≤◌, List, [], Some, ap, arith, drop, get_or, inl, inr, length, length-drop, length-take, slice_get, slice_index, sym, ◌∙◌}
+use Rattle.std.proofs.Common.{◌≡◌, ℕ, suc, zero, ◌+◌, ◌-◌, ◌<◌, ◌≤◌, List, [], Some, ap, arith, drop, get_or, inl, inr, length, length-drop, length-take, slice_get, slice_index, sym, ◌∙◌}
 use Rattle.std.proofs.lemmas.Bool.{cases_lt}
 use Rattle.std.proofs.lemmas.List.{get_or-drop, get_or-take}
 use Rattle.std.proofs.lemmas.Option.{get_or_from_slice_get, slice_get-get_or, slice_get_within}
 use Rattle.config_image.specs.declared.TheConstants.{ROW_WORDS}
 use Rattle.config_image.specs.Image.{Group, image, programs_begin}
+use Rattle.config_image.specs.PageTable.{entry_word, page_of, start_of}
 use Rattle.config_image.specs.Pooled.{ArePages, PartsStand, PooledRowTells, part_begin, parts, pooled_row}
+use Rattle.config_image.proofs.PageTableLemmas as entry
 use Rattle.config_image.proofs.PooledLemmas.{row_tells_with_room}
 use Rattle.part_search.specs.declared.found.FoundPart.{FoundPart}
 use Rattle.read_section.specs.body.Found.{HasPages}
 use Rattle.read_section.specs.body.Sought.{names_of}
-use Rattle.part_search.specs.Names.{HoldsPlace, IsWithin, page_of, start_of}
+use Rattle.part_search.specs.Names.{HoldsPlace, IsWithin}
 
 -- pages of the table have 16 bits
 pub ArePages-table : (config : List Group) (pages : List ℕ) → HasPages config pages → ArePages config pages
@@ -27,38 +29,38 @@ module _ (config : List Group) (pages : List ℕ) (room : length (image config) 
   names = names_of config pages
 
   pub name_word : (index : ℕ) → index < length (parts config)
-      → slice_get (pooled_row config pages) (programs_begin config + index) ≡ Some (part_begin config index * 65536 + slice_index pages index)
+      → slice_get (pooled_row config pages) (programs_begin config + index) ≡ Some (entry_word (part_begin config index) (slice_index pages index))
   name_word index low = let counted = are.counted in tells.names index (slice_index pages index) (slice_get-get_or pages index 0 (omega arith))
 
   pub length-names : length names ≡ length (parts config)
   length-names = let whole = tells.whole in let inside = tells.inside in
       omega (arith, length-take (length (parts config)) (drop (programs_begin config) (pooled_row config pages)), length-drop (programs_begin config) (pooled_row config pages))
 
-  pub name_at : (index : ℕ) → index < length (parts config) → get_or names index 0 ≡ part_begin config index * 65536 + slice_index pages index
+  pub name_at : (index : ℕ) → index < length (parts config) → get_or names index 0 ≡ entry_word (part_begin config index) (slice_index pages index)
   name_at index low = get_or-take (length (parts config)) (drop (programs_begin config) (pooled_row config pages)) index 0 low
-      ∙ (get_or-drop (programs_begin config) (pooled_row config pages) index 0 ∙ get_or_from_slice_get (pooled_row config pages) (programs_begin config + index) (part_begin config index * 65536 + slice_index pages index) 0 (name_word index low))
+      ∙ (get_or-drop (programs_begin config) (pooled_row config pages) index 0 ∙ get_or_from_slice_get (pooled_row config pages) (programs_begin config + index) (entry_word (part_begin config index) (slice_index pages index)) 0 (name_word index low))
 
-  pub name_there : (index : ℕ) → index < length (parts config) → slice_get names index ≡ Some (part_begin config index * 65536 + slice_index pages index)
+  pub name_there : (index : ℕ) → index < length (parts config) → slice_get names index ≡ Some (entry_word (part_begin config index) (slice_index pages index))
   name_there index low = slice_get-get_or names index 0 (let counted = length-names in omega arith) ∙ ap Some (name_at index low)
 
   pub page_below : (index : ℕ) → index < length (parts config) → slice_index pages index < 65536
   page_below index low = let counted = are.counted in are.below index 0 (omega arith)
 
   -- a name tells its part's start and its page
-  pub start_told : (index : ℕ) → index < length (parts config) → start_of (part_begin config index * 65536 + slice_index pages index) ≡ part_begin config index
-  start_told index low = let page = page_below index low in omega arith
+  pub start_told : (index : ℕ) → index < length (parts config) → start_of (entry_word (part_begin config index) (slice_index pages index)) ≡ part_begin config index
+  start_told index low = entry.start_told (part_begin config index) (slice_index pages index) (page_below index low)
 
-  pub page_told : (index : ℕ) → index < length (parts config) → page_of (part_begin config index * 65536 + slice_index pages index) ≡ slice_index pages index
-  page_told index low = let page = page_below index low in omega arith
+  pub page_told : (index : ℕ) → index < length (parts config) → page_of (entry_word (part_begin config index) (slice_index pages index)) ≡ slice_index pages index
+  page_told index low = entry.page_told (part_begin config index) (slice_index pages index) (page_below index low)
 
   -- a place of the programs is one that a search may look for
   pub IsWithin-programs : (i : ℕ) → programs_begin config ≤ i → i < length (image config) → IsWithin names (length (image config)) i
   IsWithin-programs i from to = let t = stands.covered i from to in let some = t.1 in let first : 0 < length (parts config) = omega arith in
-      (part_begin config 0 * 65536 + slice_index pages 0, name_there 0 first, (let start = start_told 0 first in let begin = stands.first in omega arith), to)
+      (entry_word (part_begin config 0) (slice_index pages 0), name_there 0 first, (let start = start_told 0 first in let begin = stands.first in omega arith), to)
 
   -- the name behind the last part has the place where the parts end
-  pub end_told : (length (image config) * 65536) / 65536 ≡ part_begin config (length (parts config))
-  end_told = (let g : (length (image config) * 65536) / 65536 ≡ length (image config) = omega arith in g) ∙ sym stands.last
+  pub end_told : start_of (entry_word (length (image config)) 0) ≡ part_begin config (length (parts config))
+  end_told = (let g : start_of (entry_word (length (image config)) 0) ≡ length (image config) = omega arith in g) ∙ sym stands.last
 
   -- a part begins behind those before it
   begins_behind : (index more : ℕ) → index + more ≤ length (parts config) → part_begin config index ≤ part_begin config (index + more)
@@ -95,23 +97,23 @@ module _ (config : List Group) (pages : List ℕ) (room : length (image config) 
 
   module _ (i : ℕ) (part : FoundPart) (holds : HoldsPlace names (length (image config)) i part) where
     pub index_below : part.index < length (parts config)
-    index_below = let counted = length-names in let within = slice_get_within names part.index part.name holds.named in omega arith
+    index_below = let counted = length-names in let within = slice_get_within names part.index part.name.0 holds.named in omega arith
 
-    name_is : part.name ≡ part_begin config part.index * 65536 + slice_index pages part.index
-    name_is = sym (get_or_from_slice_get names part.index part.name 0 holds.named) ∙ name_at part.index index_below
+    name_is : part.name.0 ≡ entry_word (part_begin config part.index) (slice_index pages part.index)
+    name_is = sym (get_or_from_slice_get names part.index part.name.0 0 holds.named) ∙ name_at part.index index_below
 
-    pub found_start : start_of part.name ≡ part_begin config part.index
+    pub found_start : start_of part.name.0 ≡ part_begin config part.index
     found_start = ap start_of name_is ∙ start_told part.index index_below
 
-    pub found_page : page_of part.name ≡ slice_index pages part.index
+    pub found_page : page_of part.name.0 ≡ slice_index pages part.index
     found_page = ap page_of name_is ∙ page_told part.index index_below
 
-    pub found_end : start_of part.next ≡ part_begin config (part.index + 1)
+    pub found_end : start_of part.next.0 ≡ part_begin config (part.index + 1)
     found_end = elim (cases_lt (part.index + 1) (length (parts config))) [
       | inl more ↦ ap start_of (holds.next _ (name_there (part.index + 1) more)) ∙ start_told (part.index + 1) more
       | inr last ↦ let below = index_below in let counted = length-names in let e : part.index + 1 ≡ length (parts config) = omega arith in
-          ap start_of (holds.last (omega arith)) ∙ ((let g : start_of (length (image config) * 65536) ≡ length (image config) = omega arith in g) ∙ (sym stands.last ∙ ap (part_begin config) (sym e)))
+          ap start_of (holds.last (omega arith)) ∙ ((let g : start_of (entry_word (length (image config)) 0) ≡ length (image config) = omega arith in g) ∙ (sym stands.last ∙ ap (part_begin config) (sym e)))
     ]
 
-    pub found_next_page : part.index + 1 < length (parts config) → page_of part.next ≡ slice_index pages (part.index + 1)
+    pub found_next_page : part.index + 1 < length (parts config) → page_of part.next.0 ≡ slice_index pages (part.index + 1)
     found_next_page more = ap page_of (holds.next _ (name_there (part.index + 1) more)) ∙ page_told (part.index + 1) more

@@ -1,10 +1,11 @@
 -- What a publication takes from the row: the pages that its words name.
-use Rattle.std.proofs.Common.{◌≡◌, ◌∙◌, ℕ, ◌+◌, ◌-◌, ◌*◌, ◌/◌, ◌%◌, ◌<◌, ◌≤◌, List, Some, ap, arith, drop, get_or, length, length-drop, map, mul-le-mul_right, refl, slice_get, slice_index, subst, suc, suc-mul, sym, take}
+use Rattle.std.proofs.Common.{◌≡◌, ◌∙◌, ℕ, ◌+◌, ◌-◌, ◌*◌, ◌<◌, ◌≤◌, List, Some, ap, arith, drop, get_or, length, length-drop, map, mul-le-mul_right, refl, slice_get, slice_index, subst, suc, suc-mul, sym, take}
 use Rattle.std.proofs.lemmas.List.{ext_get_or, get_or-drop, get_or-take, length-take-le}
 use Rattle.config_image.specs.declared.TheConstants.{PAGE_LIMIT, ROW_WORDS}
 use Rattle.std.proofs.lemmas.Option.{get_or_from_slice_get}
 use Rattle.config_image.specs.Image.{Group, programs_begin}
-use Rattle.config_image.specs.Pooled.{ArePages, PooledRowTells, form_word, page_of, pages_of, parts, pooled_row}
+use Rattle.config_image.specs.PageTable.{header_begin, header_count, page_of}
+use Rattle.config_image.specs.Pooled.{ArePages, PooledRowTells, form_word, pages_of, parts, pooled_row}
 use Rattle.config_image.proofs.PooledLemmas.{few_in_row, row_tells_with_room}
 use Rattle.member_group.specs.Charge.{charge_of}
 use Rattle.versions.specs.declared.book.Book.{Book}
@@ -89,11 +90,11 @@ module _ {A : Type 0} (view : OperatorView (List Group)) (config : List Group) (
       first_is = is ∙ (ap (slice_index words) (let g : ROWS_BEGIN + row * ROW_WORDS ≡ ROWS_BEGIN + (row * ROW_WORDS + 0) = omega arith in g)
           ∙ (h.words_same (row * ROW_WORDS + 0) (place_stored row 0 in_rows (omega arith)) ∙ (form_word_at 0 (omega arith) ∙ get_or_from_slice_get (pooled_row new holds.0) 0 (form_word new) 0 tells.form)))
 
-      end_is : first / 65536 % 65536 + first % 65536 ≡ programs_begin new + length (parts new)
-      end_is = ap (λ (n : ℕ). n / 65536 % 65536 + n % 65536) first_is ∙ (ap (λ (n : ℕ). n + form_word new % 65536) tells.begin_part ∙ ap (λ (n : ℕ). programs_begin new + n) tells.count_part)
+      end_is : header_begin first + header_count first ≡ programs_begin new + length (parts new)
+      end_is = ap (λ (n : ℕ). header_begin n + header_count n) first_is ∙ (ap (λ (n : ℕ). n + header_count (form_word new)) tells.begin_part ∙ ap (λ (n : ℕ). programs_begin new + n) tells.count_part)
 
-      pub end_within : first / 65536 % 65536 + first % 65536 ≤ ROW_WORDS
+      pub end_within : header_begin first + header_count first ≤ ROW_WORDS
       end_within = omega (arith, end_is, tells.inside, tells.short)
 
-      pub zero_behind : IsZeroFrom view row (first / 65536 % 65536 + first % 65536)
+      pub zero_behind : IsZeroFrom view row (header_begin first + header_count first)
       zero_behind = subst (IsZeroFrom view row) (sym end_is) (λ i up small. form_word_at i small ∙ get_or_from_slice_get (pooled_row new holds.0) i 0 0 (tells.zeros i up small))

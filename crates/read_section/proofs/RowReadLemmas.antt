@@ -1,8 +1,9 @@
 -- What the last fetch of a read tells: of a word of the row, of a word of an extent, and of the row's first word.
-use Rattle.std.proofs.Common.{◌≡◌, ◌⊎◌, ℕ, ◌+◌, ◌/◌, ◌%◌, ◌*◌, ◌<◌, ◌≤◌, ◌^◌, List, [], Some, ap, arith, length, refl, slice_get, slice_index_or, subst, sym, ◌∙◌, ⊎_elim}
+use Rattle.std.proofs.Common.{◌≡◌, ◌⊎◌, ℕ, ◌+◌, ◌*◌, ◌<◌, ◌≤◌, List, [], Some, ap, arith, length, refl, slice_get, slice_index_or, subst, sym, ◌∙◌, ⊎_elim}
 use Rattle.std.proofs.lemmas.Option.{get_or_from_slice_get, slice_get-get_or}
 use Rattle.config_image.specs.declared.TheConstants.{ROW_WORDS}
 use Rattle.config_image.specs.Image.{Group, image, programs_begin}
+use Rattle.config_image.specs.PageTable.{header_begin, header_len}
 use Rattle.config_image.specs.Pooled.{PooledRowTells, form_word, pooled_row}
 use Rattle.versions.specs.declared.layout.TheConstants.{ROWS_BEGIN}
 use Rattle.versions.specs.declared.view.Stage.TheVariants.{Inside}
@@ -60,10 +61,10 @@ module _ (worker : WorkerValue) (row heads : ℕ) (extent : Extent) (i : ℕ) (k
 
 -- where the programs begin, by the row's first word, if that is remembered
 pub knows_heads : (worker : WorkerValue) (row heads : ℕ) (extent : Extent) (k n r : ℕ) → worker.view.stage ≡ Inside k n r → Knows worker.view row heads extent → (form : ℕ) → (0 < form → TellsForm worker.view form)
-    → Knows worker.view row (form / 65536 % 65536) extent
+    → Knows worker.view row (header_begin form) extent
 knows_heads worker row heads extent k n r stage knows form tells_form =
     let known = known_there worker k n r stage row heads extent knows in
-    known_again worker k n r stage row (form / 65536 % 65536) extent (
+    known_again worker k n r stage row (header_begin form) extent (
       known.0,
       (
         known.1.0,
@@ -72,7 +73,7 @@ knows_heads worker row heads extent k n r stage knows form tells_form =
           (
             λ some. let f = tells_form (omega arith) k n r stage in
                 let told = tells (config_held worker n) worker.view.pages known.1.1.0 (ArePages-table (config_held worker n) worker.view.pages f.1) in
-                (ap (λ x. x / 65536 % 65536) f.0 ∙ told.begin_part, f.1),
+                (ap header_begin f.0 ∙ told.begin_part, f.1),
             known.1.1.1.1,
           ),
         ),
@@ -81,7 +82,7 @@ knows_heads worker row heads extent k n r stage knows form tells_form =
 
 -- the same in a number of its own
 pub heads_found : (worker : WorkerValue) (row old : ℕ) (extent : Extent) (k n r : ℕ) → worker.view.stage ≡ Inside k n r → Knows worker.view row old extent → (form : ℕ) → (0 < form → TellsForm worker.view form)
-    → (heads : ℕ) → heads ≡ form / 65536 % 65536 → Knows worker.view row heads extent
+    → (heads : ℕ) → heads ≡ header_begin form → Knows worker.view row heads extent
 heads_found worker row old extent k n r stage knows form tells_form heads is = subst (λ (h : ℕ). Knows worker.view row h extent) (sym is) (knows_heads worker row old extent k n r stage knows form tells_form)
 
 pub form_in : (worker : WorkerValue) (form : ℕ) → IsFormIn worker.view form → TellsForm worker.view form
@@ -101,11 +102,11 @@ knows_extent worker row heads old extent k n r stage knows is =
     known_again worker k n r stage row heads extent (known.0, (known.1.0, (known.1.1.0, (known.1.1.1.0, λ some. is some k n r stage))))
 
 -- a word of the programs may be looked for
-pub sought_there : (worker : WorkerValue) (row form i : ℕ) → KnowsRow worker.view row → IsFormIn worker.view form → form / 65536 % 65536 ≤ i → i < form / 2 ^ 32 → IsSought worker.view row form i
+pub sought_there : (worker : WorkerValue) (row form i : ℕ) → KnowsRow worker.view row → IsFormIn worker.view form → header_begin form ≤ i → i < header_len form → IsSought worker.view row form i
 sought_there worker row form i knows f from to =
     let config = config_held worker f.1 in let known = known_there worker f.0 f.1 f.2 f.3 row 0 no_extent knows in
     let told = tells config worker.view.pages known.1.1.0 (ArePages-table config worker.view.pages f.4.1) in
-    let heads = ap (λ x. x / 65536 % 65536) f.4.0 ∙ told.begin_part in let whole = ap (λ x. x / 2 ^ 32) f.4.0 ∙ told.length_part in
+    let heads = ap header_begin f.4.0 ∙ told.begin_part in let whole = ap header_len f.4.0 ∙ told.length_part in
     (f.0, f.1, f.2, f.3, known.0, (known.1.0.0, known.1.0.1, known.1.1.0, f.4.0, f.4.1, omega arith, omega arith))
 
 -- a word of an extent
@@ -152,10 +153,10 @@ module _ (worker : WorkerValue) (row : ℕ) (i : ℕ) (knows : KnowsRow worker.v
       x_is = row_word_told worker k n r stage row 0 what.1.0.0 what.1.0.1 some_words x (subst (λ p. SeesWord worker p x) (sym first_place) sees)
           ∙ get_or_from_slice_get (pooled_row held_config worker.view.pages) 0 (form_word held_config) 0 form_told.form
 
-      x_length : x / 2 ^ 32 ≡ length (image held_config)
-      x_length = ap (λ f. f / 2 ^ 32) x_is ∙ form_told.length_part
+      x_length : header_len x ≡ length (image held_config)
+      x_length = ap header_len x_is ∙ form_told.length_part
 
-      first_tells_at : (answer : ℕ) → (i ≡ 0) ⊎ (x / 2 ^ 32 ≤ i) → TellsWordAt held_config r worker.view.pages i (ROWS_BEGIN + row * ROW_WORDS) x answer
+      first_tells_at : (answer : ℕ) → (i ≡ 0) ⊎ (header_len x ≤ i) → TellsWordAt held_config r worker.view.pages i (ROWS_BEGIN + row * ROW_WORDS) x answer
       first_tells_at answer none = let heads = form_told.inside in let e = x_length in record {
         by_length = λ _. at_first;
         by_row = λ some before. ⊎_elim (λ zero. absurd (omega arith)) (λ behind. absurd (omega arith)) none;
@@ -163,10 +164,10 @@ module _ (worker : WorkerValue) (row : ℕ) (i : ℕ) (knows : KnowsRow worker.v
         loaded = λ some before. ⊎_elim (λ zero. absurd (omega arith)) (λ behind. absurd (omega arith)) none;
       }
 
-      first_word_at : i ≡ 0 → slice_get (held_words worker) i ≡ Some (x / 2 ^ 32)
-      first_word_at zero = image_word_held worker k n r stage i (x / 2 ^ 32) held (ap (slice_get (image held_config)) zero ∙ (length_word held_config ∙ ap Some (sym x_length)))
+      first_word_at : i ≡ 0 → slice_get (held_words worker) i ≡ Some (header_len x)
+      first_word_at zero = image_word_held worker k n r stage i (header_len x) held (ap (slice_get (image held_config)) zero ∙ (length_word held_config ∙ ap Some (sym x_length)))
 
-      zero_word_at : x / 2 ^ 32 ≤ i → slice_get (held_words worker) i ≡ Some 0
+      zero_word_at : header_len x ≤ i → slice_get (held_words worker) i ≡ Some 0
       zero_word_at behind = row_word_held worker k n r stage i 0 held (row_behind_image held_config i (length (image held_config)) (small_in_row worker k n r stage i held) refl (let e = x_length in omega arith))
 
   pub first_held : IsHeldPlace the_shape worker.view (ROWS_BEGIN + row * ROW_WORDS)
@@ -176,11 +177,11 @@ module _ (worker : WorkerValue) (row : ℕ) (i : ℕ) (knows : KnowsRow worker.v
     pub first_form : IsFormIn worker.view x
     first_form = let t = held_stage worker.view.stage worker.view.seen i held in (t.0, t.1, t.2, t.3, (x_is t.0 t.1 t.2 t.3 x sees, has t.0 t.1 t.2 t.3 x sees))
 
-    pub first_newest : (answer : ℕ) → (i ≡ 0) ⊎ (x / 2 ^ 32 ≤ i) → (k n r : ℕ) → worker.view.stage ≡ Inside k n r → TellsWordAt (slice_index_or worker.view.seen n []) r worker.view.pages i (ROWS_BEGIN + row * ROW_WORDS) x answer
+    pub first_newest : (answer : ℕ) → (i ≡ 0) ⊎ (header_len x ≤ i) → (k n r : ℕ) → worker.view.stage ≡ Inside k n r → TellsWordAt (slice_index_or worker.view.seen n []) r worker.view.pages i (ROWS_BEGIN + row * ROW_WORDS) x answer
     first_newest answer none k n r stage = first_tells_at k n r stage x sees answer none
 
-    pub first_word : i ≡ 0 → slice_get (held_words worker) i ≡ Some (x / 2 ^ 32)
+    pub first_word : i ≡ 0 → slice_get (held_words worker) i ≡ Some (header_len x)
     first_word zero = let t = held_stage worker.view.stage worker.view.seen i held in first_word_at t.0 t.1 t.2 t.3 x sees zero
 
-    pub zero_word : x / 2 ^ 32 ≤ i → slice_get (held_words worker) i ≡ Some 0
+    pub zero_word : header_len x ≤ i → slice_get (held_words worker) i ≡ Some 0
     zero_word behind = let t = held_stage worker.view.stage worker.view.seen i held in zero_word_at t.0 t.1 t.2 t.3 x sees behind

@@ -1,12 +1,13 @@
 -- The search for the part of a word that is sought: its fetches, and what they tell.
-use Rattle.std.proofs.Common.{◌≡◌, ℕ, ◌*◌, ◌+◌, ◌-◌, ◌/◌, ◌%◌, ◌^◌, ◌<◌, ◌≤◌, List, Some, ap, arith, inl, inr, length, slice_get, slice_index, subst, sym, ◌∙◌}
+use Rattle.std.proofs.Common.{◌≡◌, ℕ, ◌*◌, ◌+◌, ◌-◌, ◌<◌, ◌≤◌, List, Some, ap, arith, inl, inr, length, slice_get, slice_index, subst, sym, ◌∙◌}
 use Rattle.std.proofs.lemmas.Bool.{cases_lt}
 use Rattle.std.proofs.lemmas.Option.{get_or_from_slice_get}
 use Rattle.config_image.specs.declared.TheConstants.{PAGE_LIMIT, ROW_WORDS}
 use Rattle.config_image.specs.Image.{Group, image, programs_begin}
+use Rattle.config_image.specs.PageTable.{entry_word, header_begin, header_count, header_len, page_of, start_of}
 use Rattle.config_image.specs.Pooled.{ArePages, PooledRowTells, part_begin, parts, pooled_row}
 use Rattle.part_search.specs.declared.found.FoundPart.{FoundPart}
-use Rattle.part_search.specs.Names.{HoldsPlace, IsWithin, page_of, start_of}
+use Rattle.part_search.specs.Names.{HoldsPlace, IsWithin}
 use Rattle.versions.specs.declared.layout.TheConstants.{ROWS_BEGIN}
 use Rattle.versions.specs.declared.view.Stage.TheVariants.{Inside}
 use Rattle.versions.specs.Layout.{page_begin}
@@ -46,27 +47,27 @@ module _ (worker : WorkerValue) (row form i : ℕ) (s : IsSought worker.view row
   tells = part.tells config pages s.5.2 are
 
   abbrev pub heads : ℕ
-  heads = form / 65536 % 65536
+  heads = header_begin form
 
   pub heads_are : heads ≡ programs_begin config
-  heads_are = ap (λ f. f / 65536 % 65536) s.5.3 ∙ tells.begin_part
+  heads_are = ap header_begin s.5.3 ∙ tells.begin_part
 
-  pub entries_are : form % 65536 ≡ length (parts config)
-  entries_are = ap (λ f. f % 65536) s.5.3 ∙ tells.count_part
+  pub entries_are : header_count form ≡ length (parts config)
+  entries_are = ap header_count s.5.3 ∙ tells.count_part
 
-  pub length_is : form / 2 ^ 32 ≡ length (image config)
-  length_is = ap (λ f. f / 2 ^ 32) s.5.3 ∙ tells.length_part
+  pub length_is : header_len form ≡ length (image config)
+  length_is = ap header_len s.5.3 ∙ tells.length_part
 
-  pub entries_fit : form % 65536 ≤ PAGE_LIMIT
+  pub entries_fit : header_count form ≤ PAGE_LIMIT
   entries_fit = let few = tells.few in let e = entries_are in omega arith
 
-  pub names_counted : length (names_of config pages) ≡ form % 65536
+  pub names_counted : length (names_of config pages) ≡ header_count form
   names_counted = part.length-names config pages s.5.2 are ∙ sym entries_are
 
-  pub names_within : IsWithin (names_of config pages) (form / 2 ^ 32) i
+  pub names_within : IsWithin (names_of config pages) (header_len form) i
   names_within = subst (λ end. IsWithin (names_of config pages) end i) (sym length_is) (part.IsWithin-programs config pages s.5.2 are i s.5.5 s.5.6)
 
-  module _ (index : ℕ) (low : index < form % 65536) where
+  module _ (index : ℕ) (low : index < header_count form) where
     small : heads + index < ROW_WORDS
     small = let inside = tells.inside in let short = tells.short in let e = entries_are in let h = heads_are in omega arith
 
@@ -76,10 +77,10 @@ module _ (worker : WorkerValue) (row form i : ℕ) (s : IsSought worker.view row
     low_parts : index < length (parts config)
     low_parts = subst (λ m. index < m) entries_are low
 
-    pub name_told : (x : ℕ) → SeesWord worker (ROWS_BEGIN + row * ROW_WORDS + (heads + index)) x → x ≡ part_begin config index * 65536 + slice_index pages index
+    pub name_told : (x : ℕ) → SeesWord worker (ROWS_BEGIN + row * ROW_WORDS + (heads + index)) x → x ≡ entry_word (part_begin config index) (slice_index pages index)
     name_told x sees = row_word_told worker k n r stage row (heads + index) s.5.0 s.5.1 small x sees
         ∙ (ap (λ h. slice_index (pooled_row config pages) (h + index)) heads_are
-        ∙ get_or_from_slice_get (pooled_row config pages) (programs_begin config + index) (part_begin config index * 65536 + slice_index pages index) 0 (part.name_word config pages s.5.2 are index low_parts))
+        ∙ get_or_from_slice_get (pooled_row config pages) (programs_begin config + index) (entry_word (part_begin config index) (slice_index pages index)) 0 (part.name_word config pages s.5.2 are index low_parts))
 
     pub name_there : (x : ℕ) → SeesWord worker (ROWS_BEGIN + row * ROW_WORDS + (heads + index)) x → slice_get (names_of config pages) index ≡ Some x
     name_there x sees = part.name_there config pages s.5.2 are index low_parts ∙ ap Some (sym (name_told x sees))
@@ -89,9 +90,9 @@ module _ (worker : WorkerValue) (row form i : ℕ) (s : IsSought worker.view row
     is_name x sees = let e = name_told x sees in
         (ap start_of e ∙ part.start_told config pages s.5.2 are index low_parts, λ _. ap page_of e ∙ part.page_told config pages s.5.2 are index low_parts)
 
-  pub is_end_name : (index : ℕ) → index ≡ form % 65536 → IsNameOf config pages index (form / 2 ^ 32 * 65536)
+  pub is_end_name : (index : ℕ) → index ≡ header_count form → IsNameOf config pages index (entry_word (header_len form) 0)
   is_end_name index e = let last : index ≡ length (parts config) = e ∙ entries_are in
-      (ap (λ l. l * 65536 / 65536) length_is ∙ (part.end_told config pages s.5.2 are ∙ ap (part_begin config) (sym last)), λ low. absurd (omega arith))
+      (ap (λ l. start_of (entry_word l 0)) length_is ∙ (part.end_told config pages s.5.2 are ∙ ap (part_begin config) (sym last)), λ low. absurd (omega arith))
 
   -- facts of the version that is held
   pub told_of : (Fact : List Group → List ℕ → Type 0) → Fact config pages → TellsOfHeld Fact worker.view
@@ -99,25 +100,25 @@ module _ (worker : WorkerValue) (row form i : ℕ) (s : IsSought worker.view row
 
   -- a part that was found, by its name and the name behind it
   module _ (f : FoundPart) (holds : HoldsPlace (names_of config pages) (length (image config)) i f) where
-    pub found_below : f.index + 1 ≤ form % 65536
+    pub found_below : f.index + 1 ≤ header_count form
     found_below = let low = part.index_below config pages s.5.2 are i f holds in let e = entries_are in omega arith
 
-    pub found_next : IsNameOf config pages (f.index + 1) f.next
+    pub found_next : IsNameOf config pages (f.index + 1) f.next.0
     found_next = (part.found_end config pages s.5.2 are i f holds, λ more. part.found_next_page config pages s.5.2 are i f holds more)
 
     -- a page of the table begins behind each place in an image
-    pub found_low : start_of f.name ≤ page_begin the_shape (page_of f.name)
-    found_low = let from = holds.from in let to = s.5.6 in let room = s.5.2 in let p = page_place_is (page_of f.name) 0 in omega arith
+    pub found_low : start_of f.name.0 ≤ page_begin the_shape (page_of f.name.0)
+    found_low = let from = holds.from in let to = s.5.6 in let room = s.5.2 in let p = page_place_is (page_of f.name.0) 0 in omega arith
 
     -- its words are an extent
-    pub found_is : (shift : ℕ) → shift ≡ page_begin the_shape (page_of f.name) - start_of f.name → IsExtentOf config pages (record { version = 0; at = start_of f.name; end = start_of f.next; shift = shift })
+    pub found_is : (shift : ℕ) → shift ≡ page_begin the_shape (page_of f.name.0) - start_of f.name.0 → IsExtentOf config pages (record { version = 0; at = start_of f.name.0; end = start_of f.next.0; shift = shift })
     found_is shift e =
         let below = part.index_below config pages s.5.2 are i f holds in let begin = part.found_start config pages s.5.2 are i f holds in let end = part.found_end config pages s.5.2 are i f holds in
         let first = begins_in_programs f.index in let last = part.ends_in_image config pages s.5.2 are (f.index + 1) (omega arith) in let low = found_low in (
           (s.5.4, (omega arith, omega arith)),
           λ j index from to there from' to'.
               let same = part.one_part config pages s.5.2 are j index f.index there below from' to' (omega arith) (omega arith) in
-              let q : page_begin the_shape (page_of f.name) ≡ page_begin the_shape (slice_index pages index) = ap (page_begin the_shape) (part.found_page config pages s.5.2 are i f holds ∙ ap (slice_index pages) (sym same)) in
+              let q : page_begin the_shape (page_of f.name.0) ≡ page_begin the_shape (slice_index pages index) = ap (page_begin the_shape) (part.found_page config pages s.5.2 are i f holds ∙ ap (slice_index pages) (sym same)) in
               let b : part_begin config index ≡ part_begin config f.index = ap (part_begin config) same in omega arith,
         )
       where
@@ -125,7 +126,7 @@ module _ (worker : WorkerValue) (row form i : ℕ) (s : IsSought worker.view row
         begins_in_programs index = omega arith
 
   -- an extent goes on in the next part, which stands in the next page
-  module _ (at shift index next behind : ℕ) (low : index < form % 65536) (name : IsNameOf config pages index next) (is : IsExtentOf config pages (record { version = 0; at = at; end = start_of next; shift = shift }))
+  module _ (at shift index next behind : ℕ) (low : index < header_count form) (name : IsNameOf config pages index next) (is : IsExtentOf config pages (record { version = 0; at = at; end = start_of next; shift = shift }))
       (follows : page_begin the_shape (page_of next) ≡ start_of next + shift) (name' : IsNameOf config pages (index + 1) behind) where
     below_parts : index < length (parts config)
     below_parts = subst (λ m. index < m) entries_are low
@@ -146,5 +147,5 @@ module _ (worker : WorkerValue) (row form i : ℕ) (s : IsSought worker.view row
           ],
         )
 
-  pub name_small : (index next : ℕ) → index ≤ form % 65536 → IsNameOf config pages index next → start_of next ≤ ROW_WORDS
+  pub name_small : (index next : ℕ) → index ≤ header_count form → IsNameOf config pages index next → start_of next ≤ ROW_WORDS
   name_small index next low name = let inside = part.ends_in_image config pages s.5.2 are index (let e = entries_are in omega arith) in let here = name.0 in let room = s.5.2 in omega arith

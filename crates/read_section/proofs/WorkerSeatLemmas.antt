@@ -5,7 +5,7 @@ use Rattle.atomic_table.specs.Table.{Allows, Me, step}
 use Rattle.atomic_table.specs.Seated.{TableId}
 use Rattle.config_image.specs.declared.TheConstants.{PAGE_WORDS, ROW_WORDS}
 use Rattle.config_image.specs.Image.{Group}
-use Rattle.versions.specs.declared.layout.TheConstants.{PAGES, POOL_BEGIN, ROWS, ROWS_BEGIN, TABLE_WORDS, WORKERS}
+use Rattle.versions.specs.declared.layout.TheConstants.{POOL_BEGIN, ROWS, ROWS_BEGIN, TABLE_WORDS, WORKERS}
 use Rattle.versions.specs.declared.view.Stage.{Stage}
 use Rattle.versions.specs.declared.view.Stage.TheVariants.{Announced, Inside, Outside, Peeked}
 use Rattle.versions.specs.declared.view.WorkerView.{WorkerView}
@@ -14,7 +14,7 @@ use Rattle.versions.specs.View.{last_pinned, read_word_of}
 use Rattle.versions.specs.Legal.{MayPeek}
 use Rattle.versions.specs.Table.{the_shape}
 use Rattle.versions.proofs.ListLemmas.{row_inside}
-use Rattle.versions.proofs.ShapeLemmas.{page_words_is, pages_is, row_words_is, rows_is, workers_is}
+use Rattle.versions.proofs.ShapeLemmas.{row_words_is, rows_is, workers_is}
 use Rattle.versions.specs.Safety.{IsHeldPlace, IsHeldPlaceAt, IsSeenPlace}
 use Rattle.read_section.specs.declared.versions_rule.SeatView.{SeatView}
 use Rattle.read_section.specs.Layout.{IsPublishable}
@@ -50,12 +50,6 @@ page_place_is q k = omega arith
 
 pub page_place_inside : (q k : ℕ) → q < the_shape.pages → k < the_shape.page_words → page_begin the_shape q + k < (1 + the_shape.workers) + stored_words the_shape
 page_place_inside q k low small = let t = row_inside q the_shape.pages k the_shape.page_words low small in omega arith
-
-pub page_place_fits : (q k : ℕ) → q < the_shape.pages → k < the_shape.page_words → q * PAGE_WORDS + k < PAGES * PAGE_WORDS
-page_place_fits q k low small = row_inside q PAGES k PAGE_WORDS (omega (arith, pages_is)) (omega (arith, page_words_is))
-
-pub place_fits : (r i : ℕ) → r < the_shape.rows → i < the_shape.row_words → r * ROW_WORDS + i < ROWS * ROW_WORDS
-place_fits r i low small = row_inside r ROWS i ROW_WORDS (omega (arith, rows_is)) (omega (arith, row_words_is))
 
 -- the words of the table as they are counted
 pub table_words : (place : ℕ) → place < TABLE_WORDS → place < (1 + the_shape.workers) + stored_words the_shape

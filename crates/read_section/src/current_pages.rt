@@ -1,10 +1,10 @@
 //! The pages of the current version, in memory that holds as many as a version may name.
 
 ghost use Rattle.std.specs.Prelude.{◌≡◌, ◌≤◌, IfOk, length, map};
-ghost use Rattle.config_image.specs.Pooled.{page_of};
+ghost use Rattle.config_image.specs.PageTable.{page_of};
 ghost use Rattle.versions.specs.World.{first_pages};
 
-use config_image::PAGE_LIMIT;
+use config_image::{PAGE_LIMIT, PageEntry};
 use std::alloc::{AllocError, Global};
 use std::marker::Model;
 
@@ -45,7 +45,7 @@ impl CurrentPages {
     {
         self.pages.clear();
         for name in names {
-            self.pages.push_reserved((*name % 65536) as u32);
+            self.pages.push_reserved(PageEntry(*name).page() as u32);
         }
     }
 

@@ -1,10 +1,11 @@
 //! The operator: the one that fills rows and pages, publishes and reclaims, by single steps.
 
-ghost use Rattle.std.specs.Prelude.{◌≡◌, ◌+◌, ◌*◌, ◌/◌, ◌%◌, ◌<◌, ◌≤◌, ◌↔◌, IsTrue, List, MatchOption, [], length, slice_index, suc, ℕ};
+ghost use Rattle.std.specs.Prelude.{◌≡◌, ◌+◌, ◌*◌, ◌<◌, ◌≤◌, ◌↔◌, IsTrue, List, MatchOption, [], length, slice_index, suc, ℕ};
 ghost use mathlib.Core.Option.{some};
 ghost use lib.ListN.{get_elem?};
 ghost use Rattle.config_image.specs.declared.TheConstants.{PAGE_LIMIT, PAGE_WORDS, ROW_WORDS};
 ghost use Rattle.config_image.specs.Image.{Group, image};
+ghost use Rattle.config_image.specs.PageTable.{header_begin, header_count};
 ghost use Rattle.config_image.specs.Pooled.{parts};
 ghost use Rattle.versions.specs.declared.layout.TheConstants.{LAST_NUMBER, ROWS, WORKERS};
 ghost use Rattle.versions.specs.declared.step.Entry.{Entry};
@@ -22,11 +23,11 @@ ghost use Rattle.read_section.specs.View.{TellsLog};
 
 use crate::current_pages::CurrentPages;
 use crate::seat::{OperatorSeat, WorkerSeat};
-use config_image::{ROW_WORDS, image_len};
+use config_image::{ROW_WORDS, RowHeader, image_len};
 use member_group::Config;
 use std::alloc::Global;
 use std::marker::Model;
-use versions::{Book, PAGES, ROWS, ROWS_BEGIN, WORKERS, row_names};
+use versions::{Book, PAGES, ROWS, WORKERS, row_begin, row_names, row_place};
 
 /// The versions from `first` on, `count` of them, may be reused.
 #[derive(Clone, Copy, Debug, PartialEq, Eq)]
@@ -79,10 +80,10 @@ fn zeros_begin(from: usize, place: usize, word: u64) -> usize
 }
 
 // Where the zeros of a row in the pooled form begin, by its first word: behind the names of its pages.
-fn form_end(first: u64) -> usize
-    ensures { result ≡ first / 65536 % 65536 + first % 65536 }
+fn form_end(form: RowHeader) -> usize
+    ensures { result ≡ header_begin form.0 + header_count form.0 }
 {
-    (first / 65536 % 65536 + first % 65536) as usize
+    form.programs_at() + form.entries()
 }
 
 impl Operator {
@@ -156,7 +157,7 @@ impl Operator {
         ensures all_stored { length self.old.view.stored ≡ stored_words the_shape }
     {
         self.seat.fill(row, place, word);
-        self.words[ROWS_BEGIN + row * ROW_WORDS + place] = word;
+        self.words[row_place(row, place)] = word;
         self.zeros[row] = zeros_begin(self.zeros[row], place, word);
     }
 
@@ -166,7 +167,7 @@ impl Operator {
         requires place { place < ROW_WORDS }
         ensures word { result ≡ slice_index self.now.view.stored (row * ROW_WORDS + place) }
     {
-        let place = ROWS_BEGIN + row * ROW_WORDS + place;
+        let place = row_place(row, place);
         self.words[place]
     }
 
@@ -176,7 +177,7 @@ impl Operator {
         ensures whole { length result.now ≡ ROW_WORDS }
         ensures words { (i : ℕ) → i < ROW_WORDS → slice_index result.now i ≡ slice_index self.now.view.stored (row * ROW_WORDS + i) }
     {
-        let begin = ROWS_BEGIN + row * ROW_WORDS;
+        let begin = row_begin(row);
         &self.words[begin..begin + ROW_WORDS]
     }
 
@@ -250,11 +251,11 @@ impl Operator {
         ensures pool_kept { (page : ℕ) → Names self.new.view (number_after self.new.view.log) page → IsFreePage the_shape self.new.view page → ⊥ }
     {
         self.seat.publish(&config, row, self.book.number + 1);
-        let begin = ROWS_BEGIN + row * ROW_WORDS;
+        let begin = row_begin(row);
         let names = row_names(&self.words[begin..begin + ROW_WORDS]);
         self.book.count_version(row, names);
         self.pages.replace(names);
-        self.zeros[row] = form_end(self.words[begin]);
+        self.zeros[row] = form_end(RowHeader(self.words[begin]));
         self.config = config;
     }
 

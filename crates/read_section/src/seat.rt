@@ -28,13 +28,12 @@ use crate::plays::{
 use crate::versions_rule::{SharedTable, TableSeat};
 use crate::worker::Worker;
 use atomic_table::Table;
-use config_image::{PAGE_WORDS, ROW_WORDS};
 use extent_memory::ExtentMemory;
 use member_group::Config;
 use std::alloc::{AllocError, Global};
 use std::marker::{Brand, Model};
 use std::sync::Arc;
-use versions::{POOL_BEGIN, ROWS, ROWS_BEGIN, WORKERS};
+use versions::{WORKERS, current_word, page_place, read_word_place, row_place};
 
 /// A worker's seat at the table.
 #[derive(Drop)]
@@ -161,7 +160,7 @@ impl WorkerSeat {
         let table = &self.table;
         table
             .shared
-            .store::<Announce>(&mut self.seat, 1 + self.number, version + 1);
+            .store::<Announce>(&mut self.seat, read_word_place(self.number), version + 1);
     }
 
     pub(crate) fn pin(&mut self) -> u64
@@ -191,7 +190,7 @@ impl WorkerSeat {
         let table = &self.table;
         table
             .shared
-            .store::<Leave>(&mut self.seat, 1 + self.number, 0);
+            .store::<Leave>(&mut self.seat, read_word_place(self.number), 0);
     }
 
     // One peek, after a note of what another worker has seen.
@@ -216,7 +215,7 @@ impl OperatorSeat {
         ensures { self.new ≡ acts (after_fill (rows_begin the_shape) (row_begin the_shape row + place) word) self.old }
     {
         let table = &self.table;
-        let place = ROWS_BEGIN + row * ROW_WORDS + place;
+        let place = row_place(row, place);
         table.shared.store::<Fill>(&mut self.seat, place, word);
     }
 
@@ -226,7 +225,7 @@ impl OperatorSeat {
         ensures { self.new ≡ acts (after_fill (rows_begin the_shape) (page_begin the_shape page + place) word) self.old }
     {
         let table = &self.table;
-        let place = POOL_BEGIN + page * PAGE_WORDS + place;
+        let place = page_place(page, place);
         table.shared.store::<Fill>(&mut self.seat, place, word);
     }
 
@@ -242,7 +241,7 @@ impl OperatorSeat {
         let table = &self.table;
         table
             .shared
-            .store::<Publish<P>>(&mut self.seat, 0, number * ROWS as u64 + row as u64);
+            .store::<Publish<P>>(&mut self.seat, 0, current_word(number, row));
     }
 
     pub(crate) fn publish(&mut self, config: &Config, row: usize, number: u64)
@@ -261,7 +260,9 @@ impl OperatorSeat {
         ensures { (log : List Entry) × TellsLog the_shape self.old.view worker result log × (self.new ≡ acts (after_scan worker result log) self.old) }
     {
         let table = &self.table;
-        table.shared.load::<Scan>(&mut self.seat, 1 + worker)
+        table
+            .shared
+            .load::<Scan>(&mut self.seat, read_word_place(worker))
     }
 
     // One peek of a worker and then one scan of it, by a seat that knows both. Answers the word of the scan.
@@ -277,7 +278,7 @@ impl OperatorSeat {
         let moved = shared.split_seat::<GiveWorker>(&mut worker.seat);
         shared.join_seat::<TakeWorker>(&mut self.seat, moved);
         shared.load::<Peek>(&mut self.seat, 0);
-        let word = shared.load::<Scan>(&mut self.seat, 1 + worker.number);
+        let word = shared.load::<Scan>(&mut self.seat, read_word_place(worker.number));
         worker.seat = shared.split_seat::<GiveWorker>(&mut self.seat);
         word
     }

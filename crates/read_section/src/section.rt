@@ -3,12 +3,12 @@
 ghost use Rattle.std.specs.Prelude.{◌≡◌, ◌+◌, ◌<◌, ◌^◌};
 ghost use Rattle.read_section.specs.body.Found.{Knows, KnowsIn-prop};
 
-use crate::reading::{heads_of, length_of, read_by_row};
+use crate::reading::read_by_row;
 use crate::worker::Worker;
 use bpf_insn::{ReadyWords, Words};
-use config_image::ROW_WORDS;
+use config_image::{ROW_WORDS, RowHeader};
 use extent_memory::Extent;
-use versions::{ROWS, ROWS_BEGIN};
+use versions::{ROWS, row_begin, row_place};
 
 // What a section keeps of the version that is held.
 #[derive(Clone, Copy, Debug)]
@@ -93,19 +93,17 @@ impl Words for Section<'_> {
         ensures shift { shift_of self.new ≡ shift_of self.old }
     {
         if i == 0 {
-            let form = self.worker.fetch(ROWS_BEGIN + self.kept.row * ROW_WORDS);
-            return length_of(form) as u64;
+            let first = self.worker.fetch(row_begin(self.kept.row));
+            return RowHeader(first).image_len() as u64;
         }
         if i < self.kept.heads {
-            return self
-                .worker
-                .fetch(ROWS_BEGIN + self.kept.row * ROW_WORDS + i);
+            return self.worker.fetch(row_place(self.kept.row, i));
         }
         if self.kept.extent.at <= i && i < self.kept.extent.end {
             return self.worker.fetch(self.kept.extent.shift + i);
         }
         let word = read_by_row(self.worker, self.kept.row, i);
-        self.kept.heads = heads_of(self.worker.form());
+        self.kept.heads = self.worker.form().programs_at();
         word
     }
 
@@ -178,7 +176,7 @@ impl<'a> Section<'a> {
         ensures same_worker { borrow_of result ≡ worker.entry.ghost_name }
         ensures worker { worker_of result ≡ worker.old }
     {
-        let heads = heads_of(worker.form());
+        let heads = worker.form().programs_at();
         Section {
             worker,
             kept: Kept {

@@ -20,9 +20,10 @@ ghost use Rattle.read_section.specs.body.Steps.{SeesWord};
 use crate::operator::Operator;
 use crate::seat::WorkerSeat;
 use crate::section::Section;
+use config_image::RowHeader;
 use extent_memory::{Extent, ExtentMemory};
 use std::marker::Model;
-use versions::ROWS;
+use versions::{current_row, current_version};
 
 /// A reader of the table. There are as many as `open` made.
 ///
@@ -77,12 +78,12 @@ impl Worker {
     {
         self.leave();
         let peeked = self.seat.peek();
-        self.seat.announce(peeked / ROWS as u64);
+        self.seat.announce(current_version(peeked));
         let pinned = self.seat.pin();
-        let version = pinned / ROWS as u64;
+        let version = current_version(pinned);
         self.held = Some(version);
         self.memory.turn_to(version);
-        Section::of(self, version, (pinned % ROWS as u64) as usize)
+        Section::of(self, version, current_row(pinned))
     }
 
     /// Makes one peek, and the operator then one scan of this worker: what the operator published so far the worker has
@@ -121,17 +122,17 @@ impl Worker {
 
     // The first word of the row of the version that is held, as it is remembered; 0 where it is not.
     #[inline(always)]
-    pub(crate) fn form(&self) -> u64
-        ensures { 0 < result → TellsForm self.now.view result }
+    pub(crate) fn form(&self) -> RowHeader
+        ensures { 0 < result.0 → TellsForm self.now.view result.0 }
     {
-        self.memory.form()
+        RowHeader(self.memory.form())
     }
 
-    pub(crate) fn keep_form(&mut self, form: u64)
-        requires { IsFormIn self.old.view form }
+    pub(crate) fn keep_form(&mut self, form: RowHeader)
+        requires { IsFormIn self.old.view form.0 }
         ensures { self.new ≡ self.old }
     {
-        self.memory.keep_form(form);
+        self.memory.keep_form(form.0);
     }
 
     // The extent that has word i, where it is remembered.

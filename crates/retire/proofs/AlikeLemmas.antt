@@ -1,8 +1,8 @@
 -- Configurations that are alike: what their rows have in common.
-use Rattle.std.proofs.Common.{◌≡◌, ◌∙◌, ◌∷◌, ◌+◌, ◌++◌, ◌*◌, ◌/◌, ◌^◌, ◌<◌, ◌≤◌, List, None, Option, Some, [], ap, arith, drop, get_or, length, length-append, length-drop, length-take, map, refl, slice_get, slice_index, subst, suc, sym, take, zero, ℕ}
+use Rattle.std.proofs.Common.{◌≡◌, ◌∙◌, ◌∷◌, ◌+◌, ◌++◌, ◌*◌, ◌<◌, List, None, Option, Some, [], ap, arith, drop, get_or, length, length-append, length-drop, length-take, map, refl, slice_get, slice_index, subst, suc, sym, take, zero, ℕ}
 use Rattle.std.specs.List.{cons_option, filter_map, flat_map, sum_by}
 use Rattle.std.specs.Option.{option_to_list}
-use Rattle.std.proofs.lemmas.List.{drop_all, drop_more, map-append}
+use Rattle.std.proofs.lemmas.List.{drop_more, map-append}
 use Rattle.std.proofs.lemmas.List.Concat.{flat_map-cons}
 use Rattle.std.proofs.lemmas.List.Sums.{sum_by-cons}
 use Rattle.std.proofs.lemmas.Option.{get_or_from_slice_get, slice_get-get_or}
@@ -12,6 +12,7 @@ use Rattle.member_group.specs.declared.member.Member.{Member}
 use Rattle.member_group.specs.Charge.{members_of, programs_of_group}
 use Rattle.config_image.specs.declared.TheConstants.{PAGE_WORDS}
 use Rattle.config_image.specs.Image.{Group, all_member_records, filter_words, group_program_words, group_records, image, lock_word, member_records, members_begin, program_words, programs_begin, reference, words_of}
+use Rattle.config_image.specs.PageTable.{entry_word, header_word, start_of}
 use Rattle.config_image.specs.Pooled.{PooledRowTells, form_word, pages_for, part_begin, parts, parts_from, parts_of, pooled_row}
 use Rattle.config_image.specs.Walk.{words_of_programs}
 use Rattle.config_image.proofs.ImageLemmas.{image-before_programs}
@@ -237,7 +238,7 @@ module _ (config other : List Group) (alike : AreAlike config other) where
   same_part_begin index = let sum = sized-sum (parts config) (parts other) index sized in let begin = same_begin in omega arith
 
   pub same_form : form_word config ≡ form_word other
-  same_form = λ i. same_length i * 2 ^ 32 + same_begin i * 65536 + same_count i
+  same_form = λ i. header_word (same_length i) (same_begin i) (same_count i)
 
   abbrev before_programs : List Group → List ℕ
   before_programs groups = ((programs_begin groups + length (program_words groups)) ∷ length groups ∷ []) ++ (group_records (members_begin groups) (programs_begin groups) groups ++ all_member_records (programs_begin groups) groups)
@@ -273,9 +274,9 @@ module _ (config other : List Group) (alike : AreAlike config other) where
 
     -- and the names are, but for their pages
     pub same_name : (index page stood : ℕ) → slice_get pages index ≡ Some page → slice_get standing index ≡ Some stood → stood < 65536
-        → slice_index (pooled_row other standing) (programs_begin config + index) / 65536 * 65536 + page ≡ slice_index (pooled_row config pages) (programs_begin config + index)
+        → entry_word (start_of (slice_index (pooled_row other standing) (programs_begin config + index))) page ≡ slice_index (pooled_row config pages) (programs_begin config + index)
     same_name index page stood at there low =
-        let was : slice_index (pooled_row other standing) (programs_begin config + index) ≡ part_begin other index * 65536 + stood =
-        ap (λ (n : ℕ). slice_index (pooled_row other standing) (n + index)) same_begin ∙ get_or_from_slice_get (pooled_row other standing) (programs_begin other + index) (part_begin other index * 65536 + stood) 0 (others.names index stood there) in
-        let is = get_or_from_slice_get (pooled_row config pages) (programs_begin config + index) (part_begin config index * 65536 + page) 0 (tells.names index page at) in
+        let was : slice_index (pooled_row other standing) (programs_begin config + index) ≡ entry_word (part_begin other index) stood =
+        ap (λ (n : ℕ). slice_index (pooled_row other standing) (n + index)) same_begin ∙ get_or_from_slice_get (pooled_row other standing) (programs_begin other + index) (entry_word (part_begin other index) stood) 0 (others.names index stood there) in
+        let is = get_or_from_slice_get (pooled_row config pages) (programs_begin config + index) (entry_word (part_begin config index) page) 0 (tells.names index page at) in
         let begin = same_part_begin index in omega (arith, was, is, begin)

@@ -1,8 +1,9 @@
 -- Words of a row that are carried over from another row.
-use Rattle.std.proofs.Common.{◌≡◌, ◌∙◌, ◌≢◌, ◌+◌, ◌*◌, ◌/◌, ◌<◌, ◌≤◌, List, Some, ap, arith, inl, length, refl, slice_get, slice_index, subst, sym, ℕ, ⊎_elim}
+use Rattle.std.proofs.Common.{◌≡◌, ◌∙◌, ◌≢◌, ◌+◌, ◌<◌, ◌≤◌, List, Some, ap, arith, inl, length, refl, slice_get, slice_index, subst, sym, ℕ, ⊎_elim}
 use mathlib.Core.Logic.{dite}
 use native.Mathlib.Decide.{ℕ_discrete}
 use Rattle.config_image.specs.declared.TheConstants.{ROW_WORDS}
+use Rattle.config_image.specs.PageTable.{entry_word, start_of}
 use Rattle.versions.specs.declared.layout.TheConstants.{ROWS}
 use Rattle.versions.specs.Free.{IsFreeRow}
 use Rattle.versions.specs.Table.{the_shape}
@@ -53,14 +54,14 @@ module _ (before now after : OperatorValue) (r from place word : ℕ) (low : r <
         (one_other_more before now after r place word low small stored words t.0 (omega (arith, long)) is, front_on words is t.1);
   }
 
-  pub one_named_more : (begin : ℕ) (pages : List ℕ) (index page : ℕ) → place ≡ begin + index → slice_get pages index ≡ Some page → word ≡ word_at now from place / 65536 * 65536 + page
+  pub one_named_more : (begin : ℕ) (pages : List ℕ) (index page : ℕ) → place ≡ begin + index → slice_get pages index ≡ Some page → word ≡ entry_word (start_of (word_at now from place)) page
       → Named before now r from begin pages index → Named before after r from begin pages (index + 1)
   one_named_more begin pages index page at there e h = record {
     free = free_on h.free;
     kept = λ i inside. kept_on i inside ∙ h.kept i inside;
     named = λ first words long has fills holds.
         let t = h.named first words long has fills holds in
-        let is = e ∙ (ap (λ (w : ℕ). w / 65536 * 65536 + page) (h.kept place small ∙ ap (word_at before from) at) ∙ (has index page there ∙ ap (slice_index words) (sym at))) in
+        let is = e ∙ (ap (λ (w : ℕ). entry_word (start_of w) page) (h.kept place small ∙ ap (word_at before from) at) ∙ (has index page there ∙ ap (slice_index words) (sym at))) in
         (one_other_more first now after r place word low small stored words t.0 (omega (arith, long)) is, λ i below. front_on words is (λ j under. t.1 j (omega arith)) i (omega arith));
   }
 

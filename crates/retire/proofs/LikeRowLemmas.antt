@@ -1,10 +1,11 @@
 -- The row of a configuration that is like the current one.
-use Rattle.std.proofs.Common.{◌≡◌, ◌∙◌, ◌+◌, ◌*◌, ◌/◌, ◌%◌, ◌<◌, ◌≤◌, List, ap, arith, length, slice_index, sym, ℕ}
+use Rattle.std.proofs.Common.{◌≡◌, ◌∙◌, ◌+◌, ◌*◌, ◌<◌, ◌≤◌, List, ap, arith, length, slice_index, sym, ℕ}
 use Rattle.std.proofs.lemmas.Option.{get_or_from_slice_get, slice_get-get_or, slice_get_within}
 use mathlib.Core.Option.{some, some-injective}
 use lib.ListN.{get_elem?}
 use Rattle.config_image.specs.declared.TheConstants.{ROW_WORDS}
 use Rattle.config_image.specs.Image.{Group, programs_begin}
+use Rattle.config_image.specs.PageTable.{entry_word, header_begin, start_of}
 use Rattle.config_image.specs.Pooled.{ArePages, PooledRowTells, parts, pooled_row}
 use Rattle.config_image.proofs.PooledLemmas.{row_tells_with_room}
 use Rattle.versions.specs.declared.layout.TheConstants.{ROWS}
@@ -45,10 +46,10 @@ module _ (operator : OperatorValue) (config other : List Group) (pages standing 
   pub apart : (row : ℕ) → IsFreeRow the_shape operator.view row → from ≡ row → ⊥
   apart row free same = let replaced = (IsFree-of_row the_shape operator.view row (number_after operator.view.log) free (current ∙ ap some same)).0 in omega arith
 
-  module _ (first begin : ℕ) (first_is : first ≡ word_at operator from 0) (begin_is : begin ≡ first / 65536 % 65536) where
+  module _ (first begin : ℕ) (first_is : first ≡ word_at operator from 0) (begin_is : begin ≡ header_begin first) where
     begin_at : begin ≡ programs_begin config
     begin_at = let form = get_or_from_slice_get (pooled_row other standing) 0 _ 0 others.form in let small : 0 < ROW_WORDS = omega arith in
-        let is = first_is ∙ (words 0 small ∙ form) in begin_is ∙ (ap (λ (n : ℕ). n / 65536 % 65536) is ∙ (others.begin_part ∙ sym (same_begin config other alike)))
+        let is = first_is ∙ (words 0 small ∙ form) in begin_is ∙ (ap header_begin is ∙ (others.begin_part ∙ sym (same_begin config other alike)))
 
     pub whole : begin + length pages ≡ programs_begin config + length (parts config)
     whole = omega (arith, begin_at, are.counted)
@@ -64,8 +65,8 @@ module _ (operator : OperatorValue) (config other : List Group) (pages standing 
         let low : index < length pages = slice_get_within pages index page at in
         let small : begin + index < ROW_WORDS = omega (arith, inside) in
         let there = slice_get-get_or standing index 0 (omega (arith, stands.holds.counted ∙ ap length (parts_is other), same_count config other alike, are.counted)) in
-        ap (λ (w : ℕ). w / 65536 * 65536 + page) (kept (begin + index) small ∙ words (begin + index) small)
-        ∙ (ap (λ (b : ℕ). slice_index (pooled_row other standing) (b + index) / 65536 * 65536 + page) begin_at
+        ap (λ (w : ℕ). entry_word (start_of w) page) (kept (begin + index) small ∙ words (begin + index) small)
+        ∙ (ap (λ (b : ℕ). entry_word (start_of (slice_index (pooled_row other standing) (b + index))) page) begin_at
         ∙ (same_name config other alike pages standing tells others index page (slice_index standing index) at there (omega (arith, stands.holds.below index (slice_index standing index) there, pages_is))
         ∙ ap (λ (b : ℕ). slice_index (pooled_row config pages) (b + index)) (sym begin_at)))
 

@@ -1,13 +1,16 @@
 //! Words of a row that are carried over from another row, with other pages in the names.
 
-ghost use Rattle.std.specs.Prelude.{◌≡◌, ◌≢◌, ◌+◌, ◌*◌, ◌/◌, ◌%◌, ◌<◌, ◌≤◌, IsTrue, Some, length, slice_get, slice_index, ℕ};
+ghost use Rattle.std.specs.Prelude.{◌≡◌, ◌≢◌, ◌+◌, ◌*◌, ◌<◌, ◌≤◌, IsTrue, List, length, slice_index, ℕ};
 ghost use Rattle.config_image.specs.declared.TheConstants.{ROW_WORDS};
+ghost use Rattle.config_image.specs.Image.{Group};
+ghost use Rattle.config_image.specs.Pooled.{ArePages};
 ghost use Rattle.versions.specs.declared.layout.TheConstants.{ROWS};
 ghost use Rattle.versions.specs.Free.{IsFreeRow};
 ghost use Rattle.versions.specs.Table.{the_shape};
 ghost use Rattle.retire.specs.body.Filling.{CopiesFront, FillsNames};
 
 use crate::sink::fill_other;
+use config_image::PageEntry;
 use read_section::Operator;
 
 // Tests whether all words are the same. They mostly are, so none is left out: the compiler then tests several at once.
@@ -52,21 +55,6 @@ pub(crate) fn copy_front(operator: &mut Operator, row: usize, from: usize, count
     }
 }
 
-// Where the names of pages begin in a row in the pooled form, by its first word.
-pub(crate) fn names_begin(first: u64) -> usize
-    ensures { result ≡ first / 65536 % 65536 }
-{
-    (first / 65536 % 65536) as usize
-}
-
-// The name of a part in another page.
-fn renamed(name: u64, page: u32) -> u64
-    requires { page < 65536 }
-    ensures { result ≡ name / 65536 * 65536 + page }
-{
-    name / 65536 * 65536 + u64::from(page)
-}
-
 // Fills names, which begin at a place of a free row, by those of another row in other pages.
 pub(crate) fn fill_names(
     operator: &mut Operator,
@@ -79,11 +67,12 @@ pub(crate) fn fill_names(
     requires from { from < ROWS }
     requires other { from ≢ row }
     requires inside { begin + length pages.now ≤ ROW_WORDS }
-    requires low { (index page : ℕ) → slice_get pages.now index ≡ Some page → page < 65536 }
+    requires pages { (config : List Group) × ArePages config pages.now }
     ensures { FillsNames operator.old operator.new row from begin pages.now }
 {
     for index in 0..pages.len() {
-        let name = renamed(operator.row_word(from, begin + index), pages[index]);
-        fill_other(operator, row, begin + index, name);
+        let name = PageEntry(operator.row_word(from, begin + index));
+        let renamed = PageEntry::new(name.start(), pages[index]);
+        fill_other(operator, row, begin + index, renamed.0);
     }
 }

@@ -1,6 +1,6 @@
 //! Free rows: how one is found, and how it is filled.
 
-ghost use Rattle.std.specs.Prelude.{◌≡◌, ◌+◌, ◌<◌, ◌≤◌, IfNone, IfSome, IsTrue, Some, length, slice_get, ℕ};
+ghost use Rattle.std.specs.Prelude.{◌≡◌, ◌+◌, IfNone, IfSome, IsTrue, length};
 ghost use Rattle.config_image.specs.Image.{programs_begin};
 ghost use Rattle.config_image.specs.Pooled.{ArePages, parts, pooled_row};
 ghost use Rattle.versions.specs.Free.{IsFreeRow};
@@ -11,8 +11,9 @@ ghost use Rattle.retire.specs.Publish.{IsBusy, IsLeastFreeRow, LooksForRow, Scan
 ghost use Rattle.retire.specs.body.Alike.{IsLikeCurrent};
 ghost use Rattle.retire.specs.body.Filling.{FillsRow, HoldsFront, HoldsRow};
 
-use crate::carried::{copy_front, fill_names, names_begin};
+use crate::carried::{copy_front, fill_names};
 use crate::sink::{fill_front, fill_other};
+use config_image::RowHeader;
 use member_group::Config;
 use read_section::Operator;
 use std::marker::Brand;
@@ -63,7 +64,6 @@ fn fill_words(
     requires free { IsFreeRow the_shape operator.old.view row }
     requires publishable { IsPublishable config.now }
     requires pages { ArePages config.now pages.now }
-    requires low { (index page : ℕ) → slice_get pages.now index ≡ Some page → page < 65536 }
     requires like { IsTrue is_like → IsLikeCurrent operator.old.view config.now }
     ensures fills { FillsRow operator.old operator.new row config.now pages.now }
     ensures front { HoldsFront operator.new row (pooled_row config.now pages.now) result }
@@ -74,7 +74,7 @@ fn fill_words(
     }
     let names = operator.current_pages().len();
     let from = operator.current_row();
-    let begin = names_begin(operator.row_word(from, 0));
+    let begin = RowHeader(operator.row_word(from, 0)).programs_at();
     copy_front(operator, row, from, begin);
     fill_names(operator, row, from, begin, pages);
     begin + names
@@ -91,7 +91,6 @@ pub(crate) fn fill_row(
     requires free { IsFreeRow the_shape operator.old.view row }
     requires publishable { IsPublishable config.now }
     requires pages { ArePages config.now pages.now }
-    requires low { (index page : ℕ) → slice_get pages.now index ≡ Some page → page < 65536 }
     requires like { IsTrue is_like → IsLikeCurrent operator.old.view config.now }
     ensures fills { FillsRow operator.old operator.new row config.now pages.now }
     ensures holds { HoldsRow operator.new row (pooled_row config.now pages.now) }

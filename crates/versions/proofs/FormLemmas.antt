@@ -8,7 +8,9 @@ use Rattle.std.specs.Option.{option_map}
 use Rattle.std.proofs.lemmas.Option.{get_or_from_slice_get, slice_get-get_or, slice_get-map, slice_get_past, slice_get_within}
 use Rattle.config_image.specs.declared.TheConstants.{PAGE_WORDS, ROW_WORDS}
 use Rattle.config_image.specs.Image.{Group, image, programs_begin}
-use Rattle.config_image.specs.Pooled.{ArePages, PooledRowTells, form_word, page_of, pages_of, part_begin, parts, pooled_row}
+use Rattle.config_image.specs.PageTable.{entry_word, header_begin, header_count, header_len, page_of, start_of}
+use Rattle.config_image.specs.Pooled.{ArePages, PooledRowTells, form_word, pages_of, part_begin, parts, pooled_row}
+use Rattle.config_image.proofs.PageTableLemmas as entry
 use Rattle.config_image.proofs.PooledLemmas.{parts_stand, row_tells_with_room}
 use Rattle.versions.specs.declared.layout.TheConstants.{PAGES, POOL_BEGIN, ROWS, ROWS_BEGIN, TABLE_WORDS}
 use Rattle.versions.specs.Layout.{HoldsForm, IsInRow, IsPartPlace, rows_begin}
@@ -76,18 +78,18 @@ are_pages config pages counted below = record { counted = counted; below = λ k 
 -- ---- the pages of names
 
 pub length-names_in : (row : List ℕ) → length (names_in row) ≤ length row
-length-names_in row = omega (arith, length-take (get_or row 0 0 % 65536) (drop (get_or row 0 0 / 65536 % 65536) row), length-drop (get_or row 0 0 / 65536 % 65536) row)
+length-names_in row = omega (arith, length-take (header_count (get_or row 0 0)) (drop (header_begin (get_or row 0 0)) row), length-drop (header_begin (get_or row 0 0)) row)
 
-pub page_at : (names : List ℕ) (index : ℕ) → index < length names → slice_get (map page_of names) index ≡ Some (get_or names index 0 % 65536)
+pub page_at : (names : List ℕ) (index : ℕ) → index < length names → slice_get (map page_of names) index ≡ Some (page_of (get_or names index 0))
 page_at names index inside = slice_get-map page_of names index ∙ ap (option_map page_of) (slice_get-get_or names index 0 inside)
 
-pub page_is_at : (names : List ℕ) (index page : ℕ) → slice_get (map page_of names) index ≡ Some page → (index < length names) × (page ≡ get_or names index 0 % 65536)
+pub page_is_at : (names : List ℕ) (index page : ℕ) → slice_get (map page_of names) index ≡ Some page → (index < length names) × (page ≡ page_of (get_or names index 0))
 page_is_at names index page at =
     let inside : index < length names = omega (arith, slice_get_within (map page_of names) index page at, length-map names page_of) in
-    (inside, some_number page (get_or names index 0 % 65536) (sym at ∙ page_at names index inside))
+    (inside, some_number page (page_of (get_or names index 0)) (sym at ∙ page_at names index inside))
 
 -- pages that were read from names one after the other
-pub pages_read : (names pages : List ℕ) (count : ℕ) → length names ≤ count → length names ≤ length pages → ((i : ℕ) → i < count → (get_or pages i 0 ≡ get_or names i 0 % 65536) × (get_or names i 0 % 65536 < PAGES))
+pub pages_read : (names pages : List ℕ) (count : ℕ) → length names ≤ count → length names ≤ length pages → ((i : ℕ) → i < count → (get_or pages i 0 ≡ page_of (get_or names i 0)) × (page_of (get_or names i 0) < PAGES))
     → (take (length names) pages ≡ map page_of names) × ((index page : ℕ) → slice_get (map page_of names) index ≡ Some page → page < PAGES)
 pages_read names pages count all room read = (
   ext_get_or 0 (take (length names) pages) (map page_of names) (length-take-le (length names) pages room ∙ sym (length-map names page_of))
@@ -130,23 +132,23 @@ module _ (config : List Group) (names : List ℕ) (h : ArePartNames config names
       (omega arith, omega arith)
 
   -- they do for each part, where parts stand in their pages
-  pub one_stands : (words : List ℕ) (end index : ℕ) → end ≡ length (image config) → index < length names → PartsStandIn words config (map page_of names) → StandsIn config names words end index (get_or names index 0 % 65536)
+  pub one_stands : (words : List ℕ) (end index : ℕ) → end ≡ length (image config) → index < length names → PartsStandIn words config (map page_of names) → StandsIn config names words end index (page_of (get_or names index 0))
   one_stands words end index is inside stand = λ i from to.
       let low : index < length (parts config) = omega (arith, h.counted) in
       let begin = begins_at end index is (omega arith) in let then = begins_at end (index + 1) is (omega arith) in
       let found = (parts_stand config).found index i low (omega arith) (omega arith) in let part = found.0 in let k = i - part_begin config index in let x = get_or part k 0 in let word = slice_get-get_or part k 0 found.2 in
-      ap (λ (n : ℕ). get_or words (POOL_BEGIN + get_or names index 0 % 65536 * PAGE_WORDS + (i - n)) 0) begin
-      ∙ (stand index (get_or names index 0 % 65536) k x part (page_at names index inside) found.1 word
+      ap (λ (n : ℕ). get_or words (POOL_BEGIN + page_of (get_or names index 0) * PAGE_WORDS + (i - n)) 0) begin
+      ∙ (stand index (page_of (get_or names index 0)) k x part (page_at names index inside) found.1 word
       ∙ sym (get_or_from_slice_get (image config) i x 0 (found.3 ∙ word)))
 
   -- and where each does, all do
-  pub all_stand : (words : List ℕ) (end count : ℕ) → end ≡ length (image config) → length names ≤ count → ((index : ℕ) → index < count → StandsIn config names words end index (get_or names index 0 % 65536)) → PartsStandIn words config (map page_of names)
+  pub all_stand : (words : List ℕ) (end count : ℕ) → end ≡ length (image config) → length names ≤ count → ((index : ℕ) → index < count → StandsIn config names words end index (page_of (get_or names index 0))) → PartsStandIn words config (map page_of names)
   all_stand words end count is all each = λ index page k x part at cut word.
       let low = slice_get_within (parts config) index part cut in let inside : index < length names = omega (arith, h.counted) in
-      let page_is : page ≡ get_or names index 0 % 65536 = some_number page (get_or names index 0 % 65536) (sym at ∙ (slice_get-map page_of names index ∙ ap (option_map page_of) (slice_get-get_or names index 0 inside))) in
+      let page_is : page ≡ page_of (get_or names index 0) = some_number page (page_of (get_or names index 0)) (sym at ∙ (slice_get-map page_of names index ∙ ap (option_map page_of) (slice_get-get_or names index 0 inside))) in
       let begin = begins_at end index is (omega arith) in let then = begins_at end (index + 1) is (omega arith) in let next = (parts_stand config).next index part cut in
       let small = slice_get_within part k x word in let i = part_begin config index + k in
-      ap (λ (n : ℕ). get_or words n 0) (ap (λ (q : ℕ). POOL_BEGIN + q * PAGE_WORDS + k) page_is ∙ (let g : POOL_BEGIN + get_or names index 0 % 65536 * PAGE_WORDS + k ≡ POOL_BEGIN + get_or names index 0 % 65536 * PAGE_WORDS + (i - begin_in names end index) = omega arith in g))
+      ap (λ (n : ℕ). get_or words n 0) (ap (λ (q : ℕ). POOL_BEGIN + q * PAGE_WORDS + k) page_is ∙ (let g : POOL_BEGIN + page_of (get_or names index 0) * PAGE_WORDS + k ≡ POOL_BEGIN + page_of (get_or names index 0) * PAGE_WORDS + (i - begin_in names end index) = omega arith in g))
       ∙ (each index (omega arith) i (omega arith) (omega arith)
       ∙ get_or_from_slice_get (image config) i x 0 ((parts_stand config).words index k x part cut word))
 
@@ -165,18 +167,18 @@ module _ (config : List Group) (pages : List ℕ) (room : HasRoom config) (are :
   first_word : get_or row_words 0 0 ≡ form_word config
   first_word = get_or_from_slice_get row_words 0 (form_word config) 0 tells.form
 
-  pub length_told : get_or row_words 0 0 / 4294967296 ≡ length (image config)
-  length_told = ap (λ (k : ℕ). k / 4294967296) first_word ∙ tells.length_part
+  pub length_told : header_len (get_or row_words 0 0) ≡ length (image config)
+  length_told = ap header_len first_word ∙ tells.length_part
 
   names_are : names ≡ take (length (parts config)) (drop (programs_begin config) row_words)
-  names_are = ap (λ (k : ℕ). take k (drop (get_or row_words 0 0 / 65536 % 65536) row_words)) (ap (λ (k : ℕ). k % 65536) first_word ∙ tells.count_part)
-      ∙ ap (λ (k : ℕ). take (length (parts config)) (drop k row_words)) (ap (λ (k : ℕ). k / 65536 % 65536) first_word ∙ tells.begin_part)
+  names_are = ap (λ (k : ℕ). take k (drop (header_begin (get_or row_words 0 0)) row_words)) (ap header_count first_word ∙ tells.count_part)
+      ∙ ap (λ (k : ℕ). take (length (parts config)) (drop k row_words)) (ap header_begin first_word ∙ tells.begin_part)
 
   pub length-names : length names ≡ length (parts config)
   length-names = ap length names_are ∙ length-take-le (length (parts config)) (drop (programs_begin config) row_words)
       (let a = tells.inside in let b = tells.short in omega (arith, length-drop (programs_begin config) row_words, tells.whole))
 
-  pub name_is : (index : ℕ) → index < length (parts config) → get_or names index 0 ≡ part_begin config index * 65536 + get_or pages index 0
+  pub name_is : (index : ℕ) → index < length (parts config) → get_or names index 0 ≡ entry_word (part_begin config index) (get_or pages index 0)
   name_is index low = ap (λ l. get_or l index 0) names_are
       ∙ (get_or-take (length (parts config)) (drop (programs_begin config) row_words) index 0 low
       ∙ (get_or-drop (programs_begin config) row_words index 0
@@ -185,11 +187,11 @@ module _ (config : List Group) (pages : List ℕ) (room : HasRoom config) (are :
   small : (index : ℕ) → index < length (parts config) → get_or pages index 0 < 65536
   small index low = are.below index 0 (omega (arith, are.counted))
 
-  pub begin_told : (index : ℕ) → index < length (parts config) → get_or names index 0 / 65536 ≡ part_begin config index
-  begin_told index low = ap (λ (k : ℕ). k / 65536) (name_is index low) ∙ div-mul-add (part_begin config index) 65536 (get_or pages index 0) (small index low)
+  pub begin_told : (index : ℕ) → index < length (parts config) → start_of (get_or names index 0) ≡ part_begin config index
+  begin_told index low = ap start_of (name_is index low) ∙ entry.start_told (part_begin config index) (get_or pages index 0) (small index low)
 
-  pub page_told : (index : ℕ) → index < length (parts config) → get_or names index 0 % 65536 ≡ get_or pages index 0
-  page_told index low = ap (λ (k : ℕ). k % 65536) (name_is index low) ∙ mod-mul-add (part_begin config index) 65536 (get_or pages index 0) (small index low)
+  pub page_told : (index : ℕ) → index < length (parts config) → page_of (get_or names index 0) ≡ get_or pages index 0
+  page_told index low = ap page_of (name_is index low) ∙ entry.page_told (part_begin config index) (get_or pages index 0) (small index low)
 
   pub are_names : ArePartNames config names
   are_names = record { counted = length-names; begins = λ index low. begin_told index (omega (arith, length-names)) }
@@ -259,18 +261,18 @@ module _ (words : List ℕ) (r : ℕ) (config : List Group) (pages : List ℕ) (
   word_of_row place under (inl in_row) = in_row
   word_of_row place under (inr part) = let up = (part_place place part).0 in absurd (omega arith)
 
-  pub word_of_part : (place end : ℕ) (names : List ℕ) → POOL_BEGIN ≤ place → names ≡ names_in (row_in words r) → end ≡ get_or (row_in words r) 0 0 / 4294967296
+  pub word_of_part : (place end : ℕ) (names : List ℕ) → POOL_BEGIN ≤ place → names ≡ names_in (row_in words r) → end ≡ header_len (get_or (row_in words r) 0 0)
       → IsPartIn names end ((place - POOL_BEGIN) / PAGE_WORDS) ((place - POOL_BEGIN) % PAGE_WORDS) → IsWord place
   word_of_part place end names up named ends t = inr (place_part place up
       (subst (λ l. IsPartIn l (length (image config)) ((place - POOL_BEGIN) / PAGE_WORDS) ((place - POOL_BEGIN) % PAGE_WORDS)) (named ∙ ap names_in row_held)
-      (subst (λ (n : ℕ). IsPartIn names n ((place - POOL_BEGIN) / PAGE_WORDS) ((place - POOL_BEGIN) % PAGE_WORDS)) (ends ∙ (ap (λ l. get_or l 0 0 / 4294967296) row_held ∙ length_told config pages room are_held)) t)))
+      (subst (λ (n : ℕ). IsPartIn names n ((place - POOL_BEGIN) / PAGE_WORDS) ((place - POOL_BEGIN) % PAGE_WORDS)) (ends ∙ (ap (λ l. header_len (get_or l 0 0)) row_held ∙ length_told config pages room are_held)) t)))
 
-  pub part_of_word : (place end : ℕ) (names : List ℕ) → POOL_BEGIN ≤ place → names ≡ names_in (row_in words r) → end ≡ get_or (row_in words r) 0 0 / 4294967296
+  pub part_of_word : (place end : ℕ) (names : List ℕ) → POOL_BEGIN ≤ place → names ≡ names_in (row_in words r) → end ≡ header_len (get_or (row_in words r) 0 0)
       → IsWord place → IsPartIn names end ((place - POOL_BEGIN) / PAGE_WORDS) ((place - POOL_BEGIN) % PAGE_WORDS)
   part_of_word place end names up named ends (inl in_row) = let under = row_below_pool r place (omega (arith, rows_is)) in_row in absurd (omega arith)
   part_of_word place end names up named ends (inr part) =
       subst (λ l. IsPartIn l end ((place - POOL_BEGIN) / PAGE_WORDS) ((place - POOL_BEGIN) % PAGE_WORDS)) (sym (named ∙ ap names_in row_held))
-      (subst (λ (n : ℕ). IsPartIn (names_in (pooled_row config pages)) n ((place - POOL_BEGIN) / PAGE_WORDS) ((place - POOL_BEGIN) % PAGE_WORDS)) (sym (ends ∙ (ap (λ l. get_or l 0 0 / 4294967296) row_held ∙ length_told config pages room are_held))) (part_place place part).1)
+      (subst (λ (n : ℕ). IsPartIn (names_in (pooled_row config pages)) n ((place - POOL_BEGIN) / PAGE_WORDS) ((place - POOL_BEGIN) % PAGE_WORDS)) (sym (ends ∙ (ap (λ l. header_len (get_or l 0 0)) row_held ∙ length_told config pages room are_held))) (part_place place part).1)
 
 -- ---- whether a row and the pages that it names hold a configuration
 

@@ -1,7 +1,8 @@
 -- What a row in the pooled form and its pages tell, wherever they stand in the table (docs/SWITCH.md, "The pooled form").
-use Rattle.std.specs.Prelude.{◌≡◌, ◌+◌, ◌*◌, ◌/◌, ◌%◌, ◌<◌, ◌≤◌, List, drop, length, slice_index, take, ℕ}
+use Rattle.std.specs.Prelude.{◌≡◌, ◌+◌, ◌*◌, ◌<◌, ◌≤◌, List, drop, length, slice_index, take, ℕ}
 use Rattle.config_image.specs.declared.TheConstants.{ROW_WORDS}
 use Rattle.config_image.specs.Image.{Group, image}
+use Rattle.config_image.specs.PageTable.{header_begin, header_count}
 use Rattle.config_image.specs.Pooled.{PooledFormTells}
 use Rattle.versions.specs.Layout.{HoldsForm, all_rows, pages_named, row_at, rows_begin, stored_words}
 use Rattle.versions.specs.Table.{the_shape}
@@ -14,9 +15,9 @@ HasRoom config = length (image config) ≤ ROW_WORDS
 abbrev pub page_word : ℕ → List ℕ → ℕ → ℕ → ℕ
 page_word from words q k = slice_index words (from + (all_rows the_shape + (q * the_shape.page_words + k)))
 
--- the names of pages among the words of a row: each has a page in its low 16 bits (`pages_of`)
+-- the names of pages among the words of a row (`pages_of`)
 abbrev pub names_in : List ℕ → List ℕ
-names_in row = take (slice_index row 0 % 65536) (drop (slice_index row 0 / 65536 % 65536) row)
+names_in row = take (header_count (slice_index row 0)) (drop (header_begin (slice_index row 0)) row)
 
 -- the pages that row r names, in the words of the whole table
 abbrev pub pages_in : List ℕ → ℕ → List ℕ

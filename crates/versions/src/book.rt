@@ -3,7 +3,7 @@
 
 ghost use Rattle.std.specs.Prelude.{◌≡◌, ◌<◌, ◌≤◌, ◌↔◌, IfOk, IsTrue, List, length, map, slice_get, slice_index, Some, ℕ};
 ghost use Rattle.config_image.specs.Image.{Group};
-ghost use Rattle.config_image.specs.Pooled.{page_of};
+ghost use Rattle.config_image.specs.PageTable.{page_of};
 ghost use Rattle.versions.specs.declared.view.OperatorView.{OperatorView};
 ghost use Rattle.versions.specs.Book.{IsBook, IsBookAtStart, IsCleared, IsLeast, with_version_in};
 ghost use Rattle.versions.specs.Free.{IsFree, IsFreePage, IsFreeRow};
@@ -14,7 +14,7 @@ ghost use Rattle.versions.specs.World.{first_pages};
 use crate::freedom::{clear_below, least};
 use crate::layout::{LAST_NUMBER, PAGES, POOL_BEGIN, ROW_WORDS, ROWS, ROWS_BEGIN, WORKERS};
 use crate::page_uses::PageUses;
-use config_image::PAGE_WORDS;
+use config_image::{PAGE_WORDS, PageEntry};
 use std::alloc::{AllocError, Allocator, Global};
 
 /// What tells the current number, free versions, free rows and free pages: a number for each row, page and worker. Who makes the
@@ -101,7 +101,7 @@ impl<A: Allocator> Book<A> {
         let number = self.number + 1;
         self.last[row] = number;
         for name in names {
-            self.last_use.name((*name % 65536) as usize, number);
+            self.last_use.name(PageEntry(*name).page(), number);
         }
     }
 

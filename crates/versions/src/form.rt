@@ -3,20 +3,22 @@
 
 ghost use Rattle.std.specs.Prelude.{◌≡◌, ◌+◌, ◌-◌, ◌*◌, ◌/◌, ◌%◌, ◌<◌, ◌≤◌, ◌⊎◌, ◌↔◌, IsTrue, List, MatchOption, Some, length, map, slice_get, slice_index, take, ℕ};
 ghost use Rattle.config_image.specs.Image.{Group, image};
-ghost use Rattle.config_image.specs.Pooled.{ArePages, page_of, pages_of, parts, pooled_row};
+ghost use Rattle.config_image.specs.PageTable.{page_of};
+ghost use Rattle.config_image.specs.Pooled.{ArePages, pages_of, parts, pooled_row};
 ghost use Rattle.versions.specs.Layout.{HoldsForm, IsInRow, IsPartPlace, rows_begin};
 ghost use Rattle.versions.specs.Pooled.{HasRoom, names_in, pages_in};
 ghost use Rattle.versions.specs.Table.{the_shape};
 ghost use Rattle.versions.specs.body.Names.{ArePartNames, IsPartIn, PartsStandIn, begin_in, row_in};
 
-use crate::layout::{PAGES, POOL_BEGIN, ROWS, ROWS_BEGIN, TABLE_WORDS, is_in_row};
+use crate::layout::{PAGES, POOL_BEGIN, ROWS, TABLE_WORDS, is_in_row, page_place, row_begin};
 use config_image::{
-    PAGE_LIMIT, PAGE_WORDS, ROW_WORDS, image_len, image_word, page_count, stored_word,
+    PAGE_LIMIT, PAGE_WORDS, PageEntry, ROW_WORDS, RowHeader, image_len, image_word, page_count,
+    stored_word,
 };
 use member_group::Config;
 use std::alloc::Allocator;
 
-/// Lends the names of pages among the words of a row, in their order. Each has the page in its low 16 bits.
+/// Lends the names of pages among the words of a row, in their order. Each is a `PageEntry`.
 ///
 /// It is told by the row's first word, also where the row holds no configuration.
 pub fn row_names(row: &[u64]) -> &[u64]
@@ -24,10 +26,9 @@ pub fn row_names(row: &[u64]) -> &[u64]
     ensures names { result.now ≡ names_in row.now }
     ensures pages { map page_of result.now ≡ pages_of row.now }
 {
-    let begin = (row[0] / 65536 % 65536) as usize;
-    let count = (row[0] % 65536) as usize;
-    let from = begin.min(row.len());
-    let to = (from + count).min(row.len());
+    let header = RowHeader(row[0]);
+    let from = header.programs_at().min(row.len());
+    let to = (from + header.entries()).min(row.len());
     &row[from..to]
 }
 
@@ -37,7 +38,7 @@ pub(crate) fn row_of(words: &[u64], row: usize) -> &[u64]
     requires row { row < ROWS }
     ensures words { result.now ≡ row_in words.now row }
 {
-    let begin = ROWS_BEGIN + row * ROW_WORDS;
+    let begin = row_begin(row);
     &words[begin..begin + ROW_WORDS]
 }
 
@@ -46,7 +47,7 @@ fn part_begin(names: &[u64], index: usize, end: usize) -> usize
     ensures { result ≡ begin_in names.now end index }
 {
     match names.get(index) {
-        Some(name) => (*name / 65536) as usize,
+        Some(name) => PageEntry(*name).start(),
         None => end,
     }
 }
@@ -65,7 +66,7 @@ fn is_part_word(names: &[u64], end: usize, page: usize, k: usize) -> bool
     ensures { IsTrue result ↔ IsPartIn names.now end page k }
 {
     for index in 0..names.len() {
-        if names[index] % 65536 == page as u64 && k < part_len(names, index, end) {
+        if PageEntry(names[index]).page() == page && k < part_len(names, index, end) {
             return true;
         }
     }
@@ -83,7 +84,7 @@ pub(crate) fn is_version_word(words: &[u64], row: usize, place: usize) -> bool
         return is_in_row(row, place);
     }
     let row_words = row_of(words, row);
-    let end = (row_words[0] >> 32) as usize;
+    let end = RowHeader(row_words[0]).image_len();
     let at = place - POOL_BEGIN;
     is_part_word(row_names(row_words), end, at / PAGE_WORDS, at % PAGE_WORDS)
 }
@@ -96,11 +97,11 @@ fn pages_of_names(names: &[u64]) -> Option<[u32; PAGE_LIMIT]>
 {
     let mut pages = [0; PAGE_LIMIT];
     for index in 0..names.len() {
-        let page = (names[index] % 65536) as u32;
-        if page as usize >= PAGES {
+        let page = PageEntry(names[index]).page();
+        if page >= PAGES {
             return None;
         }
-        pages[index] = page;
+        pages[index] = page as u32;
     }
     Some(pages)
 }
@@ -134,7 +135,7 @@ fn part_stands<A: Allocator>(
     ensures { IsTrue result ↔ ((i : ℕ) → begin ≤ i → i < end → slice_index words.now (POOL_BEGIN + page * PAGE_WORDS + (i - begin)) ≡ slice_index (image config.now) i) }
 {
     for i in begin..end {
-        if words[POOL_BEGIN + page * PAGE_WORDS + (i - begin)] != image_word(config, i) {
+        if words[page_place(page, i - begin)] != image_word(config, i) {
             return false;
         }
     }
@@ -150,7 +151,7 @@ fn parts_stand<A: Allocator>(words: &[u64], config: &Config<A>, names: &[u64]) -
 {
     let len = image_len(config);
     for index in 0..names.len() {
-        let page = (names[index] % 65536) as usize;
+        let page = PageEntry(names[index]).page();
         let begin = part_begin(names, index, len);
         let end = part_begin(names, index + 1, len);
         if !part_stands(words, page, config, begin, end) {

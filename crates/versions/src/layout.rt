@@ -1,6 +1,13 @@
-//! The words of the table (docs/TABLE.md, "The words"): where rows and pages stand.
+//! The words of the table (docs/TABLE.md, "The words"): where each is, who stores it and who loads it.
+//!
+//! | Place | Word | Stored by | Loaded by |
+//! |---|---|---|---|
+//! | 0 | `current`: `current_word` of the version that is current | the operator | every worker |
+//! | `read_word_place(w)` | the read word of worker w | worker w | the operator |
+//! | `row_place(r, i)` | word i of row r; word 0 is its header | the operator | workers that hold a version in row r |
+//! | `page_place(q, k)` | word k of page q of the pool | the operator | workers that hold a version that names page q |
 
-ghost use Rattle.std.specs.Prelude.{◌≡◌, ◌<◌, IsTrue, slice_index, ◌↔◌};
+ghost use Rattle.std.specs.Prelude.{◌≡◌, ◌+◌, ◌*◌, ◌/◌, ◌%◌, ◌<◌, ◌≤◌, IsTrue, slice_index, ◌↔◌};
 ghost use Rattle.config_image.specs.Image.{row};
 ghost use Rattle.versions.specs.Layout.{IsInRow};
 ghost use Rattle.versions.specs.Table.{the_shape};
@@ -45,6 +52,71 @@ pub fn limits_as_numbers()
     ensures pool_begin { POOL_BEGIN ≡ 131137 }
     ensures table_words { TABLE_WORDS ≡ 655425 }
 {}
+
+/// The place of a worker's read word.
+#[inline(always)]
+pub fn read_word_place(worker: usize) -> usize
+    requires { worker < WORKERS }
+    ensures { result ≡ 1 + worker }
+{
+    1 + worker
+}
+
+/// The place of the first word of a row: its header.
+#[inline(always)]
+pub fn row_begin(row: usize) -> usize
+    requires { row < ROWS }
+    ensures { result ≡ ROWS_BEGIN + row * ROW_WORDS }
+{
+    ROWS_BEGIN + row * ROW_WORDS
+}
+
+/// The place of word `i` of a row, counted from 0.
+#[inline(always)]
+pub fn row_place(row: usize, i: usize) -> usize
+    requires row { row < ROWS }
+    requires small { i < TABLE_WORDS }
+    ensures { result ≡ ROWS_BEGIN + row * ROW_WORDS + i }
+{
+    row_begin(row) + i
+}
+
+/// The place of word `k` of a page, counted from 0.
+#[inline(always)]
+pub fn page_place(page: usize, k: usize) -> usize
+    requires page { page < 65536 }
+    requires small { k < TABLE_WORDS }
+    ensures { result ≡ POOL_BEGIN + page * PAGE_WORDS + k }
+{
+    POOL_BEGIN + page * PAGE_WORDS + k
+}
+
+/// The word that `current` has if this version is current and stands in a row.
+#[inline(always)]
+pub fn current_word(number: u64, row: usize) -> u64
+    requires number { number ≤ LAST_NUMBER }
+    requires row { row < ROWS }
+    ensures { result ≡ number * ROWS + row }
+{
+    number * ROWS as u64 + row as u64
+}
+
+/// The number of the version of a word that `current` had.
+#[inline(always)]
+pub fn current_version(word: u64) -> u64
+    ensures { result ≡ word / ROWS }
+{
+    word / ROWS as u64
+}
+
+/// The row of that version.
+#[inline(always)]
+pub fn current_row(word: u64) -> usize
+    ensures row { result ≡ word % ROWS }
+    ensures a_row { result < ROWS }
+{
+    (word % ROWS as u64) as usize
+}
 
 pub(crate) fn is_in_row(row: usize, place: usize) -> bool
     ensures { IsTrue result ↔ IsInRow the_shape row place }

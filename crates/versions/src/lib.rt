@@ -29,8 +29,8 @@ pub use fault::StepFault;
 pub use form::row_names;
 pub use freedom::free_versions;
 pub use layout::{
-    CHARGE_LIMIT, LAST_NUMBER, PAGES, POOL_BEGIN, ROWS, ROWS_BEGIN, TABLE_WORDS, WORKERS,
-    limits_as_numbers, row_word,
+    CHARGE_LIMIT, LAST_NUMBER, PAGES, ROWS, TABLE_WORDS, WORKERS, current_row, current_version,
+    current_word, limits_as_numbers, page_place, read_word_place, row_begin, row_place, row_word,
 };
 pub use page_uses::PageUses;
 pub use step::{Entry, Event, Step};

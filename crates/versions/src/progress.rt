@@ -9,7 +9,10 @@ ghost use Rattle.versions.specs.body.Mirror.{BeginsAtStart, Decides, DecidesProp
 
 use crate::book::Book;
 use crate::form::{holds_form, is_version_word, row_names, row_of};
-use crate::layout::{LAST_NUMBER, PAGES, ROWS, TABLE_WORDS, WORKERS};
+use crate::layout::{
+    LAST_NUMBER, PAGES, ROWS, TABLE_WORDS, WORKERS, current_row, current_version, current_word,
+    read_word_place,
+};
 use crate::step::Step;
 use crate::view::Stage;
 use member_group::Config;
@@ -46,12 +49,12 @@ fn next_stage(stage: Stage, step: Step, word: u64) -> Stage
     ensures { result ≡ view.next_stage ROWS stage step word }
 {
     match step {
-        Step::Peek { .. } => after_peek(stage, word / ROWS as u64),
+        Step::Peek { .. } => after_peek(stage, current_version(word)),
         Step::Announce { .. } => Stage::Announced { read_word: word },
         Step::Pin { .. } => Stage::Inside {
             read_word: read_word(stage),
-            version: word / ROWS as u64,
-            row: (word % ROWS as u64) as usize,
+            version: current_version(word),
+            row: current_row(word),
         },
         Step::Leave { .. } => Stage::Outside,
         _ => stage,
@@ -154,7 +157,7 @@ impl<A: Allocator> Progress<A> {
         {
             return None;
         }
-        Some((self.book.number + 1) * ROWS as u64 + row as u64)
+        Some(current_word(self.book.number + 1, row))
     }
 
     fn scan_word(&self, words: &[u64], place: usize) -> Option<u64>
@@ -218,13 +221,13 @@ impl<A: Allocator> Progress<A> {
         match step {
             Step::Peek { worker } => self.move_worker(worker, step, word),
             Step::Announce { worker } => {
-                words[1 + worker] = word;
+                words[read_word_place(worker)] = word;
                 self.move_worker(worker, step, word);
             }
             Step::Pin { worker } => self.move_worker(worker, step, word),
             Step::Fetch { worker, .. } => self.move_worker(worker, step, word),
             Step::Leave { worker } => {
-                words[1 + worker] = word;
+                words[read_word_place(worker)] = word;
                 self.move_worker(worker, step, word);
             }
             Step::Fill { place, .. } => words[place] = word,

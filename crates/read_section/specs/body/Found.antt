@@ -1,16 +1,20 @@
 -- What is known of where the words of the version stand that a worker holds.
-use Rattle.std.specs.Prelude.{◌≡◌, ◌+◌, ◌<◌, ◌≤◌, List, Some, [], length, slice_get, slice_index, slice_index_or, suc, ℕ}
+use Rattle.std.specs.Prelude.{◌≡◌, ◌*◌, ◌+◌, ◌<◌, ◌≤◌, List, Some, [], length, slice_get, slice_index, slice_index_or, suc, ℕ}
 use Rattle.std.specs.Coded.{×_prop, →_prop, Π_prop, Unit-prop, le_prop, Coded-set, coded_ℕ}
 use Rattle.config_image.specs.declared.TheConstants.{ROW_WORDS}
 use Rattle.config_image.specs.Image.{Group, image, programs_begin}
 use Rattle.config_image.specs.Pooled.{form_word, part_begin, parts}
 use Rattle.extent_memory.specs.declared.extent.Extent.{Extent}
-use Rattle.versions.specs.declared.layout.TheConstants.{PAGES, ROWS}
+use Rattle.versions.specs.declared.layout.TheConstants.{PAGES, ROWS, ROWS_BEGIN}
 use Rattle.versions.specs.declared.view.Stage.{Stage}
 use Rattle.versions.specs.declared.view.Stage.TheVariants.{Announced, Inside, Outside, Peeked}
 use Rattle.versions.specs.declared.view.WorkerView.{WorkerView}
 use Rattle.versions.specs.Layout.{page_begin}
 use Rattle.versions.specs.Table.{the_shape}
+
+-- where a row begins, as it is computed
+abbrev pub row_start : ℕ → ℕ
+row_start row = ROWS_BEGIN + row * ROW_WORDS
 
 -- each part has a page of the table
 abbrev pub HasPages : List Group → List ℕ → Type 0

@@ -2,8 +2,8 @@
 use Rattle.std.specs.Prelude.{◌≡◌, ◌<◌, ◌≤◌, List, [], drop, length, slice_index, slice_index_or, take, ℕ}
 use Rattle.config_image.specs.declared.TheConstants.{ROW_WORDS}
 use Rattle.config_image.specs.Image.{Group, image, programs_begin}
+use Rattle.config_image.specs.PageTable.{page_of, start_of}
 use Rattle.config_image.specs.Pooled.{form_word, part_begin, parts, pooled_row}
-use Rattle.part_search.specs.Names.{page_of, start_of}
 use Rattle.versions.specs.declared.layout.TheConstants.{ROWS}
 use Rattle.versions.specs.declared.view.Stage.TheVariants.{Inside}
 use Rattle.versions.specs.declared.view.WorkerView.{WorkerView}

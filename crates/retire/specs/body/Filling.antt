@@ -3,6 +3,7 @@ use Rattle.std.specs.Prelude.{◌≡◌, ◌≢◌, ◌⊎◌, ◌+◌, ◌++◌
 use Rattle.std.specs.List.{Contains}
 use Rattle.config_image.specs.declared.TheConstants.{PAGE_WORDS, ROW_WORDS}
 use Rattle.config_image.specs.Image.{Group}
+use Rattle.config_image.specs.PageTable.{entry_word, start_of}
 use Rattle.config_image.specs.Pooled.{ArePages, pages_for, parts, parts_of, pooled_row}
 use Rattle.versions.specs.declared.layout.TheConstants.{PAGES, ROWS}
 use Rattle.versions.specs.declared.step.Entry.{Entry}
@@ -84,7 +85,7 @@ CopiesFront before after r from n = (words : List ℕ) → length words ≡ ROW_
 -- the other row's names from a place on are the list's, but for their pages, which are these
 abbrev pub HasNames : OperatorValue → ℕ → ℕ → List ℕ → List ℕ → Type 0
 HasNames operator from begin pages words = (index page : ℕ) → slice_get pages index ≡ Some page
-    → slice_index operator.view.stored (from * ROW_WORDS + (begin + index)) / 65536 * 65536 + page ≡ slice_index words (begin + index)
+    → entry_word (start_of (slice_index operator.view.stored (from * ROW_WORDS + (begin + index)))) page ≡ slice_index words (begin + index)
 
 -- where row r was filled by a list's words up to that place, it is filled by its names, too
 abbrev pub FillsNames : OperatorValue → OperatorValue → ℕ → ℕ → ℕ → List ℕ → Type 0

@@ -2,6 +2,7 @@
 
 ghost use Rattle.std.specs.Prelude.{◌≡◌, ◌<◌, ◌≤◌, ◌^◌, IfOk, length, vec_len};
 
+use config_image::PageEntry;
 use part_search::{FoundPart, NAME_LIMIT, search_slice};
 use std::alloc::Global;
 use std::test::Fail;
@@ -27,7 +28,12 @@ const ROWS: [(usize, Option<(usize, usize, usize, usize)>); 8] = [
 fn three_parts(rt: HostRuntime) {
     for (place, want) in ROWS {
         let found = search_slice(&THREE, THREE_END, place);
-        let told = found.map(|(part, _)| (part.index, part.start(), part.end(), part.page()));
+        let told = found.map(|(part, _)| (
+            part.index,
+            part.name.start(),
+            part.next.start(),
+            part.name.page(),
+        ));
         assert!(rt; told == want);
     }
 }
@@ -67,10 +73,10 @@ fn most_reads(names: &[u64], end: usize) -> Option<usize>
         };
         let part = FoundPart {
             index,
-            name: *name,
-            next,
+            name: PageEntry(*name),
+            next: PageEntry(next),
         };
-        for place in part.start()..part.end() {
+        for place in part.name.start()..part.next.start() {
             let (found, reads) = search_slice(names, end, place)?;
             if found != part {
                 return None;

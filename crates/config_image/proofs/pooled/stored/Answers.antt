@@ -24,8 +24,8 @@ part_place-place-requires-clause-limited g c =
     let limited = image_limited c.args.groups.now c.requires.config in
     let members = c.members_in.ensures.members in omega arith
 
-pub name-requires : goal.name-requires
-name-requires g c =
+pub new-requires : goal.new-requires
+new-requires g c =
     let walked = ap size_of c.of_groups.ensures.all in
     let size = length-by_words c.args.groups.now in
     let limited = image_limited c.args.groups.now c.requires.config in
@@ -51,7 +51,7 @@ returns-then-part-count g c =
     let at : HEAD_WORDS + GROUP_WORDS * length c.args.groups.now + MEMBER_WORDS * c.members_in.result ≡ programs_begin c.args.groups.now = omega arith in
     let part = c.args.i - (HEAD_WORDS + GROUP_WORDS * length c.args.groups.now + MEMBER_WORDS * c.members_in.result) in
     let stands : part + (HEAD_WORDS + GROUP_WORDS * length c.args.groups.now + MEMBER_WORDS * c.members_in.result) ≡ c.args.i = omega arith in
-    c.name.ensures
+    c.new.ensures
     ∙ named_word c.args.groups.now c.args.pages.now c.of_groups.result c.args.i _ part c.part_place-place.result c.requires.pages.counted c.of_groups.ensures.all at stands c.if-part-count.true c.requires.inside c.part_place-place.ensures
 
 pub returns-else-part-count : goal.returns-else-part-count

@@ -1,5 +1,6 @@
-use Rattle.std.proofs.Common.{◌*◌, ◌+◌, arith, subst, sym, ℕ}
+use Rattle.std.proofs.Common.{◌*◌, ◌+◌, ◌∙◌, ap, arith, subst, sym, ℕ}
 use Rattle.config_image.specs.declared.TheConstants.{ROW_WORDS}
+use Rattle.config_image.specs.PageTable.{entry_word}
 use Rattle.versions.specs.declared.layout.TheConstants.{ROWS_BEGIN}
 use Rattle.versions.specs.Safety.{IsHeldPlace}
 use Rattle.versions.specs.Table.{the_shape}
@@ -10,20 +11,20 @@ use Rattle.read_section.proofs.SoughtLemmas.{config, is_end_name, is_name, name_
 use Rattle.read_section.proofs.reading.read_name.Goals as goal
 
 pub fetch-requires-clause-held : goal.fetch-requires-clause-held
-fetch-requires-clause-held c = let w = c.args.worker.now in let s = c.requires.row in let e = c.entries_of.ensures in let low = c.if-index-entries_of.true in
-    subst (λ (h : ℕ). IsHeldPlace the_shape w.view (ROWS_BEGIN + c.args.row * ROW_WORDS + (h + c.args.index))) (sym c.heads_of.ensures) (name_place_held w c.args.row c.args.form s.0 s.1 c.args.index (omega arith))
+fetch-requires-clause-held c = let w = c.args.worker.now in let s = c.requires.row in let e = c.entries.ensures in let low = c.if-index-entries.true in
+    rw c.row_place.ensures (subst (λ (h : ℕ). IsHeldPlace the_shape w.view (ROWS_BEGIN + c.args.row * ROW_WORDS + (h + c.args.index))) (sym c.programs_at.ensures) (name_place_held w c.args.row c.args.form.0 s.0 s.1 c.args.index (omega arith)))
 
-pub returns-then-index-entries_of-clause-name : goal.returns-then-index-entries_of-clause-name
-returns-then-index-entries_of-clause-name c = let w = c.args.worker.now in let s = c.requires.row in let e = c.entries_of.ensures in let low = c.if-index-entries_of.true in
-    let sees = subst (λ (h : ℕ). SeesWord w (ROWS_BEGIN + c.args.row * ROW_WORDS + (h + c.args.index)) c.fetch.result) c.heads_of.ensures c.fetch.ensures.word in
-    told_of w c.args.row c.args.form s.0 s.1 (λ config pages. IsNameOf config pages c.args.index c.fetch.result) (is_name w c.args.row c.args.form s.0 s.1 c.args.index (omega arith) c.fetch.result sees)
+pub returns-then-index-entries-clause-name : goal.returns-then-index-entries-clause-name
+returns-then-index-entries-clause-name c = let w = c.args.worker.now in let s = c.requires.row in let e = c.entries.ensures in let low = c.if-index-entries.true in
+    let sees = subst (λ (h : ℕ). SeesWord w (ROWS_BEGIN + c.args.row * ROW_WORDS + (h + c.args.index)) c.fetch.result) c.programs_at.ensures (rw c.row_place.ensures at c.fetch.ensures.word) in
+    told_of w c.args.row c.args.form.0 s.0 s.1 (λ config pages. IsNameOf config pages c.args.index c.fetch.result) (is_name w c.args.row c.args.form.0 s.0 s.1 c.args.index (omega arith) c.fetch.result sees)
 
-pub returns-then-index-entries_of-clause-few : goal.returns-then-index-entries_of-clause-few
-returns-then-index-entries_of-clause-few c = let w = c.args.worker.now in let s = c.requires.row in let e = c.entries_of.ensures in let low = c.if-index-entries_of.true in
-    let held = subst (λ (h : ℕ). IsHeldPlace the_shape w.view (ROWS_BEGIN + c.args.row * ROW_WORDS + (h + c.args.index))) (sym c.heads_of.ensures) (name_place_held w c.args.row c.args.form s.0 s.1 c.args.index (omega arith)) in
-    (1, omega arith, fetched_more 0 w w (none_fetched w) c.fetch.new.self _ c.fetch.result c.fetch.ensures.one_fetch held)
+pub returns-then-index-entries-clause-few : goal.returns-then-index-entries-clause-few
+returns-then-index-entries-clause-few c = let w = c.args.worker.now in let s = c.requires.row in let e = c.entries.ensures in let low = c.if-index-entries.true in
+    let held = subst (λ (h : ℕ). IsHeldPlace the_shape w.view (ROWS_BEGIN + c.args.row * ROW_WORDS + (h + c.args.index))) (sym c.programs_at.ensures) (name_place_held w c.args.row c.args.form.0 s.0 s.1 c.args.index (omega arith)) in
+    (1, omega arith, fetched_more 0 w w (none_fetched w) c.fetch.new.self _ c.fetch.result (rw c.row_place.ensures at c.fetch.ensures.one_fetch) held)
 
-pub returns-else-index-entries_of-clause-name : goal.returns-else-index-entries_of-clause-name
-returns-else-index-entries_of-clause-name c = let w = c.args.worker.now in let s = c.requires.row in let e = c.entries_of.ensures in let high = c.if-index-entries_of.false in let most = c.requires.index in
-    told_of w c.args.row c.args.form s.0 s.1 (λ config pages. IsNameOf config pages c.args.index (c.length_of.result * 65536))
-    (subst (λ (l : ℕ). IsNameOf (config w c.args.row c.args.form s.0 s.1) (pages w c.args.row c.args.form s.0 s.1) c.args.index (l * 65536)) (sym c.length_of.ensures) (is_end_name w c.args.row c.args.form s.0 s.1 c.args.index (omega arith)))
+pub returns-else-index-entries-clause-name : goal.returns-else-index-entries-clause-name
+returns-else-index-entries-clause-name c = let w = c.args.worker.now in let s = c.requires.row in let e = c.entries.ensures in let high = c.if-index-entries.false in let most = c.requires.index in
+    told_of w c.args.row c.args.form.0 s.0 s.1 (λ config pages. IsNameOf config pages c.args.index c.new.result.0)
+    (subst (λ (name : ℕ). IsNameOf (config w c.args.row c.args.form.0 s.0 s.1) (pages w c.args.row c.args.form.0 s.0 s.1) c.args.index name) (sym (c.new.ensures ∙ ap (λ (l : ℕ). entry_word l 0) c.image_len.ensures)) (is_end_name w c.args.row c.args.form.0 s.0 s.1 c.args.index (omega arith)))

@@ -21,33 +21,36 @@ copy_front-requires-clause-other c = let config = c.args.config.now in let p = c
 
 pub copy_front-requires-clause-inside : goal.copy_front-requires-clause-inside
 copy_front-requires-clause-inside c = let config = c.args.config.now in let p = c.requires.publishable in let like = c.requires.like c.if-not-is_like.false in
-    omega (arith, inside c.args.operator.now config _ c.args.pages.now _ like.2 (c.current_pages-names.ensures.stands like.0 like.1) (has_room config (charge_of config) p.0 refl p.1) c.requires.pages _ c.current_row-from.ensures.current _ _ c.row_word.ensures.word c.names_begin-begin.ensures)
+    omega (arith, inside c.args.operator.now config _ c.args.pages.now _ like.2 (c.current_pages-names.ensures.stands like.0 like.1) (has_room config (charge_of config) p.0 refl p.1) c.requires.pages _ c.current_row-from.ensures.current _ _ c.row_word.ensures.word c.programs_at-begin.ensures)
 
 pub fill_names-requires-clause-free : goal.fill_names-requires-clause-free
 fill_names-requires-clause-free c = let config = c.args.config.now in let p = c.requires.publishable in let like = c.requires.like c.if-not-is_like.false in
-    still_free c.args.operator.now config _ c.args.pages.now _ like.2 (c.current_pages-names.ensures.stands like.0 like.1) (has_room config (charge_of config) p.0 refl p.1) c.requires.pages _ c.current_row-from.ensures.current _ _ c.row_word.ensures.word c.names_begin-begin.ensures
+    still_free c.args.operator.now config _ c.args.pages.now _ like.2 (c.current_pages-names.ensures.stands like.0 like.1) (has_room config (charge_of config) p.0 refl p.1) c.requires.pages _ c.current_row-from.ensures.current _ _ c.row_word.ensures.word c.programs_at-begin.ensures
     c.args.row c.current_row-from.ensures.a_row c.requires.free c.copy_front.new.operator c.copy_front.ensures
 
 pub fill_names-requires-clause-other : goal.fill_names-requires-clause-other
 fill_names-requires-clause-other c = let config = c.args.config.now in let p = c.requires.publishable in let like = c.requires.like c.if-not-is_like.false in
     apart c.args.operator.now config _ c.args.pages.now _ like.2 (c.current_pages-names.ensures.stands like.0 like.1) (has_room config (charge_of config) p.0 refl p.1) c.requires.pages _ c.current_row-from.ensures.current c.args.row c.requires.free
 
+pub fill_names-requires-clause-pages : goal.fill_names-requires-clause-pages
+fill_names-requires-clause-pages c = (c.args.config.now, c.requires.pages)
+
 pub fill_names-requires-clause-inside : goal.fill_names-requires-clause-inside
 fill_names-requires-clause-inside c = let config = c.args.config.now in let p = c.requires.publishable in let like = c.requires.like c.if-not-is_like.false in
-    inside c.args.operator.now config _ c.args.pages.now _ like.2 (c.current_pages-names.ensures.stands like.0 like.1) (has_room config (charge_of config) p.0 refl p.1) c.requires.pages _ c.current_row-from.ensures.current _ _ c.row_word.ensures.word c.names_begin-begin.ensures
+    inside c.args.operator.now config _ c.args.pages.now _ like.2 (c.current_pages-names.ensures.stands like.0 like.1) (has_room config (charge_of config) p.0 refl p.1) c.requires.pages _ c.current_row-from.ensures.current _ _ c.row_word.ensures.word c.programs_at-begin.ensures
 
 pub returns-clause-fills : goal.returns-clause-fills
 returns-clause-fills c = let config = c.args.config.now in let p = c.requires.publishable in let like = c.requires.like c.if-not-is_like.false in
-    (row_made c.args.operator.now config _ c.args.pages.now _ like.2 (c.current_pages-names.ensures.stands like.0 like.1) (has_room config (charge_of config) p.0 refl p.1) c.requires.pages _ c.current_row-from.ensures.current _ _ c.row_word.ensures.word c.names_begin-begin.ensures
+    (row_made c.args.operator.now config _ c.args.pages.now _ like.2 (c.current_pages-names.ensures.stands like.0 like.1) (has_room config (charge_of config) p.0 refl p.1) c.requires.pages _ c.current_row-from.ensures.current _ _ c.row_word.ensures.word c.programs_at-begin.ensures
     c.args.row c.current_row-from.ensures.a_row c.requires.free c.copy_front.new.operator c.copy_front.ensures c.fill_names.new.operator c.fill_names.ensures).0
 
 pub returns-clause-front : goal.returns-clause-front
 returns-clause-front c = let config = c.args.config.now in let p = c.requires.publishable in let like = c.requires.like c.if-not-is_like.false in
     let many = as_many_pages c.args.operator.now config _ c.args.pages.now _ like.2 (c.current_pages-names.ensures.stands like.0 like.1) (has_room config (charge_of config) p.0 refl p.1) c.requires.pages _ c.current_row-from.ensures.current in
-    subst (HoldsFront c.fill_names.new.operator c.args.row (pooled_row config c.args.pages.now)) (ap (λ (n : ℕ). c.names_begin-begin.result + n) many) (row_made c.args.operator.now config _ c.args.pages.now _ like.2 (c.current_pages-names.ensures.stands like.0 like.1) (has_room config (charge_of config) p.0 refl p.1) c.requires.pages _ c.current_row-from.ensures.current _ _ c.row_word.ensures.word c.names_begin-begin.ensures
+    subst (HoldsFront c.fill_names.new.operator c.args.row (pooled_row config c.args.pages.now)) (ap (λ (n : ℕ). c.programs_at-begin.result + n) many) (row_made c.args.operator.now config _ c.args.pages.now _ like.2 (c.current_pages-names.ensures.stands like.0 like.1) (has_room config (charge_of config) p.0 refl p.1) c.requires.pages _ c.current_row-from.ensures.current _ _ c.row_word.ensures.word c.programs_at-begin.ensures
     c.args.row c.current_row-from.ensures.a_row c.requires.free c.copy_front.new.operator c.copy_front.ensures c.fill_names.new.operator c.fill_names.ensures).1
 
 pub returns-clause-len : goal.returns-clause-len
 returns-clause-len c = let config = c.args.config.now in let p = c.requires.publishable in let like = c.requires.like c.if-not-is_like.false in
     let many = as_many_pages c.args.operator.now config _ c.args.pages.now _ like.2 (c.current_pages-names.ensures.stands like.0 like.1) (has_room config (charge_of config) p.0 refl p.1) c.requires.pages _ c.current_row-from.ensures.current in
-    sym (ap (λ (n : ℕ). c.names_begin-begin.result + n) many) ∙ whole c.args.operator.now config _ c.args.pages.now _ like.2 (c.current_pages-names.ensures.stands like.0 like.1) (has_room config (charge_of config) p.0 refl p.1) c.requires.pages _ c.current_row-from.ensures.current _ _ c.row_word.ensures.word c.names_begin-begin.ensures
+    sym (ap (λ (n : ℕ). c.programs_at-begin.result + n) many) ∙ whole c.args.operator.now config _ c.args.pages.now _ like.2 (c.current_pages-names.ensures.stands like.0 like.1) (has_room config (charge_of config) p.0 refl p.1) c.requires.pages _ c.current_row-from.ensures.current _ _ c.row_word.ensures.word c.programs_at-begin.ensures

@@ -1,4 +1,4 @@
-use Rattle.std.proofs.Common.{◌≡◌, ◌++◌, ◌∷◌, List, [], arith, subst, sym}
+use Rattle.std.proofs.Common.{◌≡◌, ◌++◌, ◌∷◌, List, [], subst, sym}
 use Rattle.config_image.specs.Image.{Group}
 use Rattle.retire.specs.body.Alike.{AreAlike}
 use Rattle.config_image.proofs.ProgramLemmas.{parts-by_words}
@@ -21,10 +21,6 @@ fill_row-requires-clause-free g c = c.fill_pages.ensures.fills.steps.free_rows c
 pub fill_row-requires-clause-pages : goal.fill_row-requires-clause-pages
 fill_row-requires-clause-pages g c = let pages = c.as_slice-pages.result.now in let chosen = subst (ChoosesPages c.args.operator.now.view c.args.config.now) (sym c.as_slice-pages.ensures) c.choose_pages-chosen.ensures.chosen in
     are_pages c.args.config.now pages (chosen_counted c.args.operator.now c.args.config.now pages chosen) (chosen_ready c.args.operator.now c.args.config.now pages chosen).low
-
-pub fill_row-requires-clause-low : goal.fill_row-requires-clause-low
-fill_row-requires-clause-low g c = let chosen = subst (ChoosesPages c.args.operator.now.view c.args.config.now) (sym c.as_slice-pages.ensures) c.choose_pages-chosen.ensures.chosen in
-    λ index page at. omega (arith, (chosen_ready c.args.operator.now c.args.config.now c.as_slice-pages.result.now chosen).low index page at)
 
 pub returns : goal.returns
 returns g c = let pages = c.as_slice-pages.result.now in let chosen = subst (ChoosesPages c.args.operator.now.view c.args.config.now) (sym c.as_slice-pages.ensures) c.choose_pages-chosen.ensures.chosen in

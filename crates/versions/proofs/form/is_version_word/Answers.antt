@@ -1,4 +1,5 @@
-use Rattle.std.proofs.Common.{◌∙◌, ◌/◌, ap, arith, get_or, inl, length}
+use Rattle.std.proofs.Common.{◌∙◌, ap, arith, get_or, inl, length}
+use Rattle.config_image.specs.PageTable.{header_len}
 use Rattle.versions.specs.Pooled.{names_in}
 use Rattle.versions.proofs.FormLemmas.{length-names_in, length-row_in, part_of_word, word_of_part, word_of_row}
 use Rattle.versions.proofs.form.is_version_word.Goals as goal
@@ -16,7 +17,7 @@ is_part_word-requires c = record { names = omega (arith, ap length c.row_names.e
 
 pub returns : goal.returns
 returns c = record {
-  word = λ config pages h room. let up = c.if-place-lt-POOL_BEGIN.false in let named = c.row_names.ensures.names ∙ ap names_in c.row_of-row_words.ensures.words in let ends = ap (λ l. get_or l 0 0 / 4294967296) c.row_of-row_words.ensures.words in (
+  word = λ config pages h room. let up = c.if-place-lt-POOL_BEGIN.false in let named = c.row_names.ensures.names ∙ ap names_in c.row_of-row_words.ensures.words in let ends = c.image_len-end.ensures ∙ ap (λ l. header_len (get_or l 0 0)) c.row_of-row_words.ensures.words in (
     (λ e. word_of_part c.args.words.now c.args.row config pages c.requires.table c.requires.row room h c.args.place _ c.row_names.result.now up named ends (c.is_part_word.ensures.0 e)),
     λ word. c.is_part_word.ensures.1 (part_of_word c.args.words.now c.args.row config pages c.requires.table c.requires.row room h c.args.place _ c.row_names.result.now up named ends word),
   );

@@ -15,13 +15,13 @@ loop-i-preserved g c =
     let begin = c.args.begin in
     let words = c.args.words.now in
     let config = image c.args.config.now in
-    let here = c.if-words-page.false ∙ sym (get_or_from_slice_get config i c.image_word.result 0 c.image_word.ensures.word_exact) in λ k from low.
+    let here = rw c.page_place.ensures at c.if-words-page_place.false ∙ sym (get_or_from_slice_get config i c.image_word.result 0 c.image_word.ensures.word_exact) in λ k from low.
     below_more (λ (k : ℕ). begin ≤ k → get_or words (POOL_BEGIN + c.args.page * PAGE_WORDS + (k - begin)) 0 ≡ get_or config k 0) i
     (λ k low from. c.loop-i.invariant k from low) (λ from. here) k low from
 
-pub returns-then-words-page : goal.returns-then-words-page
-returns-then-words-page g c = (
+pub returns-then-words-page_place : goal.returns-then-words-page_place
+returns-then-words-page_place g c = (
   (λ e. absurd (false_true e)),
-  λ h. absurd (c.if-words-page.true (h c.loop-i.i c.loop-i.auto.i c.loop-i-test.true
+  λ h. absurd ((rw c.page_place.ensures at c.if-words-page_place.true) (h c.loop-i.i c.loop-i.auto.i c.loop-i-test.true
       ∙ get_or_from_slice_get (image c.args.config.now) c.loop-i.i c.image_word.result 0 c.image_word.ensures.word_exact)),
 )

@@ -1,9 +1,8 @@
-use Rattle.std.proofs.Common.{ap, arith, drop, length, map, refl, set, subst, sym, take, ◌*◌, ◌+◌, ◌-◌, ◌≡◌, ◌≤◌, ◌∙◌, ℕ, rules}
+use Rattle.std.proofs.Common.{ap, arith, drop, length, map, refl, set, slice_index, subst, sym, take, ◌+◌, ◌-◌, ◌≡◌, ◌≤◌, ◌∙◌, ℕ, rules}
 use Rattle.std.proofs.lemmas.Grind.{get_or_default_zero}
 use Rattle.std.proofs.lemmas.List.{length-map}
 use Rattle.config_image.specs.declared.TheConstants.{ROW_WORDS}
-use Rattle.config_image.specs.Pooled.{page_of}
-use Rattle.versions.specs.declared.layout.TheConstants.{ROWS_BEGIN}
+use Rattle.config_image.specs.PageTable.{page_of}
 use Rattle.versions.specs.Free.{IsFreeRow, number_after}
 use Rattle.versions.specs.Layout.{HoldsForm, pages_named}
 use Rattle.versions.specs.Table.{the_shape}
@@ -34,32 +33,29 @@ publish-requires-clause-limited c = let number = c.self.invariant.steps_told.num
 pub count_version-requires-clause-number : goal.count_version-requires-clause-number
 count_version-requires-clause-number c = let number = c.self.invariant.steps_told.number in let same = ap (λ (o : OperatorValue). number_after o.view.log) c.self.view_is in let low = c.requires.number in omega arith
 
-pub overflow_mul-begin : goal.overflow_mul-begin
-overflow_mul-begin c = let low = row_inside c.args.row c.requires.free.0 in omega arith
+pub row_begin-begin-requires : goal.row_begin-begin-requires
+row_begin-begin-requires c = row_inside c.args.row c.requires.free.0
 
 pub overflow_add-begin : goal.overflow_add-begin
-overflow_add-begin c = let low = row_inside c.args.row c.requires.free.0 in omega arith
-
-pub overflow_add-begin-2 : goal.overflow_add-begin-2
-overflow_add-begin-2 c = let low = row_inside c.args.row c.requires.free.0 in omega arith
+overflow_add-begin c = let at = c.row_begin-begin.ensures in let low = row_inside c.args.row c.requires.free.0 in omega arith
 
 pub offset_bounds-deref-begin : goal.offset_bounds-deref-begin
-offset_bounds-deref-begin c = let low = row_inside c.args.row c.requires.free.0 in omega arith
+offset_bounds-deref-begin c = let at = c.row_begin-begin.ensures in let low = row_inside c.args.row c.requires.free.0 in omega arith
 
 pub slice_bounds-row_names-end : goal.slice_bounds-row_names-end
-slice_bounds-row_names-end c = let low = row_inside c.args.row c.requires.free.0 in let long = c.self.invariant.words_length in let same = ap length c.deref.ensures.value in omega arith
+slice_bounds-row_names-end c = let at = c.row_begin-begin.ensures in let low = row_inside c.args.row c.requires.free.0 in let long = c.self.invariant.words_length in let same = ap length c.deref.ensures.value in omega arith
 
 pub count_version-requires-clause-pages : goal.count_version-requires-clause-pages
-count_version-requires-clause-pages c = let q = c.requires in let low = q.free.0 in let begin = ROWS_BEGIN + c.args.row * ROW_WORDS in
+count_version-requires-clause-pages c = let q = c.requires in let low = q.free.0 in let begin = c.row_begin-begin.result in
     let given = names_give _ _ _ _ _ _ _ c.self.invariant c.args.row c.args.config low q.publishable _ c.row_names-names.result.now
-    (ap (λ l. take ((begin + ROW_WORDS) - begin) (drop begin l)) c.deref.ensures.value ∙ own_row _ _ _ _ _ _ _ c.self.invariant c.args.row c.args.config low q.publishable begin (begin + ROW_WORDS) refl refl) c.row_names-names.ensures.pages in
+    (ap (λ l. take ((begin + ROW_WORDS) - begin) (drop begin l)) c.deref.ensures.value ∙ own_row _ _ _ _ _ _ _ c.self.invariant c.args.row c.args.config low q.publishable begin (begin + ROW_WORDS) c.row_begin-begin.ensures refl) c.row_names-names.ensures.pages in
     let holds = subst (λ (o : OperatorValue). HoldsConfig o.view c.args.row c.args.config) (sym c.self.view_is) q.holds in
     pages_fit _ _ _ _ _ _ _ c.self.invariant c.args.row c.args.config low q.publishable holds (map page_of c.row_names-names.result.now) given
 
 pub replace-requires : goal.replace-requires
-replace-requires c = let q = c.requires in let low = q.free.0 in let begin = ROWS_BEGIN + c.args.row * ROW_WORDS in
+replace-requires c = let q = c.requires in let low = q.free.0 in let begin = c.row_begin-begin.result in
     let given = names_give _ _ _ _ _ _ _ c.self.invariant c.args.row c.args.config low q.publishable _ c.row_names-names.result.now
-    (ap (λ l. take ((begin + ROW_WORDS) - begin) (drop begin l)) c.deref.ensures.value ∙ own_row _ _ _ _ _ _ _ c.self.invariant c.args.row c.args.config low q.publishable begin (begin + ROW_WORDS) refl refl) c.row_names-names.ensures.pages in
+    (ap (λ l. take ((begin + ROW_WORDS) - begin) (drop begin l)) c.deref.ensures.value ∙ own_row _ _ _ _ _ _ _ c.self.invariant c.args.row c.args.config low q.publishable begin (begin + ROW_WORDS) c.row_begin-begin.ensures refl) c.row_names-names.ensures.pages in
     let holds = subst (λ (o : OperatorValue). HoldsConfig o.view c.args.row c.args.config) (sym c.self.view_is) q.holds in
     omega (arith, pages_few _ _ _ _ _ _ _ c.self.invariant c.args.row c.args.config low q.publishable holds (map page_of c.row_names-names.result.now) given, length-map c.row_names-names.result.now page_of)
 
@@ -67,12 +63,12 @@ pub bounds-self-inside-row : goal.bounds-self-inside-row
 bounds-self-inside-row c = row_inside c.args.row c.requires.free.0
 
 pub invariant_of-self : goal.invariant_of-self
-invariant_of-self c = let q = c.requires in let low = q.free.0 in let begin = ROWS_BEGIN + c.args.row * ROW_WORDS in
+invariant_of-self c = let q = c.requires in let low = q.free.0 in let begin = c.row_begin-begin.result in
     let given = names_give _ _ _ _ _ _ _ c.self.invariant c.args.row c.args.config low q.publishable _ c.row_names-names.result.now
-    (ap (λ l. take ((begin + ROW_WORDS) - begin) (drop begin l)) c.deref.ensures.value ∙ own_row _ _ _ _ _ _ _ c.self.invariant c.args.row c.args.config low q.publishable begin (begin + ROW_WORDS) refl refl) c.row_names-names.ensures.pages in
+    (ap (λ l. take ((begin + ROW_WORDS) - begin) (drop begin l)) c.deref.ensures.value ∙ own_row _ _ _ _ _ _ _ c.self.invariant c.args.row c.args.config low q.publishable begin (begin + ROW_WORDS) c.row_begin-begin.ensures refl) c.row_names-names.ensures.pages in
     let holds = subst (λ (o : OperatorValue). HoldsConfig o.view c.args.row c.args.config) (sym c.self.view_is) q.holds in
     let number = c.self.invariant.steps_told.number in let same = ap (λ (o : OperatorValue). number_after o.view.log) c.self.view_is in let under = q.number in
-    let first = c.index.ensures ∙ get_or_default_zero c.self.inside.words.items begin c.index.result.now (let long = c.self.invariant.words_length in let inside = row_inside c.args.row low in omega arith) in
+    let first = c.index.ensures ∙ get_or_default_zero c.self.inside.words.items begin c.index.result.now (let at = c.row_begin-begin.ensures in let long = c.self.invariant.words_length in let inside = row_inside c.args.row low in omega arith) ∙ ap (slice_index c.self.inside.words.items) c.row_begin-begin.ensures in
     let zeros = set c.self.inside.zeros c.args.row c.form_end.result in
     let within = subst (λ (n : ℕ). n ≤ ROW_WORDS) (sym c.form_end.ensures) (end_within _ _ _ _ _ _ _ c.self.invariant c.args.row c.args.config low q.publishable holds c.index.result.now first) in
     let behind = subst (IsZeroFrom c.self.inside.seat.view c.args.row) (sym c.form_end.ensures) (zero_behind _ _ _ _ _ _ _ c.self.invariant c.args.row c.args.config low q.publishable holds c.index.result.now first) in

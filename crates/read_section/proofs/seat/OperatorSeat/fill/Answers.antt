@@ -1,29 +1,26 @@
-use Rattle.std.proofs.Common.{ap, arith, subst, sym, ℕ, ◌*◌, ◌+◌, ◌<◌, ◌∙◌}
+use Rattle.std.proofs.Common.{ap, arith, subst, sym, ℕ, ◌+◌, ◌<◌, ◌∙◌}
 use Rattle.atomic_table.specs.Seated.{TableId}
-use Rattle.config_image.specs.declared.TheConstants.{ROW_WORDS}
-use Rattle.versions.specs.declared.layout.TheConstants.{ROWS_BEGIN}
 use Rattle.versions.specs.Layout.{row_begin, rows_begin}
 use Rattle.versions.specs.View.{after_fill}
 use Rattle.versions.specs.Table.{the_shape}
 use Rattle.read_section.specs.body.Seat.{acts}
+use Rattle.versions.proofs.ShapeLemmas.{row_words_is}
+use Rattle.read_section.proofs.FilledLemmas.{row_inside}
 use Rattle.read_section.proofs.OperatorSeatLemmas.{IsOperatorSeat-on, may_fill, operator_after}
-use Rattle.read_section.proofs.WorkerSeatLemmas.{IsSeatAt-on, place_fits, place_inside, place_is, word_inside}
+use Rattle.read_section.proofs.WorkerSeatLemmas.{IsSeatAt-on, place_inside, place_is, word_inside}
 use Rattle.read_section.proofs.seat.OperatorSeat.fill.Goals as goal
 
-pub overflow_mul-place : goal.overflow_mul-place
-overflow_mul-place c = let fits = place_fits c.args.row c.args.place c.requires.free.0 c.requires.place in omega arith
+pub row_place-place-requires-clause-row : goal.row_place-place-requires-clause-row
+row_place-place-requires-clause-row c = row_inside c.args.row c.requires.free.0
 
-pub overflow_add-place : goal.overflow_add-place
-overflow_add-place c = let fits = place_fits c.args.row c.args.place c.requires.free.0 c.requires.place in omega arith
-
-pub overflow_add-place-2 : goal.overflow_add-place-2
-overflow_add-place-2 c = let fits = place_fits c.args.row c.args.place c.requires.free.0 c.requires.place in omega arith
+pub row_place-place-requires-clause-small : goal.row_place-place-requires-clause-small
+row_place-place-requires-clause-small c = let low = c.requires.place in omega (arith, row_words_is)
 
 pub store-requires : goal.store-requires
-store-requires c = let h = c.self.invariant in let shared = c.deref.result.now.shared in let own = h.1.same_table ∙ sym (ap (λ t. t.shared.table_id) c.deref.ensures) in let place = place_is c.args.row c.args.place in (
+store-requires c = let h = c.self.invariant in let shared = c.deref.result.now.shared in let own = h.1.same_table ∙ sym (ap (λ t. t.shared.table_id) c.deref.ensures) in let place = c.row_place-place.ensures ∙ place_is c.args.row c.args.place in (
   own,
   subst (λ (n : ℕ). n < shared.table_id.words) (sym place) (subst (λ (t : TableId). row_begin the_shape c.args.row + c.args.place < t.words) own (word_inside _ _ _ h.1 (row_begin the_shape c.args.row + c.args.place) (place_inside c.args.row c.args.place c.requires.free.0 c.requires.place))),
-  may_fill _ h.0 _ _ shared.key shared.table_id.slots c.self.inside.seat.id c.args.self.now c.self.view_is c.args.row c.args.place (ROWS_BEGIN + c.args.row * ROW_WORDS + c.args.place) c.args.word c.requires.free c.requires.place place (omega arith),
+  may_fill _ h.0 _ _ shared.key shared.table_id.slots c.self.inside.seat.id c.args.self.now c.self.view_is c.args.row c.args.place c.row_place-place.result c.args.word c.requires.free c.requires.place place (omega arith),
 )
 
 pub invariant_of-self : goal.invariant_of-self
@@ -31,5 +28,5 @@ invariant_of-self c = let h = c.self.invariant in let t = c.store.ensures.2 _ h.
 
 pub returns : goal.returns
 returns c = let h = c.self.invariant in let t = c.store.ensures.2 _ h.0.knows in
-    operator_after _ h.0 _ _ (after_fill (rows_begin the_shape) (ROWS_BEGIN + c.args.row * ROW_WORDS + c.args.place) c.args.word) _ _ c.args.self.now c.self.view_is c.store.ensures.0 t
-    ∙ ap (λ (place : ℕ). acts (after_fill (rows_begin the_shape) place c.args.word) c.args.self.now) (place_is c.args.row c.args.place)
+    operator_after _ h.0 _ _ (after_fill (rows_begin the_shape) c.row_place-place.result c.args.word) _ _ c.args.self.now c.self.view_is c.store.ensures.0 t
+    ∙ ap (λ (place : ℕ). acts (after_fill (rows_begin the_shape) place c.args.word) c.args.self.now) (c.row_place-place.ensures ∙ place_is c.args.row c.args.place)

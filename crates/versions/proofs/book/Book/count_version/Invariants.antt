@@ -1,5 +1,5 @@
 use Rattle.std.proofs.Common.{◌≡◌, ◌+◌, drop, map, set}
-use Rattle.config_image.specs.Pooled.{page_of}
+use Rattle.config_image.specs.PageTable.{page_of}
 use Rattle.versions.specs.Book.{used_by}
 use Rattle.versions.proofs.book.Book.count_version.Given as goal
 

@@ -20,5 +20,5 @@ returns-then-not-is_free g c = λ s reached room m proposed x legal.
 pub returns : goal.returns
 returns g c = λ s reached room m proposed. (
   can_publish s reached c.args.words.now c.args.self.now m c.args.row c.in-Some.config.now (proposed ∙ ap (option_map (λ config. config.now)) c.in-Some.is) ((c.is_free.ensures.free_row_exact s.operator m.book).0 c.if-not-is_free.false) c.if-self-ge-LAST_NUMBER.false (c.holds_form.ensures.holds.0 c.if-not-holds_form.false),
-  publish_word s reached c.args.words.now c.args.self.now m c.args.row,
+  c.current_word.ensures ∙ publish_word s reached c.args.words.now c.args.self.now m c.args.row,
 )

@@ -1,5 +1,6 @@
 use Rattle.std.proofs.Common.{◌+◌, ◌∙◌, ap, arith, map, rules, subst, sym, set}
-use Rattle.config_image.specs.Pooled.{page_of, pages_of}
+use Rattle.config_image.specs.PageTable.{page_of}
+use Rattle.config_image.specs.Pooled.{pages_of}
 use Rattle.versions.proofs.FormLemmas.{pages_in_row}
 use Rattle.versions.specs.declared.step.Step.TheVariants.{Announce, Fetch, Leave, Peek, Pin}
 use Rattle.versions.specs.State.{after_step}
@@ -14,17 +15,17 @@ pub move_worker-requires : goal.move_worker-requires
 move_worker-requires g c = let t = c.requires.legal in let a = c.in-Peek in let legal = subst (λ step. IsLegalStep the_shape t.0 step c.args.word) a.is t.3 in
     worker_below t.0 t.1 c.args.words.now c.args.self.now t.2 a.worker (Peek a.worker) c.args.word legal.0
 
-pub overflow_add-words : goal.overflow_add-words
-overflow_add-words g c = let t = c.requires.legal in let a = c.in-Announce in
-    let low = worker_below t.0 t.1 c.args.words.now c.args.self.now t.2 a.worker (Announce a.worker) c.args.word (subst (λ step. IsLegalStep the_shape t.0 step c.args.word) a.is t.3) in search (rules, low)
+pub read_word_place-requires : goal.read_word_place-requires
+read_word_place-requires g c = let t = c.requires.legal in let a = c.in-Announce in
+    worker_below t.0 t.1 c.args.words.now c.args.self.now t.2 a.worker (Announce a.worker) c.args.word (subst (λ step. IsLegalStep the_shape t.0 step c.args.word) a.is t.3)
 
-pub offset_bounds-words-worker : goal.offset_bounds-words-worker
-offset_bounds-words-worker g c = let t = c.requires.legal in let a = c.in-Announce in
-    let low = worker_below t.0 t.1 c.args.words.now c.args.self.now t.2 a.worker (Announce a.worker) c.args.word (subst (λ step. IsLegalStep the_shape t.0 step c.args.word) a.is t.3) in search (rules, low)
+pub offset_bounds-words-read_word_place : goal.offset_bounds-words-read_word_place
+offset_bounds-words-read_word_place g c = let t = c.requires.legal in let a = c.in-Announce in
+    let low = worker_below t.0 t.1 c.args.words.now c.args.self.now t.2 a.worker (Announce a.worker) c.args.word (subst (λ step. IsLegalStep the_shape t.0 step c.args.word) a.is t.3) in let at = c.read_word_place.ensures in omega (arith, c.requires.table)
 
-pub bounds-words-worker : goal.bounds-words-worker
-bounds-words-worker g c = let t = c.requires.legal in let a = c.in-Announce in
-    let low = worker_below t.0 t.1 c.args.words.now c.args.self.now t.2 a.worker (Announce a.worker) c.args.word (subst (λ step. IsLegalStep the_shape t.0 step c.args.word) a.is t.3) in omega (arith, c.requires.table)
+pub bounds-words-read_word_place : goal.bounds-words-read_word_place
+bounds-words-read_word_place g c = let t = c.requires.legal in let a = c.in-Announce in
+    let low = worker_below t.0 t.1 c.args.words.now c.args.self.now t.2 a.worker (Announce a.worker) c.args.word (subst (λ step. IsLegalStep the_shape t.0 step c.args.word) a.is t.3) in let at = c.read_word_place.ensures in omega (arith, c.requires.table)
 
 pub move_worker-requires-in-Announce : goal.move_worker-requires-in-Announce
 move_worker-requires-in-Announce g c = let t = c.requires.legal in let a = c.in-Announce in
@@ -52,17 +53,17 @@ pub move_worker-requires-in-Fetch : goal.move_worker-requires-in-Fetch
 move_worker-requires-in-Fetch g c = let t = c.requires.legal in let a = c.in-Fetch in let legal = subst (λ step. IsLegalStep the_shape t.0 step c.args.word) a.is t.3 in
     worker_below t.0 t.1 c.args.words.now c.args.self.now t.2 a.worker (Fetch a.worker a.place) c.args.word legal.0
 
-pub overflow_add-words-in-Leave : goal.overflow_add-words-in-Leave
-overflow_add-words-in-Leave g c = let t = c.requires.legal in let a = c.in-Leave in
-    let low = worker_below t.0 t.1 c.args.words.now c.args.self.now t.2 a.worker (Leave a.worker) c.args.word (subst (λ step. IsLegalStep the_shape t.0 step c.args.word) a.is t.3) in search (rules, low)
+pub read_word_place-requires-in-Leave : goal.read_word_place-requires-in-Leave
+read_word_place-requires-in-Leave g c = let t = c.requires.legal in let a = c.in-Leave in
+    worker_below t.0 t.1 c.args.words.now c.args.self.now t.2 a.worker (Leave a.worker) c.args.word (subst (λ step. IsLegalStep the_shape t.0 step c.args.word) a.is t.3)
 
-pub offset_bounds-words-worker-in-Leave : goal.offset_bounds-words-worker-in-Leave
-offset_bounds-words-worker-in-Leave g c = let t = c.requires.legal in let a = c.in-Leave in
-    let low = worker_below t.0 t.1 c.args.words.now c.args.self.now t.2 a.worker (Leave a.worker) c.args.word (subst (λ step. IsLegalStep the_shape t.0 step c.args.word) a.is t.3) in search (rules, low)
+pub offset_bounds-words-read_word_place-in-Leave : goal.offset_bounds-words-read_word_place-in-Leave
+offset_bounds-words-read_word_place-in-Leave g c = let t = c.requires.legal in let a = c.in-Leave in
+    let low = worker_below t.0 t.1 c.args.words.now c.args.self.now t.2 a.worker (Leave a.worker) c.args.word (subst (λ step. IsLegalStep the_shape t.0 step c.args.word) a.is t.3) in let at = c.read_word_place-in-Leave.ensures in omega (arith, c.requires.table)
 
-pub bounds-words-worker-in-Leave : goal.bounds-words-worker-in-Leave
-bounds-words-worker-in-Leave g c = let t = c.requires.legal in let a = c.in-Leave in
-    let low = worker_below t.0 t.1 c.args.words.now c.args.self.now t.2 a.worker (Leave a.worker) c.args.word (subst (λ step. IsLegalStep the_shape t.0 step c.args.word) a.is t.3) in omega (arith, c.requires.table)
+pub bounds-words-read_word_place-in-Leave : goal.bounds-words-read_word_place-in-Leave
+bounds-words-read_word_place-in-Leave g c = let t = c.requires.legal in let a = c.in-Leave in
+    let low = worker_below t.0 t.1 c.args.words.now c.args.self.now t.2 a.worker (Leave a.worker) c.args.word (subst (λ step. IsLegalStep the_shape t.0 step c.args.word) a.is t.3) in let at = c.read_word_place-in-Leave.ensures in omega (arith, c.requires.table)
 
 pub move_worker-requires-in-Leave : goal.move_worker-requires-in-Leave
 move_worker-requires-in-Leave g c = let t = c.requires.legal in let a = c.in-Leave in
@@ -76,9 +77,10 @@ returns-in-Peek g c = λ s reached m legal. let a = c.in-Peek in
 
 pub returns-in-Announce : goal.returns-in-Announce
 returns-in-Announce g c = λ s reached m legal. let a = c.in-Announce in
-    subst (λ progress. IsMirror the_shape (after_step the_shape s c.args.step c.args.word) (set c.args.words.now (1 + a.worker) c.args.word) progress) (sym c.move_worker-in-Announce.ensures)
+    rw c.read_word_place.ensures
+    (subst (λ progress. IsMirror the_shape (after_step the_shape s c.args.step c.args.word) (set c.args.words.now (1 + a.worker) c.args.word) progress) (sym c.move_worker-in-Announce.ensures)
     (subst (λ step. IsLegalStep the_shape s step c.args.word → IsMirror the_shape (after_step the_shape s step c.args.word) (set c.args.words.now (1 + a.worker) c.args.word) (moved a.worker (Announce a.worker) c.args.word c.args.self.now)) (sym a.is)
-    (follows_announce s reached c.args.words.now c.args.self.now m a.worker c.args.word) legal)
+    (follows_announce s reached c.args.words.now c.args.self.now m a.worker c.args.word) legal))
 
 pub returns-in-Pin : goal.returns-in-Pin
 returns-in-Pin g c = λ s reached m legal. let a = c.in-Pin in
@@ -94,9 +96,10 @@ returns-in-Fetch g c = λ s reached m legal. let a = c.in-Fetch in
 
 pub returns-in-Leave : goal.returns-in-Leave
 returns-in-Leave g c = λ s reached m legal. let a = c.in-Leave in
-    subst (λ progress. IsMirror the_shape (after_step the_shape s c.args.step c.args.word) (set c.args.words.now (1 + a.worker) c.args.word) progress) (sym c.move_worker-in-Leave.ensures)
+    rw c.read_word_place-in-Leave.ensures
+    (subst (λ progress. IsMirror the_shape (after_step the_shape s c.args.step c.args.word) (set c.args.words.now (1 + a.worker) c.args.word) progress) (sym c.move_worker-in-Leave.ensures)
     (subst (λ step. IsLegalStep the_shape s step c.args.word → IsMirror the_shape (after_step the_shape s step c.args.word) (set c.args.words.now (1 + a.worker) c.args.word) (moved a.worker (Leave a.worker) c.args.word c.args.self.now)) (sym a.is)
-    (follows_leave s reached c.args.words.now c.args.self.now m a.worker c.args.word) legal)
+    (follows_leave s reached c.args.words.now c.args.self.now m a.worker c.args.word) legal))
 
 pub returns-in-Fill : goal.returns-in-Fill
 returns-in-Fill g c = λ s reached m legal. let a = c.in-Fill in
