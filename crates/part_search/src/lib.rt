@@ -6,13 +6,12 @@
 //! most eleven. No call takes memory.
 #![tactic(auto)]
 
-ghost use Rattle.std.specs.Prelude.{◌≡◌, ◌<◌, ◌≤◌, ◌^◌, ◌↔◌, IfSome, IsSome, length, ℕ};
-ghost use Rattle.part_search.specs.Names.{HoldsPlace, IsWithin, OnePartHolds};
+ghost use Rattle.std.specs.Prelude.{◌≡◌};
+ghost use Rattle.part_search.specs.Names.{OnePartHolds};
 
 mod found;
 mod search;
 
-use config_image::PageEntry;
 pub use found::FoundPart;
 pub use search::Search;
 
@@ -21,31 +20,6 @@ pub const NAME_LIMIT: usize = 2047;
 
 /// The number of names that a search asks for at most.
 pub const READ_LIMIT: usize = 11;
-
-/// Finds among the names of a slice, of parts that end before `end`, the part that holds a place, and tells how many names its
-/// search asked for. `None` is for a place in none of them.
-///
-/// `end` and `place` count the image's words from 0.
-pub fn search_slice(names: &[u64], end: usize, place: usize) -> Option<(FoundPart, usize)>
-    requires end_fits { end < 2 ^ 48 }
-    requires names_fit { length names.now ≤ NAME_LIMIT }
-    ensures found_exactly { IsSome result ↔ IsWithin names.now end place }
-    ensures found { IfSome result (λ found. HoldsPlace names.now end place found.0) }
-    ensures few_reads { IfSome result (λ found. (n : ℕ) → length names.now < 2 ^ n → found.1 ≤ n) }
-    ensures at_most { IfSome result (λ found. found.1 ≤ READ_LIMIT) }
-{
-    let first = names.first()?;
-    if place < PageEntry(*first).start() || end <= place {
-        return None;
-    }
-    let mut search = Search::new(names.len(), end, place);
-    let mut reads = 0;
-    while let Some(index) = search.ask() {
-        search.tell(names[index]);
-        reads += 1;
-    }
-    Some((search.found(), reads))
-}
 
 /// Law: the limits, as numbers. It runs nothing.
 pub fn limits_as_numbers()

@@ -3,9 +3,28 @@
 ghost use Rattle.std.specs.Prelude.{◌≡◌, ◌<◌, ◌≤◌, ◌^◌, IfOk, length, vec_len};
 
 use config_image::PageEntry;
-use part_search::{FoundPart, NAME_LIMIT, search_slice};
+use part_search::{FoundPart, NAME_LIMIT, Search};
 use std::alloc::Global;
 use std::test::Fail;
+
+// The part that a search finds among names, of parts that end before `end`, and how many names it asks for. `None` is for a place in
+// no part.
+fn found_in(names: &[u64], end: usize, place: usize) -> Option<(FoundPart, usize)>
+    requires end_fits { end < 2 ^ 48 }
+    requires names_fit { length names.now ≤ NAME_LIMIT }
+{
+    let first = names.first()?;
+    if place < PageEntry(*first).start() || end <= place {
+        return None;
+    }
+    let mut search = Search::new(names.len(), end, place);
+    let mut reads = 0;
+    while let Some(index) = search.ask() {
+        search.tell(names[index]);
+        reads += 1;
+    }
+    Some((search.found(), reads))
+}
 
 // The parts of 10, 16 and 1 words from image place 7 on, in pages 65535, 0 and 3.
 const THREE: [u64; 3] = [0x7_ffff, 0x11_0000, 0x21_0003];
@@ -27,7 +46,7 @@ const ROWS: [(usize, Option<(usize, usize, usize, usize)>); 8] = [
 #[test]
 fn three_parts(rt: HostRuntime) {
     for (place, want) in ROWS {
-        let found = search_slice(&THREE, THREE_END, place);
+        let found = found_in(&THREE, THREE_END, place);
         let told = found.map(|(part, _)| (
             part.index,
             part.name.start(),
@@ -62,7 +81,7 @@ fn most_reads(names: &[u64], end: usize) -> Option<usize>
     requires names_fit { length names.now ≤ NAME_LIMIT }
     requires end_fits { end < 2 ^ 32 }
 {
-    if search_slice(names, end, FIRST as usize - 1).is_some() {
+    if found_in(names, end, FIRST as usize - 1).is_some() {
         return None;
     }
     let mut most = 0;
@@ -77,7 +96,7 @@ fn most_reads(names: &[u64], end: usize) -> Option<usize>
             next: PageEntry(next),
         };
         for place in part.name.start()..part.next.start() {
-            let (found, reads) = search_slice(names, end, place)?;
+            let (found, reads) = found_in(names, end, place)?;
             if found != part {
                 return None;
             }

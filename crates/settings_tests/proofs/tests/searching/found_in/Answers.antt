@@ -1,7 +1,7 @@
 use Rattle.std.proofs.Common.{◌≡◌, arith, sym, rules}
 use Rattle.std.proofs.lemmas.Option.{slice_get-get_or}
 use Rattle.part_search.specs.Search.{asked}
-use Rattle.part_search.proofs.search_slice.Goals as goal
+use Rattle.settings_tests.proofs.tests.searching.found_in.Goals as goal
 
 pub loop-index-preserved : goal.loop-index-preserved
 loop-index-preserved c =
@@ -11,12 +11,8 @@ loop-index-preserved c =
     let fewer = c.tell.ensures.fewer in
     record {
       is_search = c.tell.ensures.told _ _ _ search (rw (sym index) (slice_get-get_or _ _ 0 inside));
-      few_reads = λ n below. let few = c.loop-index.invariant.few_reads n below in omega arith;
       at_most = let most = c.loop-index.invariant.at_most in omega arith;
     }
-
-pub returns-clause-found : goal.returns-clause-found
-returns-clause-found c = c.found.ensures.found _ _ _ c.loop-index.invariant.is_search
 
 pub loop-index-init : goal.loop-index-init
 loop-index-init c = search rules

@@ -1,12 +1,11 @@
-use Rattle.std.proofs.Common.{◌+◌, ◌<◌, ◌≤◌, ◌^◌, ℕ, length}
+use Rattle.std.proofs.Common.{◌+◌, ◌≤◌}
 use Rattle.part_search.specs.Search.{IsSearchOf, reads_left}
 use Rattle.part_search.specs.declared.TheConstants.{READ_LIMIT}
-use Rattle.part_search.proofs.search_slice.Given as goal
+use Rattle.settings_tests.proofs.tests.searching.found_in.Given as goal
 
 abbrev pub invariant-loop-index : goal.invariant-loop-index
 invariant-loop-index l = record {
   is_search : IsSearchOf l.names l.end l.place l.search;
-  few_reads : (n : ℕ) → length l.names < 2 ^ n → l.reads + reads_left l.search ≤ n;
   at_most : l.reads + reads_left l.search ≤ READ_LIMIT;
 }
 
