@@ -1,18 +1,23 @@
 -- The command that a parse of the program's words has met, where `clap` finds no fault in them.
-use Rattle.std.proofs.Common.{◌≡◌, ◌∙◌, ◌∷◌, ◌&&◌, ◌||◌, [], ℕ, List, Bool, Err, IsErrAnd, Ok, Result, true, false, not, cond, Option, Some, None, is_some, ap, ap₂, subst, sym, refl, codes, ◌++◌, take, slice_index_or}
+use Rattle.std.proofs.Common.{◌≡◌, ◌∙◌, ◌∷◌, ◌&&◌, ◌||◌, [], ℕ, List, Bool, Err, IsErrAnd, Ok, Result, true, false, not, cond, Option, Some, None, is_some, inl, inr, ap, ap₂, subst, sym, refl, codes, ◌++◌, take, slice_index_or}
 use Rattle.std.specs.Prelude.{find, fold, option_and_then, option_map, unwrap_or}
 use Rattle.std.specs.Borrow.{Bor}
 use Rattle.std.specs.Str.{bytes_eq}
 use Rattle.std.proofs.lemmas.Slice.Eq.{bytes_eq-Decides}
-use Rattle.clap.specs.Kinds.{FailsBy, HasKind, Kinds, or_else}
-use Rattle.clap.specs.Faults.{check_fault, defaults_fault, entered_fault, settle_fault, other_fault, step_fault, turn_fault, walk_fault, word_fault}
+use Rattle.clap.specs.Kinds.{FailsBy, HasKind, Kinds, or_else, value_kinds}
+use Rattle.clap.specs.Faults.{check_fault, defaults_fault, entered_fault, level_fault, settle_fault, other_fault, step_fault, turn_fault, walk_fault, word_fault}
 use Rattle.clap.specs.Simple.{App, Shape, built, entered, label_of, names_of, rows_at, subcommand_of, subcommand_rows, subcommand_rows_of}
 use Rattle.clap.specs.Walk.{answers_to, rows_of, Held, Names, Outcome, Row, Rule, Step, Text, Waiting, Walk, after_flag, after_step}
 use Rattle.clap.specs.Walk.{arg_by_index, done, idle, long_or_other, next, option, plain, plain_word, positional, refused}
 use Rattle.clap.specs.Walk.{short_or_plain, subcommand, subcommand_met, subcommand_or_other, to_positional, trailing, value, waits}
-use Rattle.clap.specs.Walk.{walk, walk_from, walked, walked_from, word_met, nothing_held, finished, settled}
+use Rattle.clap.specs.Walk.{walk, walk_from, walked, walked_from, word_met, nothing_held, finished, first_of, rows_after, settled}
 use Rattle.clap.specs.declared.error.Error.{Error}
-use Rattle.clap.specs.declared.error.kind.ErrorKind.TheVariants.{DisplayHelp, InvalidSubcommand}
+use Rattle.clap.specs.declared.error.kind.ErrorKind.TheVariants.{DisplayHelp, InvalidSubcommand, MissingRequiredArgument}
+use Rattle.clap.specs.declared.builder.value_parser.ValueParser.TheVariants.{Unsigned}
+use Rattle.clap.specs.Takes.{is_given}
+use Rattle.clap.specs.ValueTests.{accepts}
+use Rattle.versions.specs.declared.layout.TheConstants.{WORKERS}
+use Rattle.std.specs.Option.{option_map_or}
 use Rattle.clap.specs.Matches.{found_of, subcommand_name_of}
 use Rattle.clap.specs.declared.parser.matches.ArgMatches.{ArgMatches}
 use Rattle.clap.specs.declared.parser.matches.ArgMatches.TheViews.{out-ArgMatches, out-SubCommand}
@@ -20,11 +25,9 @@ use Rattle.clap.specs.declared.parser.matches.SubCommand.{SubCommand}
 use Rattle.std.specs.Prelude.{Box}
 use Rattle.std.specs.Box.{box_value}
 use Rattle.clap.specs.Lexer.{long_of, short_of}
-use Rattle.command_line.specs.CommandLine.{Request, command_line, faults_in, request_in, request_named}
-
-none_of_both : (a b : Kinds) → or_else a b ≡ [] → (a ≡ []) × (b ≡ [])
-none_of_both [] b none = (refl, none)
-none_of_both (k ∷ ks) b none = cc
+use Rattle.command_line.specs.CommandLine.{Command, command_in, command_line, command_named, datagrams_in, faults_in, number_in, timeout_in, workers_in}
+use Rattle.command_line.specs.declared.command.TheConstants.{MAX_DATAGRAMS, MAX_TIMEOUT}
+use Rattle.command_line.proofs.ValueLemmas.{AreRead, accepted, level_fine, none_of_both, value_passes}
 
 module _ (s : Shape) where
   abbrev asks_help : Text → Bool
@@ -127,41 +130,50 @@ has_met rows false none = cc
 abbrev Stop : Type 0
 Stop = Option (Text × List Text)
 
--- ---- what is named is a request
+-- ---- what is named is a command
 
-abbrev request_met : Option (Text × List Row) → Option Request
-request_met met = option_and_then (λ named. request_named named.0 named.1) met
+abbrev command_met : Option (Text × List Row) → Option Command
+command_met met = option_and_then (λ named. command_named named.0 named.1) met
 
-abbrev IsRequest : Shape → Type 0
-IsRequest s = (rows : List Row) → is_some (request_named s.name rows) ≡ true
+abbrev fault_at : Shape → List Text → Kinds
+fault_at s words = level_fault s [] nothing_held words false []
 
-abbrev AreRequests : List Shape → Type 0
-AreRequests [] = Unit {0}
-AreRequests (s ∷ subs) = IsRequest s × AreRequests subs
+abbrev fault_in : Option Shape → List Text → Kinds
+fault_in found words = option_map_or (λ s. fault_at s words) found []
+
+abbrev IsCommand : Shape → Type 0
+IsCommand s = (words : List Text) → fault_at s words ≡ [] → is_some (command_named s.name (rows_after s.rules [] words)) ≡ true
+
+abbrev AreCommands : List Shape → Type 0
+AreCommands [] = Unit {0}
+AreCommands (s ∷ subs) = IsCommand s × AreCommands subs
 
 abbrev found_in : List Shape → Text → Option Shape
 found_in subs word = find (λ s. answers_to word (label_of s)) subs
 
-met_among : (subs : List Shape) (help : Shape) (word : Text) (words : List Text) → AreRequests subs
+met_among : (subs : List Shape) (help : Shape) (word : Text) (words : List Text) → AreCommands subs
     → answers_to word (label_of help) ≡ false
+    → fault_in (found_in (subs ++ help ∷ []) word) words ≡ []
     → is_some (option_map (λ s. rows_at s words) (found_in (subs ++ help ∷ []) word)) ≡ true
-    → is_some (request_met (option_map (λ s. rows_at s words) (found_in (subs ++ help ∷ []) word))) ≡ true
-met_among [] help word words requests no_help met = go (answers_to word (label_of help)) no_help met
+    → is_some (command_met (option_map (λ s. rows_at s words) (found_in (subs ++ help ∷ []) word))) ≡ true
+met_among [] help word words commands no_help none met = go (answers_to word (label_of help)) no_help met
   where
     go : (b : Bool) → b ≡ false → is_some (option_map (λ s. rows_at s words) (cond b (Some help) None)) ≡ true
-        → is_some (request_met (option_map (λ s. rows_at s words) (cond b (Some help) None))) ≡ true
+        → is_some (command_met (option_map (λ s. rows_at s words) (cond b (Some help) None))) ≡ true
     go true no_help met = cc
     go false no_help met = cc
-met_among (s ∷ subs) help word words requests no_help met =
-    go (answers_to word (label_of s)) (λ later. met_among subs help word words requests.1 no_help later) met
+met_among (s ∷ subs) help word words commands no_help none met =
+    go (answers_to word (label_of s)) (λ none later. met_among subs help word words commands.1 no_help none later) none met
   where
     go : (b : Bool)
-        → (is_some (option_map (λ s. rows_at s words) (found_in (subs ++ help ∷ []) word)) ≡ true
-        → is_some (request_met (option_map (λ s. rows_at s words) (found_in (subs ++ help ∷ []) word))) ≡ true)
+        → (fault_in (found_in (subs ++ help ∷ []) word) words ≡ []
+        → is_some (option_map (λ s. rows_at s words) (found_in (subs ++ help ∷ []) word)) ≡ true
+        → is_some (command_met (option_map (λ s. rows_at s words) (found_in (subs ++ help ∷ []) word))) ≡ true)
+        → fault_in (cond b (Some s) (found_in (subs ++ help ∷ []) word)) words ≡ []
         → is_some (option_map (λ s. rows_at s words) (cond b (Some s) (found_in (subs ++ help ∷ []) word))) ≡ true
-        → is_some (request_met (option_map (λ s. rows_at s words) (cond b (Some s) (found_in (subs ++ help ∷ []) word)))) ≡ true
-    go true later met = requests.0 (rows_at s words).1
-    go false later met = later met
+        → is_some (command_met (option_map (λ s. rows_at s words) (cond b (Some s) (found_in (subs ++ help ∷ []) word)))) ≡ true
+    go true later none met = commands.0 words none
+    go false later none met = later none met
 
 not_named : (word name : Text) → (bytes_eq name word && true) ≡ false → (bytes_eq word name || false) ≡ false
 not_named word name differs = go (bytes_eq word name) refl
@@ -173,17 +185,104 @@ not_named word name differs = go (bytes_eq word name) refl
         let back : bytes_eq name word ≡ true = (bytes_eq-Decides name word).1 (sym same) in
         sym (ap (λ x. x && true) back) ∙ differs
 
-are_requests : AreRequests commands
-are_requests = ((λ rows. refl), ((λ rows. refl), ((λ rows. refl), ((λ rows. refl), ((λ rows. refl), ((λ rows. refl), ((λ rows. refl), ((λ rows. refl), ((λ rows. refl), ((λ rows. refl), tt))))))))))
+-- ---- the numbers that commands are given
 
-entered_request : (stop : Stop) → IsNoHelp top stop → is_some (entered (built command_line) stop) ≡ true
-    → is_some (request_met (entered (built command_line) stop)) ≡ true
-entered_request None no_help met = cc
-entered_request (Some p) no_help met =
-    met_among commands help_command p.0 p.1 are_requests (not_named (codes "help") p.0 no_help) met
+abbrev IsNumber : ℕ → Text → Type 0
+IsNumber most text = accepts false (Unsigned 1 most) text ≡ true
+
+is_number : (most : ℕ) (text : Text) → IsNumber most text → is_some (number_in most text) ≡ true
+is_number most text accepted = rw accepted refl
+
+-- three required options, of which the last is looked at
+third_given : (a b c rest : Bool) → cond (not a || (not b || (not c || rest))) (MissingRequiredArgument ∷ []) [] ≡ [] → c ≡ true
+third_given true true true rest none = refl
+third_given true true false rest none = cc
+third_given true false c rest none = cc
+third_given false b c rest none = cc
+
+first_given : (a rest : Bool) → cond (not a || rest) (MissingRequiredArgument ∷ []) [] ≡ [] → a ≡ true
+first_given true rest none = refl
+first_given false rest none = cc
+
+abbrev flood_shape : Shape
+flood_shape = slice_index_or commands 7 top
+
+abbrev serve_shape : Shape
+serve_shape = slice_index_or commands 8 top
+
+abbrev tell_shape : Shape
+tell_shape = slice_index_or commands 9 top
+
+-- the checks at the end of a level
+abbrev rows_of_command : Shape → List Text → List Row
+rows_of_command s words = rows_after s.rules [] words
+
+last_check : (s : Shape) (words : List Text) → fault_at s words ≡ [] → check_fault s (rows_of_command s words) false ≡ []
+last_check s words none =
+    let walks = none_of_both (walk_fault s [] (walk_from nothing_held) words) _ none in
+    let held : Held = (walk s.rules [] nothing_held words).held in
+    let settles = none_of_both (settle_fault s.rules s.args_override_self held) _ walks.1 in
+    (none_of_both (defaults_fault (settled s.rules held).rows s.rules) _ settles.1).1
+
+-- an option that is a number, and others
+abbrev reads : (most : ℕ) → (text : Text) → value_kinds false (Unsigned 1 most) text ≡ [] → IsNumber most text
+reads most text none = accepted (Unsigned 1 most) text none
+
+flood_workers : AreRead flood_shape (codes "workers") (IsNumber WORKERS) flood_shape.rules
+flood_workers = (refl, λ same. (refl, reads WORKERS), (refl, λ same. cc, (refl, λ same. cc, tt)))
+
+flood_datagrams : AreRead flood_shape (codes "datagrams") (IsNumber MAX_DATAGRAMS) flood_shape.rules
+flood_datagrams = (refl, λ same. cc, (refl, λ same. (refl, reads MAX_DATAGRAMS), (refl, λ same. cc, tt)))
+
+serve_workers : AreRead serve_shape (codes "workers") (IsNumber WORKERS) serve_shape.rules
+serve_workers = (refl, λ same. cc, (refl, λ same. cc, (refl, λ same. (refl, reads WORKERS), (refl, λ same. cc, tt))))
+
+tell_timeout : AreRead tell_shape (codes "timeout") (IsNumber MAX_TIMEOUT) tell_shape.rules
+tell_timeout = (refl, λ same. cc, (refl, λ same. (refl, reads MAX_TIMEOUT), (refl, λ same. cc, (refl, λ same. cc, tt))))
+
+-- a number of workers and one of datagrams make a command
+both_numbers : {A B C : Type 0} (f : A → B → C) (a : Option A) (b : Option B) → is_some a ≡ true → is_some b ≡ true
+    → is_some (option_and_then (λ x. option_map (λ y. f x y) b) a) ≡ true
+both_numbers f None b has has' = cc
+both_numbers f (Some x) None has has' = cc
+both_numbers f (Some x) (Some y) has has' = refl
+
+one_number : {A C : Type 0} (f : A → C) (a : Option A) → is_some a ≡ true → is_some (option_map (λ x. f x) a) ≡ true
+one_number f None has = cc
+one_number f (Some x) has = refl
+
+is_flood : IsCommand flood_shape
+is_flood words none =
+    let rows = rows_of_command flood_shape words in
+    let given : is_given (codes "workers") rows ≡ true = first_given _ _ (last_check flood_shape words none) in
+    let workers = value_passes flood_shape (codes "workers") (IsNumber WORKERS) rows [] (level_fine flood_shape (codes "workers") (IsNumber WORKERS) flood_workers words none) (inl given) in
+    let datagrams = value_passes flood_shape (codes "datagrams") (IsNumber MAX_DATAGRAMS) rows (codes "4096") (level_fine flood_shape (codes "datagrams") (IsNumber MAX_DATAGRAMS) flood_datagrams words none) (inr refl) in
+    both_numbers _ (workers_in rows) (datagrams_in rows) (is_number WORKERS (unwrap_or (first_of (codes "workers") rows) []) workers) (is_number MAX_DATAGRAMS (unwrap_or (first_of (codes "datagrams") rows) (codes "4096")) datagrams)
+
+is_serve : IsCommand serve_shape
+is_serve words none =
+    let rows = rows_of_command serve_shape words in
+    let given : is_given (codes "workers") rows ≡ true = third_given _ _ _ _ (last_check serve_shape words none) in
+    let workers = value_passes serve_shape (codes "workers") (IsNumber WORKERS) rows [] (level_fine serve_shape (codes "workers") (IsNumber WORKERS) serve_workers words none) (inl given) in
+    one_number _ (workers_in rows) (is_number WORKERS (unwrap_or (first_of (codes "workers") rows) []) workers)
+
+is_tell : IsCommand tell_shape
+is_tell words none =
+    let rows = rows_of_command tell_shape words in
+    let timeout = value_passes tell_shape (codes "timeout") (IsNumber MAX_TIMEOUT) rows (codes "1") (level_fine tell_shape (codes "timeout") (IsNumber MAX_TIMEOUT) tell_timeout words none) (inr refl) in
+    one_number _ (timeout_in rows) (is_number MAX_TIMEOUT (unwrap_or (first_of (codes "timeout") rows) (codes "1")) timeout)
+
+are_commands : AreCommands commands
+are_commands = ((λ words none. refl), ((λ words none. refl), ((λ words none. refl), ((λ words none. refl), ((λ words none. refl), ((λ words none. refl), ((λ words none. refl), (is_flood, (is_serve, (is_tell, tt))))))))))
+
+entered_command : (stop : Stop) → IsNoHelp top stop → entered_fault (built command_line) stop ≡ [] → is_some (entered (built command_line) stop) ≡ true
+    → is_some (command_met (entered (built command_line) stop)) ≡ true
+entered_command None no_help none met = cc
+entered_command (Some p) no_help none met =
+    met_among commands help_command p.0 p.1 are_commands (not_named (codes "help") p.0 no_help) none met
 
 -- words without a fault name a command
-pub names_command : (words : List Text) → faults_in words ≡ [] → is_some (request_in words) ≡ true
+pub names_command : (words : List Text) → faults_in words ≡ [] → is_some (command_in words) ≡ true
 names_command words none =
     let names = names_of (built command_line) in
     let end = walk top.rules names nothing_held words in
@@ -191,7 +290,7 @@ names_command words none =
     let in_command = none_of_both (entered_fault (built command_line) end.stopped) _ on.1 in
     let in_last = none_of_both (settle_fault top.rules top.args_override_self end.held) _ in_command.1 in
     let in_defaults = none_of_both (defaults_fault (settled top.rules end.held).rows top.rules) _ in_last.1 in
-    entered_request end.stopped (walk_on top names words (walk_from nothing_held) tt on.0)
+    entered_command end.stopped (walk_on top names words (walk_from nothing_held) tt on.0) in_command.0
     (has_met (finished top.rules end.held) (is_some (entered (built command_line) end.stopped)) in_defaults.1)
 
 -- ---- what the parse gives
@@ -207,13 +306,13 @@ module _ {Z : Type 0} where
       ap₂ (λ (n : Text) (r : List Row). Some (n, r)) name_is rows_is
 
 -- the name and the rows that the parse gives are those of the command that the words name
-pub request_is : (program : App) (words : List Text) (m : ArgMatches) (name : Text) (rows : List Row) → program ≡ command_line
+pub command_is : (program : App) (words : List Text) (m : ArgMatches) (name : Text) (rows : List Row) → program ≡ command_line
     → subcommand_rows_of m ≡ subcommand_of program words → Some name ≡ subcommand_name_of m
-    → Some rows ≡ option_map (λ p. p.1) (subcommand_rows_of m) → request_in words ≡ request_named name rows
-request_is program words m name rows same given name_is rows_is =
+    → Some rows ≡ option_map (λ p. p.1) (subcommand_rows_of m) → command_in words ≡ command_named name rows
+command_is program words m name rows same given name_is rows_is =
     let met : subcommand_of command_line words ≡ Some (name, rows) =
     sym (given ∙ ap (λ a. subcommand_of a words) same) ∙ met_is (out-ArgMatches m).subcommand name rows name_is rows_is in
-    ap request_met met
+    ap command_met met
 
 -- ---- values of arguments
 

@@ -2,3 +2,4 @@ mod CommandLineLemmas
 pub mod EndingLemmas
 mod StandardFacts
 mod BuilderLemmas
+mod ValueLemmas

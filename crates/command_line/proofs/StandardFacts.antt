@@ -2,7 +2,7 @@
 use Rattle.std.proofs.Common.{◌≡◌, ◌∷◌, [], Some, codes, false, refl, true}
 use Rattle.clap.proofs.OnLiterals.{clap_on_literals}
 use Rattle.clap.specs.declared.error.kind.ErrorKind.TheVariants.{ArgumentConflict, DisplayHelp, DisplayVersion, InvalidSubcommand, MissingRequiredArgument, MissingSubcommand, TooManyValues, UnknownArgument, ValueValidation}
-use Rattle.command_line.specs.CommandLine.{check, compile, explain, faults_in, flood, judge, replay, request_in, run, serve, tell}
+use Rattle.command_line.specs.CommandLine.{check, command_in, compile, explain, faults_in, flood, judge, replay, returning, run, serve, tell, waiting}
 
 in_first : faults_in (codes "first" ∷ []) ≡ []
 unfolding clap_on_literals
@@ -36,7 +36,7 @@ in_flood : faults_in (codes "flood" ∷ codes "--workers" ∷ codes "64" ∷ [])
 unfolding clap_on_literals
 in_flood = refl
 
-in_flood_request : request_in (codes "flood" ∷ codes "--workers" ∷ codes "64" ∷ []) ≡ Some (flood (codes "64") (codes "4096"))
+in_flood_request : command_in (codes "flood" ∷ codes "--workers" ∷ codes "64" ∷ []) ≡ Some (waiting (flood 64 4096))
 unfolding clap_on_literals
 in_flood_request = refl
 
@@ -56,8 +56,8 @@ in_flood_alone : faults_in (codes "flood" ∷ []) ≡ MissingRequiredArgument �
 unfolding clap_on_literals
 in_flood_alone = refl
 
-in_flood_of_the_most : request_in (codes "flood" ∷ codes "--workers" ∷ codes "4" ∷ codes "--datagrams" ∷ codes "16777216" ∷ [])
-    ≡ Some (flood (codes "4") (codes "16777216"))
+in_flood_of_the_most : command_in (codes "flood" ∷ codes "--workers" ∷ codes "4" ∷ codes "--datagrams" ∷ codes "16777216" ∷ [])
+    ≡ Some (waiting (flood 4 16777216))
 unfolding clap_on_literals
 in_flood_of_the_most = refl
 
@@ -73,19 +73,19 @@ in_flood_of_no_datagrams : faults_in (codes "flood" ∷ codes "--workers" ∷ co
 unfolding clap_on_literals
 in_flood_of_no_datagrams = refl
 
-in_replay : request_in (codes "replay" ∷ []) ≡ Some (replay false false)
+in_replay : command_in (codes "replay" ∷ []) ≡ Some (returning (replay false false))
 unfolding clap_on_literals
 in_replay = refl
 
-in_replay_with_a_summary : request_in (codes "replay" ∷ codes "--summary" ∷ []) ≡ Some (replay true false)
+in_replay_with_a_summary : command_in (codes "replay" ∷ codes "--summary" ∷ []) ≡ Some (returning (replay true false))
 unfolding clap_on_literals
 in_replay_with_a_summary = refl
 
-in_quiet_replay : request_in (codes "replay" ∷ codes "--quiet" ∷ []) ≡ Some (replay false true)
+in_quiet_replay : command_in (codes "replay" ∷ codes "--quiet" ∷ []) ≡ Some (returning (replay false true))
 unfolding clap_on_literals
 in_quiet_replay = refl
 
-in_replay_with_both : request_in (codes "replay" ∷ codes "--quiet" ∷ codes "--summary" ∷ []) ≡ Some (replay true true)
+in_replay_with_both : command_in (codes "replay" ∷ codes "--quiet" ∷ codes "--summary" ∷ []) ≡ Some (returning (replay true true))
 unfolding clap_on_literals
 in_replay_with_both = refl
 
@@ -105,8 +105,8 @@ in_serve : faults_in (codes "serve" ∷ codes "--front" ∷ codes "0.0.0.0:1" �
 unfolding clap_on_literals
 in_serve = refl
 
-in_serve_request : request_in (codes "serve" ∷ codes "--front" ∷ codes "0.0.0.0:1" ∷ codes "--control" ∷ codes "0.0.0.0:2" ∷ codes "--workers" ∷ codes "64" ∷ [])
-    ≡ Some (serve (codes "0.0.0.0:1") (codes "0.0.0.0:2") (codes "64"))
+in_serve_request : command_in (codes "serve" ∷ codes "--front" ∷ codes "0.0.0.0:1" ∷ codes "--control" ∷ codes "0.0.0.0:2" ∷ codes "--workers" ∷ codes "64" ∷ [])
+    ≡ Some (waiting (serve (codes "0.0.0.0:1") (codes "0.0.0.0:2") 64))
 unfolding clap_on_literals
 in_serve_request = refl
 
@@ -119,7 +119,7 @@ in_serve_of_too_many : faults_in (codes "serve" ∷ codes "--front" ∷ codes "0
 unfolding clap_on_literals
 in_serve_of_too_many = refl
 
-in_explain : request_in (codes "explain" ∷ codes "G3" ∷ []) ≡ Some (explain (codes "G3"))
+in_explain : command_in (codes "explain" ∷ codes "G3" ∷ []) ≡ Some (returning (explain (codes "G3")))
 unfolding clap_on_literals
 in_explain = refl
 
@@ -131,12 +131,12 @@ in_tell : faults_in (codes "tell" ∷ codes "--control" ∷ codes "0.0.0.0:2" �
 unfolding clap_on_literals
 in_tell = refl
 
-in_tell_request : request_in (codes "tell" ∷ codes "--control" ∷ codes "0.0.0.0:2" ∷ codes "show" ∷ codes "--timeout" ∷ codes "3600" ∷ codes "--" ∷ codes "-" ∷ [])
-    ≡ Some (tell (codes "0.0.0.0:2") (codes "3600") (codes "show" ∷ codes "-" ∷ []))
+in_tell_request : command_in (codes "tell" ∷ codes "--control" ∷ codes "0.0.0.0:2" ∷ codes "show" ∷ codes "--timeout" ∷ codes "3600" ∷ codes "--" ∷ codes "-" ∷ [])
+    ≡ Some (waiting (tell (codes "0.0.0.0:2") 3600 (codes "show" ∷ codes "-" ∷ [])))
 unfolding clap_on_literals
 in_tell_request = refl
 
-in_tell_of_no_line : request_in (codes "tell" ∷ codes "--control" ∷ codes "0.0.0.0:2" ∷ []) ≡ Some (tell (codes "0.0.0.0:2") (codes "1") [])
+in_tell_of_no_line : command_in (codes "tell" ∷ codes "--control" ∷ codes "0.0.0.0:2" ∷ []) ≡ Some (waiting (tell (codes "0.0.0.0:2") 1 []))
 unfolding clap_on_literals
 in_tell_of_no_line = refl
 
@@ -152,22 +152,22 @@ in_tell_without_control : faults_in (codes "tell" ∷ codes "show" ∷ []) ≡ M
 unfolding clap_on_literals
 in_tell_without_control = refl
 
-in_check : request_in (codes "check" ∷ []) ≡ Some (check (codes "asm"))
+in_check : command_in (codes "check" ∷ []) ≡ Some (returning (check (codes "asm")))
 unfolding clap_on_literals
 in_check = refl
 
-in_check_of_a_format : request_in (codes "check" ∷ codes "--format" ∷ codes "ddd" ∷ []) ≡ Some (check (codes "ddd"))
+in_check_of_a_format : command_in (codes "check" ∷ codes "--format" ∷ codes "ddd" ∷ []) ≡ Some (returning (check (codes "ddd")))
 unfolding clap_on_literals
 in_check_of_a_format = refl
 
-in_compile_to_a_format : request_in (codes "compile" ∷ codes "--format=hex" ∷ codes "udp" ∷ []) ≡ Some (compile (codes "udp") (codes "hex"))
+in_compile_to_a_format : command_in (codes "compile" ∷ codes "--format=hex" ∷ codes "udp" ∷ []) ≡ Some (returning (compile (codes "udp") (codes "hex")))
 unfolding clap_on_literals
 in_compile_to_a_format = refl
 
-in_run_of_a_format : request_in (codes "run" ∷ codes "--packet" ∷ codes "45" ∷ codes "--format" ∷ codes "hex" ∷ []) ≡ Some (run (codes "45") (codes "hex"))
+in_run_of_a_format : command_in (codes "run" ∷ codes "--packet" ∷ codes "45" ∷ codes "--format" ∷ codes "hex" ∷ []) ≡ Some (returning (run (codes "45") (codes "hex")))
 unfolding clap_on_literals
 in_run_of_a_format = refl
 
-in_judge_of_a_format : request_in (codes "run" ∷ codes "--packet" ∷ codes "45" ∷ codes "--expr" ∷ codes "udp" ∷ codes "--format" ∷ codes "hex" ∷ []) ≡ Some (judge (codes "45") (codes "udp"))
+in_judge_of_a_format : command_in (codes "run" ∷ codes "--packet" ∷ codes "45" ∷ codes "--expr" ∷ codes "udp" ∷ codes "--format" ∷ codes "hex" ∷ []) ≡ Some (returning (judge (codes "45") (codes "udp")))
 unfolding clap_on_literals
 in_judge_of_a_format = refl

@@ -1,6 +1,8 @@
 -- The program's command line, as the contracts of `clap` see it.
-use Rattle.std.specs.Prelude.{◌≡◌, ◌≢◌, ◌⊎◌, [], Bool, List, None, Option, Some, codes, if◌then◌else◌, map, option_and_then, true, unwrap_or}
+use Rattle.std.specs.Prelude.{◌≢◌, ◌⊎◌, [], Bool, List, None, Option, Some, codes, false, if◌then◌else◌, map, option_and_then, option_map, true, unwrap_or, ℕ}
 use Rattle.std.specs.Str.{bytes_eq}
+use Rattle.std.specs.Str.Parse.{digits_value, without_leading_plus}
+use Rattle.clap.specs.ValueTests.{accepts}
 use Rattle.clap.specs.Walk.{all_of, first_of}
 use Rattle.clap.specs.Words.{App, IsAmong, Kinds, Row, Rule, Shape, Text, fault_of, new_app, new_rule, subcommand_of, with_rule, with_subcommand}
 use Rattle.clap.specs.declared.builder.action.ArgAction.TheVariants.{Append, SetTrue}
@@ -9,8 +11,12 @@ use Rattle.clap.specs.declared.error.kind.ErrorKind.{ErrorKind}
 use Rattle.clap.specs.declared.error.kind.ErrorKind.TheVariants.{DisplayHelp, DisplayVersion}
 use Rattle.command_line.specs.declared.command.Query.{Query}
 use Rattle.command_line.specs.declared.command.Query.TheVariants as query
+use Rattle.command_line.specs.declared.command.Returning.{Returning}
+use Rattle.command_line.specs.declared.command.Returning.TheVariants as returned
 use Rattle.command_line.specs.declared.command.Subcommand.{Subcommand}
 use Rattle.command_line.specs.declared.command.Subcommand.TheVariants as subcommand
+use Rattle.command_line.specs.declared.command.Waiting.{Waiting}
+use Rattle.command_line.specs.declared.command.Waiting.TheVariants as waited
 use Rattle.command_line.specs.declared.command.TheConstants.{MAX_DATAGRAMS, MAX_TIMEOUT}
 use Rattle.versions.specs.declared.layout.TheConstants.{WORKERS}
 
@@ -134,7 +140,7 @@ HasMisuse kinds = (kind : ErrorKind) × IsAmong kind kinds × (kind ≢ DisplayH
 
 -- ---- the command that is named
 
--- a command with its arguments
+-- a command that returns, with its arguments
 pub data Request : Type 0 where
   first : Request
   check : (format : Text) → Request
@@ -144,9 +150,16 @@ pub data Request : Type 0 where
   explain : (code : Text) → Request
   replay : (summary quiet : Bool) → Request
   packets : Request
-  flood : (workers datagrams : Text) → Request
-  serve : (front control workers : Text) → Request
-  tell : (control timeout : Text) (lines : List Text) → Request
+
+-- a command that may wait: it runs worker threads, or awaits replies
+pub data WaitingRequest : Type 0 where
+  flood : (workers datagrams : ℕ) → WaitingRequest
+  serve : (front control : Text) (workers : ℕ) → WaitingRequest
+  tell : (control : Text) (timeout : ℕ) (lines : List Text) → WaitingRequest
+
+pub data Command : Type 0 where
+  returning : Request → Command
+  waiting : WaitingRequest → Command
 
 abbrev pub query_request : Query → Request
 query_request query.First = first
@@ -156,13 +169,19 @@ query_request (query.Run packet format) = run packet.now format.now
 query_request (query.Judge packet expression) = judge packet.now expression.now
 query_request (query.Explain code) = explain code.now
 
-abbrev pub request_of : Subcommand → Request
-request_of (subcommand.Query asked) = query_request asked
-request_of (subcommand.Replay summary quiet) = replay summary quiet
-request_of subcommand.Packets = packets
-request_of (subcommand.Flood workers datagrams) = flood workers.now datagrams.now
-request_of (subcommand.Serve front control workers) = serve front.now control.now workers.now
-request_of (subcommand.Tell control timeout lines) = tell control.now timeout.now (map (λ line. line.now) lines.items)
+abbrev pub request_of : Returning → Request
+request_of (returned.Query asked) = query_request asked
+request_of (returned.Replay summary quiet) = replay summary quiet
+request_of returned.Packets = packets
+
+abbrev pub waiting_of : Waiting → WaitingRequest
+waiting_of (waited.Flood workers datagrams) = flood workers.count datagrams
+waiting_of (waited.Serve front control workers) = serve front.now control.now workers.count
+waiting_of (waited.Tell control timeout lines) = tell control.now timeout (map (λ line. line.now) lines.items)
+
+abbrev pub command_of : Subcommand → Command
+command_of (subcommand.Returning asked) = returning (request_of asked)
+command_of (subcommand.Waiting asked) = waiting (waiting_of asked)
 
 -- `run`, with an expression, of which no program is read, or without
 abbrev pub run_or_judge : Text → Text → Option Text → Request
@@ -177,13 +196,20 @@ value_in rows id = unwrap_or (first_of id rows) []
 abbrev pub values_in : List Row → Text → List Text
 values_in rows id = unwrap_or (all_of id rows) []
 
+-- the number from 1 on that a text is in decimal digits; leading zeros and a plus sign in front may stand there
+abbrev pub number_in : ℕ → Text → Option ℕ
+number_in most text = if accepts false (Unsigned 1 most) text then Some (digits_value 10 (without_leading_plus text)) else None
+
+abbrev pub workers_in : List Row → Option ℕ
+workers_in rows = number_in WORKERS (value_in rows (codes "workers"))
+
 -- a second, where no other number is given
-abbrev pub timeout_in : List Row → Text
-timeout_in rows = unwrap_or (first_of (codes "timeout") rows) (codes "1")
+abbrev pub timeout_in : List Row → Option ℕ
+timeout_in rows = number_in MAX_TIMEOUT (unwrap_or (first_of (codes "timeout") rows) (codes "1"))
 
 -- 4096 datagrams, where no other number is given
-abbrev pub datagrams_in : List Row → Text
-datagrams_in rows = unwrap_or (first_of (codes "datagrams") rows) (codes "4096")
+abbrev pub datagrams_in : List Row → Option ℕ
+datagrams_in rows = number_in MAX_DATAGRAMS (unwrap_or (first_of (codes "datagrams") rows) (codes "4096"))
 
 -- a flag is given
 abbrev pub is_set : List Row → Text → Bool
@@ -193,43 +219,39 @@ is_set rows id = bytes_eq (value_in rows id) (codes "true")
 abbrev pub format_in : List Row → Text
 format_in rows = unwrap_or (first_of (codes "format") rows) (codes "asm")
 
-abbrev pub request_named : Text → List Row → Option Request
-request_named name rows =
+abbrev pub flood_in : List Row → Option Command
+flood_in rows = option_and_then (λ workers. option_map (λ datagrams. waiting (flood workers datagrams)) (datagrams_in rows)) (workers_in rows)
+
+abbrev pub serve_in : List Row → Option Command
+serve_in rows = option_map (λ workers. waiting (serve (value_in rows (codes "front")) (value_in rows (codes "control")) workers)) (workers_in rows)
+
+abbrev pub tell_in : List Row → Option Command
+tell_in rows = option_map (λ timeout. waiting (tell (value_in rows (codes "control")) timeout (values_in rows (codes "LINE")))) (timeout_in rows)
+
+abbrev pub command_named : Text → List Row → Option Command
+command_named name rows =
     if bytes_eq name (codes "first")
-    then Some first
+    then Some (returning first)
     else if bytes_eq name (codes "check")
-    then Some (check (format_in rows))
+    then Some (returning (check (format_in rows)))
     else if bytes_eq name (codes "compile")
-    then Some (compile (value_in rows (codes "EXPR")) (format_in rows))
+    then Some (returning (compile (value_in rows (codes "EXPR")) (format_in rows)))
     else if bytes_eq name (codes "run")
-    then Some (run_or_judge (value_in rows (codes "packet")) (format_in rows) (first_of (codes "expr") rows))
+    then Some (returning (run_or_judge (value_in rows (codes "packet")) (format_in rows) (first_of (codes "expr") rows)))
     else if bytes_eq name (codes "explain")
-    then Some (explain (value_in rows (codes "CODE")))
+    then Some (returning (explain (value_in rows (codes "CODE"))))
     else if bytes_eq name (codes "replay")
-    then Some (replay (is_set rows (codes "summary")) (is_set rows (codes "quiet")))
+    then Some (returning (replay (is_set rows (codes "summary")) (is_set rows (codes "quiet"))))
     else if bytes_eq name (codes "packets")
-    then Some packets
+    then Some (returning packets)
     else if bytes_eq name (codes "flood")
-    then Some (flood (value_in rows (codes "workers")) (datagrams_in rows))
+    then flood_in rows
     else if bytes_eq name (codes "serve")
-    then Some (serve (value_in rows (codes "front")) (value_in rows (codes "control")) (value_in rows (codes "workers")))
+    then serve_in rows
     else if bytes_eq name (codes "tell")
-    then Some (tell (value_in rows (codes "control")) (timeout_in rows) (values_in rows (codes "LINE")))
+    then tell_in rows
     else None
 
 -- the command that the words name, with the values that they give its arguments
-abbrev pub request_in : List Text → Option Request
-request_in words = option_and_then (λ named. request_named named.0 named.1) (subcommand_of command_line words)
-
--- ---- commands that may wait
-
--- a command that may wait: it runs worker threads, or awaits replies
-abbrev pub MayWait : Request → Type 0
-MayWait (flood workers datagrams) = Unit {0}
-MayWait (serve front control workers) = Unit {0}
-MayWait (tell control timeout lines) = Unit {0}
-MayWait _ = ⊥
-
--- the words ask for a command that may wait
-abbrev pub AskToWait : List Text → Type 0
-AskToWait words = (faults_in words ≡ []) × ((request : Request) × (request_in words ≡ Some request) × MayWait request)
+abbrev pub command_in : List Text → Option Command
+command_in words = option_and_then (λ named. command_named named.0 named.1) (subcommand_of command_line words)

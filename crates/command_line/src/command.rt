@@ -1,5 +1,8 @@
 //! The commands of the program with their arguments, and the limits of these (docs/COMMANDS.md).
 
+ghost use Rattle.std.specs.Prelude.{◌≤◌};
+ghost use Rattle.versions.specs.declared.layout.TheConstants.{WORKERS};
+
 /// The longest wait for a reply, in seconds.
 pub const MAX_TIMEOUT: u64 = 3600;
 
@@ -32,33 +35,45 @@ pub enum Query<'a> {
     },
 }
 
-/// A command of the program, with its arguments.
-#[derive(Drop)]
-pub enum Subcommand<'a> {
+/// A number of workers.
+#[derive(Clone, Copy)]
+pub struct Workers {
+    pub count: usize,
+    pub ghost in_range: { (1 ≤ count) × (count ≤ WORKERS) },
+}
+
+/// A command that returns.
+#[derive(Clone, Copy)]
+pub enum Returning<'a> {
     Query(Query<'a>),
     /// `summary` and `quiet` say which of the two flags are given.
-    Replay {
-        summary: bool,
-        quiet: bool,
-    },
+    Replay { summary: bool, quiet: bool },
     Packets,
-    /// `workers` is their number as it is written. So is `datagrams`, a number from 1 to `MAX_DATAGRAMS`, and `"4096"` where none
-    /// is.
+}
+
+/// A command that may wait: it runs worker threads, or awaits replies. Addresses are as they are written.
+#[derive(Drop)]
+pub enum Waiting<'a> {
     Flood {
-        workers: &'a str,
-        datagrams: &'a str,
+        workers: Workers,
+        datagrams: usize,
     },
-    /// `workers` and the addresses `front` and `control` are as they are written.
     Serve {
         front: &'a str,
         control: &'a str,
-        workers: &'a str,
+        workers: Workers,
     },
-    /// `timeout` is a number of seconds from 1 to `MAX_TIMEOUT` as it is written, and `"1"` where none is. `lines` are in the
-    /// order of the words.
+    /// `timeout` is a number of seconds. `lines` are in the order of the words.
     Tell {
         control: &'a str,
-        timeout: &'a str,
+        timeout: u64,
         lines: Vec<&'a str>,
     },
+}
+
+/// A command of the program, with its arguments.
+#[derive(Drop)]
+pub enum Subcommand<'a> {
+    Returning(Returning<'a>),
+    Waiting(Waiting<'a>),
 }

@@ -1,6 +1,6 @@
 //! How a run of the program ends: its exit status, and why a command failed (docs/COMMANDS.md, "Statuses").
 
-ghost use Rattle.std.specs.Prelude.{◌≡◌, ◌≢◌};
+ghost use Rattle.std.specs.Prelude.{◌≡◌, ◌≢◌, IfErr, IfOk, OnErr, OnOk};
 ghost use Rattle.std.specs.IoError.{error_kind};
 ghost use Rattle.command_line.specs.Ending.{AppendsBeginning, line_of};
 ghost use Rattle.command_line.specs.declared.ending.Failure.TheVariants.{OutOfMemory};
@@ -60,6 +60,19 @@ impl Failure {
         write_what_fits(self.line().as_bytes(), errs);
         let _ = errs.flush();
         Status::Failed
+    }
+}
+
+/// The status of a command that ended so. A failure is reported.
+pub fn reported<E: Write>(ended: Result<Status, Failure>, errs: &mut E) -> Status
+    ensures status { IfOk ended (λ status. result ≡ status) }
+    ensures untold { OnOk ended (errs.new ≡ errs.old) }
+    ensures failed { OnErr ended (result ≡ Status.Failed) }
+    ensures told { IfErr ended (λ failure. AppendsBeginning (E.contents errs.old) (E.contents errs.new) (line_of failure)) }
+{
+    match ended {
+        Ok(status) => status,
+        Err(failure) => failure.report(errs),
     }
 }
 

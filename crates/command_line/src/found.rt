@@ -1,15 +1,16 @@
 //! Which command the words name, with its arguments as `clap` found them (docs/COMMANDS.md).
 
-ghost use Rattle.std.specs.Prelude.{◌≡◌, IfOk, Some, codes, map, string_bytes};
+ghost use Rattle.std.specs.Prelude.{◌≡◌, ◌≤◌, IfOk, IfSome, Some, codes, map, string_bytes};
 ghost use Rattle.std.specs.Option.{option_map};
 ghost use Rattle.clap.specs.Walk.{first_of};
 ghost use Rattle.clap.specs.Words.{FailsBy, found_of, rows_of};
-ghost use Rattle.command_line.specs.CommandLine.{datagrams_in, faults_in, format_in, is_set, query_request, request_in, request_named, request_of, run_or_judge, tell, timeout_in, value_in, values_in};
+ghost use Rattle.command_line.specs.CommandLine.{command_in, command_named, command_of, datagrams_in, faults_in, flood_in, format_in, is_set, number_in, query_request, request_of, returning, run_or_judge, serve_in, tell_in, timeout_in, value_in, values_in, workers_in};
 
 use crate::builders::program;
-use crate::command::{Query, Subcommand};
+use crate::command::{MAX_DATAGRAMS, MAX_TIMEOUT, Query, Returning, Subcommand, Waiting, Workers};
 use clap::{ArgMatches, Error};
 use std::alloc::{AllocError, Global};
+use versions::WORKERS;
 
 // The value of an argument, which a required one has.
 fn value_of<'a>(found: &ArgMatches<'a>, id: &str) -> &'a str
@@ -32,16 +33,39 @@ fn values_of<'a>(
     }
 }
 
-fn timeout_of<'a>(found: &ArgMatches<'a>) -> &'a str
-    ensures { result.now ≡ timeout_in (rows_of (found_of found.now)) }
+// The number from 1 to `most` that a text is.
+fn number(most: u64, text: &str) -> Option<u64>
+    ensures number { result ≡ number_in most text.now }
+    ensures in_range { IfSome result (λ number. (1 ≤ number) × (number ≤ most)) }
 {
-    found.get_str("timeout").unwrap_or("1")
+    match text.parse::<u64>() {
+        Ok(number) if (1..=most).contains(&number) => Some(number),
+        _ => None,
+    }
 }
 
-fn datagrams_of<'a>(found: &ArgMatches<'a>) -> &'a str
-    ensures { result.now ≡ datagrams_in (rows_of (found_of found.now)) }
+fn workers_of(found: &ArgMatches) -> Option<Workers>
+    ensures { option_map (λ workers. workers.count) result ≡ workers_in (rows_of (found_of found.now)) }
 {
-    found.get_str("datagrams").unwrap_or("4096")
+    let Some(count) = number(WORKERS as u64, value_of(found, "workers")) else {
+        return None;
+    };
+    Some(Workers {
+        count: count as usize,
+    })
+}
+
+fn timeout_of(found: &ArgMatches) -> Option<u64>
+    ensures { result ≡ timeout_in (rows_of (found_of found.now)) }
+{
+    number(MAX_TIMEOUT, found.get_str("timeout").unwrap_or("1"))
+}
+
+fn datagrams_of(found: &ArgMatches) -> Option<u64>
+    ensures { result ≡ datagrams_in (rows_of (found_of found.now)) }
+{
+    let text = found.get_str("datagrams").unwrap_or("4096");
+    number(MAX_DATAGRAMS, text)
 }
 
 // Whether a flag is given.
@@ -70,18 +94,44 @@ fn run_or_judge<'a>(found: &ArgMatches<'a>) -> Query<'a>
     }
 }
 
-// `tell` with its arguments: the only command of which these take memory.
+fn flood<'a>(found: &ArgMatches<'a>) -> Option<Subcommand<'a>>
+    ensures { option_map command_of result ≡ flood_in (rows_of (found_of found.now)) }
+{
+    let workers = workers_of(found)?;
+    let datagrams = datagrams_of(found)? as usize;
+    Some(Subcommand::Waiting(Waiting::Flood { workers, datagrams }))
+}
+
+fn serve<'a>(found: &ArgMatches<'a>) -> Option<Subcommand<'a>>
+    ensures { option_map command_of result ≡ serve_in (rows_of (found_of found.now)) }
+{
+    let workers = workers_of(found)?;
+    Some(Subcommand::Waiting(Waiting::Serve {
+        front: value_of(found, "front"),
+        control: value_of(found, "control"),
+        workers,
+    }))
+}
+
+// The only command whose arguments take memory.
 fn tell<'a>(alloc: Global, found: &ArgMatches<'a>) -> Result<Option<Subcommand<'a>>, AllocError>
-    ensures { IfOk result (λ command. option_map request_of command
-        ≡ Some (tell (value_in (rows_of (found_of found.now)) (codes "control")) (timeout_in (rows_of (found_of found.now)))
-        (values_in (rows_of (found_of found.now)) (codes "LINE")))) }
+    ensures { IfOk result (λ command. option_map command_of command ≡ tell_in (rows_of (found_of found.now))) }
 {
     let lines = values_of(alloc, found, "LINE")?;
-    Ok(Some(Subcommand::Tell {
+    let Some(timeout) = timeout_of(found) else {
+        return Ok(None);
+    };
+    Ok(Some(Subcommand::Waiting(Waiting::Tell {
         control: value_of(found, "control"),
-        timeout: timeout_of(found),
+        timeout,
         lines,
-    }))
+    })))
+}
+
+fn returning<'a>(command: Returning<'a>) -> Result<Option<Subcommand<'a>>, AllocError>
+    ensures { IfOk result (λ made. option_map command_of made ≡ Some (returning (request_of command.entry))) }
+{
+    Ok(Some(Subcommand::Returning(command)))
 }
 
 // The command of that name, with its arguments as `clap` found them.
@@ -90,35 +140,28 @@ fn subcommand_of<'a>(
     name: &str,
     found: &ArgMatches<'a>,
 ) -> Result<Option<Subcommand<'a>>, AllocError>
-    ensures { IfOk result (λ command. option_map request_of command ≡ request_named name.now (rows_of (found_of found.now))) }
+    ensures { IfOk result (λ command. option_map command_of command ≡ command_named name.now (rows_of (found_of found.now))) }
 {
     match name {
-        "first" => Ok(Some(Subcommand::Query(Query::First))),
-        "check" => Ok(Some(Subcommand::Query(Query::Check {
+        "first" => returning(Returning::Query(Query::First)),
+        "check" => returning(Returning::Query(Query::Check {
             format: format_of(found),
-        }))),
-        "compile" => Ok(Some(Subcommand::Query(Query::Compile {
+        })),
+        "compile" => returning(Returning::Query(Query::Compile {
             expression: value_of(found, "EXPR"),
             format: format_of(found),
-        }))),
-        "run" => Ok(Some(Subcommand::Query(run_or_judge(found)))),
-        "explain" => Ok(Some(Subcommand::Query(Query::Explain {
+        })),
+        "run" => returning(Returning::Query(run_or_judge(found))),
+        "explain" => returning(Returning::Query(Query::Explain {
             code: value_of(found, "CODE"),
-        }))),
-        "replay" => Ok(Some(Subcommand::Replay {
+        })),
+        "replay" => returning(Returning::Replay {
             summary: is_set(found, "summary"),
             quiet: is_set(found, "quiet"),
-        })),
-        "packets" => Ok(Some(Subcommand::Packets)),
-        "flood" => Ok(Some(Subcommand::Flood {
-            workers: value_of(found, "workers"),
-            datagrams: datagrams_of(found),
-        })),
-        "serve" => Ok(Some(Subcommand::Serve {
-            front: value_of(found, "front"),
-            control: value_of(found, "control"),
-            workers: value_of(found, "workers"),
-        })),
+        }),
+        "packets" => returning(Returning::Packets),
+        "flood" => Ok(flood(found)),
+        "serve" => Ok(serve(found)),
         "tell" => tell(alloc, found),
         _ => Ok(None),
     }
@@ -127,7 +170,7 @@ fn subcommand_of<'a>(
 /// Reads the words after the program's name. `Err` is a fault of the words, or the help or the version that they ask for.
 pub fn read_words<'a>(alloc: Global, words: &'a [String]) -> Result<Subcommand<'a>, Error>
     ensures faults { FailsBy (faults_in (map string_bytes words.entry.now)) result }
-    ensures named { IfOk result (λ command. request_in (map string_bytes words.entry.now) ≡ Some (request_of command)) }
+    ensures named { IfOk result (λ command. command_in (map string_bytes words.entry.now) ≡ Some (command_of command)) }
 {
     let program = program(alloc)?;
     let matches = program.try_get_matches_from(words)?;

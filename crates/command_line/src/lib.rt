@@ -13,8 +13,8 @@ mod found;
 mod help;
 mod input;
 
-pub use command::{MAX_DATAGRAMS, MAX_TIMEOUT, Query, Subcommand};
-pub use ending::{Failure, Status, refuse_arguments, write_what_fits};
+pub use command::{MAX_DATAGRAMS, MAX_TIMEOUT, Query, Returning, Subcommand, Waiting, Workers};
+pub use ending::{Failure, Status, refuse_arguments, reported, write_what_fits};
 pub use found::read_words;
 pub use input::read_whole;
 

@@ -7,6 +7,7 @@ mod streams;
 mod telling;
 mod words;
 
+use command_line::{Subcommand, read_words};
 use std::alloc::{AllocError, Global};
 use std::fmt::Debug;
 use std::io::Read;
@@ -92,8 +93,10 @@ fn wait_for<R: Threads + Wait + Net + Clock + Sync + Abort>(
         None => {
             let writes = (told.out.writes, told.errs.writes);
             assert!(rt; writes == (0, 0), "{words:?}: {writes:?}");
-            let ended = run_waiting(rt, alloc, words, input, &mut told.out, &mut told.errs);
-            told.status = Some(ended as u8);
+            if let Ok(Subcommand::Waiting(command)) = read_words(alloc, words) {
+                let ended = run_waiting(rt, alloc, command, input, &mut told.out, &mut told.errs);
+                told.status = Some(ended as u8);
+            }
         }
     }
 }

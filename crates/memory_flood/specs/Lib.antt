@@ -1,4 +1,3 @@
-pub mod Datagrams
 pub mod Failing
 pub mod Flood
 pub mod FloodVersions

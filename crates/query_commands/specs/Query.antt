@@ -15,7 +15,7 @@ use Rattle.command_line.specs.declared.ending.Status.TheVariants.{Done, Refused}
 use Rattle.query_commands.specs.declared.stop.Stop.{Stop}
 use Rattle.query_commands.specs.declared.stop.Stop.TheVariants as stop
 use Rattle.query_commands.specs.CommandResult.{IsCheckAnswer, IsCompileAnswer, IsExplainAnswer, IsJudgeAnswer, IsRunAnswer, answer_text}
-use Rattle.command_line.specs.CommandLine.{MayWait, Request, check, compile, explain, first, flood, judge, packets, replay, run, serve, tell}
+use Rattle.command_line.specs.CommandLine.{Request, check, compile, explain, first, judge, packets, replay, run}
 use Rattle.program_formats.specs.declared.fault.FormatFault.{FormatFault}
 use Rattle.refusal_text.specs.Explanation.{codes_explained}
 use Rattle.query_commands.specs.Format.{IsFormatFault, IsRefusalOfProgram, input_format_of, misformed_text, output_format_of}
@@ -42,9 +42,6 @@ IsResult (judge digits expression) input answer =
 IsResult (explain code) input answer = IsExplainAnswer code answer
 IsResult (replay summary quiet) input answer = ⊥
 IsResult packets input answer = ⊥
-IsResult (flood workers datagrams) input answer = ⊥
-IsResult (serve front control workers) input answer = ⊥
-IsResult (tell control timeout lines) input answer = ⊥
 
 -- a text that is no code
 abbrev pub IsRefusalOfCode : List ℕ → Reason → Type 0
@@ -68,9 +65,6 @@ IsRefusalReason (judge digits expression) input reason =
 IsRefusalReason (explain code) input reason = IsRefusalOfCode code reason
 IsRefusalReason (replay summary quiet) input reason = ⊥
 IsRefusalReason packets input reason = ⊥
-IsRefusalReason (flood workers datagrams) input reason = ⊥
-IsRefusalReason (serve front control workers) input reason = ⊥
-IsRefusalReason (tell control timeout lines) input reason = ⊥
 
 -- or a text that is not in the format of this name
 abbrev pub IsMisformed : Request → List ℕ → FormatFault → Type 0
@@ -132,10 +126,10 @@ IsAnswerText request known _ text = ⊥
 abbrev pub WritesAnswer : Request → Option (List ℕ) → Status → Option (List ℕ) → Option (List ℕ) → Type 0
 WritesAnswer request known status before after = (text : List ℕ) × IsAnswerText request known status text × Appends before after text
 
--- a command may fail in this way: reading fails only where it reads, and writing where it does not wait
+-- a command may fail in this way: reading fails only where it reads
 abbrev pub MayFail : Request → Failure → Type 0
 MayFail request ReadFailed = ReadsInput request
-MayFail request WriteFailed = MayWait request → ⊥
+MayFail request WriteFailed = Unit {0}
 MayFail request OutOfMemory = Unit {0}
 MayFail request SpawnFailed = ⊥
 MayFail request BindFailed = ⊥

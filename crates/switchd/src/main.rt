@@ -1,12 +1,12 @@
 //! The program `dswitch`: its arguments, its standard streams and its exit status (docs/COMMANDS.md).
 #![tactic(auto)]
 
-use command_line::{Failure, refuse_arguments};
+use command_line::{Failure, Subcommand, read_words, refuse_arguments, reported};
 use std::env::Env;
 use std::io::LineWriter;
 use std::process::ExitCode;
 use std::{env, io};
-use text_commands::tool;
+use text_commands::{answer, run_command};
 use worker_commands::run_waiting;
 
 // The words after the program's name.
@@ -23,23 +23,19 @@ fn main(rt: HostRuntime) -> ExitCode {
     let Ok(mut out) = LineWriter::new(rt.alloc(), rt.stdout()) else {
         return ExitCode::from(Failure::OutOfMemory.report(&mut errs) as u8);
     };
-    let ended = tool(
-        rt.alloc(),
-        words.as_slice(),
-        rt.stdin(),
-        &mut out,
-        &mut errs,
-    );
-    let status = match ended {
-        Some(status) => status,
-        None => run_waiting(
+    let ended = match read_words(rt.alloc(), words.as_slice()) {
+        Ok(Subcommand::Returning(command)) => {
+            run_command(rt.alloc(), command, rt.stdin(), &mut out, &mut errs)
+        }
+        Ok(Subcommand::Waiting(command)) => Ok(run_waiting(
             &rt,
             rt.alloc(),
-            words.as_slice(),
+            command,
             rt.stdin(),
             &mut out,
             &mut errs,
-        ) as u8,
+        )),
+        Err(fault) => answer(&fault, &mut out, &mut errs),
     };
-    ExitCode::from(status)
+    ExitCode::from(reported(ended, &mut errs) as u8)
 }

@@ -6,12 +6,12 @@ use Rattle.clap.specs.Words.{Text}
 use Rattle.command_line.specs.declared.ending.Failure.{Failure}
 use Rattle.command_line.specs.declared.ending.Failure.TheVariants.{BindFailed, NoAnswer, OutOfMemory, PollFailed, ReadFailed, SpawnFailed, WriteFailed}
 use Rattle.command_line.specs.declared.ending.Status.{Status}
-use Rattle.command_line.specs.CommandLine.{AskToWait, Request, faults_in, packets, replay, request_in}
+use Rattle.command_line.specs.CommandLine.{Request, WaitingRequest, command_in, faults_in, packets, replay, returning, waiting}
 use Rattle.command_line.specs.Ending.{AppendsBeginning, line_of}
 use Rattle.command_line.specs.Input.{IsInput}
 use Rattle.script_commands.specs.Replaying.{ReplayWritesBefore, WritesScript}
 use Rattle.packet_lines.specs.Packets.{TellsCounts, WritesFirst, WritesText}
-use Rattle.query_commands.specs.Query.{ReadsInput, WritesAnswer}
+use Rattle.query_commands.specs.Query.{QueryWritesBefore, ReadsInput, WritesAnswer}
 
 -- the input was read to its end, and the text of that file was written, and nothing else
 abbrev pub WritesPackets : Option (List ℕ) → Status → Option (List ℕ) → Option (List ℕ) → Type 0
@@ -31,11 +31,15 @@ Writes request known status before after = WritesAnswer request known status bef
 -- the same of the command that the words name
 abbrev pub WritesAnswerTo : List Text → Option (List ℕ) → Status → Option (List ℕ) → Option (List ℕ) → Type 0
 WritesAnswerTo words known status before after =
-    (request : Request) × (request_in words ≡ Some request) × Writes request known status before after
+    (request : Request) × (command_in words ≡ Some (returning request)) × Writes request known status before after
+
+-- the words ask for a command that may wait
+abbrev pub AskToWait : List Text → Type 0
+AskToWait words = (faults_in words ≡ []) × ((request : WaitingRequest) × (command_in words ≡ Some (waiting request)))
 
 -- the same of words, which may also ask for a text
 abbrev pub MayFailBy : List Text → Failure → Type 0
-MayFailBy words ReadFailed = (request : Request) × (request_in words ≡ Some request) × ReadsInput request
+MayFailBy words ReadFailed = (request : Request) × (command_in words ≡ Some (returning request)) × ReadsInput request
 MayFailBy words WriteFailed = AskToWait words → ⊥
 MayFailBy words OutOfMemory = Unit {0}
 MayFailBy words SpawnFailed = ⊥
@@ -49,17 +53,20 @@ MayFailBy words NoAnswer = ⊥
 abbrev pub WritesFirstPackets : Option (List ℕ) → Option (List ℕ) → Option (List ℕ) → Type 0
 WritesFirstPackets known before after = (file : List ℕ) × IsInput known file × WritesFirst file before after
 
+abbrev pub PacketsWriteBefore : Failure → Option (List ℕ) → Option (List ℕ) → Option (List ℕ) → Type 0
+PacketsWriteBefore OutOfMemory known before after = (after ≡ before) ⊎ WritesFirstPackets known before after
+PacketsWriteBefore failure known before after = QueryWritesBefore failure before after
+
 -- what was written before each failure: what is promised of a failed write is promised of `replay` alone
 abbrev pub WritesBefore : Request → Failure → Option (List ℕ) → Option (List ℕ) → Option (List ℕ) → Type 0
 WritesBefore (replay summary quiet) failure known before after = ReplayWritesBefore summary quiet failure known before after
-WritesBefore packets OutOfMemory known before after = (after ≡ before) ⊎ WritesFirstPackets known before after
-WritesBefore request WriteFailed known before after = Unit {0}
-WritesBefore request _ known before after = after ≡ before
+WritesBefore packets failure known before after = PacketsWriteBefore failure known before after
+WritesBefore request failure known before after = QueryWritesBefore failure before after
 
 -- the same of the command that words without a fault name
 abbrev pub WritesBeforeBy : List Text → Failure → Option (List ℕ) → Option (List ℕ) → Option (List ℕ) → Type 0
 WritesBeforeBy words failure known before after =
-    faults_in words ≡ [] → (request : Request) → request_in words ≡ Some request → WritesBefore request failure known before after
+    faults_in words ≡ [] → (request : Request) → command_in words ≡ Some (returning request) → WritesBefore request failure known before after
 
 -- a command failed in a way in which it may; a beginning of the failure's line was told
 pub record EndsInFailure (words : List Text) (known before after told_before told_after : Option (List ℕ)) : Type 0 where

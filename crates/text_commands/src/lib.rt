@@ -1,21 +1,21 @@
 //! The commands of words and texts, from the words to the output and the exit status (docs/COMMANDS.md).
 //!
-//! `tool` reads the words, runs `first`, `check`, `compile`, `run`, `explain`, `replay` or `packets` over any input and outputs, and leaves a
-//! command that may wait to its caller.
+//! `run_command` runs `first`, `check`, `compile`, `run`, `explain`, `replay` or `packets` over any input and outputs, and `answer` writes
+//! the fault of words. `tool` reads the words and calls these, as `main` does, and leaves a command that may wait to its caller.
 #![tactic(auto)]
 
-ghost use Rattle.std.specs.Prelude.{◌≡◌, ◌≢◌, ◌⊎◌, [], IfErr, IfOk, IfSome, None, OnErr, OnSome, Ok, Err, Some, map, string_bytes};
+ghost use Rattle.std.specs.Prelude.{◌≡◌, ◌≢◌, ◌⊎◌, [], IfErr, IfOk, IfSome, None, OnErr, OnOk, Ok, Err, Some, map, string_bytes};
 ghost use Rattle.clap.specs.Words.{kind_of};
-ghost use Rattle.command_line.specs.CommandLine.{AskToWait, AsksForText, HasMisuse, MayWait, faults_in, packets, request_in, request_of};
+ghost use Rattle.command_line.specs.CommandLine.{AsksForText, HasMisuse, command_in, faults_in, packets, request_of, returning};
 ghost use Rattle.command_line.specs.Ending.{IsStatus, code_of};
 ghost use Rattle.query_commands.specs.Query.{MayFail};
-ghost use Rattle.text_commands.specs.Request.{EndsInFailure, MayFailBy, TellsCountsOf, Writes, WritesAnswerTo, WritesBefore, WritesBeforeBy};
+ghost use Rattle.text_commands.specs.Request.{AskToWait, EndsInFailure, TellsCountsOf, Writes, WritesAnswerTo, WritesBefore};
 
 mod capturing;
 
 use capturing::run_packets;
 use clap::error::ErrorKind;
-use command_line::{Failure, Status, Subcommand, read_words};
+use command_line::{Failure, Returning, Status, Subcommand, read_words, reported};
 use query_commands::run_query;
 pub use script_commands::replies_are_counted;
 use script_commands::run_replay;
@@ -54,91 +54,47 @@ pub fn tool<R: Read + Drop, W: Write, E: Write>(
         → EndsInFailure (map string_bytes words.now) (R.remaining input)
         (W.contents out.old) (W.contents out.new) (E.contents errs.old) (E.contents errs.new) }
     ensures no_errors { (result ≡ None) ⊎ (result ≡ Some (code_of Status.Done)) ⊎ (result ≡ Some (code_of Status.Refused))
-        → (request_in (map string_bytes words.now) ≢ Some packets) → errs.new ≡ errs.old }
+        → (command_in (map string_bytes words.now) ≢ Some (returning packets)) → errs.new ≡ errs.old }
     ensures counted { (result ≡ Some (code_of Status.Done)) ⊎ (result ≡ Some (code_of Status.Refused))
-        → faults_in (map string_bytes words.now) ≡ [] → request_in (map string_bytes words.now) ≡ Some packets
-        → TellsCountsOf (R.remaining input) (E.contents errs.old) (E.contents errs.new) }
-{
-    match run_words(alloc, words, input, out, errs) {
-        Ok(Some(status)) => Some(status as u8),
-        Ok(None) => None,
-        Err(failure) => Some(failure.report(errs) as u8),
-    }
-}
-
-// `None` where the words ask for a command that may wait.
-fn run_words<R: Read + Drop, W: Write, E: Write>(
-    alloc: Global,
-    words: &[String],
-    input: R,
-    out: &mut W,
-    errs: &mut E,
-) -> Result<Option<Status>, Failure>
-    ensures waits { result ≡ Ok None → AskToWait (map string_bytes words.now) }
-
-    ensures done { result ≡ Ok (Some Status.Done)
-        → (faults_in (map string_bytes words.now) ≡ []) ⊎ AsksForText (faults_in (map string_bytes words.now)) }
-    ensures done_written { result ≡ Ok (Some Status.Done) → faults_in (map string_bytes words.now) ≡ []
-        → WritesAnswerTo (map string_bytes words.now) (R.remaining input) Status.Done
-        (W.contents out.old) (W.contents out.new) }
-
-    ensures refused { result ≡ Ok (Some Status.Refused) → faults_in (map string_bytes words.now) ≡ [] }
-    ensures refused_written { result ≡ Ok (Some Status.Refused)
-        → WritesAnswerTo (map string_bytes words.now) (R.remaining input) Status.Refused
-        (W.contents out.old) (W.contents out.new) }
-
-    ensures misused { result ≡ Ok (Some Status.Misused) → HasMisuse (faults_in (map string_bytes words.now)) }
-    ensures nothing_written { (result ≡ Ok None) ⊎ (result ≡ Ok (Some Status.Misused)) → out.new ≡ out.old }
-    ensures never_failed { result ≡ Ok (Some Status.Failed) → ⊥ }
-
-    ensures failed { IfErr result (λ failure. MayFailBy (map string_bytes words.now) failure × (errs.new ≡ errs.old)) }
-    ensures failed_written { IfErr result (λ failure.
-        WritesBeforeBy (map string_bytes words.now) failure (R.remaining input) (W.contents out.old) (W.contents out.new)) }
-    ensures no_errors { (result ≡ Ok None) ⊎ (result ≡ Ok (Some Status.Done)) ⊎ (result ≡ Ok (Some Status.Refused))
-        → (request_in (map string_bytes words.now) ≢ Some packets) → errs.new ≡ errs.old }
-    ensures counted { (result ≡ Ok (Some Status.Done)) ⊎ (result ≡ Ok (Some Status.Refused))
-        → faults_in (map string_bytes words.now) ≡ [] → request_in (map string_bytes words.now) ≡ Some packets
+        → faults_in (map string_bytes words.now) ≡ [] → command_in (map string_bytes words.now) ≡ Some (returning packets)
         → TellsCountsOf (R.remaining input) (E.contents errs.old) (E.contents errs.new) }
 {
     match read_words(alloc, words) {
-        Ok(command) => run_subcommand(alloc, command, input, out, errs),
-        Err(fault) => Ok(Some(answer(&fault, out, errs)?)),
+        Ok(Subcommand::Returning(command)) => {
+            let ended = run_command(alloc, command, input, out, errs);
+            Some(reported(ended, errs) as u8)
+        }
+        Ok(Subcommand::Waiting(_)) => None,
+        Err(fault) => Some(reported(answer(&fault, out, errs), errs) as u8),
     }
 }
 
-fn run_subcommand<R: Read + Drop, W: Write, E: Write>(
+/// Runs a command that returns. Results go to `out`, and the counts of `packets` to `errs`.
+pub fn run_command<R: Read + Drop, W: Write, E: Write>(
     alloc: Global,
-    command: Subcommand<'_>,
+    command: Returning<'_>,
     input: R,
     out: &mut W,
     errs: &mut E,
-) -> Result<Option<Status>, Failure>
-    ensures waits { result ≡ Ok None → MayWait (request_of command.entry) }
-    ensures nothing_written { result ≡ Ok None → out.new ≡ out.old }
-    ensures counted { IfOk result (λ ended. OnSome ended (request_of command.entry ≡ packets
-        → TellsCountsOf (R.remaining input) (E.contents errs.old) (E.contents errs.new))) }
-    ensures no_errors { IfOk result (λ ended. (request_of command.entry ≢ packets) → errs.new ≡ errs.old) }
+) -> Result<Status, Failure>
+    ensures counted { OnOk result (request_of command.entry ≡ packets → TellsCountsOf (R.remaining input) (E.contents errs.old) (E.contents errs.new)) }
+    ensures no_errors { OnOk result ((request_of command.entry ≢ packets) → errs.new ≡ errs.old) }
     ensures untold { OnErr result (errs.new ≡ errs.old) }
     ensures failed { IfErr result (MayFail (request_of command.entry)) }
     ensures failed_written { IfErr result (λ failure.
         WritesBefore (request_of command.entry) failure (R.remaining input) (W.contents out.old) (W.contents out.new)) }
-    ensures answered { IfOk result (λ ended. IfSome ended (λ status.
-        Writes (request_of command.entry) (R.remaining input) status (W.contents out.old) (W.contents out.new))) }
+    ensures written { IfOk result (λ status.
+        Writes (request_of command.entry) (R.remaining input) status (W.contents out.old) (W.contents out.new)) }
 {
     match command {
-        Subcommand::Query(query) => Ok(Some(run_query(alloc, query, input, out)?)),
-        Subcommand::Replay { summary, quiet } => {
-            Ok(Some(run_replay(alloc, summary, quiet, input, out)?))
-        }
-        Subcommand::Packets => Ok(Some(run_packets(alloc, input, out, errs)?)),
-        Subcommand::Flood { .. } => Ok(None),
-        Subcommand::Serve { .. } => Ok(None),
-        Subcommand::Tell { .. } => Ok(None),
+        Returning::Query(query) => run_query(alloc, query, input, out),
+        Returning::Replay { summary, quiet } => run_replay(alloc, summary, quiet, input, out),
+        Returning::Packets => run_packets(alloc, input, out, errs),
     }
 }
 
-// Help and the version are results.
-fn answer<W: Write, E: Write>(
+/// Writes the fault of words. The help and the version, which words may ask for, are results.
+pub fn answer<W: Write, E: Write>(
     fault: &clap::Error,
     out: &mut W,
     errs: &mut E,

@@ -4,7 +4,6 @@ pub use Rattle.control_client.specs.Exchange
 pub use Rattle.control_client.specs.Lines
 pub use Rattle.control_client.specs.Tell
 pub use Rattle.control_client.specs.Wire
-pub use Rattle.memory_flood.specs.Datagrams
 pub use Rattle.memory_flood.specs.Failing
 pub use Rattle.memory_flood.specs.Flood
 pub use Rattle.memory_flood.specs.FloodVersions
@@ -12,4 +11,3 @@ pub use Rattle.memory_flood.specs.Traffic
 pub use Rattle.worker_threads.specs.Counted
 pub use Rattle.worker_threads.specs.ServeFault
 pub use Rattle.worker_threads.specs.TotalsLine
-pub use Rattle.worker_threads.specs.Workers

@@ -1,9 +1,7 @@
 -- What the command `tell` writes (docs/COMMANDS.md, "tell").
-use Rattle.std.specs.Prelude.{◌≡◌, ◌≢◌, ◌≤◌, ◌∷◌, Bool, List, None, Option, Some, [], ℕ}
-use Rattle.std.specs.Str.Parse.{IsNumeral, digits_value, without_leading_plus}
+use Rattle.std.specs.Prelude.{◌≡◌, ◌≢◌, ◌∷◌, Bool, List, None, Option, Some, [], ℕ}
 use Rattle.clap.specs.Words.{Text}
 use Rattle.command_line.specs.Ending.{AppendsBeginning, line_of}
-use Rattle.command_line.specs.declared.command.TheConstants.{MAX_TIMEOUT}
 use Rattle.command_line.specs.declared.ending.Failure.{Failure}
 use Rattle.command_line.specs.declared.ending.Failure.TheVariants as failure
 use Rattle.control_client.specs.Lines.{lines_known}
@@ -12,13 +10,6 @@ use Rattle.control_client.specs.declared.fault.TellFault.{TellFault}
 use Rattle.control_client.specs.declared.fault.TellFault.TheVariants as fault
 use Rattle.ipv4_fields.specs.Endpoint.{IsEndpoint, endpoint_text}
 use Rattle.ipv4_fields.specs.declared.endpoint.Endpoint.{Endpoint}
-
--- the text is this number of seconds in decimal digits; leading zeros and a plus sign in front may stand there
-pub record IsTimeout (text : Text) (seconds : ℕ) : Type 0 where
-  pub digits : IsNumeral 10 (without_leading_plus text)
-  pub seconds_is : seconds ≡ digits_value 10 (without_leading_plus text)
-  pub at_least_one : 1 ≤ seconds
-  pub at_most : seconds ≤ MAX_TIMEOUT
 
 -- the failure that a fault is told as
 abbrev pub failure_of : TellFault → Failure
@@ -35,12 +26,10 @@ lines_told [] input = lines_known input
 lines_told (word ∷ words) input = Some (word ∷ words)
 
 -- the replies to all lines were written, one of them a refusal or none
-pub record WritesReplies (control timeout : Text) (words : List Text) (input before after : Option (List ℕ)) (refused : Bool) : Type 0 where
+pub record WritesReplies (control : Text) (words : List Text) (input before after : Option (List ℕ)) (refused : Bool) : Type 0 where
   pub switch : Endpoint
-  pub seconds : ℕ
   pub is_endpoint : IsEndpoint switch
   pub is_address : control ≡ endpoint_text switch
-  pub is_timeout : IsTimeout timeout seconds
   pub tells_all : TellsAll switch (lines_told words input) None None before after refused
 
 -- `tell` failed: the refusal of an address could not be written, or it stopped behind some lines

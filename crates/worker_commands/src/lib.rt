@@ -1,20 +1,19 @@
 //! The commands that run worker threads or await replies, so that they may wait (docs/COMMANDS.md, "flood", "serve", "tell").
 //!
-//! `run_waiting` runs the one that the words ask for: `flood` of memory_flood, `serve` of udp_service, or `tell` of control_client.
+//! `run_waiting` runs one: `flood` of memory_flood, `serve` of udp_service, or `tell` of control_client.
 #![tactic(auto)]
 
-ghost use Rattle.std.specs.Prelude.{◌≡◌, ◌⊎◌, OnOk, codes, map, string_bytes, ℕ};
+ghost use Rattle.std.specs.Prelude.{◌≡◌, ◌⊎◌, OnOk, codes};
 ghost use Rattle.std.specs.Io.KnownBytes.{Appends};
-ghost use Rattle.command_line.specs.CommandLine.{AskToWait};
+ghost use Rattle.command_line.specs.CommandLine.{waiting_of};
 ghost use Rattle.command_line.specs.Ending.{AppendsBeginning, line_of};
 ghost use Rattle.command_line.specs.declared.ending.Failure.TheVariants as failure;
 ghost use Rattle.udp_service.specs.Service.{WritesServed};
-ghost use Rattle.worker_commands.specs.Waiting.{EndsInServeFailure, EndsInWaitingFailure, IsAddress, IsNoAddress, LackDatagrams, LackTimeout, LackWorkers, WritesFor, WritesRefusal};
-ghost use Rattle.worker_threads.specs.Workers.{IsWorkers};
+ghost use Rattle.worker_commands.specs.Waiting.{EndsInServeFailure, EndsInWaitingFailure, IsAddress, IsNoAddress, WritesFor, WritesRefusal};
 
 mod telling;
 
-use command_line::{Failure, Status, Subcommand, read_words};
+use command_line::{Failure, Status, Waiting, Workers};
 use ipv4_fields::Endpoint;
 use memory_flood::run_flood;
 pub use memory_flood::{DATAGRAMS, flood};
@@ -27,8 +26,8 @@ use std::thread::Threads;
 use std::time::Clock;
 use telling::run_tell;
 pub use udp_service::serve;
+use worker_threads::OpenGate;
 pub use worker_threads::ServeFault;
-use worker_threads::{OpenGate, refuse_count, worker_count};
 
 fn write_refusal<W: Write>(out: &mut W) -> io::Result<()>
     ensures { OnOk result (Appends (W.contents out.old) (W.contents out.new) (codes "refused C1\n")) }
@@ -55,77 +54,64 @@ fn run_serve<R: Threads + Wait + Net + Sync, W: Write, E: Write>(
     rt: &R,
     alloc: Global,
     addresses: (&str, &str),
-    workers: &str,
+    workers: Workers,
     out: &mut W,
     errs: &mut E,
 ) -> Status
     ensures done { result ≡ Status.Done
-        → (count : ℕ) × IsWorkers workers.now count × IsAddress addresses.entry.0.now × IsAddress addresses.entry.1.now
-        × WritesServed count (W.contents out.old) (W.contents out.new) }
+        → IsAddress addresses.entry.0.now × IsAddress addresses.entry.1.now × WritesServed workers.count (W.contents out.old) (W.contents out.new) }
     ensures refused { result ≡ Status.Refused
-        → (count : ℕ) × IsWorkers workers.now count × (IsNoAddress addresses.entry.0.now ⊎ IsNoAddress addresses.entry.1.now)
+        → (IsNoAddress addresses.entry.0.now ⊎ IsNoAddress addresses.entry.1.now)
         × Appends (W.contents out.old) (W.contents out.new) (codes "refused C1\n") }
     ensures no_errors { (result ≡ Status.Done) ⊎ (result ≡ Status.Refused) → errs.new ≡ errs.old }
-    ensures misused { result ≡ Status.Misused → (count : ℕ) → IsWorkers workers.now count → ⊥ }
-    ensures nothing_written { result ≡ Status.Misused → out.new ≡ out.old }
+    ensures never_misused { result ≡ Status.Misused → ⊥ }
     ensures failed { result ≡ Status.Failed
         → EndsInServeFailure addresses.entry.0.now addresses.entry.1.now (W.contents out.old) (W.contents out.new)
         (E.contents errs.old) (E.contents errs.new) }
 {
-    let Some(workers) = worker_count(workers) else {
-        return refuse_count(errs);
-    };
     let Some(front) = Endpoint::from_text(addresses.0.as_bytes()) else {
         return refuse_address(out, errs);
     };
     let Some(control) = Endpoint::from_text(addresses.1.as_bytes()) else {
         return refuse_address(out, errs);
     };
-    match serve(rt, alloc, front, control, workers, &OpenGate, out) {
+    match serve(rt, alloc, front, control, workers.count, &OpenGate, out) {
         Ok(()) => Status::Done,
         Err(failed) => Failure::from(failed).report(errs),
     }
 }
 
-/// Runs the command that may wait, for which the words ask, and answers the exit status. `tell` without lines reads the input.
+/// Runs a command that may wait, and answers the exit status. `tell` without lines reads the input.
 pub fn run_waiting<R: Threads + Wait + Net + Clock + Sync, I: Read + Drop, W: Write, E: Write>(
     rt: &R,
     alloc: Global,
-    words: &[String],
+    command: Waiting<'_>,
     input: I,
     out: &mut W,
     errs: &mut E,
 ) -> Status
-    requires { AskToWait (map string_bytes words.now) }
-    ensures done { result ≡ Status.Done → WritesFor (map string_bytes words.now) (I.remaining input) (W.contents out.old) (W.contents out.new) }
-    ensures refused { result ≡ Status.Refused → WritesRefusal (map string_bytes words.now) (I.remaining input) (W.contents out.old) (W.contents out.new) }
+    ensures done { result ≡ Status.Done → WritesFor (waiting_of command.entry) (I.remaining input) (W.contents out.old) (W.contents out.new) }
+    ensures refused { result ≡ Status.Refused → WritesRefusal (waiting_of command.entry) (I.remaining input) (W.contents out.old) (W.contents out.new) }
     ensures no_errors { (result ≡ Status.Done) ⊎ (result ≡ Status.Refused) → errs.new ≡ errs.old }
-    ensures misused { result ≡ Status.Misused
-        → LackWorkers (map string_bytes words.now)
-        ⊎ (LackDatagrams (map string_bytes words.now) ⊎ LackTimeout (map string_bytes words.now)) }
-    ensures nothing_written { result ≡ Status.Misused → out.new ≡ out.old }
+    ensures never_misused { result ≡ Status.Misused → ⊥ }
     ensures failed { result ≡ Status.Failed
-        → EndsInWaitingFailure (map string_bytes words.now) (I.remaining input) (W.contents out.old) (W.contents out.new)
+        → EndsInWaitingFailure (waiting_of command.entry) (I.remaining input) (W.contents out.old) (W.contents out.new)
         (E.contents errs.old) (E.contents errs.new) }
 {
-    match read_words(alloc, words) {
-        Ok(Subcommand::Flood { workers, datagrams }) => {
+    match command {
+        Waiting::Flood { workers, datagrams } => {
             run_flood(rt, alloc, workers, datagrams, out, errs)
         }
-        Ok(
-            Subcommand::Serve {
-                front,
-                control,
-                workers,
-            },
-        ) => run_serve(rt, alloc, (front, control), workers, out, errs),
-        Ok(
-            Subcommand::Tell {
-                control,
-                timeout,
-                lines,
-            },
-        ) => run_tell(
+        Waiting::Serve {
+            front,
+            control,
+            workers,
+        } => run_serve(rt, alloc, (front, control), workers, out, errs),
+        Waiting::Tell {
+            control,
+            timeout,
+            lines,
+        } => run_tell(
             rt,
             alloc,
             (control, timeout),
@@ -134,8 +120,5 @@ pub fn run_waiting<R: Threads + Wait + Net + Clock + Sync, I: Read + Drop, W: Wr
             out,
             errs,
         ),
-        Ok(Subcommand::Query(_) | Subcommand::Replay { .. } | Subcommand::Packets) =>
-            unreachable!(),
-        Err(_) => Failure::OutOfMemory.report(errs),
     }
 }

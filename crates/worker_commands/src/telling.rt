@@ -1,39 +1,18 @@
 //! The command `tell`: control lines to a running switch (docs/COMMANDS.md, "tell").
 
-ghost use Rattle.std.specs.Prelude.{◌≡◌, ◌⊎◌, IfErr, IfOk, MatchOption, None, false, map, ℕ};
+ghost use Rattle.std.specs.Prelude.{◌≡◌, ◌⊎◌, IfErr, IfOk, None, false, map};
 ghost use Rattle.control_client.specs.Tell.{StopsOverSocket, TellsAll};
-ghost use Rattle.worker_commands.specs.Telling.{EndsInTellFailure, IsTimeout, WritesReplies, failure_of, lines_told};
+ghost use Rattle.worker_commands.specs.Telling.{EndsInTellFailure, WritesReplies, failure_of, lines_told};
 ghost use Rattle.worker_commands.specs.Waiting.{IsToldRefusal};
 
 use crate::refuse_address;
-use command_line::{Failure, MAX_TIMEOUT, Status};
+use command_line::{Failure, Status};
 use control_client::{InputLines, TellFault, WordLines, tell_over_udp};
 use ipv4_fields::Endpoint;
 use std::alloc::Global;
 use std::io::{BufReader, Read, Write};
 use std::net::Net;
 use std::time::Clock;
-
-// The seconds that the text is, 1 to `MAX_TIMEOUT` in decimal digits.
-fn seconds_of(text: &str) -> Option<u64>
-    ensures { MatchOption result ((seconds : ℕ) → IsTimeout text.now seconds → ⊥) (IsTimeout text.now) }
-{
-    match text.parse::<u64>() {
-        Ok(seconds) if (1..=MAX_TIMEOUT).contains(&seconds) => Some(seconds),
-        _ => None,
-    }
-}
-
-// Tells that a text is no number of seconds. `clap` lets no such text through.
-fn refuse_timeout<E: Write>(errs: &mut E) -> Status
-    ensures { result ≡ Status.Misused }
-{
-    let _ = writeln!(
-        errs,
-        "error: --timeout takes a number from 1 to {MAX_TIMEOUT}"
-    );
-    Status::Misused
-}
 
 fn failure_of(fault: TellFault) -> Failure
     ensures { result ≡ failure_of fault }
@@ -72,34 +51,31 @@ fn tell_words_or_input<R: Net + Clock, I: Read + Drop, W: Write>(
     tell_over_udp(rt, alloc, seconds, &mut InputLines::new(input), switch, out)
 }
 
-/// Runs `tell` with the texts of the switch's address and of the seconds for an answer. The lines are the words, or where there is
+/// Runs `tell` with the text of the switch's address and the seconds for an answer. The lines are the words, or where there is
 /// none those of the input.
 pub(crate) fn run_tell<R: Net + Clock, I: Read + Drop, W: Write, E: Write>(
     rt: &R,
     alloc: Global,
-    switch: (&str, &str),
+    switch: (&str, u64),
     words: &[&str],
     input: I,
     out: &mut W,
     errs: &mut E,
 ) -> Status
     ensures done { result ≡ Status.Done
-        → WritesReplies switch.entry.0.now switch.entry.1.now (map (λ word. word.now) words.now) (I.remaining input)
+        → WritesReplies switch.entry.0.now (map (λ word. word.now) words.now) (I.remaining input)
         (W.contents out.old) (W.contents out.new) false }
     ensures refused { result ≡ Status.Refused
-        → IsToldRefusal switch.entry.0.now switch.entry.1.now (map (λ word. word.now) words.now) (I.remaining input)
+        → IsToldRefusal switch.entry.0.now (map (λ word. word.now) words.now) (I.remaining input)
         (W.contents out.old) (W.contents out.new) }
     ensures no_errors { (result ≡ Status.Done) ⊎ (result ≡ Status.Refused) → errs.new ≡ errs.old }
-    ensures misused { result ≡ Status.Misused → (seconds : ℕ) → IsTimeout switch.entry.1.now seconds → ⊥ }
-    ensures nothing_written { result ≡ Status.Misused → out.new ≡ out.old }
+    ensures never_misused { result ≡ Status.Misused → ⊥ }
     ensures failed { result ≡ Status.Failed
         → EndsInTellFailure switch.entry.0.now (map (λ word. word.now) words.now) (I.remaining input)
         (W.contents out.old) (W.contents out.new) (E.contents errs.old) (E.contents errs.new) }
 {
-    let Some(seconds) = seconds_of(switch.1) else {
-        return refuse_timeout(errs);
-    };
-    let Some(switch) = Endpoint::from_text(switch.0.as_bytes()) else {
+    let (control, seconds) = switch;
+    let Some(switch) = Endpoint::from_text(control.as_bytes()) else {
         return refuse_address(out, errs);
     };
     match tell_words_or_input(rt, alloc, seconds, switch, words, input, out) {

@@ -1,4 +1,3 @@
 pub mod Counted
 pub mod ServeFault
 pub mod TotalsLine
-pub mod Workers

@@ -9,7 +9,6 @@ mod named_tally;
 mod open_gate;
 mod serve_fault;
 mod totals_line;
-mod worker_number;
 mod worker_order;
 
 pub use counted_jobs::run_counted;
@@ -17,5 +16,4 @@ pub use named_tally::{NamedTally, TallyName};
 pub use open_gate::OpenGate;
 pub use serve_fault::ServeFault;
 pub use totals_line::write_totals;
-pub use worker_number::{refuse_count, worker_count};
 pub use worker_order::spread;

@@ -1,10 +1,13 @@
 use Rattle.std.proofs.Common.{◌∙◌, ap, Bor, List, codes, ℕ}
 use Rattle.clap.specs.Words.{found_of}
 use Rattle.clap.proofs.WalkLemmas.{first_value-rows}
+use Rattle.command_line.specs.CommandLine.{number_in}
+use Rattle.command_line.specs.declared.command.TheConstants.{MAX_TIMEOUT}
 use Rattle.command_line.proofs.CommandLineLemmas.{read_or}
 use Rattle.command_line.proofs.found.timeout_of.Goals as goal
 
 pub returns : goal.returns
 returns c =
-    ap (λ (text : Bor (List ℕ)). text.now) c.unwrap_or.ensures
-    ∙ read_or c.get_str.result _ _ (c.get_str.ensures ∙ first_value-rows (found_of c.args.found.now) (codes "timeout"))
+    c.number.ensures.number
+    ∙ ap (number_in MAX_TIMEOUT) (ap (λ (text : Bor (List ℕ)). text.now) c.unwrap_or.ensures
+    ∙ read_or c.get_str.result _ _ (c.get_str.ensures ∙ first_value-rows (found_of c.args.found.now) (codes "timeout")))

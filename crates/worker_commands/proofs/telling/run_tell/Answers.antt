@@ -6,21 +6,18 @@ use Rattle.worker_commands.proofs.telling.run_tell.Goals as goal
 
 pub returns-in-Err-clause-failed : goal.returns-in-Err-clause-failed
 returns-in-Err-clause-failed g c = λ is.
-    let switch = c.in-Some-from_text in
+    let switch = c.in-Some in
     stopped switch.switch c.in-Err.fault switch.ensures.0 (sym c.as_bytes.ensures.value ∙ switch.ensures.1) c.in-Err.ensures.stopped
     (subst (λ (f : Failure). AppendsBeginning (g.E.Write.contents c.args.errs.now) (g.E.Write.contents c.report.new.errs) (line_of f)) c.failure_of.ensures c.report.ensures.told)
 
 pub returns-in-Err-clause-done : goal.returns-in-Err-clause-done
 returns-in-Err-clause-done g c = search rules
 
-pub returns-in-Err-clause-misused : goal.returns-in-Err-clause-misused
-returns-in-Err-clause-misused g c = search rules
+pub returns-in-Err-clause-never_misused : goal.returns-in-Err-clause-never_misused
+returns-in-Err-clause-never_misused g c = search rules
 
 pub returns-in-Err-clause-no_errors : goal.returns-in-Err-clause-no_errors
 returns-in-Err-clause-no_errors g c = search rules
-
-pub returns-in-Err-clause-nothing_written : goal.returns-in-Err-clause-nothing_written
-returns-in-Err-clause-nothing_written g c = search rules
 
 pub returns-in-Err-clause-refused : goal.returns-in-Err-clause-refused
 returns-in-Err-clause-refused g c = search rules
@@ -31,14 +28,11 @@ returns-in-Ok-false-clause-done g c = search rules
 pub returns-in-Ok-false-clause-failed : goal.returns-in-Ok-false-clause-failed
 returns-in-Ok-false-clause-failed g c = search rules
 
-pub returns-in-Ok-false-clause-misused : goal.returns-in-Ok-false-clause-misused
-returns-in-Ok-false-clause-misused g c = search rules
+pub returns-in-Ok-false-clause-never_misused : goal.returns-in-Ok-false-clause-never_misused
+returns-in-Ok-false-clause-never_misused g c = search rules
 
 pub returns-in-Ok-false-clause-no_errors : goal.returns-in-Ok-false-clause-no_errors
 returns-in-Ok-false-clause-no_errors g c = search rules
-
-pub returns-in-Ok-false-clause-nothing_written : goal.returns-in-Ok-false-clause-nothing_written
-returns-in-Ok-false-clause-nothing_written g c = search rules
 
 pub returns-in-Ok-false-clause-refused : goal.returns-in-Ok-false-clause-refused
 returns-in-Ok-false-clause-refused g c = search rules
@@ -49,14 +43,11 @@ returns-in-Ok-true-clause-done g c = search rules
 pub returns-in-Ok-true-clause-failed : goal.returns-in-Ok-true-clause-failed
 returns-in-Ok-true-clause-failed g c = search rules
 
-pub returns-in-Ok-true-clause-misused : goal.returns-in-Ok-true-clause-misused
-returns-in-Ok-true-clause-misused g c = search rules
+pub returns-in-Ok-true-clause-never_misused : goal.returns-in-Ok-true-clause-never_misused
+returns-in-Ok-true-clause-never_misused g c = search rules
 
 pub returns-in-Ok-true-clause-no_errors : goal.returns-in-Ok-true-clause-no_errors
 returns-in-Ok-true-clause-no_errors g c = search rules
-
-pub returns-in-Ok-true-clause-nothing_written : goal.returns-in-Ok-true-clause-nothing_written
-returns-in-Ok-true-clause-nothing_written g c = search rules
 
 pub returns-in-Ok-true-clause-refused : goal.returns-in-Ok-true-clause-refused
 returns-in-Ok-true-clause-refused g c = search rules
@@ -67,32 +58,11 @@ returns-in_default-clause-done g c = search rules
 pub returns-in_default-clause-failed : goal.returns-in_default-clause-failed
 returns-in_default-clause-failed g c = search rules
 
-pub returns-in_default-clause-misused : goal.returns-in_default-clause-misused
-returns-in_default-clause-misused g c = search rules
+pub returns-in_default-clause-never_misused : goal.returns-in_default-clause-never_misused
+returns-in_default-clause-never_misused g c = search rules
 
 pub returns-in_default-clause-no_errors : goal.returns-in_default-clause-no_errors
 returns-in_default-clause-no_errors g c = search rules
 
-pub returns-in_default-clause-nothing_written : goal.returns-in_default-clause-nothing_written
-returns-in_default-clause-nothing_written g c = search rules
-
 pub returns-in_default-clause-refused : goal.returns-in_default-clause-refused
 returns-in_default-clause-refused g c = search rules
-
-pub returns-in_default-from_text-clause-done : goal.returns-in_default-from_text-clause-done
-returns-in_default-from_text-clause-done g c = search rules
-
-pub returns-in_default-from_text-clause-failed : goal.returns-in_default-from_text-clause-failed
-returns-in_default-from_text-clause-failed g c = search rules
-
-pub returns-in_default-from_text-clause-misused : goal.returns-in_default-from_text-clause-misused
-returns-in_default-from_text-clause-misused g c = search rules
-
-pub returns-in_default-from_text-clause-no_errors : goal.returns-in_default-from_text-clause-no_errors
-returns-in_default-from_text-clause-no_errors g c = search rules
-
-pub returns-in_default-from_text-clause-nothing_written : goal.returns-in_default-from_text-clause-nothing_written
-returns-in_default-from_text-clause-nothing_written g c = search rules
-
-pub returns-in_default-from_text-clause-refused : goal.returns-in_default-from_text-clause-refused
-returns-in_default-from_text-clause-refused g c = search rules
