@@ -4,26 +4,14 @@ use Rattle.control_line.specs.Answer.{IsAnswered}
 use Rattle.control_line.specs.Reply.{reply_text}
 use Rattle.control_line.specs.declared.reply.LineAnswer.{LineAnswer}
 use Rattle.ipv4_fields.specs.declared.endpoint.Endpoint.{Endpoint}
-use Rattle.dispatch.specs.Tally.{TallyValue, loaded, place_of}
+use Rattle.dispatch.specs.Tally.{TallyValue, all_loaded}
 use Rattle.dispatch.specs.Totals.{totals_text}
 use Rattle.dispatch.specs.declared.kind.Totals.{Totals}
-use Rattle.packet_verdict.specs.declared.kind.Kind.TheVariants as kind
 use Rattle.read_section.specs.Operator.{OperatorValue}
 use Rattle.control_datagram.specs.Ignored.{IsIgnored}
 use Rattle.control_datagram.specs.declared.ignored.BoundAddresses.{BoundAddresses}
 use Rattle.control_datagram.specs.declared.ControlAnswer.{ControlAnswer}
 use Rattle.control_datagram.specs.declared.ControlAnswer.TheVariants.{Line, Stop, Totals as TotalsAnswer}
-
--- one load of each total, which gave these totals, in the order of their line
-abbrev pub all_loaded : Totals → TallyValue → TallyValue
-all_loaded totals tally =
-    loaded (place_of kind.ReceiveFailed) totals.receive_failed
-    (loaded (place_of kind.SendFailed) totals.send_failed
-    (loaded (place_of kind.Delivered) totals.delivered
-    (loaded (place_of kind.Dropped) totals.dropped
-    (loaded (place_of kind.NoMembers) totals.no_members
-    (loaded (place_of kind.NoGroup) totals.no_group
-    (loaded (place_of kind.Malformed) totals.malformed tally))))))
 
 -- it is neither of the two words that are no control line's
 pub record IsOther (text : List ℕ) : Type 0 where

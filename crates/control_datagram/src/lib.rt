@@ -7,13 +7,13 @@
 
 ghost use Rattle.std.specs.Prelude.{◌≡◌, ◌≤◌, ◌++◌, IfSome, OnOk, length};
 ghost use Rattle.control_line.specs.declared.reply.TheConstants.{REPLY_LIMIT};
-ghost use Rattle.control_datagram.specs.Answer.{AnswersDatagram, AnswersText, RepliesToLine, all_loaded, bytes_of};
+ghost use Rattle.control_datagram.specs.Answer.{AnswersDatagram, AnswersText, RepliesToLine, bytes_of};
 ghost use Rattle.control_datagram.specs.Ignored.{IsAlwaysIgnored};
 
 mod ignored;
 
 use control_line::{Reply, is_word, line};
-use dispatch::{Kind, Tally, Totals};
+use dispatch::{Tally, Totals};
 pub use ignored::BoundAddresses;
 use ignored::is_ignored;
 use ipv4_fields::Endpoint;
@@ -48,21 +48,6 @@ impl ControlAnswer {
 // The reply where memory was refused.
 const NO_MEMORY: &str = "failed E3";
 
-// How often each kind was counted so far, by one load each.
-fn read_totals(tally: &mut Tally) -> Totals
-    ensures { tally.new ≡ all_loaded result tally.old }
-{
-    Totals {
-        malformed: tally.read(Kind::Malformed),
-        no_group: tally.read(Kind::NoGroup),
-        no_members: tally.read(Kind::NoMembers),
-        dropped: tally.read(Kind::Dropped),
-        delivered: tally.read(Kind::Delivered),
-        send_failed: tally.read(Kind::SendFailed),
-        receive_failed: tally.read(Kind::ReceiveFailed),
-    }
-}
-
 fn text_reply(text: &str) -> Reply
     requires { length text.now ≤ REPLY_LIMIT }
     ensures { result ≡ text.now }
@@ -96,7 +81,7 @@ fn answer_text(
         return ControlAnswer::Stop;
     }
     if is_word(text, "totals") {
-        return ControlAnswer::Totals(read_totals(tally));
+        return ControlAnswer::Totals(tally.totals());
     }
     ControlAnswer::Line(line_reply(alloc, text, operator))
 }

@@ -1,9 +1,10 @@
 -- What a contract sees of a Tally and of its Counters (docs/SWITCH.md, "Tallies").
-use Rattle.std.specs.Prelude.{◌≡◌, ◌==◌, ◌+◌, ◌≤◌, ◌∷◌, if◌then◌else◌, List, [], length, ℕ}
+use Rattle.std.specs.Prelude.{◌≡◌, ◌==◌, ◌+◌, ◌≤◌, ◌∷◌, if◌then◌else◌, List, [], length, slice_index, suc, zero, ℕ}
 use Rattle.std.specs.List.{All, Contains}
 use Rattle.atomic_table.specs.Seated.{TableId}
 use Rattle.packet_verdict.specs.declared.kind.Kind.{Kind}
 use Rattle.packet_verdict.specs.declared.kind.Kind.TheVariants.{Delivered, Dropped, Malformed, NoGroup, NoMembers, ReceiveFailed, SendFailed}
+use Rattle.dispatch.specs.declared.kind.TheConstants.{KINDS}
 use Rattle.dispatch.specs.declared.kind.Totals.{Totals}
 use Rattle.dispatch.specs.declared.tally.TheConstants.{COUNTERS}
 use Rattle.dispatch.specs.declared.tally_rule.Load.{Load}
@@ -19,13 +20,7 @@ place_of SendFailed = 5
 place_of ReceiveFailed = 6
 
 abbrev pub total_of : Totals → Kind → ℕ
-total_of totals Malformed = totals.malformed
-total_of totals NoGroup = totals.no_group
-total_of totals NoMembers = totals.no_members
-total_of totals Dropped = totals.dropped
-total_of totals Delivered = totals.delivered
-total_of totals SendFailed = totals.send_failed
-total_of totals ReceiveFailed = totals.receive_failed
+total_of totals kind = slice_index totals.counts (place_of kind)
 
 -- how often a number stands in a list
 abbrev pub times : ℕ → List ℕ → ℕ
@@ -48,6 +43,15 @@ counted place counter = record counter { log = place ∷ counter.log }
 
 abbrev pub loaded : ℕ → ℕ → TallyValue → TallyValue
 loaded place word tally = record tally { log = record { place = place; word = word } ∷ tally.log }
+
+-- one load of each word below a place, which gave what stands in a list there
+abbrev pub loaded_below : ℕ → List ℕ → List Load → List Load
+loaded_below zero words log = log
+loaded_below (suc place) words log = record { place = place; word = slice_index words place } ∷ loaded_below place words log
+
+-- one load of each total, which gave these totals, in the order of their line
+abbrev pub all_loaded : Totals → TallyValue → TallyValue
+all_loaded totals tally = record tally { log = loaded_below KINDS totals.counts tally.log }
 
 -- no load of that word gave more than this
 abbrev pub GaveAtMost : List Load → ℕ → ℕ → Type 0

@@ -14,43 +14,23 @@ pub const KINDS: usize = 7;
 pub(crate) fn place(kind: Kind) -> usize
     ensures { result ≡ place_of kind }
 {
-    match kind {
-        Kind::Malformed => 0,
-        Kind::NoGroup => 1,
-        Kind::NoMembers => 2,
-        Kind::Dropped => 3,
-        Kind::Delivered => 4,
-        Kind::SendFailed => 5,
-        Kind::ReceiveFailed => 6,
-    }
+    kind as usize
 }
 
 /// How often each kind was counted.
 #[derive(Clone, Copy, Debug, PartialEq, Eq)]
 pub struct Totals {
-    pub malformed: u64,
-    pub no_group: u64,
-    pub no_members: u64,
-    pub dropped: u64,
-    pub delivered: u64,
-    pub send_failed: u64,
-    pub receive_failed: u64,
+    /// One total a kind, in the order of the kinds.
+    pub counts: [u64; KINDS],
 }
 
 impl Totals {
-    /// Tells how often a kind was counted.
+    /// Returns how often a kind was counted.
+    #[tactic(auto, using(crate::proofs::TallyLemmas::place_low))]
     pub fn of(&self, kind: Kind) -> u64
         ensures total { result ≡ total_of self.now kind }
     {
-        match kind {
-            Kind::Malformed => self.malformed,
-            Kind::NoGroup => self.no_group,
-            Kind::NoMembers => self.no_members,
-            Kind::Dropped => self.dropped,
-            Kind::Delivered => self.delivered,
-            Kind::SendFailed => self.send_failed,
-            Kind::ReceiveFailed => self.receive_failed,
-        }
+        self.counts[place(kind)]
     }
 }
 
@@ -59,7 +39,7 @@ impl fmt::Display for Totals {
     ghost output = { λ totals. Some (totals_text totals) };
 
     fn fmt<W: fmt::Write>(&self, f: &mut fmt::Formatter<W>) -> fmt::Result {
-        let Totals {
+        let [
             malformed,
             no_group,
             no_members,
@@ -67,7 +47,7 @@ impl fmt::Display for Totals {
             delivered,
             send_failed,
             receive_failed,
-        } = *self;
+        ] = self.counts;
         write!(
             f,
             "malformed {malformed} nogroup {no_group} nomembers {no_members} dropped {dropped} \

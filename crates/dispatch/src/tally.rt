@@ -4,7 +4,7 @@
 ghost use Rattle.std.specs.Prelude.{◌≡◌, ◌+◌, ◌++◌, ◌<◌, ◌↔◌, ◌∷◌, [], IfOk, IsErr, OnErr, OnOk, length, slice_index, ℕ};
 ghost use Rattle.std.specs.Arc.{arc_value};
 ghost use Rattle.packet_verdict.specs.declared.kind.Kind.{Kind as KindValue};
-ghost use Rattle.dispatch.specs.Tally.{AreCountersOf, AreOpenedCounters, GaveAtMost, counted, loaded, place_of, sum_of_counts, times, total_of};
+ghost use Rattle.dispatch.specs.Tally.{AreCountersOf, AreOpenedCounters, GaveAtMost, all_loaded, counted, loaded, loaded_below, place_of, sum_of_counts, times, total_of};
 ghost use Rattle.dispatch.specs.body.TallyRule.{IsSeatOf, spent_seat, opening_view, without_counter};
 
 use crate::OutOfMemory;
@@ -153,6 +153,15 @@ impl Tally {
         let table = &self.table;
         table.shared.load::<Read>(&mut self.seat, place(kind))
     }
+
+    /// Returns how often each kind was counted so far, by one load of each word, in their order.
+    pub fn totals(&mut self) -> Totals
+        ensures loads { self.new ≡ all_loaded result self.old }
+    {
+        Totals {
+            counts: load_all(&self.table, &mut self.seat),
+        }
+    }
 }
 
 // A seat takes a counter's back.
@@ -185,21 +194,24 @@ fn take_all(table: &TallyTable, seat: &mut TallySeat, counters: Vec<Counter>)
     }
 }
 
-// Loads each word, by a seat that has all counters.
-fn sums(table: &TallyTable, seat: &mut TallySeat) -> [u64; KINDS]
-    requires counters { seat.old.me.0.counters ≡ COUNTERS }
+// Loads each word, in their order.
+fn load_all(table: &TallyTable, seat: &mut TallySeat) -> [u64; KINDS]
     requires seat { IsSeatOf seat.old.me.1 seat.old.table_id table.now.shared.table_id }
-    ensures sums { (place : ℕ) → place < KINDS → slice_index result place ≡ times place seat.old.me.0.added }
+    ensures view { seat.new.me.0 ≡ record seat.old.me.0 { loads = loaded_below KINDS result seat.old.me.0.loads } }
+    ensures seat { IsSeatOf seat.new.me.1 seat.new.table_id table.now.shared.table_id }
+    ensures sums { seat.old.me.0.counters ≡ COUNTERS
+        → (place : ℕ) → place < KINDS → slice_index result place ≡ times place seat.old.me.0.added }
     ensures no_less { (place : ℕ) → place < KINDS → GaveAtMost seat.old.me.0.loads place (slice_index result place) }
 {
-    let mut sums = [0; KINDS];
+    let mut counts = [0; KINDS];
     for place in 0..KINDS {
-        sums[place] = table.shared.load::<Read>(seat, place);
+        counts[place] = table.shared.load::<Read>(seat, place);
     }
-    sums
+    counts
 }
 
 /// Ends a tally: how often its counters, all of them, counted each kind. Takes no memory.
+#[tactic(auto, using(crate::proofs::TallyLemmas::place_low))]
 pub fn gather(tally: Tally, counters: Vec<Counter>) -> Totals
     requires counters { AreCountersOf tally.table counters.items }
     ensures sum_exact { (kind : KindValue) → total_of result kind ≡ sum_of_counts kind counters.items }
@@ -207,22 +219,7 @@ pub fn gather(tally: Tally, counters: Vec<Counter>) -> Totals
 {
     let Tally { table, mut seat } = tally;
     take_all(&table, &mut seat, counters);
-    let [
-        malformed,
-        no_group,
-        no_members,
-        dropped,
-        delivered,
-        send_failed,
-        receive_failed,
-    ] = sums(&table, &mut seat);
     Totals {
-        malformed,
-        no_group,
-        no_members,
-        dropped,
-        delivered,
-        send_failed,
-        receive_failed,
+        counts: load_all(&table, &mut seat),
     }
 }

@@ -7,7 +7,7 @@ pub returns-then-is_word-clause-answered : goal.returns-then-is_word-clause-answ
 returns-then-is_word-clause-answered c = stops (c.if-is_word.ensures.0 refl) refl refl
 
 pub returns-then-is_word-2-clause-answered : goal.returns-then-is_word-2-clause-answered
-returns-then-is_word-2-clause-answered c = tells_totals c.read_totals.result (c.if-is_word-2.ensures.0 refl) refl c.read_totals.ensures
+returns-then-is_word-2-clause-answered c = tells_totals c.totals.result (c.if-is_word-2.ensures.0 refl) refl c.totals.ensures.loads
 
 pub returns-clause-answered : goal.returns-clause-answered
 returns-clause-answered c =

@@ -3,7 +3,7 @@
 use super::configurations::{PACKET, socket, three_members, worker_of};
 use super::devices::{FailsAfter, FailsFirst, Looks, push, sends};
 use dispatch::{
-    BatchDone, BatchFault, Counter, Datagrams, KINDS, Kind, Outbox, Sends, Source, Tally, batch,
+    BatchDone, BatchFault, Counter, Datagrams, KINDS, Outbox, Sends, Source, Tally, Totals, batch,
 };
 use read_section::{Worker, open};
 use std::alloc::Global;
@@ -41,15 +41,8 @@ pub fn new_tally(rt: &impl Abort, alloc: Global) -> (Tally, Counter) {
 }
 
 pub fn totals(tally: &mut Tally) -> [u64; KINDS] {
-    [
-        tally.read(Kind::Malformed),
-        tally.read(Kind::NoGroup),
-        tally.read(Kind::NoMembers),
-        tally.read(Kind::Dropped),
-        tally.read(Kind::Delivered),
-        tally.read(Kind::SendFailed),
-        tally.read(Kind::ReceiveFailed),
-    ]
+    let Totals { counts } = tally.totals();
+    counts
 }
 
 // A worker, and a tally with a counter.

@@ -1,8 +1,8 @@
 //! Queues of workers, their sources and their outboxes.
 
 use dispatch::{
-    BatchDone, BatchFault, Counter, Done, Failed, Gate, Job, KINDS, Kind, Outbox, Sends, Source,
-    Tally, batch, run_workers,
+    BatchDone, BatchFault, Counter, Done, Failed, Gate, Job, KINDS, Outbox, Sends, Source, Tally,
+    Totals, batch, run_workers,
 };
 use ipv4_fields::Endpoint;
 use member_group::{Command, Config};
@@ -56,15 +56,8 @@ fn new_workers(rt: &impl Abort, alloc: Global) -> Vec<Worker> {
 }
 
 fn totals(tally: &mut Tally) -> [u64; KINDS] {
-    [
-        tally.read(Kind::Malformed),
-        tally.read(Kind::NoGroup),
-        tally.read(Kind::NoMembers),
-        tally.read(Kind::Dropped),
-        tally.read(Kind::Delivered),
-        tally.read(Kind::SendFailed),
-        tally.read(Kind::ReceiveFailed),
-    ]
+    let Totals { counts } = tally.totals();
+    counts
 }
 
 // The queues of one worker, and its source.

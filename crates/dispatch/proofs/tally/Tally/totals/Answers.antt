@@ -1,5 +1,5 @@
 use Rattle.std.proofs.Common.{rules}
-use Rattle.control_datagram.proofs.read_totals.Goals as goal
+use Rattle.dispatch.proofs.tally.Tally.totals.Goals as goal
 
 pub returns : goal.returns
 returns c = search rules
