@@ -32,14 +32,8 @@ pub(crate) fn publish_change(
 ) -> Result<LineAnswer, LineFault>
     ensures { IsOutcome (IsChanged (command_over source_of command.entry)) operator.old operator.new result }
 {
-    let command = match command_of(alloc, command) {
-        Ok(command) => command,
-        Err(fault) => return Err(fault),
-    };
-    let next = match next_config(operator.config(), &command) {
-        Ok(next) => next,
-        Err(refusal) => return Err(refusal),
-    };
+    let command = command_of(alloc, command)?;
+    let next = next_config(operator.config(), &command)?;
     match operator.publish(next) {
         Ok(version) => Ok(LineAnswer::Published { version }),
         Err((fault, _next)) => Err(LineFault::Refused(Reason::Publishing(fault))),
