@@ -191,11 +191,6 @@ none_programs fields kind text not_none cut not_asm not_expr (Some (assembly oth
 none_programs fields kind text not_none cut not_asm not_expr (Some (expression other)) e =
     not_expr (one_cut 32 kind (codes "expr") text other cut.lacks (lacks-test 32 (codes "expr") refl) (sym cut.whole ∙ e)).0
 
-pub none_programs_alone : (fields : List ℕ) → fields ≢ codes "none" → Lacks 32 fields → (program : Option Source) → fields ≢ spaced (program_fields program)
-none_programs_alone fields not_none lacks None e = not_none e
-none_programs_alone fields not_none lacks (Some (assembly other)) e = has_separator 32 (codes "asm") other (subst (Lacks 32) e lacks)
-none_programs_alone fields not_none lacks (Some (expression other)) e = has_separator 32 (codes "expr") other (subst (Lacks 32) e lacks)
-
 -- ---- lines of the table
 
 pub selector_spelled : (key : Endpoint) (text fields : List ℕ) → IsEndpoint key → fields ≡ codes "asm" ++ 32 ∷ text → Spells (codes "selector " ++ (endpoint_text key ++ 32 ∷ fields)) (change (SetSelector key (assembly text)))

@@ -37,7 +37,3 @@ gives_one room before after bytes packet size answer some same is given =
     let cut = subst (λ (a : Option ℕ). Gives (length bytes) before after (given_in {E = Failed} bytes (Ok a))) some given in
     let roomy = subst (λ (n : ℕ). Gives n before after (take size bytes ∷ [])) same cut in
     subst (λ (p : List ℕ). Gives room before after (p ∷ [])) (sym is) roomy
-
--- it gave none
-pub gives_none : (room : ℕ) (before after : Option (List (List ℕ))) (bytes : List ℕ) → length bytes ≡ room → Gives (length bytes) before after [] → Gives room before after []
-gives_none room before after bytes same given = subst (λ (n : ℕ). Gives n before after []) same given

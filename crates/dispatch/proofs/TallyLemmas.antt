@@ -1,13 +1,13 @@
 -- The rule on the table of a tally holds at the start, and each step keeps it.
-use Rattle.std.proofs.Common.{◌≡◌, ◌≢◌, ◌<◌, ◌≤◌, ◌+◌, ◌-◌, ◌*◌, ◌%◌, ◌^◌, ◌∷◌, ◌++◌, ◌∙◌, ◌⊎◌, List, [], ap, arith, inl, inr, length, refl, set, slice_index, subst, suc, sym, zero, ℕ}
+use Rattle.std.proofs.Common.{◌≡◌, ◌≢◌, ◌<◌, ◌≤◌, ◌+◌, ◌-◌, ◌*◌, ◌%◌, ◌^◌, ◌∷◌, ◌++◌, ◌∙◌, ◌⊎◌, List, [], ap, arith, inl, inr, length, refl, set, slice_index, subst, sym, ℕ}
 use mathlib.Core.Logic.{dite}
-use mathlib.Core.Option.{Option, none, some, some-injective, some-ne-none}
+use mathlib.Core.Option.{Option, none, some}
 use native.Mathlib.Decide.{ℕ_discrete}
 use lib.ListN.{get_elem?}
-use Rattle.std.proofs.lemmas.List.{get_or-append-add, get_or_append_left, get_or-set_other, get_or-set_same, length-append, length-set, set-get_or}
-use Rattle.std.specs.List.{All, Contains}
+use Rattle.std.proofs.lemmas.List.{get_or-set_other, get_or-set_same, length-append, length-set, set-get_or}
+use Rattle.std.specs.List.{Contains}
 use Rattle.versions.proofs.ListLemmas.{contains_first}
-use Rattle.atomic_table.specs.Table.{Allows, Joins, Me, Splits, State, keeps, opening, step}
+use Rattle.atomic_table.specs.Table.{Allows, Joins, Me, Splits, State, keeps, step}
 use Rattle.atomic_table.proofs.Lists.{at_set, at_snoc}
 use Rattle.dispatch.specs.declared.kind.TheConstants.{KINDS}
 use Rattle.packet_verdict.specs.declared.kind.Kind.{Kind}
@@ -17,7 +17,7 @@ use Rattle.dispatch.specs.declared.tally_rule.CountView.{CountView}
 use Rattle.dispatch.specs.declared.tally_rule.Load.{Load}
 use Rattle.atomic_table.specs.Seated.{TableId}
 use Rattle.dispatch.specs.Tally.{AreCountersOf, AreOpenedCounters, CounterValue, GaveAtMost, place_of, times}
-use Rattle.dispatch.specs.body.TallyRule.{IsTallied, Reads, counts, new_counter, spent_seat, opening_view, sum_over, with_counter, without_counter}
+use Rattle.dispatch.specs.body.TallyRule.{IsTallied, Reads, counts, new_counter, spent_seat, sum_over, with_counter, without_counter}
 use Rattle.dispatch.proofs.SumLemmas.{sum_limited, sum_set, sum_snoc, times-append, times_else, times_here, times_limited}
 
 abbrev pub TallyState : Type 0
@@ -91,25 +91,6 @@ module _ {S : Type 0} where
     limited = λ seat view e. (each seat view e).0;
     loads = λ seat view place e low. (each seat view e).1 place low;
   }
-
--- ---- the start
-
-pub tallied_at_start : IsTallied {S = ℕ} (opening (0 ∷ 0 ∷ 0 ∷ 0 ∷ 0 ∷ 0 ∷ 0 ∷ []) [] opening_view)
-tallied_at_start = tallied _ refl (λ place low. zero_word place) refl (first_fits)
-  where
-    zero_word : (place : ℕ) → slice_index (0 ∷ 0 ∷ 0 ∷ 0 ∷ 0 ∷ 0 ∷ 0 ∷ []) place ≡ 0
-    zero_word zero = refl
-    zero_word (suc zero) = refl
-    zero_word (suc (suc zero)) = refl
-    zero_word (suc (suc (suc zero))) = refl
-    zero_word (suc (suc (suc (suc zero)))) = refl
-    zero_word (suc (suc (suc (suc (suc zero))))) = refl
-    zero_word (suc (suc (suc (suc (suc (suc zero)))))) = refl
-    zero_word (suc (suc (suc (suc (suc (suc (suc place))))))) = refl
-
-    first_fits : EachFits (0 ∷ 0 ∷ 0 ∷ 0 ∷ 0 ∷ 0 ∷ 0 ∷ []) (opening_view ∷ [])
-    first_fits zero view e = subst (Fits (0 ∷ 0 ∷ 0 ∷ 0 ∷ 0 ∷ 0 ∷ 0 ∷ [])) (some-injective opening_view view e) (omega arith, λ place low load never. absurd (let less = never.1 in omega arith))
-    first_fits (suc seat) view e = absurd (some-ne-none view (sym e))
 
 -- ---- a seat's step on a word
 
@@ -234,15 +215,3 @@ opened_are_all table counters opened = record {
   count = opened.count;
   same_table = λ i d inside. ap (λ (counter : CounterValue). counter.table) (opened.each i d inside);
 }
-
--- of counters of one table, the earlier ones, and the last
-module _ (table : TableId) (counters : List CounterValue) (last : CounterValue) (all : All (λ (counter : CounterValue). counter.table ≡ table) (counters ++ last ∷ [])) where
-  pub earlier_there : All (λ (counter : CounterValue). counter.table ≡ table) counters
-  earlier_there i d inside =
-      subst (λ (counter : CounterValue). counter.table ≡ table) (get_or_append_left counters (last ∷ []) d i inside)
-      (all i d (let longer = length-append counters (last ∷ []) in omega arith))
-
-  pub last_there : last.table ≡ table
-  last_there =
-      subst (λ (counter : CounterValue). counter.table ≡ table) (get_or-append-add counters (last ∷ []) 0 last)
-      (all (length counters + 0) last (let longer = length-append counters (last ∷ []) in omega arith))
