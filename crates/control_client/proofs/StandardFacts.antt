@@ -1,6 +1,6 @@
 -- Worked examples of the definitions.
 use Rattle.std.proofs.Common.{[], codes, false, refl, true, ◌∷◌, ◌≡◌}
-use Rattle.control_client.specs.Exchange.{Exchange, has_refusal, is_refusal, text_of}
+use Rattle.control_client.specs.Exchange.{has_refusal, is_refusal, text_of}
 use Rattle.control_client.specs.Lines.{lines_in}
 
 no_bytes_no_line : lines_in (codes "") ≡ []

@@ -12,7 +12,7 @@ use Rattle.control_client.specs.Lines.{AreAll, AreFirst, LosesLine}
 use Rattle.control_client.specs.Tell.{StopsBehind, TellsAll, TellsFirst}
 use Rattle.control_client.specs.Wire.{Event, Logs}
 use Rattle.control_client.proofs.LinesLemmas.{Gave, gave_all, gave_first, gave_line, gave_nothing}
-use Rattle.control_client.proofs.PrintingLemmas.{appends_more, appends_nothing}
+use Rattle.std.proofs.KnownBytes.{Appends-nil, Appends-trans}
 use Rattle.control_client.proofs.WireLemmas.{logs_more, logs_nothing}
 
 -- these lines were given and told so far
@@ -32,7 +32,7 @@ telling_begins switch coming log out = record {
   given = gave_nothing coming;
   are_exchanged = no_line;
   logged = logs_nothing log;
-  printed = appends_nothing out;
+  printed = Appends-nil out;
   refused_is = refl;
 }
 
@@ -79,7 +79,7 @@ module _ (switch : Endpoint) (coming mid after : Option (List (List ℕ))) (log 
         given = rw (lines_of_more so_far.told last) (gave_line coming mid after (lines_of so_far.told) line so_far.given given);
         are_exchanged = one_more so_far.told so_far.events line_told.events line line_told.reply so_far.are_exchanged line_told.is_exchange;
         logged = logs_more log log' log'' so_far.events line_told.events so_far.logged line_told.logged;
-        printed = rw (text_of_more so_far.told last) (appends_more out out' out'' (text_of so_far.told) (reply_line line_told.reply) so_far.printed line_told.printed);
+        printed = rw (text_of_more so_far.told last) (Appends-trans out out' out'' (text_of so_far.told) (reply_line line_told.reply) so_far.printed line_told.printed);
         refused_is = ap (λ (b : Bool). b || one) so_far.refused_is ∙ ap (λ (b : Bool). has_refusal so_far.told || b) line_told.refused_is ∙ sym (has_refusal_more so_far.told last);
       }
 

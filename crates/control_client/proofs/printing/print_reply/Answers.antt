@@ -1,7 +1,8 @@
 use Rattle.std.proofs.Common.{arith, ◌∷◌, [], rules}
 use Rattle.std.proofs.lemmas.Grind.{common_steps}
 use Rattle.control_client.specs.Exchange.{WritesBeginning, reply_line}
-use Rattle.control_client.proofs.PrintingLemmas.{appends_kept, appends_more, begins_first, begins_then, begins_whole}
+use Rattle.std.proofs.KnownBytes.{Appends-kept, Appends-trans}
+use Rattle.control_client.proofs.PrintingLemmas.{begins_first, begins_then, begins_whole}
 use Rattle.control_client.proofs.ResultLemmas.{on_err}
 use Rattle.control_client.proofs.printing.print_reply.Goals as goal
 
@@ -21,7 +22,7 @@ returns-in-Err-clause-beginning g c =
     let start = g.W.Write.contents c.args.out.now in let mid = g.W.Write.contents c.write_whole.new.out in
     let end = g.W.Write.contents c.write_whole-2.new.out in let last = g.W.Write.contents c.flush.new.self in let reply = c.args.reply.now in
     begins_whole start last (reply_line reply)
-    (appends_kept start end last (reply_line reply) (appends_more start mid end reply (10 ∷ []) c.in_ok-write_whole.ensures.written (rw c.as_slice.ensures at c.in_ok-write_whole-2.ensures.written)) c.in-Err.ensures.bytes)
+    (Appends-kept start end last (reply_line reply) (Appends-trans start mid end reply (10 ∷ []) c.in_ok-write_whole.ensures.written (rw c.as_slice.ensures at c.in_ok-write_whole-2.ensures.written)) c.in-Err.ensures.bytes)
 
 pub returns-in-Err-clause-fault : goal.returns-in-Err-clause-fault
 returns-in-Err-clause-fault g c = search rules
