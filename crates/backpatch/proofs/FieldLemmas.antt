@@ -1,103 +1,19 @@
 -- The jump of an instruction stands in bits of its word.
-use Rattle.std.proofs.Common.{◌≡◌, ◌==◌, ◌∙◌, ◌<◌, ◌^◌, Bool, List, Ok, Option, Some, [], ap, arith, cond, false, refl, subst, sym, true, ◌∷◌, ◌-◌, ◌≤◌, ℕ}
+use Rattle.std.proofs.Common.{◌≡◌, ◌∙◌, ◌<◌, ◌^◌, List, Ok, Some, ap, arith, refl, ◌-◌, ◌≤◌, ℕ}
 use Rattle.std.specs.Prelude.{slice_index_or, slice_set}
 use Rattle.std.proofs.lemmas.Option.{get_or_from_slice_get}
-use Rattle.bpf_insn.proofs.WordLemmas.{instruction_of-complete, instruction_of-sound, instruction_of-word_of}
+use Rattle.bpf_insn.proofs.WordLemmas.{fields_fit, instruction_of-sound, instruction_of-word_of}
 use Rattle.bpf_insn.specs.declared.instruction.Insn.{Insn}
 use Rattle.bpf_insn.specs.declared.instruction.Insn.TheVariants.{Jump, JumpIf}
 use Rattle.bpf_insn.specs.declared.instruction.Operand.{Operand}
 use Rattle.bpf_insn.specs.declared.instruction.Operand.TheVariants.{K, X}
-use Rattle.bpf_insn.specs.Table.{Entry, Uses, instruction_with, offsets, table, uses_in, uses_of}
+use Rattle.bpf_insn.specs.Table.{offsets}
 use Rattle.bpf_insn.specs.Word.{FieldsFit, OperandFits, instruction_of, operand_word, test_code, word, word_of}
 use Rattle.backpatch.specs.declared.hole.Side.{Side}
 use Rattle.backpatch.specs.declared.hole.Side.TheVariants.{Always, WhenFalse, WhenTrue}
 use Rattle.backpatch.specs.declared.hole.Hole.{Hole}
 use Rattle.backpatch.specs.Holes.{CanReach, HasJump, offset_of}
 use Rattle.backpatch.specs.body.Filling.{IsFilledIn, SkipFits, with_jf, with_jt, with_k, with_offset, with_skip}
-
--- fields in their ranges make an instruction with fields in their ranges
-abbrev Fits : Uses → Type 0
-Fits uses = (jt jf k : ℕ) → jt < 2 ^ 8 → jf < 2 ^ 8 → k < 2 ^ 32 → FieldsFit (instruction_with uses jt jf k)
-
-data AllFit : List Entry → Type 0 where
-  no_entries : AllFit []
-  ◌▹◌ : {entry : Entry} {entries : List Entry} → Fits entry.uses → AllFit entries → AllFit (entry ∷ entries)
-
-infixr 5 ◌▹◌
-table-fits : AllFit table
-unfolding table
-table-fits =
-    (λ jt jf k a b c. c)
-    ▹ (λ jt jf k a b c. c)
-    ▹ (λ jt jf k a b c. c)
-    ▹ (λ jt jf k a b c. c)
-    ▹ (λ jt jf k a b c. c)
-    ▹ (λ jt jf k a b c. c)
-    ▹ (λ jt jf k a b c. c)
-    ▹ (λ jt jf k a b c. c)
-    ▹ (λ jt jf k a b c. tt)
-    ▹ (λ jt jf k a b c. c)
-    ▹ (λ jt jf k a b c. c)
-    ▹ (λ jt jf k a b c. tt)
-    ▹ (λ jt jf k a b c. c)
-    ▹ (λ jt jf k a b c. c)
-    ▹ (λ jt jf k a b c. c)
-    ▹ (λ jt jf k a b c. c)
-    ▹ (λ jt jf k a b c. tt)
-    ▹ (λ jt jf k a b c. c)
-    ▹ (λ jt jf k a b c. tt)
-    ▹ (λ jt jf k a b c. c)
-    ▹ (λ jt jf k a b c. tt)
-    ▹ (λ jt jf k a b c. c)
-    ▹ (λ jt jf k a b c. tt)
-    ▹ (λ jt jf k a b c. c)
-    ▹ (λ jt jf k a b c. tt)
-    ▹ (λ jt jf k a b c. c)
-    ▹ (λ jt jf k a b c. tt)
-    ▹ (λ jt jf k a b c. c)
-    ▹ (λ jt jf k a b c. tt)
-    ▹ (λ jt jf k a b c. c)
-    ▹ (λ jt jf k a b c. tt)
-    ▹ (λ jt jf k a b c. c)
-    ▹ (λ jt jf k a b c. tt)
-    ▹ (λ jt jf k a b c. c)
-    ▹ (λ jt jf k a b c. tt)
-    ▹ (λ jt jf k a b c. tt)
-    ▹ (λ jt jf k a b c. tt)
-    ▹ (λ jt jf k a b c. tt)
-    ▹ (λ jt jf k a b c. c)
-    ▹ (λ jt jf k a b c. (c, a, b))
-    ▹ (λ jt jf k a b c. (tt, a, b))
-    ▹ (λ jt jf k a b c. (c, a, b))
-    ▹ (λ jt jf k a b c. (tt, a, b))
-    ▹ (λ jt jf k a b c. (c, a, b))
-    ▹ (λ jt jf k a b c. (tt, a, b))
-    ▹ (λ jt jf k a b c. (c, a, b))
-    ▹ (λ jt jf k a b c. (tt, a, b))
-    ▹ (λ jt jf k a b c. c)
-    ▹ (λ jt jf k a b c. tt)
-    ▹ no_entries
-
-step-fits : (b : Bool) (entry : Entry) (code : ℕ) (rest : Option Uses) (uses : Uses) → Fits entry.uses → (rest ≡ Some uses → Fits uses) → cond b (Some entry.uses) rest ≡ Some uses → Fits uses
-step-fits true entry code rest uses here later found = let same : entry.uses ≡ uses = cc in subst Fits same here
-step-fits false entry code rest uses here later found = later found
-
-uses_in-fits : (entries : List Entry) (code : ℕ) (uses : Uses) → AllFit entries → uses_in entries code ≡ Some uses → Fits uses
-uses_in-fits [] code uses no_entries found = cc
-uses_in-fits (entry ∷ entries) code uses (here ▹ later) found =
-    step-fits (entry.code == code) entry code (uses_in entries code) uses here (uses_in-fits entries code uses later) found
-
-uses_of-fits : (code : ℕ) (uses : Uses) → uses_of code ≡ Some uses → Fits uses
-unfolding uses_of
-uses_of-fits code uses found = uses_in-fits table code uses table-fits found
-
--- the fields of an instruction that is read are in their ranges
-fits : (w : ℕ) (insn : Insn) → instruction_of w ≡ Ok insn → FieldsFit insn
-fits w insn e =
-    let h = (instruction_of-sound w insn e).0 in
-    let same : Ok (instruction_with h.uses h.jt h.jf h.k) ≡ Ok insn = sym (instruction_of-complete w h) ∙ e in
-    let is : instruction_with h.uses h.jt h.jf h.k ≡ insn = cc in
-    subst FieldsFit is (uses_of-fits h.code h.uses h.in_table h.jt h.jf h.k h.jt_fits h.jf_fits h.k_fits)
 
 operand-jt : (code : ℕ) (operand : Operand) (jt jf k w : ℕ) → OperandFits operand → jt < 2 ^ 8 → jf < 2 ^ 8 → operand_word code operand jt jf ≡ w → with_jt w k ≡ operand_word code operand k jf
 operand-jt code (K n) jt jf k w a b c e = omega arith
@@ -122,7 +38,7 @@ reads-case _ old k w insn f e h s = absurd cc
 
 pub reads-with_skip : (side : Side) (old k w : ℕ) (insn : Insn) → instruction_of w ≡ Ok insn → offset_of side insn ≡ Some old → SkipFits side k →
     instruction_of (with_skip side w k) ≡ Ok (with_offset side k insn)
-reads-with_skip side old k w insn e h s = reads-case side old k w insn (fits w insn e) (instruction_of-sound w insn e).1 h s
+reads-with_skip side old k w insn e h s = reads-case side old k w insn (fields_fit w insn e) (instruction_of-sound w insn e).1 h s
 
 pub skip-fits : (side : Side) (place to : ℕ) → CanReach place side to → place < to → to ≤ 4096 → SkipFits side (to - place - 1)
 skip-fits WhenTrue place to near behind room = omega arith

@@ -7,7 +7,6 @@ pub mod FormLemmas
 pub mod InsnLemmas
 pub mod StatementLemmas
 pub mod ReadLemmas
-pub mod FitLemmas
 pub mod TextLemmas
 pub mod TargetLemmas
 pub mod AssemblyLemmas

@@ -5,10 +5,9 @@ use Rattle.std.specs.List.{AllByRecursion, AllZip}
 use Rattle.bpf_insn.specs.declared.instruction.Insn.{Insn}
 use Rattle.bpf_insn.specs.declared.instruction.Insn.TheVariants.{Alu, CopyFromX, CopyToX, Jump, JumpIf, LoadAbsolute, LoadCell, LoadConstant, LoadIndexed, LoadLength, LoadXCell, LoadXConstant, LoadXHeader, LoadXLength, Negate, ReturnA, ReturnConstant, Store, StoreX}
 use Rattle.bpf_insn.specs.Word.{FieldsFit, IsInstructionWord, instruction_of}
-use Rattle.bpf_insn.proofs.WordLemmas.{instruction_of-sound}
+use Rattle.bpf_insn.proofs.WordLemmas.{fields_fit, instruction_of-sound}
 use Rattle.bpf_verify.specs.Accepted.{IsAccepted}
 use Rattle.bpf_verify.proofs.PlaceLemmas.{faultless_at}
-use Rattle.bpf_asm.proofs.FitLemmas.{fields_fit}
 use Rattle.bpf_asm.proofs.ShownLemmas.{lines_of-line}
 use Rattle.bpf_asm.specs.Assembly.{Assembles, places_of}
 use Rattle.bpf_asm.specs.Line.{lines_of}

@@ -1,5 +1,5 @@
 -- Words and instructions: each is read back from the other.
-use Rattle.std.proofs.Common.{◌≡◌, ◌==◌, ◌∙◌, ◌+◌, ◌/◌, ◌^◌, ◌<◌, Bool, Err, IfOk, IsNone, IsOk, IsSome, List, None, Ok, Option, Result, Some, [], ap, arith, bit_and, cond, false, refl, sym, true, ◌∷◌, ◌↔◌, ℕ}
+use Rattle.std.proofs.Common.{◌≡◌, ◌==◌, ◌∙◌, ◌+◌, ◌/◌, ◌^◌, ◌<◌, Bool, Err, IfOk, IsNone, IsOk, IsSome, List, None, Ok, Option, Result, Some, [], ap, arith, bit_and, cond, false, refl, subst, sym, true, ◌∷◌, ◌↔◌, ℕ}
 use Rattle.std.specs.Int.{from_be_bytes, to_be_bytes, w64}
 use Rattle.std.proofs.lemmas.Bool.{eqb-true}
 use Rattle.std.proofs.lemmas.Nat.{and_mask, from_be_bytes-to_be_bytes_8}
@@ -103,26 +103,28 @@ instruction_of-word_of ReturnA fits = instruction_of-word 0x16 0 0 0 (omega arit
 
 -- ---- from words to instructions and back
 
--- the instruction of an entry has the entry's code, and 0 in the fields that it does not use
+-- the instruction of an entry has the entry's code, and 0 in the fields that it does not use; and fields in their ranges stay so
 abbrev pub Encodes : Entry → Type 0
-Encodes entry = (jt jf k : ℕ) → unused_sum entry.uses jt jf k ≡ 0 → word_of (instruction_with entry.uses jt jf k) ≡ word entry.code jt jf k
+Encodes entry =
+    ((jt jf k : ℕ) → unused_sum entry.uses jt jf k ≡ 0 → word_of (instruction_with entry.uses jt jf k) ≡ word entry.code jt jf k)
+    × ((jt jf k : ℕ) → jt < 2 ^ 8 → jf < 2 ^ 8 → k < 2 ^ 32 → FieldsFit (instruction_with entry.uses jt jf k))
 
 data AllEncode : List Entry → Type 0 where
   no_entries : AllEncode []
   ◌▹◌ : {entry : Entry} {entries : List Entry} → Encodes entry → AllEncode entries → AllEncode (entry ∷ entries)
 
 infixr 5 ◌▹◌
-constant_encodes : (code jt jf k : ℕ) → jt + jf ≡ 0 → word code 0 0 k ≡ word code jt jf k
-constant_encodes code jt jf k zero = omega arith
+constant_encodes : (code : ℕ) → ((jt jf k : ℕ) → jt + jf ≡ 0 → word code 0 0 k ≡ word code jt jf k) × ((jt jf k : ℕ) → jt < 2 ^ 8 → jf < 2 ^ 8 → k < 2 ^ 32 → k < 2 ^ 32)
+constant_encodes code = (λ jt jf k zero. omega arith, λ jt jf k t f c. c)
 
-none_encodes : (code jt jf k : ℕ) → jt + jf + k ≡ 0 → word code 0 0 0 ≡ word code jt jf k
-none_encodes code jt jf k zero = omega arith
+none_encodes : (code : ℕ) → ((jt jf k : ℕ) → jt + jf + k ≡ 0 → word code 0 0 0 ≡ word code jt jf k) × ((jt jf k : ℕ) → jt < 2 ^ 8 → jf < 2 ^ 8 → k < 2 ^ 32 → Unit {0})
+none_encodes code = (λ jt jf k zero. omega arith, λ jt jf k t f c. tt)
 
-jumps_encode : (code jt jf k : ℕ) → k ≡ 0 → word code jt jf 0 ≡ word code jt jf k
-jumps_encode code jt jf k zero = omega arith
+jumps_encode : (code : ℕ) → ((jt jf k : ℕ) → k ≡ 0 → word code jt jf 0 ≡ word code jt jf k) × ((jt jf k : ℕ) → jt < 2 ^ 8 → jf < 2 ^ 8 → k < 2 ^ 32 → Unit {0} × (jt < 2 ^ 8) × (jf < 2 ^ 8))
+jumps_encode code = (λ jt jf k zero. omega arith, λ jt jf k t f c. (tt, t, f))
 
-all_encode : (code jt jf k : ℕ) → ◌≡◌ {A = ℕ} 0 0 → word code jt jf k ≡ word code jt jf k
-all_encode code jt jf k zero = refl
+all_encode : (code : ℕ) → ((jt jf k : ℕ) → ◌≡◌ {A = ℕ} 0 0 → word code jt jf k ≡ word code jt jf k) × ((jt jf k : ℕ) → jt < 2 ^ 8 → jf < 2 ^ 8 → k < 2 ^ 32 → (k < 2 ^ 32) × (jt < 2 ^ 8) × (jf < 2 ^ 8))
+all_encode code = (λ jt jf k zero. refl, λ jt jf k t f c. (c, t, f))
 
 table-encodes : AllEncode table
 unfolding table
@@ -182,7 +184,7 @@ entry-step : (b : Bool) (entry : Entry) (code : ℕ) (rest : Option Uses) (uses 
 entry-step true entry code rest uses test here later found =
     let at : entry.code ≡ code = eqb-true entry.code code test in
     let same : entry.uses ≡ uses = cc in
-    λ jt jf k zero. rw (← at, ← same) (here jt jf k (rw same zero))
+    subst (λ (u : Uses). Encodes (record { code = code; uses = u })) same (subst (λ (c : ℕ). Encodes (record { code = c; uses = entry.uses })) at here)
 entry-step false entry code rest uses test here later found = later found
 
 uses_in-encodes : (entries : List Entry) (code : ℕ) (uses : Uses) → AllEncode entries → uses_in entries code ≡ Some uses → Encodes (record { code = code; uses = uses })
@@ -215,7 +217,7 @@ pub instruction_of-sound : (w : ℕ) (insn : Insn) → instruction_of w ≡ Ok i
 unfolding instruction_of
 instruction_of-sound w insn e =
     let made_by = fields_instruction-Ok (uses_of (code_of w)) (true_jump_of w) (false_jump_of w) (constant_of w) insn e in
-    let encodes = uses_of-encodes (code_of w) made_by.uses made_by.is_found (true_jump_of w) (false_jump_of w) (constant_of w) made_by.unused_zero in (
+    let encodes = (uses_of-encodes (code_of w) made_by.uses made_by.is_found).0 (true_jump_of w) (false_jump_of w) (constant_of w) made_by.unused_zero in (
       record {
         code = code_of w;
         jt = true_jump_of w;
@@ -240,6 +242,17 @@ instruction_of-complete w h =
     ap instruction_of h.is_word
     ∙ instruction_of-word h.code h.jt h.jf h.k h.jt_fits h.jf_fits h.k_fits
     ∙ fields_instruction-made (uses_of h.code) h.uses h.jt h.jf h.k h.in_table h.unused_zero
+
+-- the fields of an instruction that is read are in their ranges
+pub fields_fit : (w : ℕ) (insn : Insn) → instruction_of w ≡ Ok insn → FieldsFit insn
+fields_fit w insn e =
+    let h = (instruction_of-sound w insn e).0 in
+    let made : instruction_with h.uses h.jt h.jf h.k ≡ insn = (let both = instruction_of-complete w h in cc) in
+    subst FieldsFit made ((uses_of-encodes h.code h.uses h.in_table).1 h.jt h.jf h.k h.jt_fits h.jf_fits h.k_fits)
+
+pub uses_of-instruction_word : (w : ℕ) (h : IsInstructionWord w) → uses_of (code_of w) ≡ Some h.uses
+uses_of-instruction_word w h =
+    ap (λ v. uses_of (code_of v)) h.is_word ∙ ap uses_of (code_of-word h.code h.jt h.jf h.k h.jt_fits h.jf_fits h.k_fits) ∙ h.in_table
 
 IsOk-sound : (w : ℕ) (r : Result Insn WordFault) → instruction_of w ≡ r → IsOk r → IsInstructionWord w
 IsOk-sound w (Ok insn) e ok = (instruction_of-sound w insn e).0
