@@ -1,12 +1,12 @@
 //! The program `dswitch`: its arguments, its standard streams and its exit status (docs/COMMANDS.md).
 #![tactic(auto)]
 
-use command_line::{Failure, Subcommand, read_words, refuse_arguments, reported};
+use command_line::{Failure, refuse_arguments};
 use std::env::Env;
 use std::io::LineWriter;
 use std::process::ExitCode;
 use std::{env, io};
-use text_commands::{answer, run_command};
+use text_commands::run_returning;
 use worker_commands::run_waiting;
 
 // The words after the program's name.
@@ -23,19 +23,10 @@ fn main(rt: HostRuntime) -> ExitCode {
     let Ok(mut out) = LineWriter::new(rt.alloc(), rt.stdout()) else {
         return ExitCode::from(Failure::OutOfMemory.report(&mut errs) as u8);
     };
-    let ended = match read_words(rt.alloc(), words.as_slice()) {
-        Ok(Subcommand::Returning(command)) => {
-            run_command(rt.alloc(), command, rt.stdin(), &mut out, &mut errs)
-        }
-        Ok(Subcommand::Waiting(command)) => Ok(run_waiting(
-            &rt,
-            rt.alloc(),
-            command,
-            rt.stdin(),
-            &mut out,
-            &mut errs,
-        )),
-        Err(fault) => answer(&fault, &mut out, &mut errs),
+    let alloc = rt.alloc();
+    let status = match run_returning(alloc, words.as_slice(), rt.stdin(), &mut out, &mut errs) {
+        Ok(status) => status,
+        Err(command) => { run_waiting(&rt, alloc, command, rt.stdin(), &mut out, &mut errs) as u8 }
     };
-    ExitCode::from(reported(ended, &mut errs) as u8)
+    ExitCode::from(status)
 }

@@ -1,10 +1,12 @@
 -- How commands fail, and what they have written then.
-use Rattle.std.proofs.Common.{◌≡◌, ◌∙◌, ◌⊎◌, Bool, Err, List, Ok, Option, Result, Some, ap, false, inl, inr, refl, subst, sym, true, ℕ}
+use Rattle.std.proofs.Common.{◌≡◌, ◌∙◌, ◌⊎◌, Bool, Err, List, None, Ok, Option, Result, Some, [], ap, false, inl, inr, refl, subst, sym, true, ℕ}
 use Rattle.std.specs.Prelude.{IfErr, IfOk, OnErr}
+use Rattle.std.specs.Result.{result_ok}
+use Rattle.command_line.specs.declared.command.Waiting.{Waiting}
 use Rattle.clap.specs.Words.{HasKind, IsAmong, Text, kind_of}
 use Rattle.clap.specs.declared.error.Error.{Error}
 use Rattle.clap.specs.declared.error.kind.ErrorKind.TheVariants as kind
-use Rattle.command_line.specs.CommandLine.{Command, Request, check, command_in, compile, explain, faults_in, first, judge, packets, query_request, replay, returning, run, waiting}
+use Rattle.command_line.specs.CommandLine.{Command, Request, check, command_in, compile, explain, faults_in, first, judge, packets, query_request, replay, returning, run, waiting, waiting_of}
 use Rattle.command_line.specs.Ending.{AppendsBeginning, line_of}
 use Rattle.command_line.specs.declared.ending.Status.{Status}
 use Rattle.command_line.specs.declared.ending.Status.TheVariants.{Done, Failed, Misused}
@@ -95,12 +97,15 @@ before_anything (replay true true) known before = refl
 -- words with a fault fail before any command
 before_text : (words : List Text) (why : Error) (failure : Failure) (known before after : Option (List ℕ)) → HasKind (faults_in words) why
     → (kind_of why ≡ kind.OutOfMemory → failure ≡ OutOfMemory) → (kind_of why ≡ kind.OutOfMemory → after ≡ before) → WritesBeforeBy words failure known before after
-before_text words why failure known before after kinds memory untold = λ none request named. elim kinds [
-  | inl no_memory ↦
-      subst (λ f. WritesBefore request f known before after) (sym (memory no_memory))
-      (subst (λ a. WritesBefore request OutOfMemory known before a) (sym (untold no_memory)) (before_anything request known before))
-  | inr among ↦ absurd (subst (IsAmong (kind_of why)) none among)
-]
+before_text words why failure known before after kinds memory untold = (
+  λ none request named. elim kinds [
+    | inl no_memory ↦
+        subst (λ f. WritesBefore request f known before after) (sym (memory no_memory))
+        (subst (λ a. WritesBefore request OutOfMemory known before a) (sym (untold no_memory)) (before_anything request known before))
+    | inr among ↦ absurd (subst (IsAmong (kind_of why)) none among)
+  ],
+  λ ask. elim kinds [ inl no_memory ↦ untold no_memory | inr among ↦ absurd (subst (IsAmong (kind_of why)) ask.0 among) ],
+)
 
 -- ---- how the words' command ended
 
@@ -140,7 +145,7 @@ command_failed errors errs mid words request (Ok given) status known before afte
 command_failed errors errs mid words request (Err failure) status known before after told_after named may written untold told is writes failed = record {
   failure = failure;
   may_fail = may_fail_by words request failure named may;
-  written = λ none other also. subst (λ r. WritesBefore r failure known before after) (same_request words request other named also) written;
+  written = (λ none other also. subst (λ r. WritesBefore r failure known before after) (same_request words request other named also) written, λ ask. absurd (waits_not words request named ask));
   told = subst (λ e. AppendsBeginning (errors e) told_after (line_of failure)) untold told;
 }
 
@@ -161,3 +166,14 @@ fault_failed errors contents errs mid out out' words fault (Err failure) status 
       written = before_text words fault failure known (contents out) (contents out') kinds same (λ e. ap contents (memory e).1);
       told = subst (λ e. AppendsBeginning (errors e) told_after (line_of failure)) untold told;
     }
+
+-- ---- words whose command may wait
+
+pub ok_kept : {T E : Type 0} (ended : Result T E) (status : T) → result_ok ended ≡ Some status → ended ≡ Ok status
+ok_kept (Ok given) status same = let is : given ≡ status = cc in ap Ok is
+ok_kept (Err command) status same = absurd cc
+
+pub asks_to_wait : (words : List Text) (ended : Result ℕ Waiting) → IfErr ended (λ command. (faults_in words ≡ []) × (command_in words ≡ Some (waiting (waiting_of command))))
+    → result_ok ended ≡ None → AskToWait words
+asks_to_wait words (Ok status) waits none = absurd cc
+asks_to_wait words (Err command) waits none = (waits.0, (waiting_of command, waits.1))

@@ -63,10 +63,11 @@ WritesBefore (replay summary quiet) failure known before after = ReplayWritesBef
 WritesBefore packets failure known before after = PacketsWriteBefore failure known before after
 WritesBefore request failure known before after = QueryWritesBefore failure before after
 
--- the same of the command that words without a fault name
+-- the same of the command that words without a fault name; of one that may wait, nothing was written
 abbrev pub WritesBeforeBy : List Text → Failure → Option (List ℕ) → Option (List ℕ) → Option (List ℕ) → Type 0
 WritesBeforeBy words failure known before after =
-    faults_in words ≡ [] → (request : Request) → command_in words ≡ Some (returning request) → WritesBefore request failure known before after
+    (faults_in words ≡ [] → (request : Request) → command_in words ≡ Some (returning request) → WritesBefore request failure known before after)
+    × (AskToWait words → after ≡ before)
 
 -- a command failed in a way in which it may; a beginning of the failure's line was told
 pub record EndsInFailure (words : List Text) (known before after told_before told_after : Option (List ℕ)) : Type 0 where

@@ -1,12 +1,12 @@
 //! The commands of words and texts, from the words to the output and the exit status (docs/COMMANDS.md).
 //!
-//! `run_command` runs `first`, `check`, `compile`, `run`, `explain`, `replay` or `packets` over any input and outputs, and `answer` writes
-//! the fault of words. `tool` reads the words and calls these, as `main` does, and leaves a command that may wait to its caller.
+//! `run_returning` reads the words, runs `first`, `check`, `compile`, `run`, `explain`, `replay` or `packets` over any input and outputs,
+//! and returns a command that may wait to its caller. `tool` is the same without that command.
 #![tactic(auto)]
 
-ghost use Rattle.std.specs.Prelude.{◌≡◌, ◌≢◌, ◌⊎◌, [], IfErr, IfOk, IfSome, None, OnErr, OnOk, Ok, Err, Some, map, string_bytes};
+ghost use Rattle.std.specs.Prelude.{◌≡◌, ◌≢◌, ◌⊎◌, [], IfErr, IfOk, IfSome, IsErr, None, OnErr, OnOk, Ok, Err, Some, map, string_bytes};
 ghost use Rattle.clap.specs.Words.{kind_of};
-ghost use Rattle.command_line.specs.CommandLine.{AsksForText, HasMisuse, command_in, faults_in, packets, request_of, returning};
+ghost use Rattle.command_line.specs.CommandLine.{AsksForText, HasMisuse, command_in, faults_in, packets, request_of, returning, waiting, waiting_of};
 ghost use Rattle.command_line.specs.Ending.{IsStatus, code_of};
 ghost use Rattle.query_commands.specs.Query.{MayFail};
 ghost use Rattle.text_commands.specs.Request.{AskToWait, EndsInFailure, TellsCountsOf, Writes, WritesAnswerTo, WritesBefore};
@@ -15,16 +15,60 @@ mod capturing;
 
 use capturing::run_packets;
 use clap::error::ErrorKind;
-use command_line::{Failure, Returning, Status, Subcommand, read_words, reported};
+use command_line::{Failure, Returning, Status, Subcommand, Waiting, read_words, reported};
 use query_commands::run_query;
 pub use script_commands::replies_are_counted;
 use script_commands::run_replay;
 use std::alloc::Global;
 use std::io::{Read, Write};
 
-/// Runs the words after the program's name, and answers the exit status. Results go to `out`; a fault in the words or a
-/// failure goes to `errs`, whose own errors change nothing. `None` where the words ask for a command that may wait, which
-/// is run elsewhere.
+/// Runs the words after the program's name, and returns the exit status. Results go to `out`; a fault in the words or a
+/// failure goes to `errs`, whose own errors change nothing. `Err` is a command that may wait, which is run elsewhere.
+pub fn run_returning<'a, R: Read + Drop, W: Write, E: Write>(
+    alloc: Global,
+    words: &'a [String],
+    input: R,
+    out: &mut W,
+    errs: &mut E,
+) -> Result<u8, Waiting<'a>>
+    ensures status { IfOk result IsStatus }
+    ensures waits { IfErr result (λ command. (faults_in (map string_bytes words.now) ≡ []) × (command_in (map string_bytes words.now) ≡ Some (waiting (waiting_of command)))) }
+    ensures answers { AskToWait (map string_bytes words.now) → IsErr result ⊎ (result ≡ Ok (code_of Status.Failed)) }
+
+    ensures done { result ≡ Ok (code_of Status.Done)
+        → (faults_in (map string_bytes words.now) ≡ []) ⊎ AsksForText (faults_in (map string_bytes words.now)) }
+    ensures done_written { result ≡ Ok (code_of Status.Done) → faults_in (map string_bytes words.now) ≡ []
+        → WritesAnswerTo (map string_bytes words.now) (R.remaining input) Status.Done
+        (W.contents out.old) (W.contents out.new) }
+
+    ensures refused { result ≡ Ok (code_of Status.Refused) → faults_in (map string_bytes words.now) ≡ [] }
+    ensures refused_written { result ≡ Ok (code_of Status.Refused)
+        → WritesAnswerTo (map string_bytes words.now) (R.remaining input) Status.Refused
+        (W.contents out.old) (W.contents out.new) }
+
+    ensures misused { result ≡ Ok (code_of Status.Misused) → HasMisuse (faults_in (map string_bytes words.now)) }
+    ensures nothing_written { IsErr result ⊎ (result ≡ Ok (code_of Status.Misused)) → out.new ≡ out.old }
+
+    ensures failed { result ≡ Ok (code_of Status.Failed)
+        → EndsInFailure (map string_bytes words.now) (R.remaining input)
+        (W.contents out.old) (W.contents out.new) (E.contents errs.old) (E.contents errs.new) }
+    ensures no_errors { IsErr result ⊎ (result ≡ Ok (code_of Status.Done)) ⊎ (result ≡ Ok (code_of Status.Refused))
+        → (command_in (map string_bytes words.now) ≢ Some (returning packets)) → errs.new ≡ errs.old }
+    ensures counted { (result ≡ Ok (code_of Status.Done)) ⊎ (result ≡ Ok (code_of Status.Refused))
+        → faults_in (map string_bytes words.now) ≡ [] → command_in (map string_bytes words.now) ≡ Some (returning packets)
+        → TellsCountsOf (R.remaining input) (E.contents errs.old) (E.contents errs.new) }
+{
+    match read_words(alloc, words) {
+        Ok(Subcommand::Returning(command)) => {
+            let ended = run_command(alloc, command, input, out, errs);
+            Ok(reported(ended, errs) as u8)
+        }
+        Ok(Subcommand::Waiting(command)) => Err(command),
+        Err(fault) => Ok(reported(answer(&fault, out, errs), errs) as u8),
+    }
+}
+
+/// As `run_returning`; `None` if the words ask for a command that may wait.
 pub fn tool<R: Read + Drop, W: Write, E: Write>(
     alloc: Global,
     words: &[String],
@@ -59,18 +103,11 @@ pub fn tool<R: Read + Drop, W: Write, E: Write>(
         → faults_in (map string_bytes words.now) ≡ [] → command_in (map string_bytes words.now) ≡ Some (returning packets)
         → TellsCountsOf (R.remaining input) (E.contents errs.old) (E.contents errs.new) }
 {
-    match read_words(alloc, words) {
-        Ok(Subcommand::Returning(command)) => {
-            let ended = run_command(alloc, command, input, out, errs);
-            Some(reported(ended, errs) as u8)
-        }
-        Ok(Subcommand::Waiting(_)) => None,
-        Err(fault) => Some(reported(answer(&fault, out, errs), errs) as u8),
-    }
+    run_returning(alloc, words, input, out, errs).ok()
 }
 
-/// Runs a command that returns. Results go to `out`, and the counts of `packets` to `errs`.
-pub fn run_command<R: Read + Drop, W: Write, E: Write>(
+// Results go to `out`, and the counts of `packets` to `errs`.
+fn run_command<R: Read + Drop, W: Write, E: Write>(
     alloc: Global,
     command: Returning<'_>,
     input: R,
@@ -93,8 +130,8 @@ pub fn run_command<R: Read + Drop, W: Write, E: Write>(
     }
 }
 
-/// Writes the fault of words. The help and the version, which words may ask for, are results.
-pub fn answer<W: Write, E: Write>(
+// Prints the fault of the words to `errs`, or the help or version that they ask for to `out`.
+fn answer<W: Write, E: Write>(
     fault: &clap::Error,
     out: &mut W,
     errs: &mut E,
