@@ -1,8 +1,10 @@
 //! Why a text is not assembled.
 
 ghost use Rattle.std.specs.Prelude.{◌≡◌};
+ghost use Rattle.bpf_asm.specs.Code.{asm_code};
 ghost use Rattle.bpf_asm.specs.declared.fault.AsmFault.TheVariants.{OutOfMemory};
 
+use fault_code::Code;
 use std::alloc::{AllocError, AllocFailed};
 
 /// Why a text is not assembled. Lines are counted from 1, empty ones included.
@@ -20,6 +22,22 @@ pub enum AsmFault {
     TooFar { line: usize },
     /// A6: memory for the labels or the words was refused.
     OutOfMemory,
+}
+
+impl AsmFault {
+    /// The code (docs/COMMANDS.md, "Refusals").
+    pub fn code(self) -> Code
+        ensures { result ≡ asm_code self }
+    {
+        match self {
+            AsmFault::Syntax { line } => Code::at('A', 1, line),
+            AsmFault::UnknownLabel { line } => Code::at('A', 2, line),
+            AsmFault::DoubleLabel { line } => Code::at('A', 3, line),
+            AsmFault::BackwardJump { line } => Code::at('A', 4, line),
+            AsmFault::TooFar { line } => Code::at('A', 5, line),
+            AsmFault::OutOfMemory => Code::plain('A', 6),
+        }
+    }
 }
 
 impl From<AllocError> for AsmFault {

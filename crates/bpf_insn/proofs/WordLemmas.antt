@@ -250,10 +250,6 @@ fields_fit w insn e =
     let made : instruction_with h.uses h.jt h.jf h.k ≡ insn = (let both = instruction_of-complete w h in cc) in
     subst FieldsFit made ((uses_of-encodes h.code h.uses h.in_table).1 h.jt h.jf h.k h.jt_fits h.jf_fits h.k_fits)
 
-pub uses_of-instruction_word : (w : ℕ) (h : IsInstructionWord w) → uses_of (code_of w) ≡ Some h.uses
-uses_of-instruction_word w h =
-    ap (λ v. uses_of (code_of v)) h.is_word ∙ ap uses_of (code_of-word h.code h.jt h.jf h.k h.jt_fits h.jf_fits h.k_fits) ∙ h.in_table
-
 IsOk-sound : (w : ℕ) (r : Result Insn WordFault) → instruction_of w ≡ r → IsOk r → IsInstructionWord w
 IsOk-sound w (Ok insn) e ok = (instruction_of-sound w insn e).0
 IsOk-sound w (Err fault) e ok = cc

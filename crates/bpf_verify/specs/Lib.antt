@@ -1,3 +1,4 @@
+pub mod Code
 pub mod Path
 pub mod Accepted
 pub mod Fault

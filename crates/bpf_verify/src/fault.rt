@@ -1,5 +1,10 @@
 //! Why words are no program.
 
+ghost use Rattle.std.specs.Prelude.{◌≡◌};
+ghost use Rattle.bpf_verify.specs.Code.{verify_code};
+
+use fault_code::Code;
+
 /// Why words are no program. `pc` is the place of an instruction, counted from 0.
 #[derive(Clone, Copy, Debug, PartialEq, Eq)]
 pub enum Fault {
@@ -25,4 +30,25 @@ pub enum Fault {
     NoReturn,
     /// V11: a load of a scratch cell that some path reaches without a store of it.
     UnstoredCell { pc: usize },
+}
+
+impl Fault {
+    /// The code (docs/COMMANDS.md, "Refusals").
+    pub fn code(self) -> Code
+        ensures { result ≡ verify_code self }
+    {
+        match self {
+            Fault::Empty => Code::plain('V', 1),
+            Fault::TooLong => Code::plain('V', 2),
+            Fault::BadOpcode { pc } => Code::at('V', 3, pc),
+            Fault::StrayField { pc } => Code::at('V', 4, pc),
+            Fault::ZeroDivisor { pc } => Code::at('V', 5, pc),
+            Fault::BadShift { pc } => Code::at('V', 6, pc),
+            Fault::BadCell { pc } => Code::at('V', 7, pc),
+            Fault::JumpOutside { pc } => Code::at('V', 8, pc),
+            Fault::Ancillary { pc } => Code::at('V', 9, pc),
+            Fault::NoReturn => Code::plain('V', 10),
+            Fault::UnstoredCell { pc } => Code::at('V', 11, pc),
+        }
+    }
 }

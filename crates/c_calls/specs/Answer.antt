@@ -1,21 +1,17 @@
 -- What a call from C answers: a list in the caller's buffer, or a fault as a number (include/dswitch.h).
-use Rattle.std.specs.Prelude.{◌≡◌, ◌+◌, ◌*◌, ◌<◌, ◌≤◌, ◌⊎◌, ◌++◌, Err, List, Ok, Result, drop, length, ℕ}
+use Rattle.std.specs.Prelude.{◌≡◌, ◌+◌, ◌*◌, ◌<◌, ◌≤◌, ◌⊎◌, ◌++◌, Err, List, Ok, Result, drop, length, unwrap_or, ℕ}
 use Rattle.bpf_asm.specs.Text.{printed}
-use Rattle.bpf_asm.specs.declared.fault.AsmFault.{AsmFault}
-use Rattle.bpf_asm.specs.declared.fault.AsmFault.TheVariants as asm
 use Rattle.bpf_verify.specs.Accepted.{IsAccepted}
+use Rattle.bpf_verify.specs.Code.{verify_code}
 use Rattle.bpf_verify.specs.Fault.{IsFirstFault}
 use Rattle.bpf_verify.specs.Program.{ProgramValue}
 use Rattle.bpf_verify.specs.declared.fault.Fault.{Fault}
-use Rattle.bpf_verify.specs.declared.fault.Fault.TheVariants as verify
-use Rattle.filter_compile.specs.declared.fault.CompileFault.{CompileFault}
-use Rattle.filter_compile.specs.declared.fault.CompileFault.TheVariants as compile
-use Rattle.filter_parse.specs.declared.fault.ParseFault.{ParseFault}
-use Rattle.filter_parse.specs.declared.fault.ParseFault.TheVariants as parse
+use Rattle.fault_code.specs.declared.Code.{Code}
+use Rattle.program_text.specs.Code.{text_code}
 use Rattle.program_text.specs.Fault.{IsFaultOfText}
 use Rattle.program_text.specs.Program.{IsProgramOfAssembly, IsProgramOfExpression, Source, assembly, expression}
 use Rattle.program_text.specs.declared.fault.TextFault.{TextFault}
-use Rattle.program_text.specs.declared.fault.TextFault.TheVariants as text_fault
+use Rattle.program_text.specs.declared.fault.TextFault.TheVariants.{OutOfMemory}
 use Rattle.c_calls.specs.declared.answer.Answer.{Answer}
 
 -- a program with this charge, and so many words or bytes
@@ -35,54 +31,16 @@ no_memory = refused 1 0
 
 -- ---- faults
 
--- the letter of a code as a byte, and its number
-abbrev pub coded : ℕ → ℕ → ℕ
-coded letter number = letter * 256 + number
+-- the letter of the code times 256 and its number; and the line, place or pc
+abbrev pub code_answer : Code → Answer
+code_answer code = refused (code.letter * 256 + code.number) (unwrap_or code.place 0)
 
--- V1 to V11
 abbrev pub words_answer : Fault → Answer
-words_answer verify.Empty = refused (coded 86 1) 0
-words_answer verify.TooLong = refused (coded 86 2) 0
-words_answer (verify.BadOpcode pc) = refused (coded 86 3) pc
-words_answer (verify.StrayField pc) = refused (coded 86 4) pc
-words_answer (verify.ZeroDivisor pc) = refused (coded 86 5) pc
-words_answer (verify.BadShift pc) = refused (coded 86 6) pc
-words_answer (verify.BadCell pc) = refused (coded 86 7) pc
-words_answer (verify.JumpOutside pc) = refused (coded 86 8) pc
-words_answer (verify.Ancillary pc) = refused (coded 86 9) pc
-words_answer verify.NoReturn = refused (coded 86 10) 0
-words_answer (verify.UnstoredCell pc) = refused (coded 86 11) pc
-
--- A1 to A5, at a line
-abbrev pub asm_answer : AsmFault → Answer
-asm_answer (asm.Syntax line) = refused (coded 65 1) line
-asm_answer (asm.UnknownLabel line) = refused (coded 65 2) line
-asm_answer (asm.DoubleLabel line) = refused (coded 65 3) line
-asm_answer (asm.BackwardJump line) = refused (coded 65 4) line
-asm_answer (asm.TooFar line) = refused (coded 65 5) line
-asm_answer asm.OutOfMemory = no_memory
-
--- P1 to P5, at a place of the text
-abbrev pub parse_answer : ParseFault → Answer
-parse_answer (parse.Syntax place) = refused (coded 80 1) place
-parse_answer (parse.NumberTooBig place) = refused (coded 80 2) place
-parse_answer (parse.BadAddress place) = refused (coded 80 3) place
-parse_answer (parse.BadPrefix place) = refused (coded 80 4) place
-parse_answer (parse.TooDeep place) = refused (coded 80 5) place
-parse_answer parse.OutOfMemory = no_memory
-
--- F1, F2
-abbrev pub compile_answer : CompileFault → Answer
-compile_answer compile.CellsExceeded = refused (coded 70 1) 0
-compile_answer compile.TooLong = refused (coded 70 2) 0
-compile_answer compile.OutOfMemory = no_memory
+words_answer fault = code_answer (verify_code fault)
 
 abbrev pub text_answer : TextFault → Answer
-text_answer (text_fault.Assembly fault) = asm_answer fault
-text_answer (text_fault.Words fault) = words_answer fault
-text_answer (text_fault.Expression fault) = parse_answer fault
-text_answer (text_fault.Compiling fault) = compile_answer fault
-text_answer text_fault.OutOfMemory = no_memory
+text_answer OutOfMemory = no_memory
+text_answer fault = code_answer (text_code fault)
 
 -- ---- what is given
 

@@ -22,7 +22,7 @@ pub use answer::Answer;
 use bpf_verify::{Program, verify};
 use buffer::{give, give_program};
 pub use codes::{NO_MEMORY, NO_ROOM, PACKET_TOO_LONG};
-use codes::{text_answer, words_answer};
+use codes::{code_answer, text_answer};
 pub use outcome::{Outcome, run_words};
 use program_text::{TextFault, assembled, compiled};
 use std::alloc::Global;
@@ -42,7 +42,7 @@ pub fn verify_words(words: &[u64]) -> Answer
     let mut list = words;
     match verify(&mut list, 0, words.len()) {
         Ok(()) => Answer::done(words.len() as u32, words.len()),
-        Err(fault) => words_answer(fault),
+        Err(fault) => code_answer(fault.code()),
     }
 }
 
@@ -93,7 +93,7 @@ pub fn print_into(alloc: Global, words: &[u64], text: &mut [u8]) -> Answer
     };
     let program = match Program::new(copy) {
         Ok(program) => program,
-        Err((fault, _words)) => return words_answer(fault),
+        Err((fault, _words)) => return code_answer(fault.code()),
     };
     let charge = program.charge();
     match bpf_asm::print(alloc, &program) {

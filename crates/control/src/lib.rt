@@ -18,7 +18,7 @@ mod switch;
 mod writing;
 
 pub use control_line::{
-    Code, LINE_LIMIT, OutOfMemory, REPLY_LIMIT, Reason, Reply, empty_agrees, line, one_reply,
+    LINE_LIMIT, OutOfMemory, REPLY_LIMIT, Reason, Reply, empty_agrees, line, one_reply,
     one_request, packet_of_hex,
 };
 pub use dispatch::Failed;

@@ -156,15 +156,12 @@ module _ (before : OperatorValue) (command : Command Source) (real : List Group)
 does_nothing : (source : Source) (why : Reason) (before : OperatorValue) → IsRefusalOfText source why → DoesRefused why before before
 does_nothing source why before (fault, is, named) = by_fault fault named
   where
-    does : (other : Reason) → DoesRefused other before before → Some other ≡ Some why → DoesRefused why before before
-    does other nothing same = let is : other ≡ why = cc in subst (λ w. DoesRefused w before before) is nothing
+    does : (f : TextFault) → Some (reason.Text f) ≡ Some why → DoesRefused why before before
+    does f same = let is : reason.Text f ≡ why = cc in subst (λ w. DoesRefused w before before) is refl
 
     by_fault : (f : TextFault) → reason_of_text f ≡ Some why → DoesRefused why before before
-    by_fault (text_fault.Assembly f) named = does (reason.Assembly f) refl named
-    by_fault (text_fault.Words f) named = does (reason.Words f) refl named
-    by_fault (text_fault.Expression f) named = does (reason.Expression f) refl named
-    by_fault (text_fault.Compiling f) named = does (reason.Compiling f) refl named
     by_fault text_fault.OutOfMemory named = absurd (cc)
+    by_fault f named = does f named
 
 pub no_command : (before : OperatorValue) (command : Command Source) (failure : LineFault) → IsLineFaultOfCommand command failure → IsOutcome (IsChanged command) before before (Err failure)
 no_command before command (failure_of.Refused why) (source, has, fault) = record { steps = does_nothing source why before fault; text = λ config agrees. (config, bad_text source why has fault, agrees) }

@@ -100,10 +100,7 @@ pub refused_does_nothing : (why : Reason) (before after : OperatorValue) → Doe
 refused_does_nothing reason.BadForm before after does = inl does
 refused_does_nothing reason.LineTooLong before after does = inl does
 refused_does_nothing reason.PacketTooLong before after does = inl does
-refused_does_nothing (reason.Assembly fault) before after does = inl does
-refused_does_nothing (reason.Words fault) before after does = inl does
-refused_does_nothing (reason.Expression fault) before after does = inl does
-refused_does_nothing (reason.Compiling fault) before after does = inl does
+refused_does_nothing (reason.Text fault) before after does = inl does
 refused_does_nothing (reason.Command refusal) before after does = inl does
 refused_does_nothing (Publishing TooBig) before after does = inl does
 refused_does_nothing (Publishing Exhausted) before after does = inl does

@@ -1,5 +1,6 @@
 -- Worked examples: lines and what they ask for, replies and their texts.
 use Rattle.std.proofs.Common.{◌≡◌, ◌∷◌, None, [], arith, codes, lit<, lit≤, refl}
+use Rattle.std.specs.Char.{encode_utf8}
 use Rattle.std.specs.Fmt.{digits}
 use Rattle.bpf_asm.specs.declared.fault.AsmFault.TheVariants as asm
 use Rattle.bpf_verify.specs.declared.fault.Fault.TheVariants as verify
@@ -7,8 +8,9 @@ use Rattle.ipv4_fields.specs.declared.endpoint.Endpoint.{Endpoint}
 use Rattle.ipv4_fields.specs.Endpoint.{IsEndpoint}
 use Rattle.member_group.specs.declared.command.Command.TheVariants.{AddGroup, Join, SetFilter, SetSelector}
 use Rattle.member_group.specs.declared.refusal.Refusal.TheVariants.{GroupExists, NoMember}
+use Rattle.program_text.specs.declared.fault.TextFault.TheVariants.{Assembly, Words}
 use Rattle.retire.specs.declared.fault.PublishFault.TheVariants.{Busy}
-use Rattle.control_line.specs.declared.reason.Reason.TheVariants.{Assembly, BadForm, Command, Publishing, Words}
+use Rattle.control_line.specs.declared.reason.Reason.TheVariants.{BadForm, Command, Publishing, Text}
 use Rattle.control_line.specs.declared.reply.LineAnswer.TheVariants.{Published, Refused, Shown, Swept}
 use Rattle.control_line.specs.Agrees.{Agrees, TextConfig}
 use Rattle.control_line.specs.Answer.{Answers, changed, published, refused, shown}
@@ -86,21 +88,25 @@ unfolding digits
 swept = refl
 
 bad_line : reply_text (Refused BadForm) ≡ codes "refused C1"
+unfolding digits encode_utf8
 bad_line = refl
 
 no_member : reply_text (Refused (Command NoMember)) ≡ codes "refused G3"
+unfolding digits encode_utf8
 no_member = refl
 
 busy : reply_text (Refused (Publishing Busy)) ≡ codes "refused B2"
+unfolding digits encode_utf8
 busy = refl
 
-syntax_fault : reply_text (Refused (Assembly (asm.Syntax 2))) ≡ codes "refused A1 2"
-unfolding digits
+syntax_fault : reply_text (Refused (Text (Assembly (asm.Syntax 2)))) ≡ codes "refused A1 2"
+unfolding digits encode_utf8
 syntax_fault = refl
 
-jump_outside : reply_text (Refused (Words (verify.JumpOutside 0))) ≡ codes "refused V8 0"
-unfolding digits
+jump_outside : reply_text (Refused (Text (Words (verify.JumpOutside 0)))) ≡ codes "refused V8 0"
+unfolding digits encode_utf8
 jump_outside = refl
 
-unended : reply_text (Refused (Words verify.NoReturn)) ≡ codes "refused V10"
+unended : reply_text (Refused (Text (Words verify.NoReturn))) ≡ codes "refused V10"
+unfolding digits encode_utf8
 unended = refl

@@ -25,7 +25,7 @@ use change::publish_change;
 pub use packet::{packet_of_hex, read_packet};
 use program::LineFault;
 use read_section::Operator;
-pub use reason::{Code, Reason};
+pub use reason::Reason;
 pub use reply::{LineAnswer, NUMBER_LIMIT, REPLY_LIMIT, Reply};
 pub use request::is_word;
 use request::{Request, read_request};

@@ -1,11 +1,13 @@
 //! Replies: what a line is answered, and its text (docs/COMMANDS.md, "Control lines").
 
 ghost use Rattle.std.specs.Prelude.{◌≡◌, ◌≤◌, ◌<◌, ◌+◌, ◌^◌, ◌++◌, ◌∷◌, [], decimal, length};
+ghost use Rattle.fault_code.specs.Code.{code_text};
 ghost use Rattle.control_line.specs.Reason.{refusal_text};
 ghost use Rattle.control_line.specs.Reply.{reply_text};
 ghost use Rattle.control_line.specs.declared.reply.LineAnswer.TheVariants as answer;
 
 use crate::reason::Reason;
+use fault_code::Code;
 use ipv4_fields::TextBuffer;
 use itoa::write_digits;
 use read_section::Reclaimed;
@@ -168,18 +170,26 @@ impl TextBuffer for Reply {
 }
 
 impl Reply {
+    fn push_code(&mut self, code: Code)
+        requires { length self.old ≤ 8 }
+        ensures { self.new ≡ self.old ++ code_text code }
+    {
+        let mut letter = [0; 4];
+        self.push(code.letter.encode_utf8(&mut letter));
+        self.push_number(code.number as u64);
+        if let Some(place) = code.place {
+            self.push(" ");
+            self.push_number(place as u64);
+        }
+    }
+
     /// The reply that refuses for this reason.
     pub fn refused(reason: Reason) -> Reply
         ensures { result ≡ refusal_text reason }
     {
-        let code = reason.code();
         let mut reply = Reply::empty();
         reply.push("refused ");
-        reply.push(code.name);
-        if let Some(number) = code.number {
-            reply.push(" ");
-            reply.push_number(number as u64);
-        }
+        reply.push_code(reason.code());
         reply
     }
 

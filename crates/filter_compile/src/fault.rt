@@ -1,8 +1,10 @@
 //! Why an expression is not compiled.
 
 ghost use Rattle.std.specs.Prelude.{◌≡◌};
+ghost use Rattle.filter_compile.specs.Code.{compile_code};
 ghost use Rattle.filter_compile.specs.declared.fault.CompileFault.TheVariants.{OutOfMemory};
 
+use fault_code::Code;
 use std::alloc::AllocError;
 
 /// Why an expression was not compiled.
@@ -14,6 +16,19 @@ pub enum CompileFault {
     TooLong,
     /// F3: an allocation was refused.
     OutOfMemory,
+}
+
+impl CompileFault {
+    /// The code (docs/COMMANDS.md, "Refusals").
+    pub fn code(self) -> Code
+        ensures { result ≡ compile_code self }
+    {
+        match self {
+            CompileFault::CellsExceeded => Code::plain('F', 1),
+            CompileFault::TooLong => Code::plain('F', 2),
+            CompileFault::OutOfMemory => Code::plain('F', 3),
+        }
+    }
 }
 
 impl From<AllocError> for CompileFault {

@@ -1,3 +1,4 @@
+pub mod Code
 pub mod Token
 pub mod Grammar
 pub mod Fault

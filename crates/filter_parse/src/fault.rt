@@ -1,5 +1,9 @@
 //! Why a text is no filter expression.
 
+ghost use Rattle.std.specs.Prelude.{◌≡◌};
+ghost use Rattle.filter_parse.specs.Code.{parse_code};
+
+use fault_code::Code;
 use std::alloc::{AllocError, AllocFailed};
 
 /// Why a text is no filter expression, and where: `at` counts bytes from the text's first. A place where something is
@@ -18,6 +22,22 @@ pub enum ParseFault {
     TooDeep { at: usize },
     /// P6: a growth was refused.
     OutOfMemory,
+}
+
+impl ParseFault {
+    /// The code (docs/COMMANDS.md, "Refusals").
+    pub fn code(self) -> Code
+        ensures { result ≡ parse_code self }
+    {
+        match self {
+            ParseFault::Syntax { at } => Code::at('P', 1, at),
+            ParseFault::NumberTooBig { at } => Code::at('P', 2, at),
+            ParseFault::BadAddress { at } => Code::at('P', 3, at),
+            ParseFault::BadPrefix { at } => Code::at('P', 4, at),
+            ParseFault::TooDeep { at } => Code::at('P', 5, at),
+            ParseFault::OutOfMemory => Code::plain('P', 6),
+        }
+    }
 }
 
 impl From<AllocError> for ParseFault {

@@ -1,3 +1,4 @@
+pub mod Code
 pub mod Group
 pub mod Place
 pub mod Charge

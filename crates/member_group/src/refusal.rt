@@ -1,8 +1,10 @@
 //! Why a command is refused.
 
 ghost use Rattle.std.specs.Prelude.{◌≡◌};
+ghost use Rattle.member_group.specs.Code.{command_code};
 ghost use Rattle.member_group.specs.declared.refusal.Refusal.TheVariants.{OutOfMemory};
 
+use fault_code::Code;
 use std::alloc::{AllocError, AllocFailed};
 
 /// Why a command is refused. A variant says what is wrong with the command; of several causes, docs/SWITCH.md tells the
@@ -27,6 +29,25 @@ pub enum Refusal {
     NoProgram,
     /// The memory of the new configuration was refused.
     OutOfMemory,
+}
+
+impl Refusal {
+    /// The code (docs/COMMANDS.md, "Refusals").
+    pub fn code(self) -> Code
+        ensures { result ≡ command_code self }
+    {
+        match self {
+            Refusal::NoGroup => Code::plain('G', 1),
+            Refusal::GroupExists => Code::plain('G', 2),
+            Refusal::NoMember => Code::plain('G', 3),
+            Refusal::MemberExists => Code::plain('G', 4),
+            Refusal::TooManyGroups => Code::plain('G', 5),
+            Refusal::GroupFull => Code::plain('G', 6),
+            Refusal::NoProgram => Code::plain('G', 7),
+            Refusal::OutOfMemory => Code::plain('G', 8),
+            Refusal::Locked => Code::plain('G', 9),
+        }
+    }
 }
 
 impl From<AllocError> for Refusal {

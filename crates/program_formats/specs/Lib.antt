@@ -1,3 +1,4 @@
+pub mod Code
 pub mod Item
 pub mod Ddd
 pub mod Hex

@@ -1,8 +1,10 @@
 //! Why a text is no list of words.
 
 ghost use Rattle.std.specs.Prelude.{◌≡◌};
+ghost use Rattle.program_formats.specs.Code.{format_code};
 ghost use Rattle.program_formats.specs.declared.fault.FormatFault.TheVariants.{OutOfMemory};
 
+use fault_code::Code;
 use std::alloc::{AllocError, AllocFailed};
 
 /// Why a text is no list of words. Lines are counted from 1, empty ones included; a comma ends one as LF does.
@@ -14,6 +16,19 @@ pub enum FormatFault {
     Count,
     /// K3: memory for the words was refused.
     OutOfMemory,
+}
+
+impl FormatFault {
+    /// The code (docs/COMMANDS.md, "Refusals").
+    pub fn code(self) -> Code
+        ensures { result ≡ format_code self }
+    {
+        match self {
+            FormatFault::Syntax { line } => Code::at('K', 1, line),
+            FormatFault::Count => Code::plain('K', 2),
+            FormatFault::OutOfMemory => Code::plain('K', 3),
+        }
+    }
 }
 
 impl From<AllocError> for FormatFault {

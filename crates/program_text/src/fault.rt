@@ -1,10 +1,12 @@
 //! Why no program is made of a text.
 
 ghost use Rattle.std.specs.Prelude.{◌≡◌};
+ghost use Rattle.program_text.specs.Code.{text_code};
 ghost use Rattle.program_text.specs.Fault.{fault_of_assembly, fault_of_compiling, fault_of_expression};
 
 use bpf_asm::AsmFault;
 use bpf_verify::Fault;
+use fault_code::Code;
 use filter_compile::CompileFault;
 use filter_parse::ParseFault;
 
@@ -23,6 +25,21 @@ pub enum TextFault {
     Compiling(CompileFault),
     /// Memory was refused.
     OutOfMemory,
+}
+
+impl TextFault {
+    /// The code (docs/COMMANDS.md, "Refusals").
+    pub fn code(self) -> Code
+        ensures { result ≡ text_code self }
+    {
+        match self {
+            TextFault::Assembly(fault) => fault.code(),
+            TextFault::Words(fault) => fault.code(),
+            TextFault::Expression(fault) => fault.code(),
+            TextFault::Compiling(fault) => fault.code(),
+            TextFault::OutOfMemory => Code::plain('A', 6),
+        }
+    }
 }
 
 impl From<AsmFault> for TextFault {

@@ -1,5 +1,7 @@
 -- What a command makes of its arguments, where it looks at no more than these.
-use Rattle.std.proofs.Common.{◌≡◌, ◌<◌, ◌^◌, ◌⊎◌, ℕ, IsSome, IsSomeAnd, List, MatchOption, [], None, Option, Some, inl, inr, refl, subst, sym, unwrap_or}
+use Rattle.std.proofs.Common.{◌≡◌, ◌<◌, ◌^◌, ◌++◌, ◌⊎◌, ℕ, Err, IsSome, IsSomeAnd, List, MatchOption, [], None, Ok, Option, Result, Some, codes, inl, inr, refl, subst, sym, unwrap_or}
+use Rattle.std.specs.Prelude.{IfOk, OnOk}
+use Rattle.std.specs.Io.KnownBytes.{Appends}
 use Rattle.std.proofs.lemmas.List.Elements.{All-from_get_or}
 use Rattle.hex.proofs.HexLemmas.{decode_of-ok}
 use Rattle.control_line.specs.Packet.{IsRefusalOfHex, SpellsPacket}
@@ -13,7 +15,13 @@ use Rattle.command_line.specs.declared.ending.Failure.TheVariants.{OutOfMemory, 
 use Rattle.query_commands.specs.declared.stop.Stop.{Stop}
 use Rattle.query_commands.specs.declared.stop.Stop.TheVariants.{Failed, Misformed, Refused}
 use Rattle.query_commands.specs.CommandResult.{IsCheckAnswer, IsExplainAnswer, IsJudgeAnswer, IsRunAnswer}
-use Rattle.query_commands.specs.Format.{IsFormatFault, IsRefusalOfProgram, input_format_of}
+use Rattle.command_line.specs.declared.ending.Status.{Status}
+use Rattle.command_line.specs.declared.ending.Status.TheVariants as status
+use Rattle.fault_code.specs.Code.{code_text}
+use Rattle.fault_code.specs.declared.Code.{Code}
+use Rattle.program_formats.specs.Code.{format_code}
+use Rattle.program_formats.specs.declared.fault.FormatFault.{FormatFault}
+use Rattle.query_commands.specs.Format.{IsFormatFault, IsRefusalOfProgram, input_format_of, misformed_text}
 use Rattle.query_commands.specs.declared.format.InputFormat.{InputFormat}
 use Rattle.command_line.specs.CommandLine.{Request, check, compile, explain, first, judge, run}
 use Rattle.query_commands.specs.FirstPath.{first_lines}
@@ -21,7 +29,7 @@ use Rattle.query_commands.specs.declared.first_path.Line.{Line}
 use Rattle.query_commands.proofs.WriteLemmas.{first_text_of, versions_of}
 use Rattle.command_line.specs.Input.{IsInput}
 use Rattle.query_commands.specs.body.Stop.{IsStopBy, IsStopByProgram}
-use Rattle.query_commands.specs.Query.{IsFailureOf, IsRefusalOfCode, IsRefusalReason, IsResult, IsResultOf, IsStopOf, ReadsInput}
+use Rattle.query_commands.specs.Query.{IsFailureOf, IsMisformedBy, IsRefusalOfCode, IsRefusalReason, IsResult, IsResultOf, IsStopOf, ReadsInput, WritesAnswer}
 
 -- the bytes that digits write are a packet
 pub packet_of_spelt : (digits packet : List ℕ) → SpellsPacket digits packet → IsPacket packet
@@ -29,6 +37,15 @@ packet_of_spelt digits packet spelt = record {
   bytes = All-from_get_or (λ byte. byte < 2 ^ 8) packet 0 (λ k inside. (decode_of-ok digits packet spelt.spells).3 k);
   not_too_long = spelt.not_too_long;
 }
+
+-- the line that names the fault's code is the command's
+pub misformed_written : (request : Request) (known : Option (List ℕ)) (result : Result Status Failure) (before after : Option (List ℕ)) (code : Code) (fault : FormatFault)
+    → IsMisformedBy request known fault → code ≡ format_code fault → IfOk result (λ s. s ≡ status.Refused)
+    → OnOk result (Appends before after ((codes "refused " ++ code_text code) ++ codes "\n")) → IfOk result (λ s. WritesAnswer request known s before after)
+misformed_written request known (Ok status) before after code fault is same refused written =
+    subst (λ s. WritesAnswer request known s before after) (sym refused)
+    (misformed_text fault ++ codes "\n", inr (fault, is, refl), subst (λ c. Appends before after ((codes "refused " ++ code_text c) ++ codes "\n")) same written)
+misformed_written request known (Err failure) before after code fault is same refused written = tt
 
 -- a stop by one refusal is one by another that follows
 pub stopped_alike : (refuses others : Reason → Type 0) (stop : Stop) → ((reason : Reason) → refuses reason → others reason) → IsStopBy refuses stop → IsStopBy others stop

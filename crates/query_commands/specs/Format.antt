@@ -6,13 +6,15 @@ use Rattle.bpf_verify.specs.Accepted.{IsAccepted}
 use Rattle.bpf_verify.specs.Fault.{IsFirstFault}
 use Rattle.control_line.specs.Reason.{IsRefusalOfAssembly}
 use Rattle.control_line.specs.declared.reason.Reason.{Reason}
-use Rattle.control_line.specs.declared.reason.Reason.TheVariants.{Words}
+use Rattle.control_line.specs.declared.reason.Reason.TheVariants.{Text}
+use Rattle.program_text.specs.declared.fault.TextFault.TheVariants.{Words}
+use Rattle.fault_code.specs.Code.{code_text}
+use Rattle.program_formats.specs.Code.{format_code}
 use Rattle.program_formats.specs.Ddd.{IsDdd, ddd_text}
 use Rattle.program_formats.specs.Fault.{IsFaultOfDdd, IsFaultOfHex}
 use Rattle.program_formats.specs.Hex.{IsHex, hex_text}
 use Rattle.program_formats.specs.Initialiser.{dd_text}
 use Rattle.program_formats.specs.declared.fault.FormatFault.{FormatFault}
-use Rattle.program_formats.specs.declared.fault.FormatFault.TheVariants.{Count, OutOfMemory, Syntax}
 use Rattle.program_text.specs.Program.{IsAssembledTo}
 use Rattle.query_commands.specs.declared.format.InputFormat.{InputFormat}
 use Rattle.query_commands.specs.declared.format.InputFormat.TheVariants as input
@@ -51,7 +53,7 @@ IsProgramIn input.Hex text words = IsHex text words × IsAccepted words
 
 -- the words are refused for their first fault
 abbrev pub IsRefusalOfWords : List ℕ → Reason → Type 0
-IsRefusalOfWords words (Words fault) = IsFirstFault words fault
+IsRefusalOfWords words (Text (Words fault)) = IsFirstFault words fault
 IsRefusalOfWords words _ = ⊥
 
 -- the text is refused for the fault of its assembly, or of the words that it is in the format
@@ -68,9 +70,7 @@ IsFormatFault input.Hex text fault = IsFaultOfHex text fault
 
 -- how such a fault is told
 abbrev pub misformed_text : FormatFault → List ℕ
-misformed_text (Syntax line) = codes "refused K1 " ++ decimal line
-misformed_text Count = codes "refused K2"
-misformed_text OutOfMemory = codes "refused K3"
+misformed_text fault = codes "refused " ++ code_text (format_code fault)
 
 -- the text of a program in a format
 abbrev pub listing_text : OutputFormat → List ℕ → List ℕ

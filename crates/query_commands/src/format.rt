@@ -1,13 +1,12 @@
 //! The formats of programs, by name (docs/COMMANDS.md, "Formats of programs").
 
 ghost use Rattle.std.specs.Prelude.{◌≡◌, IfErr, IfOk, Some, string_bytes};
-ghost use Rattle.query_commands.specs.Format.{input_format_of, listing_text, misformed_text, output_format_of};
+ghost use Rattle.query_commands.specs.Format.{input_format_of, listing_text, output_format_of};
 
 use bpf_asm::print;
 use bpf_verify::{OutOfMemory, Program};
-use program_formats::{FormatFault, print_dd, print_ddd, print_hex};
+use program_formats::{print_dd, print_ddd, print_hex};
 use std::alloc::Global;
-use std::fmt;
 
 /// A format that programs are read in.
 #[derive(Clone, Copy)]
@@ -64,21 +63,5 @@ pub fn list(
         OutputFormat::Ddd => print_ddd(alloc, program),
         OutputFormat::Dd => print_dd(alloc, program),
         OutputFormat::Hex => print_hex(alloc, program),
-    }
-}
-
-/// Why a text is not in its format, as it is told.
-#[derive(Clone, Copy)]
-pub struct Misformed(pub FormatFault);
-
-impl fmt::Display for Misformed {
-    ghost output = { λ misformed. Some (misformed_text misformed.0) };
-
-    fn fmt<W: fmt::Write>(&self, f: &mut fmt::Formatter<W>) -> fmt::Result {
-        match self.0 {
-            FormatFault::Syntax { line } => write!(f, "refused K1 {line}"),
-            FormatFault::Count => write!(f, "refused K2"),
-            FormatFault::OutOfMemory => write!(f, "refused K3"),
-        }
     }
 }

@@ -14,7 +14,7 @@ use bpf_machine::{Outcome, run};
 use bpf_verify::Program;
 use control_line::Reason;
 use program_formats::{read_ddd, read_hex};
-use program_text::assembled;
+use program_text::{TextFault, assembled};
 use std::alloc::Global;
 
 fn accepted(words: Vec<u64>) -> Result<Program<Global>, Stop>
@@ -24,7 +24,7 @@ fn accepted(words: Vec<u64>) -> Result<Program<Global>, Stop>
 {
     match Program::new(words) {
         Ok(program) => Ok(program),
-        Err((fault, _words)) => Err(Stop::Refused(Reason::Words(fault))),
+        Err((fault, _words)) => Err(Stop::Refused(Reason::Text(TextFault::Words(fault)))),
     }
 }
 

@@ -3,11 +3,12 @@
 ghost use Rattle.std.specs.Prelude.{◌≡◌, ◌++◌, IfErr, IfOk, IsSomeAnd, MatchOption, OnOk, codes};
 ghost use Rattle.std.specs.Io.KnownBytes.{Appends};
 ghost use Rattle.control_line.specs.Packet.{IsRefusalOfHex, SpellsPacket};
-ghost use Rattle.control_line.specs.Reason.{IsRefusalOfExpression, refusal_text};
+ghost use Rattle.fault_code.specs.Code.{code_text};
+ghost use Rattle.control_line.specs.Reason.{IsRefusalOfExpression};
 ghost use Rattle.control_line.specs.declared.reason.Reason.TheVariants.{BadForm};
 ghost use Rattle.query_commands.specs.CommandResult.{IsCompileAnswer, answer_text};
 ghost use Rattle.command_line.specs.CommandLine.{check, query_request, run};
-ghost use Rattle.query_commands.specs.Format.{misformed_text, output_format_of};
+ghost use Rattle.query_commands.specs.Format.{output_format_of};
 ghost use Rattle.query_commands.specs.Query.{IsResultOf, IsStopOf, MayFail, QueryWritesBefore, WritesAnswer};
 ghost use Rattle.query_commands.specs.body.Stop.{IsStopBy};
 
@@ -15,11 +16,12 @@ use crate::command_result::CommandResult;
 use crate::explaining::explain;
 use crate::expression_commands::{compile, judge};
 use crate::first_path;
-use crate::format::{Misformed, input_format_of, output_format_of};
+use crate::format::{input_format_of, output_format_of};
 use crate::program_commands::{check, run_program};
 use crate::stop::Stop;
 use command_line::{Failure, Query, Status, read_whole};
 use control_line::{Reason, packet_of_hex};
+use fault_code::Code;
 use std::alloc::Global;
 use std::io::{Read, Write};
 
@@ -38,8 +40,8 @@ pub fn run_query<R: Read + Drop, W: Write>(
 {
     match find_answer(alloc, query, input) {
         Ok(found) => write_answer(&found, out),
-        Err(Stop::Refused(reason)) => write_refusal(&reason, out),
-        Err(Stop::Misformed(fault)) => write_misformed(Misformed(fault), out),
+        Err(Stop::Refused(reason)) => write_refusal(reason.code(), out),
+        Err(Stop::Misformed(fault)) => write_refusal(fault.code(), out),
         Err(Stop::Failed(failure)) => Err(failure),
     }
 }
@@ -123,22 +125,12 @@ fn write_answer<W: Write>(found: &CommandResult, out: &mut W) -> Result<Status, 
     Ok(Status::Done)
 }
 
-fn write_refusal<W: Write>(reason: &Reason, out: &mut W) -> Result<Status, Failure>
+fn write_refusal<W: Write>(code: Code, out: &mut W) -> Result<Status, Failure>
     ensures failed { IfErr result (λ failure. failure ≡ Failure.WriteFailed) }
     ensures refused { IfOk result (λ status. status ≡ Status.Refused) }
-    ensures written { OnOk result (Appends (W.contents out.old) (W.contents out.new) (refusal_text reason.now ++ codes "\n")) }
+    ensures written { OnOk result (Appends (W.contents out.old) (W.contents out.new) ((codes "refused " ++ code_text code) ++ codes "\n")) }
 {
-    writeln!(out, "{reason}").map_err(|_| Failure::WriteFailed)?;
-    out.flush().map_err(|_| Failure::WriteFailed)?;
-    Ok(Status::Refused)
-}
-
-fn write_misformed<W: Write>(misformed: Misformed, out: &mut W) -> Result<Status, Failure>
-    ensures failed { IfErr result (λ failure. failure ≡ Failure.WriteFailed) }
-    ensures refused { IfOk result (λ status. status ≡ Status.Refused) }
-    ensures written { OnOk result (Appends (W.contents out.old) (W.contents out.new) (misformed_text misformed.0 ++ codes "\n")) }
-{
-    writeln!(out, "{misformed}").map_err(|_| Failure::WriteFailed)?;
+    writeln!(out, "refused {code}").map_err(|_| Failure::WriteFailed)?;
     out.flush().map_err(|_| Failure::WriteFailed)?;
     Ok(Status::Refused)
 }

@@ -1,5 +1,5 @@
-//! The codes from I1 on with their explanations: the meanings, usual mistakes and causes of docs/COMMANDS.md, and what to do. `table_to_g`
-//! has those before.
+//! The codes I1 to X2 with their explanations, printed by docs/codes/make. `table_to_g` has the others: a check
+//! computes over the whole of a table.
 
 pub const EXPLANATIONS_FROM_I: [(&str, &str); 36] = [
     (
@@ -137,22 +137,22 @@ What to do: write a number that its field can have.",
 P3: An address in the expression is misspelt. It is not four numbers of 0 to
 255.
 Usual mistake: `10.0.0`, or a leading zero as in `10.0.0.01`.
-What to do: write four numbers from 0 to 255 with dots between, without
-leading zeros.",
+What to do: write four numbers from 0 to 255 with dots between, without leading
+zeros.",
     ),
     (
         "P4",
         "\
-P4: A network's prefix does not fit. Its length is above 32, or the address
-has a bit set past it.
+P4: A network's prefix does not fit. Its length is above 32, or the address has
+a bit set past it.
 Usual mistake: `net 10.0.0.1/8` for `net 10.0.0.0/8`.
 What to do: clear the bits past the prefix, or write a longer prefix.",
     ),
     (
         "P5",
         "\
-P5: The expression is nested too deeply. More than 64 brackets are open, or
-the tree is deeper than 64.
+P5: The expression is nested too deeply. More than 64 brackets are open, or the
+tree is deeper than 64.
 Usual mistake: a list of 65 and more parts joined by `or`; put halves in
 brackets.
 What to do: put halves of the list in brackets, so that no part lies deep.",
@@ -191,8 +191,7 @@ What to do: write an instruction; `ret #0` alone is a program.",
         "V2",
         "\
 V2: The program is too long. It has more than 4096 instructions.
-Usual mistake: a generated list of tests; use ranges, or split it over
-members.
+Usual mistake: a generated list of tests; use ranges, or split it over members.
 What to do: write the program shorter, or split it.",
     ),
     (

@@ -1,5 +1,5 @@
-//! The codes A1 to G9 with their explanations: the meanings, usual mistakes and causes of docs/COMMANDS.md, and what to do. `table_from_i`
-//! has the others: a check computes over the whole of a table.
+//! The codes A1 to G9 with their explanations, printed by docs/codes/make. `table_from_i` has the others: a check
+//! computes over the whole of a table.
 
 pub const EXPLANATIONS_TO_G: [(&str, &str); 28] = [
     (
@@ -15,8 +15,7 @@ What to do: correct the line that NUMBER tells, counted from 1.",
         "\
 A2: A jump goes to a label that no line defines.
 Usual mistake: a misspelt label; names differ by case.
-What to do: define the label on a line below the jump, or correct its
-spelling.",
+What to do: define the label on a line below the jump, or correct its spelling.",
     ),
     (
         "A3",
@@ -53,16 +52,15 @@ is refused the program says `failed E3` in its place.",
 B1: The new configuration is too large to be published. Its charge is above
 8192.
 Usual mistake: too many or too large programs; groups and members count 4 each,
-so 64 groups have room for 1983 members without programs; `show` has the charge,
-and a shorter expression lowers it.
+so 64 groups have room for 1983 members without programs; `show` has the
+charge, and a shorter expression lowers it.
 What to do: clear programs that are not used or write them shorter, take groups
 or members away, and send the line again.",
     ),
     (
         "B2",
         "\
-B2: No row of the version table is free at the moment. Each worker was
-scanned.
+B2: No row of the version table is free at the moment. Each worker was scanned.
 Usual mistake: none in the line: a worker is held up inside an old version, so
 that sixteen are in use.
 What to do: send the line again; `sweep` tells how many versions have become
@@ -135,9 +133,9 @@ raise it (`ulimit -v`), or make the input shorter, and try again.",
         "E4",
         "\
 E4: A line had no reply.
-No reply came in the seconds of `--timeout`, the line could not be sent, or 4096
-datagrams came from elsewhere first. `tell` sent no later line. No switch runs
-at that address (`ss -ulpn` shows who listens), it is bound to 0.0.0.0 and
+No reply came in the seconds of `--timeout`, the line could not be sent, or
+4096 datagrams came from elsewhere first. `tell` sent no later line. No switch
+runs at that address (`ss -ulpn` shows who listens), it is bound to 0.0.0.0 and
 replies from another address (on its machine give 127.0.0.1), a firewall drops
 the datagrams, or the switch is busy; start it, correct the address, or raise
 `--timeout`. The line may be done all the same, even after `tell` has ended.

@@ -1,3 +1,4 @@
+pub mod Code
 pub mod Publish
 pub mod Sweep
 pub mod body

@@ -1,5 +1,10 @@
 //! Why a configuration is not published.
 
+ghost use Rattle.std.specs.Prelude.{◌≡◌};
+ghost use Rattle.retire.specs.Code.{publish_code};
+
+use fault_code::Code;
+
 /// Why `publish` published nothing.
 #[derive(Clone, Copy, Debug, PartialEq, Eq)]
 pub enum PublishFault {
@@ -9,4 +14,17 @@ pub enum PublishFault {
     Exhausted,
     /// B2: no row is free, also after a scan of each read word.
     Busy,
+}
+
+impl PublishFault {
+    /// The code (docs/COMMANDS.md, "Refusals").
+    pub fn code(self) -> Code
+        ensures { result ≡ publish_code self }
+    {
+        match self {
+            PublishFault::TooBig => Code::plain('B', 1),
+            PublishFault::Busy => Code::plain('B', 2),
+            PublishFault::Exhausted => Code::plain('B', 3),
+        }
+    }
 }

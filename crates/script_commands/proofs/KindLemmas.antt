@@ -1,6 +1,8 @@
 -- The kinds of the replies of a script.
 use Rattle.std.proofs.Common.{◌≡◌, ◌∙◌, ◌==◌, ◌/◌, ◌%◌, ◌^◌, ◌<◌, ◌∷◌, ◌++◌, Bool, List, None, Option, Some, [], ap, append-nil, append_assoc, arith, codes, decimal, inl, nat_lt, not, refl, true, ℕ}
 use Rattle.std.proofs.lemmas.Bool.{and_parts, eq-eqb, false≢true, ltb-true}
+use Rattle.std.specs.Char.{encode_utf8}
+use Rattle.std.specs.Fmt.{digits}
 use Rattle.std.specs.List.{list_all}
 use Rattle.std.specs.Option.{option_or}
 use Rattle.ipv4_fields.specs.Cut.{Lacks}
@@ -19,10 +21,18 @@ use Rattle.member_group.specs.declared.refusal.Refusal.TheVariants as refusal
 use Rattle.retire.specs.declared.fault.PublishFault.{PublishFault}
 use Rattle.retire.specs.declared.fault.PublishFault.TheVariants as publish
 use Rattle.control.specs.Endpoint.{IsEndpoint, endpoint_text}
-use Rattle.control.specs.Reason.{asm_code, command_code, compile_code, number_text, parse_code, publish_code, reason_code, verify_code}
+use Rattle.bpf_asm.specs.Code.{asm_code}
+use Rattle.bpf_verify.specs.Code.{verify_code}
+use Rattle.fault_code.specs.Code.{name_text, place_text}
+use Rattle.filter_compile.specs.Code.{compile_code}
+use Rattle.filter_parse.specs.Code.{parse_code}
+use Rattle.member_group.specs.Code.{command_code}
+use Rattle.retire.specs.Code.{publish_code}
+use Rattle.control.specs.Reason.{reason_code}
 use Rattle.control.specs.Reply.{reply_text}
 use Rattle.control_line.specs.declared.reason.Reason.{Reason}
-use Rattle.control_line.specs.declared.reason.Reason.TheVariants.{Assembly, BadForm, Command, Compiling, Expression, LineTooLong, PacketTooLong, Publishing, Words}
+use Rattle.control_line.specs.declared.reason.Reason.TheVariants.{BadForm, Command, LineTooLong, PacketTooLong, Publishing, Text}
+use Rattle.program_text.specs.declared.fault.TextFault.TheVariants.{Assembly, Compiling, Expression, OutOfMemory, Words}
 use Rattle.control_line.specs.declared.reply.LineAnswer.TheVariants.{Shown, Swept}
 use Rattle.packet_verdict.specs.declared.verdict.Verdict.TheVariants.{Deliver, Dropped, Malformed, NoGroup, NoMembers}
 use Rattle.reply_counts.specs.Kind.{refusal_in, reply_kind}
@@ -142,7 +152,8 @@ verdicts_are_counted version (Deliver group id to bytes) small member = delivere
 
 -- ---- refusals
 
-above-asm : (fault : AsmFault) → is_above_space (asm_code fault).name ≡ true
+above-asm : (fault : AsmFault) → is_above_space (name_text (asm_code fault)) ≡ true
+unfolding digits encode_utf8
 above-asm (asm.Syntax line) = refl
 above-asm (asm.UnknownLabel line) = refl
 above-asm (asm.DoubleLabel line) = refl
@@ -150,7 +161,8 @@ above-asm (asm.BackwardJump line) = refl
 above-asm (asm.TooFar line) = refl
 above-asm asm.OutOfMemory = refl
 
-above-verify : (fault : Fault) → is_above_space (verify_code fault).name ≡ true
+above-verify : (fault : Fault) → is_above_space (name_text (verify_code fault)) ≡ true
+unfolding digits encode_utf8
 above-verify verify.Empty = refl
 above-verify verify.TooLong = refl
 above-verify (verify.BadOpcode pc) = refl
@@ -163,7 +175,8 @@ above-verify (verify.Ancillary pc) = refl
 above-verify verify.NoReturn = refl
 above-verify (verify.UnstoredCell pc) = refl
 
-above-parse : (fault : ParseFault) → is_above_space (parse_code fault).name ≡ true
+above-parse : (fault : ParseFault) → is_above_space (name_text (parse_code fault)) ≡ true
+unfolding digits encode_utf8
 above-parse (parse.Syntax place) = refl
 above-parse (parse.NumberTooBig place) = refl
 above-parse (parse.BadAddress place) = refl
@@ -171,12 +184,14 @@ above-parse (parse.BadPrefix place) = refl
 above-parse (parse.TooDeep place) = refl
 above-parse parse.OutOfMemory = refl
 
-above-compile : (fault : CompileFault) → is_above_space (compile_code fault).name ≡ true
+above-compile : (fault : CompileFault) → is_above_space (name_text (compile_code fault)) ≡ true
+unfolding digits encode_utf8
 above-compile compile.CellsExceeded = refl
 above-compile compile.TooLong = refl
 above-compile compile.OutOfMemory = refl
 
-above-refusal : (fault : Refusal) → is_above_space (command_code fault).name ≡ true
+above-refusal : (fault : Refusal) → is_above_space (name_text (command_code fault)) ≡ true
+unfolding digits encode_utf8
 above-refusal refusal.NoGroup = refl
 above-refusal refusal.GroupExists = refl
 above-refusal refusal.NoMember = refl
@@ -187,19 +202,22 @@ above-refusal refusal.NoProgram = refl
 above-refusal refusal.OutOfMemory = refl
 above-refusal refusal.Locked = refl
 
-above-publish : (fault : PublishFault) → is_above_space (publish_code fault).name ≡ true
+above-publish : (fault : PublishFault) → is_above_space (name_text (publish_code fault)) ≡ true
+unfolding digits encode_utf8
 above-publish publish.TooBig = refl
 above-publish publish.Busy = refl
 above-publish publish.Exhausted = refl
 
-pub above-reason : (reason : Reason) → is_above_space (reason_code reason).name ≡ true
+pub above-reason : (reason : Reason) → is_above_space (name_text (reason_code reason)) ≡ true
+unfolding digits encode_utf8
 above-reason BadForm = refl
 above-reason LineTooLong = refl
 above-reason PacketTooLong = refl
-above-reason (Assembly fault) = above-asm fault
-above-reason (Words fault) = above-verify fault
-above-reason (Expression fault) = above-parse fault
-above-reason (Compiling fault) = above-compile fault
+above-reason (Text (Assembly fault)) = above-asm fault
+above-reason (Text (Words fault)) = above-verify fault
+above-reason (Text (Expression fault)) = above-parse fault
+above-reason (Text (Compiling fault)) = above-compile fault
+above-reason (Text OutOfMemory) = refl
 above-reason (Command why) = above-refusal why
 above-reason (Publishing fault) = above-publish fault
 
@@ -208,7 +226,7 @@ unfolding verdict_in refusal_in
 refused_at name [] = refl
 refused_at name (word ∷ behind) = refl
 
-refused_kind : (name : List ℕ) (number : Option ℕ) → Lacks 32 name → reply_kind (codes "refused " ++ name ++ number_text number) ≡ Some (codes "refused " ++ name)
+refused_kind : (name : List ℕ) (number : Option ℕ) → Lacks 32 name → reply_kind (codes "refused " ++ name ++ place_text number) ≡ Some (codes "refused " ++ name)
 refused_kind name None lacks =
     let regrouped : codes "refused " ++ name ++ [] ≡ codes "refused" ++ 32 ∷ name = simp (append_assoc, append-nil) in
     kind_by_words (codes "refused " ++ name ++ []) (codes "refused" ∷ (name ∷ []))
@@ -222,7 +240,7 @@ refused_kind name (Some number) lacks =
     ∙ refused_at name (words_of (decimal number))
 
 pub refusals_are_counted : RefusalsAreCounted
-refusals_are_counted reason = refused_kind (reason_code reason).name (reason_code reason).number (lacks-above 32 (reason_code reason).name (omega arith) (above-reason reason))
+refusals_are_counted reason = refused_kind (name_text (reason_code reason)) (reason_code reason).place (lacks-above 32 (name_text (reason_code reason)) (omega arith) (above-reason reason))
 
 -- ---- other replies
 

@@ -8,7 +8,8 @@ use Rattle.ipv4_fields.specs.Cut.{Lacks}
 use Rattle.ipv4_fields.specs.declared.endpoint.Endpoint.{Endpoint}
 use Rattle.ipv4_fields.proofs.TextLemmas.{lacks-append, lacks-cons}
 use Rattle.control.specs.Endpoint.{endpoint_text}
-use Rattle.control.specs.Reason.{number_text, reason_code, refusal_text}
+use Rattle.fault_code.specs.Code.{name_text, place_text}
+use Rattle.control.specs.Reason.{reason_code, refusal_text}
 use Rattle.control.specs.Reply.{reply_text}
 use Rattle.control.specs.Script.{AreAnswered, RepliesTo, Standing, all_ended, at_start, judged_text, last_unended, no_line, one_more, text_value, to_control, to_long_packet, to_packet, verdict_text}
 use Rattle.dispatch.specs.Verdict.{verdict}
@@ -79,12 +80,12 @@ refused name number first last = both (codes "refused ") (name ++ number) (lacks
 
 lacks-refusal : (reason : Reason) → Lacks 10 (refusal_text reason)
 lacks-refusal reason =
-    refused (reason_code reason).name (number_text (reason_code reason).number) (lacks-above 10 (reason_code reason).name (omega arith) (above-reason reason))
-    (by_number (reason_code reason).number)
+    refused (name_text (reason_code reason)) (place_text (reason_code reason).place) (lacks-above 10 (name_text (reason_code reason)) (omega arith) (above-reason reason))
+    (by_place (reason_code reason).place)
   where
-    by_number : (number : Option ℕ) → Lacks 10 (number_text number)
-    by_number None = λ k inside. absurd (omega arith)
-    by_number (Some n) = named (codes " ") n blank
+    by_place : (place : Option ℕ) → Lacks 10 (place_text place)
+    by_place None = λ k inside. absurd (omega arith)
+    by_place (Some n) = named (codes " ") n blank
 
 -- a text, and a word behind a label
 labelled : (text label word : List ℕ) → Lacks 10 text → Lacks 10 label → Lacks 10 word → Lacks 10 (text ++ label ++ word)

@@ -1,6 +1,7 @@
 -- How the replies of a script are counted in its summary (docs/COMMANDS.md, "replay").
 use Rattle.std.specs.Prelude.{◌≡◌, ◌<◌, ◌^◌, ◌++◌, List, None, Some, codes, decimal, ℕ}
 use Rattle.control.specs.Endpoint.{IsEndpoint, endpoint_text}
+use Rattle.fault_code.specs.Code.{name_text}
 use Rattle.control.specs.Reason.{reason_code, refusal_text}
 use Rattle.control.specs.Reply.{reply_text}
 use Rattle.control.specs.Script.{judged_text}
@@ -21,7 +22,7 @@ verdict_kind (Deliver key id to bytes) = codes "deliver " ++ endpoint_text key +
 
 -- the kind of a refusal: its code, without the number
 abbrev pub refusal_kind : Reason → List ℕ
-refusal_kind reason = codes "refused " ++ (reason_code reason).name
+refusal_kind reason = codes "refused " ++ name_text (reason_code reason)
 
 -- the key of a verdict is an endpoint, and its member's number is below 2^32
 abbrev pub NamesMember : Verdict → Type 0

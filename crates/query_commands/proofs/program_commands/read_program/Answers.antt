@@ -1,5 +1,15 @@
-use Rattle.std.proofs.Common.{rules}
+use Rattle.std.proofs.Common.{rules, subst, sym}
+use Rattle.std.specs.Prelude.{IfErr}
+use Rattle.query_commands.proofs.StopLemmas.{assembly_stops, stopped_as}
+use Rattle.query_commands.specs.body.Stop.{IsStopByProgram}
+use Rattle.query_commands.specs.declared.format.InputFormat.TheVariants as input
 use Rattle.query_commands.proofs.program_commands.read_program.Goals as goal
+
+pub returns-in_err-assembled-in-Assembly-clause-stopped : goal.returns-in_err-assembled-in-Assembly-clause-stopped
+returns-in_err-assembled-in-Assembly-clause-stopped c =
+    subst (λ format. IfErr c.from_residual.result (IsStopByProgram format c.args.text.now)) (sym c.in-Assembly.is)
+    (stopped_as c.from_residual.result (IsStopByProgram input.Assembly c.args.text.now) _ c.from_residual.ensures.1
+    (assembly_stops c.args.text.now _ c.in_err-assembled-in-Assembly.ensures.fault))
 
 pub returns-in_ok-assembled-in-Assembly-clause-program : goal.returns-in_ok-assembled-in-Assembly-clause-program
 returns-in_ok-assembled-in-Assembly-clause-program c = search rules

@@ -1,4 +1,7 @@
-use Rattle.std.proofs.Common.{rules}
+use Rattle.std.proofs.Common.{rules, subst}
+use Rattle.command_line.specs.CommandLine.{query_request}
+use Rattle.query_commands.specs.Query.{IsStopOf}
+use Rattle.query_commands.proofs.QueryLemmas.{misformed_written}
 use Rattle.query_commands.proofs.queries.run_query.Goals as goal
 
 pub returns-in-Err-Failed-clause-answered : goal.returns-in-Err-Failed-clause-answered
@@ -11,7 +14,10 @@ pub returns-in-Err-Failed-clause-failed_written : goal.returns-in-Err-Failed-cla
 returns-in-Err-Failed-clause-failed_written g c = search rules
 
 pub returns-in-Err-Misformed-clause-answered : goal.returns-in-Err-Misformed-clause-answered
-returns-in-Err-Misformed-clause-answered g c = search rules
+returns-in-Err-Misformed-clause-answered g c =
+    misformed_written (query_request c.args.query) (g.R.Read.remaining c.args.input) c.write_refusal-in-Err-Misformed.result _ _ c.code-in-Err-Misformed.result c.in-Err-Misformed.fault
+    (subst (IsStopOf (query_request c.args.query) (g.R.Read.remaining c.args.input)) c.in-Err-Misformed.field-0-is c.in-Err-Misformed.ensures.stopped) c.code-in-Err-Misformed.ensures
+    c.write_refusal-in-Err-Misformed.ensures.refused c.write_refusal-in-Err-Misformed.ensures.written
 
 pub returns-in-Err-Misformed-clause-failed : goal.returns-in-Err-Misformed-clause-failed
 returns-in-Err-Misformed-clause-failed g c = search rules
