@@ -16,3 +16,5 @@ pub mod NameLemmas
 pub mod ProgramLemmas
 pub mod PooledRowLemmas
 pub mod FormLemmas
+pub mod OnePartLemmas
+pub mod ReadsLemmas

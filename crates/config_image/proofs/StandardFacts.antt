@@ -1,6 +1,7 @@
--- Worked images, by the definitions alone (docs/SWITCH.md, "Image").
+-- Worked images (docs/SWITCH.md, "Image") and numbers of digits, by the definitions alone.
 use Rattle.std.proofs.Common.{◌≡◌, ◌∷◌, None, Some, [], false, refl, true}
 use Rattle.config_image.specs.Image.{image}
+use Rattle.config_image.specs.Search.{digits}
 
 empty : image [] ≡ 2 ∷ 0 ∷ []
 unfolding image
@@ -37,3 +38,20 @@ two_groups : image (
     ≡ 24 ∷ 2 ∷ 0x10002 ∷ 10 ∷ 0 ∷ 0x120002 ∷ 0x10003 ∷ 10 ∷ 2 ∷ 0x140001 ∷ 7 ∷ 5 ∷ 0x150003 ∷ 1 ∷ 8 ∷ 6 ∷ 0 ∷ 0 ∷ 10 ∷ 11 ∷ 12 ∷ 13 ∷ 14 ∷ 15 ∷ []
 unfolding image
 two_groups = refl
+
+-- eleven digits hold 2047, and ten 1023
+eleven : digits 11 2047 ≡ 11
+unfolding digits
+eleven = refl
+
+ten : digits 11 1023 ≡ 10
+unfolding digits
+ten = refl
+
+one_digit : digits 11 1 ≡ 1
+unfolding digits
+one_digit = refl
+
+no_digit : digits 11 0 ≡ 0
+unfolding digits
+no_digit = refl

@@ -1,7 +1,9 @@
 pub mod Image
 pub mod Lookup
+pub mod Memory
 pub mod PageTable
 pub mod Pooled
+pub mod Search
 pub mod Walk
 pub use Rattle.bpf_insn.specs.Word
 pub use Rattle.bpf_verify.specs.Path

@@ -1,16 +1,17 @@
 //! The image of a configuration: the words in which the table keeps it, and what is found in them again
-//! (docs/SWITCH.md, "Image"). No call takes memory.
+//! (docs/SWITCH.md, "Image"). No call takes memory but `ExtentMemory::new`.
 #![tactic(auto)]
 
 ghost use Rattle.std.specs.Prelude.{◌≡◌};
 ghost use Rattle.config_image.specs.Image.{NoImageBeginsAnother};
 ghost use Rattle.config_image.specs.Lookup.{RowHoldsImage};
+ghost use Rattle.config_image.specs.Memory.{SlotsApart};
 ghost use Rattle.config_image.specs.Pooled.{EachImageHasItsParts, EachProgramIsCut, PooledFormTellsRow, RowTellsItsParts, RowTellsItsPartsWithRoom};
+ghost use Rattle.config_image.specs.Search.{OnePartHolds};
 
 use member_group::HEAD_WORDS;
 
 mod lookup;
-mod page_table;
 mod pages;
 mod pooled;
 mod size;
@@ -22,8 +23,9 @@ pub use lookup::{
     FoundGroup, MemberEntry, ProgramPlace, filter_of, find_group, member_at, member_with_filter,
     selector_of,
 };
-pub use page_table::{PageEntry, RowHeader};
-pub use pages::{page_count, pages_for};
+pub use pages::{
+    Extent, ExtentMemory, FoundPart, PageEntry, RowHeader, Search, page_count, pages_for,
+};
 pub use pooled::{stored_word, write_pooled};
 pub use size::image_len;
 pub use walk::Programs;
@@ -39,11 +41,15 @@ pub const PAGE_WORDS: usize = 16;
 /// The greatest number of pages that a version names: a page costs at least four words of the charge.
 pub const PAGE_LIMIT: usize = (ROW_WORDS - HEAD_WORDS) / 4;
 
+/// The number of page table entries that a search asks for at most.
+pub const READ_LIMIT: usize = 11;
+
 /// Law: the limits, as numbers. It runs nothing.
 pub fn limits_as_numbers()
     ensures row { ROW_WORDS ≡ 8192 }
     ensures page { PAGE_WORDS ≡ 16 }
     ensures pages { PAGE_LIMIT ≡ 2047 }
+    ensures reads { READ_LIMIT ≡ 11 }
 {}
 
 /// Law: no image begins another, as lists of words. It runs nothing.
@@ -75,4 +81,14 @@ pub fn row_tells_its_parts()
 /// nothing.
 pub fn pooled_form_tells_row()
     ensures { PooledFormTellsRow }
+{}
+
+/// Law: if the starts rise, at most one part holds a place. It runs nothing.
+pub fn one_part_holds()
+    ensures { OnePartHolds }
+{}
+
+/// Law: places that are less than 1023 apart have slots of their own. It runs nothing.
+pub fn slots_apart()
+    ensures { SlotsApart }
 {}

@@ -1,4 +1,5 @@
-//! How many pages of the pool the programs of a configuration take.
+//! The pages of the pool: how many a configuration takes, and the page table of a row, the search in it and the memory of what was
+//! found.
 
 ghost use Rattle.std.specs.Prelude.{◌≡◌, ◌+◌, ◌*◌, ◌<◌, ◌≤◌, ◌^◌, length};
 ghost use Rattle.std.specs.List.{sum_by};
@@ -13,6 +14,14 @@ use crate::{PAGE_LIMIT, PAGE_WORDS, ROW_WORDS};
 use bpf_verify::{MAX_INSTRUCTIONS, Program};
 use member_group::{Config, Group, MEMBER_LIMIT, Member};
 use std::alloc::Allocator;
+
+mod cache;
+mod search;
+mod table;
+
+pub use cache::{Extent, ExtentMemory};
+pub use search::{FoundPart, Search};
+pub use table::{PageEntry, RowHeader};
 
 /// Tells how many pages a program of so many words takes: one for each `PAGE_WORDS` words, and one for what is left.
 #[inline(always)]

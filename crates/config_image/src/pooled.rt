@@ -8,8 +8,7 @@ ghost use Rattle.member_group.specs.Group.{IsConfig};
 ghost use Rattle.config_image.specs.Image.{members_begin, programs_begin};
 ghost use Rattle.config_image.specs.Pooled.{ArePages, form_word, page_names, pages_for, parts, parts_of, pooled_row};
 
-use crate::page_table::{PageEntry, RowHeader};
-use crate::pages::pages_for;
+use crate::pages::{PageEntry, RowHeader, pages_for};
 use crate::size::{members_in, words_in};
 use crate::walk::Programs;
 use crate::word::{PLACE_LIMIT, record_word};

@@ -1,7 +1,7 @@
 -- A word in an extent that is found, or was: a few fetches or none, and one of the word.
 use Rattle.std.proofs.Common.{◌≡◌, ℕ, ◌+◌, ◌-◌, ◌<◌, ◌≤◌, ◌^◌, [], Some, arith, length, refl, slice_get, slice_index_or, subst}
-use Rattle.extent_memory.specs.declared.extent.Extent.{Extent}
-use Rattle.extent_memory.specs.Memory.{Holds}
+use Rattle.config_image.specs.declared.pages.cache.Extent.{Extent}
+use Rattle.config_image.specs.Memory.{Holds}
 use Rattle.versions.specs.declared.layout.TheConstants.{TABLE_WORDS}
 use Rattle.versions.specs.declared.view.Stage.{Stage}
 use Rattle.versions.specs.declared.view.Stage.TheVariants.{Announced, Inside, Outside, Peeked}

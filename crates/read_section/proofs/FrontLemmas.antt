@@ -5,7 +5,7 @@ use Rattle.versions.specs.declared.layout.TheConstants.{ROWS_BEGIN, TABLE_WORDS}
 use Rattle.versions.specs.Safety.{IsHeldPlace}
 use Rattle.versions.specs.View.{after_fetch}
 use Rattle.versions.specs.Table.{the_shape}
-use Rattle.extent_memory.specs.declared.extent.Extent.{Extent}
+use Rattle.config_image.specs.declared.pages.cache.Extent.{Extent}
 use Rattle.read_section.specs.Reads.{Reads}
 use Rattle.read_section.specs.Section.{held_words}
 use Rattle.read_section.specs.Worker.{WorkerValue, steps}

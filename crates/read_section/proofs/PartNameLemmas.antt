@@ -9,10 +9,10 @@ use Rattle.config_image.specs.PageTable.{entry_word, page_of, start_of}
 use Rattle.config_image.specs.Pooled.{ArePages, PartsStand, PooledRowTells, part_begin, parts, pooled_row}
 use Rattle.config_image.proofs.PageTableLemmas as entry
 use Rattle.config_image.proofs.PooledLemmas.{row_tells_with_room}
-use Rattle.part_search.specs.declared.found.FoundPart.{FoundPart}
+use Rattle.config_image.specs.declared.pages.search.FoundPart.{FoundPart}
 use Rattle.read_section.specs.body.Found.{HasPages}
 use Rattle.read_section.specs.body.Sought.{names_of}
-use Rattle.part_search.specs.Names.{HoldsPlace, IsWithin}
+use Rattle.config_image.specs.Search.{HoldsPlace, IsWithin}
 
 -- pages of the table have 16 bits
 pub ArePages-table : (config : List Group) (pages : List ℕ) → HasPages config pages → ArePages config pages

@@ -3,8 +3,8 @@ use Rattle.std.proofs.Common.{◌≡◌, ◌≢◌, ◌⊎◌, ℕ, zero, suc, �
 use mathlib.Core.Logic.{dite}
 use native.Mathlib.Decide.{ℕ_discrete}
 use Rattle.config_image.specs.Image.{Group}
-use Rattle.extent_memory.specs.declared.extent.Extent.{Extent}
-use Rattle.extent_memory.specs.Memory.{IsKept, MemoryValue}
+use Rattle.config_image.specs.declared.pages.cache.Extent.{Extent}
+use Rattle.config_image.specs.Memory.{IsKept, MemoryValue}
 use Rattle.versions.specs.declared.layout.TheConstants.{ROWS}
 use Rattle.versions.specs.declared.view.Stage.{Stage}
 use Rattle.versions.specs.declared.view.Stage.TheVariants.{Announced, Inside, Outside, Peeked}

@@ -12,8 +12,8 @@ use Rattle.versions.specs.Safety.{IsHeldPlace}
 use Rattle.versions.specs.Table.{the_shape}
 use Rattle.versions.proofs.RowLemmas.{row_behind_image}
 use Rattle.config_image.proofs.ImageLemmas.{length_word}
-use Rattle.extent_memory.specs.declared.extent.Extent.{Extent}
-use Rattle.extent_memory.specs.Memory.{Holds}
+use Rattle.config_image.specs.declared.pages.cache.Extent.{Extent}
+use Rattle.config_image.specs.Memory.{Holds}
 use Rattle.read_section.specs.Reads.{TellsWordAt}
 use Rattle.read_section.specs.Section.{held_words}
 use Rattle.read_section.specs.Worker.{WorkerValue}

@@ -6,8 +6,8 @@ use Rattle.config_image.specs.declared.TheConstants.{PAGE_LIMIT, ROW_WORDS}
 use Rattle.config_image.specs.Image.{Group, image, programs_begin}
 use Rattle.config_image.specs.PageTable.{entry_word, header_begin, header_count, header_len, page_of, start_of}
 use Rattle.config_image.specs.Pooled.{ArePages, PooledRowTells, part_begin, parts, pooled_row}
-use Rattle.part_search.specs.declared.found.FoundPart.{FoundPart}
-use Rattle.part_search.specs.Names.{HoldsPlace, IsWithin}
+use Rattle.config_image.specs.declared.pages.search.FoundPart.{FoundPart}
+use Rattle.config_image.specs.Search.{HoldsPlace, IsWithin}
 use Rattle.versions.specs.declared.layout.TheConstants.{ROWS_BEGIN}
 use Rattle.versions.specs.declared.view.Stage.TheVariants.{Inside}
 use Rattle.versions.specs.Layout.{page_begin}

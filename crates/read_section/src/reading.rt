@@ -2,7 +2,7 @@
 
 ghost use Rattle.std.specs.Prelude.{◌≡◌, ◌<◌, ◌≤◌, Some, length, slice_get, ℕ};
 ghost use Rattle.config_image.specs.PageTable.{header_count, header_len, page_of};
-ghost use Rattle.extent_memory.specs.Memory.{Holds};
+ghost use Rattle.config_image.specs.Memory.{Holds};
 ghost use Rattle.versions.specs.Layout.{page_begin};
 ghost use Rattle.versions.specs.Table.{the_shape};
 ghost use Rattle.versions.specs.View.{after_fetch};
@@ -14,9 +14,7 @@ ghost use Rattle.read_section.specs.body.Sought.{IsSought, TellsName};
 ghost use Rattle.read_section.specs.body.Steps.{SeesWord};
 
 use crate::worker::Worker;
-use config_image::{PageEntry, RowHeader};
-use extent_memory::Extent;
-use part_search::{READ_LIMIT, Search};
+use config_image::{Extent, PageEntry, READ_LIMIT, RowHeader, Search};
 use versions::{page_place, row_begin, row_place};
 
 // Where the page of a name begins in the table.

@@ -28,7 +28,7 @@ use crate::plays::{
 use crate::versions_rule::{SharedTable, TableSeat};
 use crate::worker::Worker;
 use atomic_table::Table;
-use extent_memory::ExtentMemory;
+use config_image::ExtentMemory;
 use member_group::Config;
 use std::alloc::{AllocError, Global};
 use std::marker::{Brand, Model};

@@ -6,8 +6,7 @@ ghost use Rattle.read_section.specs.body.Found.{Knows, KnowsIn-prop};
 use crate::reading::read_by_row;
 use crate::worker::Worker;
 use bpf_insn::{ReadyWords, Words};
-use config_image::{ROW_WORDS, RowHeader};
-use extent_memory::Extent;
+use config_image::{Extent, ROW_WORDS, RowHeader};
 use versions::{ROWS, row_begin, row_place};
 
 // What a section keeps of the version that is held.

@@ -2,9 +2,9 @@
 
 ghost use Rattle.std.specs.Prelude.{◌≡◌, ◌<◌, IfSome, List, if◌then◌else◌, length, suc, ℕ};
 ghost use Rattle.config_image.specs.Image.{Group};
-ghost use Rattle.extent_memory.specs.declared.memory.ExtentMemory.{ExtentMemory};
-ghost use Rattle.extent_memory.specs.declared.extent.Extent.{Extent};
-ghost use Rattle.extent_memory.specs.Memory.{Holds};
+ghost use Rattle.config_image.specs.declared.pages.cache.ExtentMemory.{ExtentMemory};
+ghost use Rattle.config_image.specs.declared.pages.cache.Extent.{Extent};
+ghost use Rattle.config_image.specs.Memory.{Holds};
 ghost use Rattle.versions.specs.declared.layout.TheConstants.{TABLE_WORDS};
 ghost use Rattle.versions.specs.View.{IsTold, after_fetch, after_peek};
 ghost use Rattle.versions.specs.Safety.{IsHeldPlace};
@@ -20,8 +20,7 @@ ghost use Rattle.read_section.specs.body.Steps.{SeesWord};
 use crate::operator::Operator;
 use crate::seat::WorkerSeat;
 use crate::section::Section;
-use config_image::RowHeader;
-use extent_memory::{Extent, ExtentMemory};
+use config_image::{Extent, ExtentMemory, RowHeader};
 use std::marker::Model;
 use versions::{current_row, current_version};
 

@@ -4,7 +4,7 @@ use Rattle.std.specs.Coded.{×_prop, →_prop, Π_prop, Unit-prop, le_prop, Code
 use Rattle.config_image.specs.declared.TheConstants.{ROW_WORDS}
 use Rattle.config_image.specs.Image.{Group, image, programs_begin}
 use Rattle.config_image.specs.Pooled.{form_word, part_begin, parts}
-use Rattle.extent_memory.specs.declared.extent.Extent.{Extent}
+use Rattle.config_image.specs.declared.pages.cache.Extent.{Extent}
 use Rattle.versions.specs.declared.layout.TheConstants.{PAGES, ROWS, ROWS_BEGIN}
 use Rattle.versions.specs.declared.view.Stage.{Stage}
 use Rattle.versions.specs.declared.view.Stage.TheVariants.{Announced, Inside, Outside, Peeked}

@@ -1,8 +1,8 @@
 -- What a worker's memory tells of the version that its last pin gave, also outside a section.
 use Rattle.std.specs.Prelude.{◌≡◌, ◌<◌, List, [], length, slice_index_or, ℕ}
 use Rattle.config_image.specs.Image.{Group}
-use Rattle.extent_memory.specs.declared.extent.Extent.{Extent}
-use Rattle.extent_memory.specs.Memory.{IsKept, MemoryValue}
+use Rattle.config_image.specs.declared.pages.cache.Extent.{Extent}
+use Rattle.config_image.specs.Memory.{IsKept, MemoryValue}
 use Rattle.versions.specs.declared.view.Stage.TheVariants.{Inside}
 use Rattle.versions.specs.declared.view.WorkerView.{WorkerView}
 use Rattle.versions.specs.View.{last_pinned}

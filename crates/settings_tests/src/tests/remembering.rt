@@ -1,6 +1,6 @@
 //! The memory of extents: what is recalled, and what is forgotten.
 
-use extent_memory::{Extent, ExtentMemory};
+use config_image::{Extent, ExtentMemory};
 use std::test::Fail;
 
 const EXTENT: Extent = Extent {

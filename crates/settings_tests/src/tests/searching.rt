@@ -2,8 +2,7 @@
 
 ghost use Rattle.std.specs.Prelude.{◌≡◌, ◌<◌, ◌≤◌, ◌^◌, IfOk, length, vec_len};
 
-use config_image::PageEntry;
-use part_search::{FoundPart, NAME_LIMIT, Search};
+use config_image::{FoundPart, PAGE_LIMIT, PageEntry, Search};
 use std::alloc::Global;
 use std::test::Fail;
 
@@ -11,7 +10,7 @@ use std::test::Fail;
 // no part.
 fn found_in(names: &[u64], end: usize, place: usize) -> Option<(FoundPart, usize)>
     requires end_fits { end < 2 ^ 48 }
-    requires names_fit { length names.now ≤ NAME_LIMIT }
+    requires names_fit { length names.now ≤ PAGE_LIMIT }
 {
     let first = names.first()?;
     if place < PageEntry(*first).start() || end <= place {
@@ -62,7 +61,7 @@ const FIRST: u64 = 260;
 
 // The names of so many parts of 1 to 16 words, in pages from 65535 down, and the place behind the last part.
 fn row(alloc: Global, count: usize) -> Result<(Vec<u64>, usize), Fail>
-    requires { count ≤ NAME_LIMIT }
+    requires { count ≤ PAGE_LIMIT }
     ensures names { IfOk result (λ row. vec_len row.0 ≡ count) }
     ensures end { IfOk result (λ row. row.1 < 2 ^ 32) }
 {
@@ -78,7 +77,7 @@ fn row(alloc: Global, count: usize) -> Result<(Vec<u64>, usize), Fail>
 // The greatest number of reads of the searches for all places of all parts, where each finds the part whose turn it is, and the
 // place before the first is in none.
 fn most_reads(names: &[u64], end: usize) -> Option<usize>
-    requires names_fit { length names.now ≤ NAME_LIMIT }
+    requires names_fit { length names.now ≤ PAGE_LIMIT }
     requires end_fits { end < 2 ^ 32 }
 {
     if found_in(names, end, FIRST as usize - 1).is_some() {
@@ -119,13 +118,13 @@ const READS: [(usize, usize); 10] = [
     (1023, 10),
     (1024, 11),
     (2046, 11),
-    (NAME_LIMIT, 11),
+    (PAGE_LIMIT, 11),
 ];
 
 #[test]
 fn each_place_is_found(rt: HostRuntime) -> Result<(), Fail> {
     for (count, want) in READS {
-        if count <= NAME_LIMIT {
+        if count <= PAGE_LIMIT {
             let (names, end) = row(rt.alloc(), count)?;
             assert!(rt; most_reads(names.as_slice(), end) == Some(want));
         }

@@ -1,8 +1,7 @@
 use Rattle.std.proofs.Common.{◌*◌, ◌+◌, ◌-◌, [], Some, arith, slice_get, slice_index_or, subst, suc, sym, ℕ, ◌<◌, ◌∙◌, ◌≡◌}
 use Rattle.config_image.specs.declared.TheConstants.{ROW_WORDS}
 use Rattle.config_image.specs.PageTable.{header_count, header_len, page_of, start_of}
-use Rattle.part_search.specs.Names.{HoldsPlace, IsWithin}
-use Rattle.part_search.specs.Search.{IsSearchOf}
+use Rattle.config_image.specs.Search.{HoldsPlace, IsSearchOf, IsWithin}
 use Rattle.versions.specs.declared.layout.TheConstants.{ROWS_BEGIN}
 use Rattle.versions.specs.Layout.{page_begin}
 use Rattle.versions.specs.Safety.{IsHeldPlace}

@@ -1,6 +1,6 @@
 use Rattle.std.proofs.Common.{◌≡◌, ◌+◌, ◌-◌, ◌<◌, ◌≤◌, [], slice_index_or, ℕ}
 use Rattle.config_image.specs.PageTable.{header_count, header_len, start_of}
-use Rattle.part_search.specs.Search.{IsSearchOf, reads_left}
+use Rattle.config_image.specs.Search.{IsSearchOf, reads_left}
 use Rattle.versions.specs.declared.view.Stage.TheVariants.{Inside}
 use Rattle.read_section.specs.Reads.{Fetched}
 use Rattle.read_section.specs.body.Found.{TellsExtent}

@@ -1,5 +1,5 @@
 use Rattle.std.proofs.Common.{subst, sym}
-use Rattle.extent_memory.specs.declared.extent.Extent.{Extent}
+use Rattle.config_image.specs.declared.pages.cache.Extent.{Extent}
 use Rattle.read_section.specs.body.Found.{IsExtentIn}
 use Rattle.read_section.specs.Worker.{WorkerValue}
 use Rattle.read_section.proofs.RememberedLemmas.{remember_extent}

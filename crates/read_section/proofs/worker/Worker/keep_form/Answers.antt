@@ -1,5 +1,5 @@
 use Rattle.std.proofs.Common.{subst, sym}
-use Rattle.extent_memory.specs.Memory.{MemoryValue}
+use Rattle.config_image.specs.Memory.{MemoryValue}
 use Rattle.read_section.specs.body.Found.{IsFormIn}
 use Rattle.read_section.specs.body.Remembered.{IsRemembered}
 use Rattle.read_section.specs.Worker.{WorkerValue}

@@ -1,6 +1,6 @@
 use Rattle.std.proofs.Common.{IfSome, None, Option, Some, subst}
-use Rattle.extent_memory.specs.declared.extent.Extent.{Extent}
-use Rattle.extent_memory.specs.Memory.{Holds, IsKept}
+use Rattle.config_image.specs.declared.pages.cache.Extent.{Extent}
+use Rattle.config_image.specs.Memory.{Holds, IsKept}
 use Rattle.read_section.specs.body.Found.{TellsExtent}
 use Rattle.read_section.specs.Worker.{WorkerValue}
 use Rattle.read_section.proofs.RememberedLemmas.{extent_remembered}

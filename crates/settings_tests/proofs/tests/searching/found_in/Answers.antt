@@ -1,6 +1,6 @@
 use Rattle.std.proofs.Common.{◌≡◌, arith, sym, rules}
 use Rattle.std.proofs.lemmas.Option.{slice_get-get_or}
-use Rattle.part_search.specs.Search.{asked}
+use Rattle.config_image.specs.Search.{asked}
 use Rattle.settings_tests.proofs.tests.searching.found_in.Goals as goal
 
 pub loop-index-preserved : goal.loop-index-preserved

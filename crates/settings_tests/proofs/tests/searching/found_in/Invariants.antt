@@ -1,6 +1,6 @@
 use Rattle.std.proofs.Common.{◌+◌, ◌≤◌}
-use Rattle.part_search.specs.Search.{IsSearchOf, reads_left}
-use Rattle.part_search.specs.declared.TheConstants.{READ_LIMIT}
+use Rattle.config_image.specs.Search.{IsSearchOf, reads_left}
+use Rattle.config_image.specs.declared.TheConstants.{READ_LIMIT}
 use Rattle.settings_tests.proofs.tests.searching.found_in.Given as goal
 
 abbrev pub invariant-loop-index : goal.invariant-loop-index

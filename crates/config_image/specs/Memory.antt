@@ -1,0 +1,28 @@
+-- What a memory of extents keeps, and for which places.
+use Rattle.std.specs.Prelude.{◌≡◌, ◌≢◌, ◌+◌, ◌/◌, ◌%◌, ◌<◌, ◌≤◌, List, ℕ}
+use Rattle.std.specs.List.{Contains}
+use Rattle.config_image.specs.declared.pages.cache.TheConstants.{SLOTS}
+use Rattle.config_image.specs.declared.pages.cache.Extent.{Extent}
+
+-- the version whose extents are kept; the first word of its row, 0 where that is not kept; and what the slots have: of each slot the
+-- extent that was kept in it last
+pub record MemoryValue : Type 0 where
+  pub version : ℕ
+  pub form : ℕ
+  pub extents : List Extent
+
+-- the slot of a place
+abbrev pub slot_of : ℕ → ℕ
+slot_of place = (place % SLOTS + place / SLOTS) % SLOTS
+
+-- places that are less than 1023 apart have slots of their own
+abbrev pub SlotsApart : Type 0
+SlotsApart = (place later : ℕ) → place < later → later < place + 1023 → slot_of place ≢ slot_of later
+
+-- a place of the image is in the extent
+abbrev pub Holds : Extent → ℕ → Type 0
+Holds extent place = (extent.at ≤ place) × (place < extent.end)
+
+-- an extent that has a word, of the version whose extents are kept
+abbrev pub IsKept : MemoryValue → Extent → Type 0
+IsKept memory extent = Contains memory.extents extent × (extent.version ≡ memory.version) × (extent.at < extent.end)
