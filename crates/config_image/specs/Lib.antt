@@ -1,6 +1,6 @@
+pub mod Cache
 pub mod Image
 pub mod Lookup
-pub mod Memory
 pub mod PageTable
 pub mod Pooled
 pub mod Search

@@ -1,11 +1,11 @@
 //! The image of a configuration: the words in which the table keeps it, and what is found in them again
-//! (docs/SWITCH.md, "Image"). No call takes memory but `ExtentMemory::new`.
+//! (docs/SWITCH.md, "Image"). No call takes memory but `ExtentCache::new`.
 #![tactic(auto)]
 
 ghost use Rattle.std.specs.Prelude.{◌≡◌};
 ghost use Rattle.config_image.specs.Image.{NoImageBeginsAnother};
 ghost use Rattle.config_image.specs.Lookup.{RowHoldsImage};
-ghost use Rattle.config_image.specs.Memory.{SlotsApart};
+ghost use Rattle.config_image.specs.Cache.{SlotsApart};
 ghost use Rattle.config_image.specs.Pooled.{EachImageHasItsParts, EachProgramIsCut, PooledFormTellsRow, RowTellsItsParts, RowTellsItsPartsWithRoom};
 ghost use Rattle.config_image.specs.Search.{OnePartHolds};
 
@@ -24,7 +24,7 @@ pub use lookup::{
     selector_of,
 };
 pub use pages::{
-    Extent, ExtentMemory, FoundPart, PageEntry, RowHeader, Search, page_count, pages_for,
+    Extent, ExtentCache, FoundPart, PageEntry, RowHeader, Search, page_count, pages_for,
 };
 pub use pooled::{stored_word, write_pooled};
 pub use size::image_len;

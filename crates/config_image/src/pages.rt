@@ -1,4 +1,4 @@
-//! The pages of the pool: how many a configuration takes, and the page table of a row, the search in it and the memory of what was
+//! The pages of the pool: how many a configuration takes, and the page table of a row, the search in it and the cache of what was
 //! found.
 
 ghost use Rattle.std.specs.Prelude.{◌≡◌, ◌+◌, ◌*◌, ◌<◌, ◌≤◌, ◌^◌, length};
@@ -19,7 +19,7 @@ mod cache;
 mod search;
 mod table;
 
-pub use cache::{Extent, ExtentMemory};
+pub use cache::{Extent, ExtentCache};
 pub use search::{FoundPart, Search};
 pub use table::{PageEntry, RowHeader};
 

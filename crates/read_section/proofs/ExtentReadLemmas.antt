@@ -1,7 +1,7 @@
 -- A word in an extent that is found, or was: a few fetches or none, and one of the word.
 use Rattle.std.proofs.Common.{◌≡◌, ℕ, ◌+◌, ◌-◌, ◌<◌, ◌≤◌, ◌^◌, [], Some, arith, length, refl, slice_get, slice_index_or, subst}
 use Rattle.config_image.specs.declared.pages.cache.Extent.{Extent}
-use Rattle.config_image.specs.Memory.{Holds}
+use Rattle.config_image.specs.Cache.{Holds}
 use Rattle.versions.specs.declared.layout.TheConstants.{TABLE_WORDS}
 use Rattle.versions.specs.declared.view.Stage.{Stage}
 use Rattle.versions.specs.declared.view.Stage.TheVariants.{Announced, Inside, Outside, Peeked}
@@ -25,8 +25,8 @@ ExtentThere worker extent = (k n r : ℕ) → worker.view.stage ≡ Inside k n r
 pub extent_kept : (worker : WorkerValue) (row heads : ℕ) (extent : Extent) → Knows worker.view row heads extent → extent.at < extent.end → ExtentThere worker extent
 extent_kept worker row heads extent knows some k n r stage = let known = known_there worker k n r stage row heads extent knows in (known.0, known.1.1.1.1 some)
 
-pub extent_recalled : (worker : WorkerValue) (row heads : ℕ) (old extent : Extent) → Knows worker.view row heads old → TellsExtent worker.view extent → ExtentThere worker extent
-extent_recalled worker row heads old extent knows told k n r stage = ((known_there worker k n r stage row heads old knows).0, told k n r stage)
+pub extent_found : (worker : WorkerValue) (row heads : ℕ) (old extent : Extent) → Knows worker.view row heads old → TellsExtent worker.view extent → ExtentThere worker extent
+extent_found worker row heads old extent knows told k n r stage = ((known_there worker k n r stage row heads old knows).0, told k n r stage)
 
 pub extent_told : (worker : WorkerValue) (row : ℕ) (extent : Extent) → KnowsRow worker.view row → TellsExtent worker.view extent → ExtentThere worker extent
 extent_told worker row extent knows told k n r stage = ((known_there worker k n r stage row 0 no_extent knows).0, told k n r stage)

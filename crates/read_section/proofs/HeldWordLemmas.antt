@@ -18,7 +18,7 @@ use Rattle.versions.proofs.ListLemmas.{elem_there, get_elem_or}
 use Rattle.versions.proofs.RowLemmas.{length-row, row_of_image}
 use Rattle.versions.proofs.ShapeLemmas.{page_below, page_words_is, pages_is, parts_is, place_below, row_is, row_words_is, rows_is}
 use Rattle.config_image.specs.declared.pages.cache.Extent.{Extent}
-use Rattle.config_image.specs.Memory.{Holds}
+use Rattle.config_image.specs.Cache.{Holds}
 use Rattle.read_section.specs.Section.{held_words, version_of, words_in}
 use Rattle.read_section.specs.Worker.{WorkerValue}
 use Rattle.read_section.specs.body.Found.{HasPages, IsExtentOf, KnowsAt, KnowsIn}

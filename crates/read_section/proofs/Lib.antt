@@ -16,7 +16,7 @@ mod OperatorSeatLemmas
 mod MeetingLemmas
 mod OpeningLemmas
 pub mod SectionLemmas
-mod RememberedLemmas
+mod CacheLemmas
 mod EnterLemmas
 pub mod FilledLemmas
 mod PutLemmas

@@ -13,7 +13,7 @@ use Rattle.versions.specs.Table.{the_shape}
 use Rattle.versions.proofs.RowLemmas.{row_behind_image}
 use Rattle.config_image.proofs.ImageLemmas.{length_word}
 use Rattle.config_image.specs.declared.pages.cache.Extent.{Extent}
-use Rattle.config_image.specs.Memory.{Holds}
+use Rattle.config_image.specs.Cache.{Holds}
 use Rattle.read_section.specs.Reads.{TellsWordAt}
 use Rattle.read_section.specs.Section.{held_words}
 use Rattle.read_section.specs.Worker.{WorkerValue}
@@ -59,7 +59,7 @@ module _ (worker : WorkerValue) (row heads : ℕ) (extent : Extent) (i : ℕ) (k
   pub head_newest : (x k n r : ℕ) → worker.view.stage ≡ Inside k n r → TellsWordAt (slice_index_or worker.view.seen n []) r worker.view.pages i (ROWS_BEGIN + row * ROW_WORDS + i) x x
   head_newest x k n r stage = head_tells k n r stage x
 
--- where the programs begin, by the row's first word, if that is remembered
+-- where the programs begin, by the row's first word, if that is cached
 pub knows_heads : (worker : WorkerValue) (row heads : ℕ) (extent : Extent) (k n r : ℕ) → worker.view.stage ≡ Inside k n r → Knows worker.view row heads extent → (form : ℕ) → (0 < form → TellsForm worker.view form)
     → Knows worker.view row (header_begin form) extent
 knows_heads worker row heads extent k n r stage knows form tells_form =

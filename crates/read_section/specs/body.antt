@@ -3,6 +3,6 @@ pub mod Plays
 pub mod Steps
 pub mod Seat
 pub mod Found
-pub mod Remembered
+pub mod Cache
 pub mod Sought
 pub mod OperatorKept

@@ -2,7 +2,7 @@
 
 ghost use Rattle.std.specs.Prelude.{◌≡◌, ◌<◌, ◌≤◌, Some, length, slice_get, ℕ};
 ghost use Rattle.config_image.specs.PageTable.{header_count, header_len, page_of};
-ghost use Rattle.config_image.specs.Memory.{Holds};
+ghost use Rattle.config_image.specs.Cache.{Holds};
 ghost use Rattle.versions.specs.Layout.{page_begin};
 ghost use Rattle.versions.specs.Table.{the_shape};
 ghost use Rattle.versions.specs.View.{after_fetch};
@@ -63,7 +63,7 @@ fn search_extent(worker: &mut Worker, row: usize, form: RowHeader, i: usize) -> 
         next = read_name(worker, row, form, index);
         reads += 1;
     }
-    // The memory gives it its version.
+    // The cache gives it its version.
     Extent {
         version: 0,
         at,
@@ -72,18 +72,18 @@ fn search_extent(worker: &mut Worker, row: usize, form: RowHeader, i: usize) -> 
     }
 }
 
-// The same, from the worker's memory, or else by a search, which the memory notes.
+// The same, from the worker's cache, or on a miss by a search, whose result is inserted.
 fn find_extent(worker: &mut Worker, row: usize, form: RowHeader, i: usize) -> Extent
     requires { IsSought worker.old.view row form.0 i }
     ensures found { IsExtentIn worker.old.view result }
     ensures there { Holds result i }
     ensures few { FetchedAtMost 11 worker.old worker.new }
 {
-    if let Some(extent) = worker.recall(i) {
+    if let Some(extent) = worker.lookup(i) {
         return extent;
     }
     let extent = search_extent(worker, row, form, i);
-    worker.keep_extent(i, extent);
+    worker.insert_extent(i, extent);
     extent
 }
 
@@ -103,7 +103,7 @@ fn read_image(worker: &mut Worker, row: usize, form: RowHeader, i: usize) -> u64
     worker.fetch(extent.shift + i)
 }
 
-// Fetches the row's first word, which the worker's memory notes.
+// Fetches the row's first word, and puts it into the worker's cache.
 fn fetch_form(worker: &mut Worker, row: usize, i: usize) -> RowHeader
     requires known { KnowsRow worker.old.view row }
     requires held { i < length (held_words worker.old) }
@@ -112,7 +112,7 @@ fn fetch_form(worker: &mut Worker, row: usize, i: usize) -> RowHeader
     ensures word { SeesWord worker.old (row_start row) result.0 }
 {
     let form = RowHeader(worker.fetch(row_begin(row)));
-    worker.keep_form(form);
+    worker.set_form(form);
     form
 }
 
@@ -133,7 +133,7 @@ fn read_from_form(worker: &mut Worker, row: usize, i: usize) -> u64
     read_image(worker, row, form, i)
 }
 
-/// Reads word `i`, whatever it is, and notes in the worker's memory what tells where it stands.
+/// Reads word `i`, whatever it is, and puts into the worker's cache where it is.
 #[cold]
 #[inline(never)]
 pub(crate) fn read_by_row(worker: &mut Worker, row: usize, i: usize) -> u64

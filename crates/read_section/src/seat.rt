@@ -28,7 +28,7 @@ use crate::plays::{
 use crate::versions_rule::{SharedTable, TableSeat};
 use crate::worker::Worker;
 use atomic_table::Table;
-use config_image::ExtentMemory;
+use config_image::ExtentCache;
 use member_group::Config;
 use std::alloc::{AllocError, Global};
 use std::marker::{Brand, Model};
@@ -88,7 +88,7 @@ fn new_worker(
     ensures seat { IfOk result (λ w. IsSeatAt seat.new.me.1 seat.new.table_id (arc_value table.now).shared.table_id) }
     ensures worker { IfOk result (λ w. w ≡ record { table = (arc_value table.now).shared.table_id; view = new_worker (arc_value table.now).shared.key (pages_named the_shape (opening_stored (arc_value table.now).shared.key) 0) number }) }
 {
-    let memory = ExtentMemory::new(alloc)?;
+    let cache = ExtentCache::new(alloc)?;
     let table = Arc::try_clone(table)?;
     let seat = table.shared.split_seat::<SeatSpare>(seat);
     let seat = WorkerSeat {
@@ -96,7 +96,7 @@ fn new_worker(
         seat,
         number,
     };
-    Ok(Worker::new(seat, memory))
+    Ok(Worker::new(seat, cache))
 }
 
 fn new_workers(

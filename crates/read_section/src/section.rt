@@ -106,7 +106,7 @@ impl Words for Section<'_> {
         word
     }
 
-    // The words of the extent that has word i are ready then. An extent that is not remembered is searched for by a call that is not
+    // The words of the extent that has word i are ready then. An extent that is not cached is searched for by a call that is not
     // inlined: it leaves the registers to the program's run.
     #[inline(always)]
     fn make_ready(&mut self, i: usize) -> Option<ReadyWords>
@@ -121,13 +121,13 @@ impl Words for Section<'_> {
         ensures words_kept { held_words (worker_of self.new) ≡ held_words (worker_of self.old) }
         ensures rest_kept { section_rest self.new ≡ section_rest self.old }
     {
-        if let Some(extent) = self.worker.recall(i) {
+        if let Some(extent) = self.worker.lookup(i) {
             self.kept.extent = extent;
             return Some(ready_words(extent));
         }
-        // The read notes the extent of the word.
+        // The read inserts the extent of the word.
         let _word = read_by_row(self.worker, self.kept.row, i);
-        match self.worker.recall(i) {
+        match self.worker.lookup(i) {
             Some(extent) => {
                 self.kept.extent = extent;
                 Some(ready_words(extent))

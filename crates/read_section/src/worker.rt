@@ -2,9 +2,9 @@
 
 ghost use Rattle.std.specs.Prelude.{◌≡◌, ◌<◌, IfSome, List, if◌then◌else◌, length, suc, ℕ};
 ghost use Rattle.config_image.specs.Image.{Group};
-ghost use Rattle.config_image.specs.declared.pages.cache.ExtentMemory.{ExtentMemory};
+ghost use Rattle.config_image.specs.declared.pages.cache.ExtentCache.{ExtentCache};
 ghost use Rattle.config_image.specs.declared.pages.cache.Extent.{Extent};
-ghost use Rattle.config_image.specs.Memory.{Holds};
+ghost use Rattle.config_image.specs.Cache.{Holds};
 ghost use Rattle.versions.specs.declared.layout.TheConstants.{TABLE_WORDS};
 ghost use Rattle.versions.specs.View.{IsTold, after_fetch, after_peek};
 ghost use Rattle.versions.specs.Safety.{IsHeldPlace};
@@ -14,13 +14,13 @@ ghost use Rattle.read_section.specs.View.{Shows};
 ghost use Rattle.read_section.specs.Worker.{Enters, IsOutside, left, steps};
 ghost use Rattle.read_section.specs.Operator.{Meets};
 ghost use Rattle.read_section.specs.body.Found.{IsExtentIn, IsFormIn, TellsExtent, TellsForm};
-ghost use Rattle.read_section.specs.body.Remembered.{IsBlank, IsFirstSeen};
+ghost use Rattle.read_section.specs.body.Cache.{IsBlank, IsFirstSeen};
 ghost use Rattle.read_section.specs.body.Steps.{SeesWord};
 
 use crate::operator::Operator;
 use crate::seat::WorkerSeat;
 use crate::section::Section;
-use config_image::{Extent, ExtentMemory, RowHeader};
+use config_image::{Extent, ExtentCache, RowHeader};
 use std::marker::Model;
 use versions::{current_row, current_version};
 
@@ -33,11 +33,11 @@ pub struct Worker {
     held: Option<u64>,
     seat: WorkerSeat,
     // Where words of the version stand that its last pin gave.
-    memory: ExtentMemory,
+    cache: ExtentCache,
 }
 
 impl Model for Worker {
-    ghost use Rattle.read_section.specs.body.Remembered.{IsRemembered};
+    ghost use Rattle.read_section.specs.body.Cache.{IsCacheOf};
     ghost use Rattle.read_section.specs.body.Seat.{TellsStage};
     ghost use Rattle.read_section.specs.Worker.{WorkerValue};
 
@@ -45,20 +45,20 @@ impl Model for Worker {
 
     ghost view = { λ w. w.seat };
 
-    ghost invariant = { λ w. TellsStage w.held w.seat.view.stage × IsRemembered w.seat.view w.memory };
+    ghost invariant = { λ w. TellsStage w.held w.seat.view.stage × IsCacheOf w.seat.view w.cache };
 }
 
 impl Worker {
-    pub(crate) fn new(seat: WorkerSeat, memory: ExtentMemory) -> Worker
+    pub(crate) fn new(seat: WorkerSeat, cache: ExtentCache) -> Worker
         requires outside { IsOutside seat.view.stage }
         requires first { IsFirstSeen seat.view }
-        requires blank { IsBlank memory }
+        requires blank { IsBlank cache }
         ensures { result ≡ seat }
     {
         Worker {
             held: None,
             seat,
-            memory,
+            cache,
         }
     }
 
@@ -81,7 +81,7 @@ impl Worker {
         let pinned = self.seat.pin();
         let version = current_version(pinned);
         self.held = Some(version);
-        self.memory.turn_to(version);
+        self.cache.set_version(version);
         Section::of(self, version, current_row(pinned))
     }
 
@@ -119,36 +119,36 @@ impl Worker {
         self.seat.fetch(place)
     }
 
-    // The first word of the row of the version that is held, as it is remembered; 0 where it is not.
+    // The first word of the row of the version that is held, from the cache; 0 if it is not there.
     #[inline(always)]
     pub(crate) fn form(&self) -> RowHeader
         ensures { 0 < result.0 → TellsForm self.now.view result.0 }
     {
-        RowHeader(self.memory.form())
+        RowHeader(self.cache.form())
     }
 
-    pub(crate) fn keep_form(&mut self, form: RowHeader)
+    pub(crate) fn set_form(&mut self, form: RowHeader)
         requires { IsFormIn self.old.view form.0 }
         ensures { self.new ≡ self.old }
     {
-        self.memory.keep_form(form.0);
+        self.cache.set_form(form.0);
     }
 
-    // The extent that has word i, where it is remembered.
+    // The extent that has word i, if the cache has it.
     #[inline(always)]
-    pub(crate) fn recall(&self, i: usize) -> Option<Extent>
+    pub(crate) fn lookup(&self, i: usize) -> Option<Extent>
         ensures { IfSome result (λ extent. TellsExtent self.now.view extent × Holds extent i) }
     {
-        self.memory.recall(i)
+        self.cache.lookup(i)
     }
 
-    pub(crate) fn keep_extent(&mut self, i: usize, extent: Extent)
+    pub(crate) fn insert_extent(&mut self, i: usize, extent: Extent)
         requires is { IsExtentIn self.old.view extent }
         requires holds { Holds extent i }
         ensures { self.new ≡ self.old }
     {
-        let version = self.memory.version();
-        self.memory.keep(i, Extent { version, ..extent });
+        let version = self.cache.version();
+        self.cache.insert(i, Extent { version, ..extent });
     }
 
     // Where it is, it holds a version, whose row has words.

@@ -1,8 +1,8 @@
-//! Tests of configurations, of their images and rows, and of parts: the search for them, and the memory of them.
+//! Tests of configurations, of their images and rows, and of parts: the search for them, and the cache of them.
 
+mod caching;
 mod commands;
 mod images;
 mod locks;
 mod pooled;
-mod remembering;
 mod searching;

@@ -1,13 +1,12 @@
-//! A memory of where the words of an image stand in a table.
+//! A direct-mapped cache of where the words of an image are in a table.
 //!
-//! An extent is a run of words of one version's image that stand one behind the other in the table, too. Whoever has found an extent that
-//! has a place of the image keeps it here for that place, and need not search when it comes to the place again, unless another extent
-//! has taken its slot. The memory tells where words are, and never what they are. What it keeps is of one version, which `turn_to`
-//! changes.
+//! An extent is a run of words that are adjacent in one version's image and in the table too. It is inserted for a place of the image,
+//! into the slot of that place, and evicts what the slot had. The cache has places alone, and no word. All that it has is of one
+//! version, which `set_version` changes.
 
 ghost use Rattle.std.specs.Prelude.{◌≡◌, ◌≢◌, ◌<◌, ◌≤◌, ◌⊎◌, IfOk, IfSome, IsNone, Some, slice_get, slice_set};
 ghost use Rattle.config_image.specs.declared.pages.cache.Extent.{Extent};
-ghost use Rattle.config_image.specs.Memory.{Holds, IsKept, slot_of};
+ghost use Rattle.config_image.specs.Cache.{Holds, IsCached, slot_of};
 
 use std::alloc::{AllocError, Global};
 use std::marker::Model;
@@ -28,27 +27,27 @@ pub struct Extent {
     pub shift: usize,
 }
 
-/// The memory of one reader: the first word of one version's row, its header, and extents of its image.
+/// The cache of one reader: the first word of one version's row, its header, and extents of its image.
 ///
-/// A header is never 0, so 0 means that it is not kept.
+/// A header is never 0, so 0 means that the cache has none.
 #[derive(Drop)]
-pub struct ExtentMemory {
+pub struct ExtentCache {
     version: u64,
     form: u64,
     extents: Vec<Extent>,
 }
 
-impl Model for ExtentMemory {
+impl Model for ExtentCache {
     ghost use Rattle.std.specs.Prelude.{◌≡◌, ◌≤◌, length};
     ghost use Rattle.std.specs.List.{All};
-    ghost use Rattle.config_image.specs.Memory.{MemoryValue};
+    ghost use Rattle.config_image.specs.Cache.{CacheValue};
     ghost use Rattle.config_image.specs.declared.pages.cache.TheConstants.{SLOTS};
 
-    ghost Value = { MemoryValue };
+    ghost Value = { CacheValue };
 
-    ghost view = { λ memory. record { version = memory.version; form = memory.form; extents = memory.extents.items } };
+    ghost view = { λ cache. record { version = cache.version; form = cache.form; extents = cache.extents.items } };
 
-    ghost invariant = { λ memory. (length memory.extents.items ≡ SLOTS) × All (λ extent. extent.version ≤ memory.version) memory.extents.items };
+    ghost invariant = { λ cache. (length cache.extents.items ≡ SLOTS) × All (λ extent. extent.version ≤ cache.version) cache.extents.items };
 }
 
 // The slot of a place.
@@ -59,12 +58,12 @@ fn slot(place: usize) -> usize
     (place % SLOTS + place / SLOTS) % SLOTS
 }
 
-impl ExtentMemory {
-    /// A memory of version 0, which keeps nothing.
-    pub fn new(alloc: Global) -> Result<ExtentMemory, AllocError>
-        ensures version { IfOk result (λ memory. memory.version ≡ 0) }
-        ensures no_form { IfOk result (λ memory. memory.form ≡ 0) }
-        ensures empty { IfOk result (λ memory. (extent : Extent) → IsKept memory extent → ⊥) }
+impl ExtentCache {
+    /// An empty cache of version 0.
+    pub fn new(alloc: Global) -> Result<ExtentCache, AllocError>
+        ensures version { IfOk result (λ cache. cache.version ≡ 0) }
+        ensures no_form { IfOk result (λ cache. cache.form ≡ 0) }
+        ensures empty { IfOk result (λ cache. (extent : Extent) → IsCached cache extent → ⊥) }
     {
         let nothing = Extent {
             version: 0,
@@ -73,21 +72,21 @@ impl ExtentMemory {
             shift: 0,
         };
         let extents = vec![in alloc; nothing; SLOTS]?;
-        Ok(ExtentMemory {
+        Ok(ExtentCache {
             version: 0,
             form: 0,
             extents,
         })
     }
 
-    /// The version whose extents are kept.
+    /// The version whose extents it has.
     pub fn version(&self) -> u64
         ensures version { result ≡ self.now.version }
     {
         self.version
     }
 
-    /// The first word of the version's row, as it was kept, or 0.
+    /// The first word of the version's row, or 0 if the cache has none.
     #[inline(always)]
     pub fn form(&self) -> u64
         ensures form { result ≡ self.now.form }
@@ -95,18 +94,18 @@ impl ExtentMemory {
         self.form
     }
 
-    /// Keeps the first word of the version's row.
-    pub fn keep_form(&mut self, form: u64)
+    /// Puts the first word of the version's row into the cache.
+    pub fn set_form(&mut self, form: u64)
         ensures kept { self.new ≡ record self.old { form = form } }
     {
         self.form = form;
     }
 
-    /// The extent that the slot of a place has, where it is of the memory's version and the place is in it. It was kept for this place, or
-    /// for another one of the slot.
+    /// Looks up a place: a hit is an extent in its slot that is of the cache's version and has the place. It was inserted for this place,
+    /// or for another one of the slot.
     #[inline(always)]
-    pub fn recall(&self, place: usize) -> Option<Extent>
-        ensures kept { IfSome result (λ extent. IsKept self.now extent × Holds extent place) }
+    pub fn lookup(&self, place: usize) -> Option<Extent>
+        ensures kept { IfSome result (λ extent. IsCached self.now extent × Holds extent place) }
         ensures of_slot { IfSome result (λ extent. slice_get self.now.extents (slot_of place) ≡ Some extent) }
         ensures none { IsNone result → (extent : Extent) → slice_get self.now.extents (slot_of place) ≡ Some extent → extent.version ≡ self.now.version → Holds extent place → ⊥ }
     {
@@ -118,27 +117,27 @@ impl ExtentMemory {
         }
     }
 
-    /// Keeps an extent of the memory's version for a place of it, instead of what the place's slot had.
-    pub fn keep(&mut self, place: usize, extent: Extent)
+    /// Inserts an extent of the cache's version for a place of it, and evicts what the place's slot had.
+    pub fn insert(&mut self, place: usize, extent: Extent)
         requires version { extent.version ≡ self.old.version }
         requires holds { Holds extent place }
         ensures version { self.new.version ≡ self.old.version }
         ensures form { self.new.form ≡ self.old.form }
         ensures kept { self.new.extents ≡ slice_set self.old.extents (slot_of place) extent }
-        ensures others { (other : Extent) → IsKept self.new other → (other ≡ extent) ⊎ IsKept self.old other }
-        ensures recalled { slice_get self.new.extents (slot_of place) ≡ Some extent }
+        ensures others { (other : Extent) → IsCached self.new other → (other ≡ extent) ⊎ IsCached self.old other }
+        ensures hit { slice_get self.new.extents (slot_of place) ≡ Some extent }
     {
         self.extents[slot(place)] = extent;
     }
 
-    /// Goes on with a version: the same one, whose extents are still kept, or a later one, of which nothing is kept.
+    /// Sets the version. The same one changes nothing, and a later one empties the cache.
     #[inline(always)]
-    pub fn turn_to(&mut self, version: u64)
+    pub fn set_version(&mut self, version: u64)
         requires later { self.old.version ≤ version }
         ensures version { self.new.version ≡ version }
         ensures same { self.old.version ≡ version → self.new ≡ self.old }
         ensures forgets_form { self.old.version ≢ version → self.new.form ≡ 0 }
-        ensures forgets_extents { self.old.version ≢ version → (extent : Extent) → IsKept self.new extent → ⊥ }
+        ensures forgets_extents { self.old.version ≢ version → (extent : Extent) → IsCached self.new extent → ⊥ }
     {
         if self.version != version {
             self.version = version;

@@ -121,7 +121,7 @@ fn extents_are<W: Words>(rt: &impl Abort, words: &mut W, first: usize, lengths: 
     }
 }
 
-// The same twice, each time in a section of its own, whether the words are searched for or remembered.
+// The same twice, each time in a section of its own, whether the words are searched for or cached.
 fn reads_extents(rt: &impl Abort, worker: &mut Worker, first: usize, lengths: &[usize]) {
     for _ in 0..2 {
         let mut section = worker.enter();
@@ -199,7 +199,7 @@ fn are_forgotten(
     Ok(())
 }
 
-// What is remembered of a version does not serve for the next one, whose program is elsewhere.
+// The cache of a version does not serve for the next one, whose program is elsewhere.
 #[test]
 fn extents_of_the_version_before_are_forgotten(rt: HostRuntime) -> Result<(), Fail> {
     on_table(three_groups(rt.alloc(), [1, 40, 1])?, |operator, worker| {

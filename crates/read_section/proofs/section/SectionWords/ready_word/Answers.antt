@@ -1,5 +1,5 @@
 use Rattle.std.proofs.Common.{Some, ap, arith, length, rules, slice_get, subst, sym, ◌+◌, ◌-◌, ◌<◌, ◌≡◌, ◌∙◌, ℕ}
-use Rattle.config_image.specs.Memory.{Holds}
+use Rattle.config_image.specs.Cache.{Holds}
 use Rattle.versions.specs.declared.layout.TheConstants.{TABLE_WORDS}
 use Rattle.versions.specs.Safety.{IsHeldPlace}
 use Rattle.versions.specs.View.{after_fetch}

@@ -1,7 +1,7 @@
 use Rattle.std.proofs.Common.{Some, ap, arith, inl, rules, slice_get, subst, sym, ◌*◌, ◌+◌, ◌≡◌, ◌∙◌, ℕ}
 use Rattle.config_image.specs.declared.TheConstants.{ROW_WORDS}
 use Rattle.config_image.specs.PageTable.{header_len}
-use Rattle.config_image.specs.Memory.{Holds}
+use Rattle.config_image.specs.Cache.{Holds}
 use Rattle.versions.specs.declared.layout.TheConstants.{ROWS_BEGIN}
 use Rattle.versions.specs.declared.view.Stage.TheVariants.{Inside}
 use Rattle.versions.specs.View.{after_fetch}

@@ -1,12 +1,12 @@
--- What a memory of extents keeps, and for which places.
+-- What a cache of extents has, and for which places.
 use Rattle.std.specs.Prelude.{◌≡◌, ◌≢◌, ◌+◌, ◌/◌, ◌%◌, ◌<◌, ◌≤◌, List, ℕ}
 use Rattle.std.specs.List.{Contains}
 use Rattle.config_image.specs.declared.pages.cache.TheConstants.{SLOTS}
 use Rattle.config_image.specs.declared.pages.cache.Extent.{Extent}
 
--- the version whose extents are kept; the first word of its row, 0 where that is not kept; and what the slots have: of each slot the
--- extent that was kept in it last
-pub record MemoryValue : Type 0 where
+-- the version whose extents it has; the first word of its row, or 0 if it has none; and the slots, each with the extent that was
+-- inserted last
+pub record CacheValue : Type 0 where
   pub version : ℕ
   pub form : ℕ
   pub extents : List Extent
@@ -23,6 +23,6 @@ SlotsApart = (place later : ℕ) → place < later → later < place + 1023 → 
 abbrev pub Holds : Extent → ℕ → Type 0
 Holds extent place = (extent.at ≤ place) × (place < extent.end)
 
--- an extent that has a word, of the version whose extents are kept
-abbrev pub IsKept : MemoryValue → Extent → Type 0
-IsKept memory extent = Contains memory.extents extent × (extent.version ≡ memory.version) × (extent.at < extent.end)
+-- an extent that has a word, of the cache's version
+abbrev pub IsCached : CacheValue → Extent → Type 0
+IsCached cache extent = Contains cache.extents extent × (extent.version ≡ cache.version) × (extent.at < extent.end)
