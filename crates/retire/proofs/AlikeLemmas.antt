@@ -265,18 +265,18 @@ module _ (config other : List Group) (alike : AreAlike config other) where
   same_word : (i : ℕ) → i < programs_begin config → slice_get (image config) i ≡ slice_get (image other) i
   same_word i low = front_word config i low ∙ (ap (λ l. slice_get l i) same_before ∙ sym (front_word other i (omega (arith, same_begin))))
 
-  module _ (pages standing : List ℕ) (tells : PooledRowTells config pages) (others : PooledRowTells other standing) where
+  module _ (pages current_pages : List ℕ) (tells : PooledRowTells config pages) (others : PooledRowTells other current_pages) where
     -- the words before the names are the same
-    pub same_head : (i : ℕ) → i < programs_begin config → slice_index (pooled_row other standing) i ≡ slice_index (pooled_row config pages) i
-    same_head zero low = same_index (pooled_row other standing) (pooled_row config pages) 0 (omega (arith, tells.whole)) (others.form ∙ (ap Some (sym same_form) ∙ sym tells.form))
-    same_head (suc i) low = same_index (pooled_row other standing) (pooled_row config pages) (suc i) (omega (arith, tells.whole, tells.inside, tells.short))
+    pub same_head : (i : ℕ) → i < programs_begin config → slice_index (pooled_row other current_pages) i ≡ slice_index (pooled_row config pages) i
+    same_head zero low = same_index (pooled_row other current_pages) (pooled_row config pages) 0 (omega (arith, tells.whole)) (others.form ∙ (ap Some (sym same_form) ∙ sym tells.form))
+    same_head (suc i) low = same_index (pooled_row other current_pages) (pooled_row config pages) (suc i) (omega (arith, tells.whole, tells.inside, tells.short))
         (others.image_words (suc i) (omega arith) (omega (arith, same_begin)) ∙ (sym (same_word (suc i) low) ∙ sym (tells.image_words (suc i) (omega arith) low)))
 
     -- and the names are, but for their pages
-    pub same_name : (index page stood : ℕ) → slice_get pages index ≡ Some page → slice_get standing index ≡ Some stood → stood < 65536
-        → entry_word (start_of (slice_index (pooled_row other standing) (programs_begin config + index))) page ≡ slice_index (pooled_row config pages) (programs_begin config + index)
+    pub same_name : (index page stood : ℕ) → slice_get pages index ≡ Some page → slice_get current_pages index ≡ Some stood → stood < 65536
+        → entry_word (start_of (slice_index (pooled_row other current_pages) (programs_begin config + index))) page ≡ slice_index (pooled_row config pages) (programs_begin config + index)
     same_name index page stood at there low =
-        let was : slice_index (pooled_row other standing) (programs_begin config + index) ≡ entry_word (part_begin other index) stood =
-        ap (λ (n : ℕ). slice_index (pooled_row other standing) (n + index)) same_begin ∙ get_or_from_slice_get (pooled_row other standing) (programs_begin other + index) (entry_word (part_begin other index) stood) 0 (others.names index stood there) in
+        let was : slice_index (pooled_row other current_pages) (programs_begin config + index) ≡ entry_word (part_begin other index) stood =
+        ap (λ (n : ℕ). slice_index (pooled_row other current_pages) (n + index)) same_begin ∙ get_or_from_slice_get (pooled_row other current_pages) (programs_begin other + index) (entry_word (part_begin other index) stood) 0 (others.names index stood there) in
         let is = get_or_from_slice_get (pooled_row config pages) (programs_begin config + index) (entry_word (part_begin config index) page) 0 (tells.names index page at) in
         let begin = same_part_begin index in omega (arith, was, is, begin)

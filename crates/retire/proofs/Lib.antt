@@ -1,11 +1,11 @@
 pub mod RowLemmas
 pub mod AlikeLemmas
-pub mod ChangeLemmas
+pub mod DiffLemmas
 pub mod FillingLemmas
-pub mod CarriedLemmas
+pub mod RowReuseLemmas
 pub mod SharingLemmas
 pub mod PageLemmas
-pub mod TakingLemmas
+pub mod AllocationLemmas
 pub mod RunLemmas
 pub mod OneNewLemmas
 pub mod ReplacedLemmas

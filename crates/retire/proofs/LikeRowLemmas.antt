@@ -21,25 +21,25 @@ use Rattle.retire.specs.body.Alike.{AreAlike}
 use Rattle.retire.specs.body.Filling.{CopiesFront, FillsFrom, FillsNames, HasNames, HoldsFront}
 use Rattle.retire.proofs.AlikeLemmas.{same_begin, same_count, same_head, same_length, same_name}
 
-module _ (operator : OperatorValue) (config other : List Group) (pages standing : List ℕ) (alike : AreAlike config other) (stands : StandsIn operator.view other standing) (room : HasRoom config) (are : ArePages config pages)
+module _ (operator : OperatorValue) (config other : List Group) (pages current_pages : List ℕ) (alike : AreAlike config other) (stands : StandsIn operator.view other current_pages) (room : HasRoom config) (are : ArePages config pages)
     (from : ℕ) (current : get_elem? operator.view.version_rows (number_after operator.view.log) ≡ some from) where
   tells : PooledRowTells config pages
   tells = row_tells_with_room config pages room are
 
-  others : PooledRowTells other standing
-  others = row_tells_with_room other standing (omega (arith, same_length config other alike, room))
-      (are_pages other standing (stands.holds.counted ∙ ap length (parts_is other)) (λ index page at. omega (arith, stands.holds.below index page at, pages_is)))
+  others : PooledRowTells other current_pages
+  others = row_tells_with_room other current_pages (omega (arith, same_length config other alike, room))
+      (are_pages other current_pages (stands.holds.counted ∙ ap length (parts_is other)) (λ index page at. omega (arith, stands.holds.below index page at, pages_is)))
 
   -- both have as many pages
-  pub as_many_pages : length pages ≡ length standing
+  pub as_many_pages : length pages ≡ length current_pages
   as_many_pages = omega (arith, stands.holds.counted ∙ ap length (parts_is other), same_count config other alike, are.counted)
 
   -- the current row holds the current configuration's words
-  in_row : (i : ℕ) → i < ROW_WORDS → word_at operator stands.row i ≡ slice_index (pooled_row other standing) i
+  in_row : (i : ℕ) → i < ROW_WORDS → word_at operator stands.row i ≡ slice_index (pooled_row other current_pages) i
   unfolding the_shape
   in_row i small = ap (λ (n : ℕ). slice_index operator.view.stored n) (let g : stands.row * ROW_WORDS + i ≡ 0 + (stands.row * ROW_WORDS + i) = omega arith in g) ∙ stands.holds.row i small
 
-  words : (i : ℕ) → i < ROW_WORDS → word_at operator from i ≡ slice_index (pooled_row other standing) i
+  words : (i : ℕ) → i < ROW_WORDS → word_at operator from i ≡ slice_index (pooled_row other current_pages) i
   words i small = ap (λ (r : ℕ). word_at operator r i) (some-injective from stands.row (sym current ∙ stands.in_row)) ∙ in_row i small
 
   -- a free row is another one
@@ -48,7 +48,7 @@ module _ (operator : OperatorValue) (config other : List Group) (pages standing 
 
   module _ (first begin : ℕ) (first_is : first ≡ word_at operator from 0) (begin_is : begin ≡ header_begin first) where
     begin_at : begin ≡ programs_begin config
-    begin_at = let form = get_or_from_slice_get (pooled_row other standing) 0 _ 0 others.form in let small : 0 < ROW_WORDS = omega arith in
+    begin_at = let form = get_or_from_slice_get (pooled_row other current_pages) 0 _ 0 others.form in let small : 0 < ROW_WORDS = omega arith in
         let is = first_is ∙ (words 0 small ∙ form) in begin_is ∙ (ap header_begin is ∙ (others.begin_part ∙ sym (same_begin config other alike)))
 
     pub whole : begin + length pages ≡ programs_begin config + length (parts config)
@@ -58,16 +58,16 @@ module _ (operator : OperatorValue) (config other : List Group) (pages standing 
     inside = omega (arith, whole, tells.inside, tells.short)
 
     holds_front : HoldsFront operator from (pooled_row config pages) begin
-    holds_front i low = words i (omega (arith, inside)) ∙ same_head config other alike pages standing tells others i (omega (arith, begin_at))
+    holds_front i low = words i (omega (arith, inside)) ∙ same_head config other alike pages current_pages tells others i (omega (arith, begin_at))
 
     has_names : (now : OperatorValue) → ((i : ℕ) → i < ROW_WORDS → word_at now from i ≡ word_at operator from i) → HasNames now from begin pages (pooled_row config pages)
     has_names now kept index page at =
         let low : index < length pages = slice_get_within pages index page at in
         let small : begin + index < ROW_WORDS = omega (arith, inside) in
-        let there = slice_get-get_or standing index 0 (omega (arith, stands.holds.counted ∙ ap length (parts_is other), same_count config other alike, are.counted)) in
+        let there = slice_get-get_or current_pages index 0 (omega (arith, stands.holds.counted ∙ ap length (parts_is other), same_count config other alike, are.counted)) in
         ap (λ (w : ℕ). entry_word (start_of w) page) (kept (begin + index) small ∙ words (begin + index) small)
-        ∙ (ap (λ (b : ℕ). entry_word (start_of (slice_index (pooled_row other standing) (b + index))) page) begin_at
-        ∙ (same_name config other alike pages standing tells others index page (slice_index standing index) at there (omega (arith, stands.holds.below index (slice_index standing index) there, pages_is))
+        ∙ (ap (λ (b : ℕ). entry_word (start_of (slice_index (pooled_row other current_pages) (b + index))) page) begin_at
+        ∙ (same_name config other alike pages current_pages tells others index page (slice_index current_pages index) at there (omega (arith, stands.holds.below index (slice_index current_pages index) there, pages_is))
         ∙ ap (λ (b : ℕ). slice_index (pooled_row config pages) (b + index)) (sym begin_at)))
 
     module _ (row : ℕ) (in_rows : from < ROWS) (free : IsFreeRow the_shape operator.view row) (now : OperatorValue) (copies : CopiesFront operator now row from begin) where

@@ -8,7 +8,7 @@ use Rattle.versions.specs.Free.{IsFreePage}
 use Rattle.versions.specs.Table.{the_shape}
 use Rattle.read_section.specs.Operator.{OperatorValue}
 use Rattle.retire.specs.body.Filling.{AreFreeBelow, AreReady, FillsLast, FillsParts, IsReady}
-use Rattle.retire.specs.body.Taking.{AllFree, IsBehindNoneFree, IsCounted, NoneFree}
+use Rattle.retire.specs.body.Allocation.{AllFree, IsBehindNoneFree, IsCounted, NoneFree}
 use Rattle.retire.proofs.PageLemmas.{FillsSome, last_filled, left_counted, left_ready, none_filled, one_program_more, stays}
 use Rattle.retire.proofs.RunLemmas.{drop_twice, take_behind, take_twice}
 use Rattle.retire.proofs.SharingLemmas.{further_on, in_front, length-parts}

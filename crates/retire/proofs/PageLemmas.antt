@@ -21,7 +21,7 @@ use Rattle.versions.proofs.WorldLemmas.{slice_get-front}
 use Rattle.read_section.specs.Operator.{OperatorValue, filled_page}
 use Rattle.read_section.proofs.FilledLemmas.{page_word_filled, page_word_kept, row_word_kept}
 use Rattle.retire.specs.body.Filling.{AreFreeBelow, AreFreePages, AreReady, BeginsIn, EachIsReady, Fills, FillsNew, FillsPages, FillsParts, IsFillOfPart, IsReady, PartsAre, StandsThere}
-use Rattle.retire.specs.body.Taking.{AllFree, IsCounted, NoneFree}
+use Rattle.retire.specs.body.Allocation.{AllFree, IsCounted, NoneFree}
 use Rattle.retire.proofs.SharingLemmas.{further_on, in_front, slice_get-back}
 use Rattle.retire.proofs.FillingLemmas.{no_steps, one_step_more, steps_on, steps_then}
 

@@ -28,7 +28,7 @@ use Rattle.retire.specs.Publish.{HasPages, HoldsBack, IsBusy, IsFillOf, IsFormFi
 use Rattle.read_section.specs.View.{TellsLog}
 use Rattle.retire.proofs.FillingLemmas.{steps_on, steps_then}
 use Rattle.retire.proofs.RowLemmas.{contains_later, worker_inside}
-use Rattle.retire.proofs.TakingLemmas.{current_held, own_held}
+use Rattle.retire.proofs.AllocationLemmas.{current_held, own_held}
 
 -- n workers were scanned so far
 abbrev pub ScansSome : OperatorValue → OperatorValue → ℕ → Type 0
@@ -141,8 +141,8 @@ module _ (found full : OperatorValue) (r : ℕ) (config : List Group) (pages : L
     earlier_is : IsCurrent before.view h.chosen.earlier
     earlier_is = (h.chosen.current.0, sym (found_same (λ (o : OperatorValue). o.view.published) (λ w x log o. refl)) ∙ h.chosen.current.1)
 
-    standing_named : get_elem? before.view.version_pages (number_after before.view.log) ≡ some h.chosen.standing
-    standing_named = ap (get_elem? before.view.version_pages) (sym same_number)
+    current_named : get_elem? before.view.version_pages (number_after before.view.log) ≡ some h.chosen.current_pages
+    current_named = ap (get_elem? before.view.version_pages) (sym same_number)
         ∙ (ap (λ l. get_elem? l (number_after found.view.log)) (sym (found_same (λ (o : OperatorValue). o.view.version_pages) (λ w x log o. refl))) ∙ h.chosen.stands.named)
 
     rows_are : (published_from r config full).view.version_rows ≡ before.view.version_rows ++ r ∷ []
@@ -161,8 +161,8 @@ module _ (found full : OperatorValue) (r : ℕ) (config : List Group) (pages : L
       counted = h.are.counted;
       earlier = h.chosen.earlier;
       current = earlier_is;
-      standing = h.chosen.standing;
-      named = standing_named;
+      current_pages = h.chosen.current_pages;
+      named = current_named;
       takes = h.chosen.takes;
       fills = form_steps.fills;
       filled = form_steps.filled;
@@ -180,7 +180,7 @@ module _ (found full : OperatorValue) (r : ℕ) (config : List Group) (pages : L
     publishes after least e = subst (λ (o : OperatorValue). Publishes before o config) (sym e) (publication least)
 
     shared : (index : ℕ) (words own : List ℕ) → slice_get (words_of_programs config) index ≡ Some words → slice_get (pages_of_each (words_of_programs config) pages) index ≡ Some own
-        → Contains (words_of_programs h.chosen.earlier) words → HasPages (words_of_programs h.chosen.earlier) h.chosen.standing words own
+        → Contains (words_of_programs h.chosen.earlier) words → HasPages (words_of_programs h.chosen.earlier) h.chosen.current_pages words own
     shared index words own at there contained = ⊎_elim (λ has. has) (λ new. absurd (new.0 contained)) (h.chosen.takes.each index words own at there)
 
     pub shares : (after : OperatorValue) → IsLeastFreeRow found r → after ≡ published_from r config full → SharesEqualPrograms before after config
@@ -189,7 +189,7 @@ module _ (found full : OperatorValue) (r : ℕ) (config : List Group) (pages : L
       publication = publication least;
       shared = shared;
       unfilled = λ index i page words own at there contained here k x small filled.
-          own_held found.view (words_of_programs h.chosen.earlier) h.chosen.standing words own (current_held found.view h.chosen.earlier h.chosen.standing h.chosen.stands) (shared index words own at there contained)
+          own_held found.view (words_of_programs h.chosen.earlier) h.chosen.current_pages words own (current_held found.view h.chosen.earlier h.chosen.current_pages h.chosen.stands) (shared index words own at there contained)
           i page here (filled_was_free k x page small (form_steps.filled _ filled));
     })
       where

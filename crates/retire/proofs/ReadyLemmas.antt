@@ -18,9 +18,9 @@ use Rattle.versions.proofs.WorldLemmas.{slice_get-front}
 use Rattle.read_section.specs.Operator.{OperatorValue, StandsIn}
 use Rattle.retire.specs.Publish.{HasPages, TakesFor, pages_of_each}
 use Rattle.retire.specs.body.Filling.{AreReady, EachIsReady, PartsAre, StandsThere}
-use Rattle.retire.specs.body.Taking.{AllFree, ChoosesPages, IsCounted}
+use Rattle.retire.specs.body.Allocation.{AllFree, ChoosesPages, IsCounted}
 use Rattle.retire.proofs.SharingLemmas.{further_on, in_front, length-first, others_counted, own_among, slice_get-back, stands_counted}
-use Rattle.retire.proofs.TakingLemmas.{current_held, own_held}
+use Rattle.retire.proofs.AllocationLemmas.{current_held, own_held}
 
 module _ (operator : OperatorValue) where
   -- the parts of a program stand in its pages, where those of all programs do
@@ -48,16 +48,16 @@ module _ (operator : OperatorValue) where
   current_low config pages stands index page at = omega (arith, stands.holds.below index page at, pages_is)
 
   module _ (config : List Group) (pages : List ℕ) (chosen : ChoosesPages operator.view config pages) where
-    one_ready : (words own : List ℕ) → TakesFor operator.view (words_of_programs chosen.earlier) chosen.standing words own → AllFree operator.view own ⊎ StandsThere operator words own
+    one_ready : (words own : List ℕ) → TakesFor operator.view (words_of_programs chosen.earlier) chosen.current_pages words own → AllFree operator.view own ⊎ StandsThere operator words own
     one_ready words own (inl has) = inr (record {
-      low = λ index page at. let t = own_among (words_of_programs chosen.earlier) chosen.standing words own has index page at in current_low chosen.earlier chosen.standing chosen.stands t.0 page t.1;
-      none_free = own_held operator.view (words_of_programs chosen.earlier) chosen.standing words own (current_held operator.view chosen.earlier chosen.standing chosen.stands) has;
-      stand = own_parts (words_of_programs chosen.earlier) chosen.standing words own (stands_counted operator.view chosen.earlier chosen.standing chosen.stands) (current_parts chosen.earlier chosen.standing chosen.stands) has;
+      low = λ index page at. let t = own_among (words_of_programs chosen.earlier) chosen.current_pages words own has index page at in current_low chosen.earlier chosen.current_pages chosen.stands t.0 page t.1;
+      none_free = own_held operator.view (words_of_programs chosen.earlier) chosen.current_pages words own (current_held operator.view chosen.earlier chosen.current_pages chosen.stands) has;
+      stand = own_parts (words_of_programs chosen.earlier) chosen.current_pages words own (stands_counted operator.view chosen.earlier chosen.current_pages chosen.stands) (current_parts chosen.earlier chosen.current_pages chosen.stands) has;
     })
     one_ready words own (inr new) = inl new.1
 
     each_ready : (programs : List (List ℕ)) (left : List ℕ)
-        → ((index : ℕ) (words own : List ℕ) → slice_get programs index ≡ Some words → slice_get (pages_of_each programs left) index ≡ Some own → TakesFor operator.view (words_of_programs chosen.earlier) chosen.standing words own)
+        → ((index : ℕ) (words own : List ℕ) → slice_get programs index ≡ Some words → slice_get (pages_of_each programs left) index ≡ Some own → TakesFor operator.view (words_of_programs chosen.earlier) chosen.current_pages words own)
         → EachIsReady operator programs left
     each_ready [] left each = tt
     each_ready (words ∷ rest) left each = (

@@ -5,12 +5,12 @@ use Rattle.std.proofs.Math.Seq.{take-length}
 use Rattle.config_image.specs.Image.{Group}
 use Rattle.config_image.specs.Pooled.{pages_for}
 use Rattle.versions.specs.declared.view.OperatorView.{OperatorView}
-use Rattle.retire.specs.body.Change.{DifferInOne, pages_in}
-use Rattle.retire.specs.body.Taking.{IsBehind, IsBehindNoneFree, IsCounted, NoneFree, ReplacesOne, TakenValue}
-use Rattle.retire.proofs.ChangeLemmas.{pages-append, pages-one}
-use Rattle.retire.proofs.RunLemmas.{drop_twice, run_shared, run_taken}
+use Rattle.retire.specs.body.Diff.{DifferInOne, pages_in}
+use Rattle.retire.specs.body.Allocation.{IsBehind, IsBehindNoneFree, IsCounted, NoneFree, ReplacesOne, AllocationValue}
+use Rattle.retire.proofs.DiffLemmas.{pages-append, pages-one}
+use Rattle.retire.proofs.RunLemmas.{drop_twice, run_shared, run_allocated}
 use Rattle.retire.proofs.SharingLemmas.{further_behind, in_front, length-parts, next_behind, nothing_behind}
-use Rattle.retire.proofs.TakingLemmas.{SomeTaken, none_taken_yet, taken_for_next}
+use Rattle.retire.proofs.AllocationLemmas.{SomeAllocated, none_allocated_yet, allocated_for_next}
 
 -- what stands behind some programs
 behind_dropped : (done left : List (List ℕ)) (pages : List ℕ) → IsBehind (done ++ left) pages left (drop (pages_in done) pages)
@@ -24,86 +24,86 @@ behind_dropped (words ∷ done) left pages = further_behind (words ∷ (done ++ 
 take_whole : (n : ℕ) (xs : List ℕ) → length xs ≡ n → take n xs ≡ xs
 take_whole n xs e = ap (λ (k : ℕ). take k xs) (sym e) ∙ take-length xs
 
-abbrev pub nothing : TakenValue
+abbrev pub nothing : AllocationValue
 nothing = record { pages = []; from = 0 }
 
--- the first pages are taken
-pub front_taken : (taken after : TakenValue) (standing pages : List ℕ) (at : ℕ) → taken ≡ nothing → pages ≡ standing → after ≡ record { pages = taken.pages ++ take at pages; from = taken.from }
-    → after ≡ record { pages = take at standing; from = 0 }
-front_taken taken after standing pages at none is e = e ∙ (ap (λ (v : TakenValue). record { pages = v.pages ++ take at pages; from = v.from }) none ∙ ap (λ l. record { pages = take at l; from = 0 }) is)
+-- the first pages are shared
+pub front_allocated : (allocation after : AllocationValue) (current_pages pages : List ℕ) (at : ℕ) → allocation ≡ nothing → pages ≡ current_pages → after ≡ record { pages = allocation.pages ++ take at pages; from = allocation.from }
+    → after ≡ record { pages = take at current_pages; from = 0 }
+front_allocated allocation after current_pages pages at none is e = e ∙ (ap (λ (v : AllocationValue). record { pages = v.pages ++ take at pages; from = v.from }) none ∙ ap (λ l. record { pages = take at l; from = 0 }) is)
 
-pub whole_taken : (taken after : TakenValue) (standing pages : List ℕ) → taken ≡ nothing → pages ≡ standing → after ≡ record { pages = taken.pages ++ pages; from = taken.from } → after ≡ record { pages = standing; from = 0 }
-whole_taken taken after standing pages none is e = e ∙ (ap (λ (v : TakenValue). record { pages = v.pages ++ pages; from = v.from }) none ∙ ap (λ l. record { pages = l; from = 0 }) is)
+pub whole_allocated : (allocation after : AllocationValue) (current_pages pages : List ℕ) → allocation ≡ nothing → pages ≡ current_pages → after ≡ record { pages = allocation.pages ++ pages; from = allocation.from } → after ≡ record { pages = current_pages; from = 0 }
+whole_allocated allocation after current_pages pages none is e = e ∙ (ap (λ (v : AllocationValue). record { pages = v.pages ++ pages; from = v.from }) none ∙ ap (λ l. record { pages = l; from = 0 }) is)
 
-pub length-front : (after : TakenValue) (standing : List ℕ) (at : ℕ) → after ≡ record { pages = take at standing; from = 0 } → at ≤ length standing → length after.pages ≡ at
-length-front after standing at e few = ap (λ (v : TakenValue). length v.pages) e ∙ length-take-le at standing few
+pub length-front : (after : AllocationValue) (current_pages : List ℕ) (at : ℕ) → after ≡ record { pages = take at current_pages; from = 0 } → at ≤ length current_pages → length after.pages ≡ at
+length-front after current_pages at e few = ap (λ (v : AllocationValue). length v.pages) e ∙ length-take-le at current_pages few
 
-pub front_held : (view : OperatorView (List Group)) (standing : List ℕ) → NoneFree view standing → (at : ℕ) → NoneFree view (take at standing)
-front_held view standing held at index page there = held index page (in_front at standing index page there)
+pub front_held : (view : OperatorView (List Group)) (current_pages : List ℕ) → NoneFree view current_pages → (at : ℕ) → NoneFree view (take at current_pages)
+front_held view current_pages held at index page there = held index page (in_front at current_pages index page there)
 
-module _ (view : OperatorView (List Group)) (earlier : List (List ℕ)) (standing : List ℕ) (counted : IsCounted earlier standing) (held : NoneFree view standing) where
+module _ (view : OperatorView (List Group)) (earlier : List (List ℕ)) (current_pages : List ℕ) (counted : IsCounted earlier current_pages) (held : NoneFree view current_pages) where
   -- the first of the programs that are left take the first of these pages
-  run : (all same left rest : List (List ℕ)) (pages : List ℕ) (now after : TakenValue) → IsBehind earlier standing (same ++ left) pages → pages_in same ≤ length pages
-      → SomeTaken view earlier standing all (same ++ rest) now → after ≡ record { pages = now.pages ++ take (pages_in same) pages; from = now.from } → SomeTaken view earlier standing all rest after
-  run all same left rest pages now after behind fits h e = run_taken view earlier standing counted held all (same ++ rest) rest now after h
+  run : (all same left rest : List (List ℕ)) (pages : List ℕ) (now after : AllocationValue) → IsBehind earlier current_pages (same ++ left) pages → pages_in same ≤ length pages
+      → SomeAllocated view earlier current_pages all (same ++ rest) now → after ≡ record { pages = now.pages ++ take (pages_in same) pages; from = now.from } → SomeAllocated view earlier current_pages all rest after
+  run all same left rest pages now after behind fits h e = run_allocated view earlier current_pages counted held all (same ++ rest) rest now after h
       (run_shared (same ++ rest) (same ++ left) pages (take (pages_in same) pages) rest
-      (record { same = same; left = left; programs_are = refl; standing_are = refl; fits = fits; own_is = refl }) earlier standing behind now after e)
+      (record { same = same; left = left; programs_are = refl; current_are = refl; fits = fits; own_is = refl }) earlier current_pages behind now after e)
 
   -- all of them take theirs
-  pub all_shared : (programs : List (List ℕ)) (after : TakenValue) → programs ≡ earlier → after ≡ record { pages = standing; from = 0 } → SomeTaken view earlier standing programs [] after
-  all_shared programs after same e = subst (λ l. SomeTaken view earlier standing l [] after) (sym same)
-      (run earlier earlier [] [] standing nothing after (subst (λ l. IsBehind earlier standing l standing) (sym (append-nil earlier)) (nothing_behind earlier standing)) (omega (arith, counted))
-      (none_taken_yet view earlier standing earlier (earlier ++ []) nothing (append-nil earlier) refl)
-      (e ∙ ap (λ l. record { pages = l; from = 0 }) (sym (take_whole (pages_in earlier) standing counted))))
+  pub all_shared : (programs : List (List ℕ)) (after : AllocationValue) → programs ≡ earlier → after ≡ record { pages = current_pages; from = 0 } → SomeAllocated view earlier current_pages programs [] after
+  all_shared programs after same e = subst (λ l. SomeAllocated view earlier current_pages l [] after) (sym same)
+      (run earlier earlier [] [] current_pages nothing after (subst (λ l. IsBehind earlier current_pages l current_pages) (sym (append-nil earlier)) (nothing_behind earlier current_pages)) (omega (arith, counted))
+      (none_allocated_yet view earlier current_pages earlier (earlier ++ []) nothing (append-nil earlier) refl)
+      (e ∙ ap (λ l. record { pages = l; from = 0 }) (sym (take_whole (pages_in earlier) current_pages counted))))
 
   module _ (programs : List (List ℕ)) (words : List ℕ) (at : ℕ) (d : DifferInOne programs earlier words at) where
-    whole : length standing ≡ at + (pages_for (length words) + pages_in d.rest)
+    whole : length current_pages ≡ at + (pages_for (length words) + pages_in d.rest)
     whole = counted ∙ (ap pages_in d.others_are ∙ (pages-append d.done (d.old ∷ d.rest) ∙ (let n = length-parts d.old d.rest in let same : pages_for (length words) ≡ pages_for (length d.old) = ap pages_for d.sized in omega (arith, n, same, d.before))))
 
-    pub as_many : length standing ≡ pages_in programs
+    pub as_many : length current_pages ≡ pages_in programs
     as_many = whole ∙ (let n = length-parts words d.rest in let all = ap pages_in d.programs_are ∙ pages-append d.done (words ∷ d.rest) in omega (arith, n, all, d.before))
 
-    pub one_inside : at + pages_for (length words) ≤ length standing
+    pub one_inside : at + pages_for (length words) ≤ length current_pages
     one_inside = omega (arith, whole)
 
-    module _ (after : TakenValue) (r : ReplacesOne view earlier standing words at after) where
-      abbrev now : TakenValue
-      now = record { pages = take at standing; from = 0 }
+    module _ (after : AllocationValue) (r : ReplacesOne view earlier current_pages words at after) where
+      abbrev now : AllocationValue
+      now = record { pages = take at current_pages; from = 0 }
 
-      abbrev next : TakenValue
-      next = record { pages = take at standing ++ r.own; from = after.from }
+      abbrev next : AllocationValue
+      next = record { pages = take at current_pages ++ r.own; from = after.from }
 
       abbrev left_there : List ℕ
-      left_there = drop (at + pages_for (length words)) standing
+      left_there = drop (at + pages_for (length words)) current_pages
 
-      first : SomeTaken view earlier standing programs (words ∷ d.rest) now
-      first = run programs d.done (d.old ∷ d.rest) (words ∷ d.rest) standing nothing now
-          (subst (λ l. IsBehind earlier standing l standing) d.others_are (nothing_behind earlier standing)) (omega (arith, whole, d.before))
-          (none_taken_yet view earlier standing programs (d.done ++ words ∷ d.rest) nothing (sym d.programs_are) refl)
-          (ap (λ (n : ℕ). record { pages = take n standing; from = 0 }) d.before)
+      first : SomeAllocated view earlier current_pages programs (words ∷ d.rest) now
+      first = run programs d.done (d.old ∷ d.rest) (words ∷ d.rest) current_pages nothing now
+          (subst (λ l. IsBehind earlier current_pages l current_pages) d.others_are (nothing_behind earlier current_pages)) (omega (arith, whole, d.before))
+          (none_allocated_yet view earlier current_pages programs (d.done ++ words ∷ d.rest) nothing (sym d.programs_are) refl)
+          (ap (λ (n : ℕ). record { pages = take n current_pages; from = 0 }) d.before)
 
-      second : SomeTaken view earlier standing programs d.rest next
-      second = taken_for_next view earlier standing programs (words ∷ d.rest) now first words d.rest refl next r.taken
+      second : SomeAllocated view earlier current_pages programs d.rest next
+      second = allocated_for_next view earlier current_pages programs (words ∷ d.rest) now first words d.rest refl next r.allocation
           (record { own = r.own; counted = r.counted; takes = r.takes; pages = refl })
 
-      behind : IsBehind earlier standing d.rest left_there
-      behind = subst (λ l. IsBehind l standing d.rest left_there) (append_assoc d.done (d.old ∷ []) d.rest ∙ sym d.others_are)
-          (subst (IsBehind ((d.done ++ d.old ∷ []) ++ d.rest) standing d.rest)
-          (ap (λ (n : ℕ). drop n standing) (pages-append d.done (d.old ∷ []) ∙ (let n = pages-one d.old in let same : pages_for (length words) ≡ pages_for (length d.old) = ap pages_for d.sized in omega (arith, n, same, d.before))))
-          (behind_dropped (d.done ++ d.old ∷ []) d.rest standing))
+      behind : IsBehind earlier current_pages d.rest left_there
+      behind = subst (λ l. IsBehind l current_pages d.rest left_there) (append_assoc d.done (d.old ∷ []) d.rest ∙ sym d.others_are)
+          (subst (IsBehind ((d.done ++ d.old ∷ []) ++ d.rest) current_pages d.rest)
+          (ap (λ (n : ℕ). drop n current_pages) (pages-append d.done (d.old ∷ []) ∙ (let n = pages-one d.old in let same : pages_for (length words) ≡ pages_for (length d.old) = ap pages_for d.sized in omega (arith, n, same, d.before))))
+          (behind_dropped (d.done ++ d.old ∷ []) d.rest current_pages))
 
       length-left : length left_there ≡ pages_in d.rest
-      length-left = omega (arith, length-drop (at + pages_for (length words)) standing, whole)
+      length-left = omega (arith, length-drop (at + pages_for (length words)) current_pages, whole)
 
       -- all but one take theirs
-      pub others_shared : SomeTaken view earlier standing programs [] after
+      pub others_shared : SomeAllocated view earlier current_pages programs [] after
       others_shared = run programs d.rest [] [] left_there next after
-          (subst (λ l. IsBehind earlier standing l left_there) (sym (append-nil d.rest)) behind) (omega (arith, length-left))
-          (subst (λ l. SomeTaken view earlier standing programs l next) (sym (append-nil d.rest)) second)
-          (ap (λ l. record { pages = l; from = after.from }) (r.pages ∙ ap (λ l. (take at standing ++ r.own) ++ l) (sym (take_whole (pages_in d.rest) left_there length-left))))
+          (subst (λ l. IsBehind earlier current_pages l left_there) (sym (append-nil d.rest)) behind) (omega (arith, length-left))
+          (subst (λ l. SomeAllocated view earlier current_pages programs l next) (sym (append-nil d.rest)) second)
+          (ap (λ l. record { pages = l; from = after.from }) (r.pages ∙ ap (λ l. (take at current_pages ++ r.own) ++ l) (sym (take_whole (pages_in d.rest) left_there length-left))))
 
-      long : length (take at standing) ≡ at
-      long = length-take-le at standing (omega (arith, whole))
+      long : length (take at current_pages) ≡ at
+      long = length-take-le at current_pages (omega (arith, whole))
 
       -- none is free before the one
       pub none_before_one : IsBehindNoneFree view programs after.pages words at
@@ -112,8 +112,8 @@ module _ (view : OperatorView (List Group)) (earlier : List (List ℕ)) (standin
         rest = d.rest;
         programs_are = d.programs_are;
         counted = d.before;
-        inside = omega (arith, ap length r.pages, length-append (take at standing ++ r.own) left_there, length-append (take at standing) r.own, long);
+        inside = omega (arith, ap length r.pages, length-append (take at current_pages ++ r.own) left_there, length-append (take at current_pages) r.own, long);
         none = subst (NoneFree view)
-            (sym (ap (take at) (r.pages ∙ append_assoc (take at standing) r.own left_there) ∙ (take-append-le at (take at standing) (r.own ++ left_there) (omega (arith, long)) ∙ take_whole at (take at standing) long)))
-            (front_held view standing held at);
+            (sym (ap (take at) (r.pages ∙ append_assoc (take at current_pages) r.own left_there) ∙ (take-append-le at (take at current_pages) (r.own ++ left_there) (omega (arith, long)) ∙ take_whole at (take at current_pages) long)))
+            (front_held view current_pages held at);
       }

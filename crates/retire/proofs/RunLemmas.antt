@@ -8,9 +8,9 @@ use Rattle.config_image.specs.Image.{Group}
 use Rattle.versions.specs.declared.view.OperatorView.{OperatorView}
 use Rattle.versions.proofs.MirrorLemmas.{none_some}
 use Rattle.retire.specs.Publish.{HasPages, pages_of_each}
-use Rattle.retire.specs.body.Taking.{IsBehind, IsBehindNoneFree, IsCounted, IsNext, NoneFree, Passes, SharesRun, TakenValue}
+use Rattle.retire.specs.body.Allocation.{IsBehind, IsBehindNoneFree, IsCounted, IsNext, NoneFree, Passes, SharesRun, AllocationValue}
 use Rattle.retire.proofs.SharingLemmas.{further_behind, in_front, length-parts, own_counted}
-use Rattle.retire.proofs.TakingLemmas.{SomeTaken, own_held, shared_too, taken_for_next}
+use Rattle.retire.proofs.AllocationLemmas.{SomeAllocated, own_held, shared_too, allocated_for_next}
 
 -- ---- places in lists
 
@@ -21,9 +21,9 @@ none_dropped : (n : ℕ) → drop n nothing ≡ nothing
 none_dropped zero = refl
 none_dropped (suc n) = refl
 
-none_taken : (n : ℕ) → take n nothing ≡ nothing
-none_taken zero = refl
-none_taken (suc n) = refl
+none_allocated : (n : ℕ) → take n nothing ≡ nothing
+none_allocated zero = refl
+none_allocated (suc n) = refl
 
 pub drop_twice : (a b : ℕ) (xs : List ℕ) → drop b (drop a xs) ≡ drop (a + b) xs
 drop_twice zero b xs = ap (λ (n : ℕ). drop n xs) (let g : b ≡ 0 + b = omega arith in g)
@@ -33,21 +33,21 @@ drop_twice (suc a) b (x ∷ xs) = drop_twice a b xs ∙ ap (λ (n : ℕ). drop n
 -- ---- a run, one program after the other
 
 -- so many programs were passed on both sides, and these are left
-pub record IsRunning (programs standing : List (List ℕ)) (pages : List ℕ) (rest left : List (List ℕ)) (others : List ℕ) (count : ℕ) : Type 0 where
+pub record IsRunning (programs current : List (List ℕ)) (pages : List ℕ) (rest left : List (List ℕ)) (others : List ℕ) (count : ℕ) : Type 0 where
   pub same : List (List ℕ)
   pub programs_are : programs ≡ same ++ rest
-  pub standing_are : standing ≡ same ++ left
+  pub current_are : current ≡ same ++ left
   pub counted : count ≡ length (flat_map parts_of same)
   pub pages_are : others ≡ drop count pages
   pub fits : count ≤ length pages
   pub left_counted : IsCounted left others
-  pub behind : IsBehind standing pages left others
+  pub behind : IsBehind current pages left others
 
-pub none_passed_yet : (programs standing : List (List ℕ)) (pages : List ℕ) → IsCounted standing pages → IsRunning programs standing pages programs standing pages 0
-none_passed_yet programs standing pages counted = record {
+pub none_passed_yet : (programs current : List (List ℕ)) (pages : List ℕ) → IsCounted current pages → IsRunning programs current pages programs current pages 0
+none_passed_yet programs current pages counted = record {
   same = [];
   programs_are = refl;
-  standing_are = refl;
+  current_are = refl;
   counted = refl;
   pages_are = refl;
   fits = omega arith;
@@ -55,13 +55,13 @@ none_passed_yet programs standing pages counted = record {
   behind = λ words own has. has;
 }
 
-module _ (programs standing : List (List ℕ)) (pages : List ℕ) (rest left : List (List ℕ)) (others : List ℕ) (count : ℕ) (h : IsRunning programs standing pages rest left others count) where
-  pub passes : (own : List ℕ) (what : List (List ℕ)) → rest ≡ what → own ≡ take count pages → Passes programs standing pages own what
+module _ (programs current : List (List ℕ)) (pages : List ℕ) (rest left : List (List ℕ)) (others : List ℕ) (count : ℕ) (h : IsRunning programs current pages rest left others count) where
+  pub passes : (own : List ℕ) (what : List (List ℕ)) → rest ≡ what → own ≡ take count pages → Passes programs current pages own what
   passes own what is own_is = record {
     same = h.same;
     left = left;
     programs_are = h.programs_are ∙ ap (λ l. h.same ++ l) is;
-    standing_are = h.standing_are;
+    current_are = h.current_are;
     fits = omega (arith, h.counted, h.fits);
     own_is = own_is ∙ ap (λ (n : ℕ). take n pages) h.counted;
   }
@@ -76,16 +76,16 @@ module _ (programs standing : List (List ℕ)) (pages : List ℕ) (rest left : L
     pub run_fits : count + length own ≤ length pages
     run_fits = omega (arith, length-own, first_fits, ap length h.pages_are, length-drop count pages, h.fits)
 
-    pub one_passed_more : IsBehind left others left' others' → IsCounted left' others' → IsRunning programs standing pages rest' left' others' (count + length own)
+    pub one_passed_more : IsBehind left others left' others' → IsCounted left' others' → IsRunning programs current pages rest' left' others' (count + length own)
     one_passed_more behind counted = record {
       same = h.same ++ words ∷ [];
       programs_are = h.programs_are ∙ (ap (λ l. h.same ++ l) next ∙ sym (append_assoc h.same (words ∷ []) rest'));
-      standing_are = h.standing_are ∙ (ap (λ l. h.same ++ l) is.first ∙ sym (append_assoc h.same (words ∷ []) left'));
+      current_are = h.current_are ∙ (ap (λ l. h.same ++ l) is.first ∙ sym (append_assoc h.same (words ∷ []) left'));
       counted = omega (arith, h.counted, length-own, ap length (flat_map-append parts_of h.same (words ∷ [])), length-append (flat_map parts_of h.same) (flat_map parts_of (words ∷ [])), length-parts words []);
       pages_are = is.behind ∙ (ap (drop (pages_for (length words))) h.pages_are ∙ (drop_twice count (pages_for (length words)) pages ∙ ap (λ (n : ℕ). drop (count + n) pages) (sym length-own)));
       fits = run_fits;
       left_counted = counted;
-      behind = further_behind standing pages left others left' others' h.behind behind;
+      behind = further_behind current pages left others left' others' h.behind behind;
     }
 
 -- ---- the pages of a run
@@ -97,7 +97,7 @@ take_twice (suc n) m (x ∷ xs) = ap (λ (k : ℕ). take (suc n) (take k (x ∷ 
 
 pub take_behind : (n m : ℕ) (xs : List ℕ) → drop n (take (n + m) xs) ≡ take m (drop n xs)
 take_behind zero m xs = ap (λ (k : ℕ). take k xs) (let g : 0 + m ≡ m = omega arith in g)
-take_behind (suc n) m [] = ap (λ (k : ℕ). drop (suc n) (take k [])) (let g : suc n + m ≡ suc (n + m) = omega arith in g) ∙ sym (none_taken m)
+take_behind (suc n) m [] = ap (λ (k : ℕ). drop (suc n) (take k [])) (let g : suc n + m ≡ suc (n + m) = omega arith in g) ∙ sym (none_allocated m)
 take_behind (suc n) m (x ∷ xs) = ap (λ (k : ℕ). drop (suc n) (take k (x ∷ xs))) (let g : suc n + m ≡ suc (n + m) = omega arith in g) ∙ take_behind n m xs
 
 run_has : (same left : List (List ℕ)) (pages : List ℕ) (index : ℕ) (words o : List ℕ) → slice_get same index ≡ Some words → slice_get (pages_of_each same (take (length (flat_map parts_of same)) pages)) index ≡ Some o → HasPages (same ++ left) pages words o
@@ -109,19 +109,19 @@ run_has (first ∷ same) left pages (suc index) words o at there =
     (ap (λ l. slice_get (pages_of_each same l) index) (sym (take_behind (pages_for (length first)) (length (flat_map parts_of same)) pages)) ∙ (ap (λ (n : ℕ). slice_get (pages_of_each same (drop (pages_for (length first)) (take n pages))) index) (sym (length-parts first same)) ∙ there)) in
     (suc t.0, t.1, t.2)
 
-module _ (programs standing : List (List ℕ)) (pages own : List ℕ) (rest : List (List ℕ)) (h : Passes programs standing pages own rest) where
+module _ (programs current : List (List ℕ)) (pages own : List ℕ) (rest : List (List ℕ)) (h : Passes programs current pages own rest) where
   pub run_counted : IsCounted h.same own
   run_counted = ap length h.own_is ∙ length-take-le (length (flat_map parts_of h.same)) pages h.fits
 
   -- they are pages of programs that stood, where these are among all that stand
-  pub run_shared : (earlier : List (List ℕ)) (all : List ℕ) → IsBehind earlier all standing pages → (before after : TakenValue) → after ≡ record { pages = before.pages ++ own; from = before.from } → SharesRun earlier all programs rest before after
+  pub run_shared : (earlier : List (List ℕ)) (all : List ℕ) → IsBehind earlier all current pages → (before after : AllocationValue) → after ≡ record { pages = before.pages ++ own; from = before.from } → SharesRun earlier all programs rest before after
   run_shared earlier all behind before after e = record {
     same = h.same;
     own = own;
     programs_are = h.programs_are;
     counted = run_counted;
-    each = λ index words o at there. behind words o (subst (λ l. HasPages l pages words o) (sym h.standing_are) (run_has h.same h.left pages index words o at (ap (λ l. slice_get (pages_of_each h.same l) index) (sym h.own_is) ∙ there)));
-    taken = e;
+    each = λ index words o at there. behind words o (subst (λ l. HasPages l pages words o) (sym h.current_are) (run_has h.same h.left pages index words o at (ap (λ l. slice_get (pages_of_each h.same l) index) (sym h.own_is) ∙ there)));
+    allocation = e;
   }
 
 -- ---- none is free before a program
@@ -149,20 +149,20 @@ pub if_none : {A P Q : Type 0} (o : Option A) → (P → Q) → IfNone o P → I
 if_none None f h = f h
 if_none (Some x) f h = h
 
--- ---- pages are taken for a run
+-- ---- pages for a run
 
-module _ (view : OperatorView (List Group)) (earlier : List (List ℕ)) (standing : List ℕ) (counted : IsCounted earlier standing) (held : NoneFree view standing) (all : List (List ℕ)) where
-  several_taken : (same rest : List (List ℕ)) (own : List ℕ) (taken : TakenValue) → SomeTaken view earlier standing all (same ++ rest) taken → IsCounted same own
-      → ((index : ℕ) (words o : List ℕ) → slice_get same index ≡ Some words → slice_get (pages_of_each same own) index ≡ Some o → HasPages earlier standing words o)
-      → SomeTaken view earlier standing all rest (record { pages = taken.pages ++ own; from = taken.from })
-  several_taken [] rest [] taken h long each = subst (λ l. SomeTaken view earlier standing all rest (record { pages = l; from = taken.from })) (sym (append-nil taken.pages)) h
-  several_taken [] rest (page ∷ own) taken h long each = absurd (omega (arith, long))
-  several_taken (words ∷ same) rest own taken h long each =
-      subst (λ l. SomeTaken view earlier standing all rest (record { pages = l; from = taken.from })) (append_assoc taken.pages first behind ∙ ap (λ l. taken.pages ++ l) (take-append-drop n own))
-      (several_taken same rest behind next
-      (taken_for_next view earlier standing all (words ∷ (same ++ rest)) taken h words (same ++ rest) refl next
-      (shared_too view taken h.taken_are first (own_held view earlier standing words first held (each 0 words first refl refl)))
-      (record { own = first; counted = own_counted earlier standing words first counted (each 0 words first refl refl); takes = inl (each 0 words first refl refl); pages = refl }))
+module _ (view : OperatorView (List Group)) (earlier : List (List ℕ)) (current_pages : List ℕ) (counted : IsCounted earlier current_pages) (held : NoneFree view current_pages) (all : List (List ℕ)) where
+  several_allocated : (same rest : List (List ℕ)) (own : List ℕ) (allocation : AllocationValue) → SomeAllocated view earlier current_pages all (same ++ rest) allocation → IsCounted same own
+      → ((index : ℕ) (words o : List ℕ) → slice_get same index ≡ Some words → slice_get (pages_of_each same own) index ≡ Some o → HasPages earlier current_pages words o)
+      → SomeAllocated view earlier current_pages all rest (record { pages = allocation.pages ++ own; from = allocation.from })
+  several_allocated [] rest [] allocation h long each = subst (λ l. SomeAllocated view earlier current_pages all rest (record { pages = l; from = allocation.from })) (sym (append-nil allocation.pages)) h
+  several_allocated [] rest (page ∷ own) allocation h long each = absurd (omega (arith, long))
+  several_allocated (words ∷ same) rest own allocation h long each =
+      subst (λ l. SomeAllocated view earlier current_pages all rest (record { pages = l; from = allocation.from })) (append_assoc allocation.pages first behind ∙ ap (λ l. allocation.pages ++ l) (take-append-drop n own))
+      (several_allocated same rest behind next
+      (allocated_for_next view earlier current_pages all (words ∷ (same ++ rest)) allocation h words (same ++ rest) refl next
+      (shared_too view allocation h.allocation_is first (own_held view earlier current_pages words first held (each 0 words first refl refl)))
+      (record { own = first; counted = own_counted earlier current_pages words first counted (each 0 words first refl refl); takes = inl (each 0 words first refl refl); pages = refl }))
       (omega (arith, long, length-parts words same, length-drop n own))
       (λ index w o at there. each (suc index) w o at there))
     where
@@ -175,30 +175,30 @@ module _ (view : OperatorView (List Group)) (earlier : List (List ℕ)) (standin
       behind : List ℕ
       behind = drop n own
 
-      next : TakenValue
-      next = record { pages = taken.pages ++ first; from = taken.from }
+      next : AllocationValue
+      next = record { pages = allocation.pages ++ first; from = allocation.from }
 
-  pub run_taken : (programs rest : List (List ℕ)) (before after : TakenValue) → SomeTaken view earlier standing all programs before → SharesRun earlier standing programs rest before after → SomeTaken view earlier standing all rest after
-  run_taken programs rest before after h run = subst (SomeTaken view earlier standing all rest) (sym run.taken)
-      (several_taken run.same rest run.own before (subst (λ l. SomeTaken view earlier standing all l before) run.programs_are h) run.counted run.each)
+  pub run_allocated : (programs rest : List (List ℕ)) (before after : AllocationValue) → SomeAllocated view earlier current_pages all programs before → SharesRun earlier current_pages programs rest before after → SomeAllocated view earlier current_pages all rest after
+  run_allocated programs rest before after h run = subst (SomeAllocated view earlier current_pages all rest) (sym run.allocation)
+      (several_allocated run.same rest run.own before (subst (λ l. SomeAllocated view earlier current_pages all l before) run.programs_are h) run.counted run.each)
 
   -- the same, where the programs and pages that stand are told by another name
-  pub run_beside : (programs rest : List (List ℕ)) (before after : TakenValue) → SomeTaken view earlier standing all programs before → (told : List (List ℕ)) (pages : List ℕ) → told ≡ earlier → pages ≡ standing
-      → SharesRun told pages programs rest before after → SomeTaken view earlier standing all rest after
+  pub run_beside : (programs rest : List (List ℕ)) (before after : AllocationValue) → SomeAllocated view earlier current_pages all programs before → (told : List (List ℕ)) (pages : List ℕ) → told ≡ earlier → pages ≡ current_pages
+      → SharesRun told pages programs rest before after → SomeAllocated view earlier current_pages all rest after
   run_beside programs rest before after h told pages told_is pages_are run =
-      run_taken programs rest before after h (subst (λ l. SharesRun l standing programs rest before after) told_is (subst (λ l. SharesRun told l programs rest before after) pages_are run))
+      run_allocated programs rest before after h (subst (λ l. SharesRun l current_pages programs rest before after) told_is (subst (λ l. SharesRun told l programs rest before after) pages_are run))
 
-  -- where no free page was taken yet, none is free before the next program
-  pub none_free_yet : (words : List ℕ) (rest : List (List ℕ)) (taken : TakenValue) → SomeTaken view earlier standing all (words ∷ rest) taken → taken.from ≡ 0 → IsBehindNoneFree view all taken.pages words (length taken.pages)
-  none_free_yet words rest taken h none = record {
+  -- if no free page was allocated yet, none is free before the next program
+  pub none_free_yet : (words : List ℕ) (rest : List (List ℕ)) (allocation : AllocationValue) → SomeAllocated view earlier current_pages all (words ∷ rest) allocation → allocation.from ≡ 0 → IsBehindNoneFree view all allocation.pages words (length allocation.pages)
+  none_free_yet words rest allocation h none = record {
     done = h.done;
     rest = rest;
     programs_are = h.all_are;
     counted = h.counted;
     inside = omega arith;
-    none = λ index page at free. let low = h.taken_are.below index page (in_front (length taken.pages) taken.pages index page at) free in omega arith;
+    none = λ index page at free. let low = h.allocation_is.below index page (in_front (length allocation.pages) allocation.pages index page at) free in omega arith;
   }
 
   -- there is room for the pages of all that are left
-  pub room_for_run : (most : ℕ) (programs : List (List ℕ)) (taken : TakenValue) → SomeTaken view earlier standing all programs taken → length (flat_map parts_of all) ≤ most → length taken.pages + length (flat_map parts_of programs) ≤ most
-  room_for_run most programs taken h few = omega (arith, few, h.counted, ap length (ap (flat_map parts_of) h.all_are ∙ flat_map-append parts_of h.done programs), length-append (flat_map parts_of h.done) (flat_map parts_of programs))
+  pub room_for_run : (most : ℕ) (programs : List (List ℕ)) (allocation : AllocationValue) → SomeAllocated view earlier current_pages all programs allocation → length (flat_map parts_of all) ≤ most → length allocation.pages + length (flat_map parts_of programs) ≤ most
+  room_for_run most programs allocation h few = omega (arith, few, h.counted, ap length (ap (flat_map parts_of) h.all_are ∙ flat_map-append parts_of h.done programs), length-append (flat_map parts_of h.done) (flat_map parts_of programs))

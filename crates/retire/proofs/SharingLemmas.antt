@@ -16,7 +16,7 @@ use Rattle.versions.proofs.MirrorLemmas.{none_some, some_same}
 use Rattle.versions.proofs.OpenedLemmas.{slice_get-front_or_back}
 use Rattle.versions.proofs.WorldLemmas.{slice_get-front}
 use Rattle.retire.specs.Publish.{HasPages, pages_of_each}
-use Rattle.retire.specs.body.Taking.{IsBehind, IsCounted, IsNext, IsPassing}
+use Rattle.retire.specs.body.Allocation.{IsBehind, IsCounted, IsNext, IsPassing}
 use Rattle.retire.proofs.RowLemmas.{contains_first}
 
 -- ---- places in lists
@@ -106,7 +106,7 @@ pub not_empty : (own : List ℕ) (r : Bool) → r ≡ (length own == 0) → r �
 not_empty [] r e f = absurd (true_false (sym e ∙ f))
 not_empty (x ∷ xs) r e f = omega arith
 
--- ---- programs and pages that are taken one after the other
+-- ---- programs and their pages, one after the other
 
 length-pages_of_each : (programs : List (List ℕ)) (pages : List ℕ) → length (pages_of_each programs pages) ≡ length programs
 length-pages_of_each [] pages = refl

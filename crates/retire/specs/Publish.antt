@@ -85,8 +85,8 @@ HasPages programs pages words own = (index : ℕ) × (slice_get programs index �
 
 -- a program takes the pages of a program of the version before that has the same words, and free pages where there is none
 abbrev pub TakesFor : OperatorView (List Group) → List (List ℕ) → List ℕ → List ℕ → List ℕ → Type 0
-TakesFor view earlier standing words own =
-    HasPages earlier standing words own ⊎ ((Contains earlier words → ⊥) × ((index page : ℕ) → slice_get own index ≡ Some page → IsFreePage the_shape view page))
+TakesFor view earlier current_pages words own =
+    HasPages earlier current_pages words own ⊎ ((Contains earlier words → ⊥) × ((index page : ℕ) → slice_get own index ≡ Some page → IsFreePage the_shape view page))
 
 -- those of the pages that are free rise
 abbrev pub RiseWhereFree : OperatorView (List Group) → List ℕ → Type 0
@@ -95,8 +95,8 @@ RiseWhereFree view pages = (index later page other : ℕ) → index < later → 
 
 -- the programs of a version take their pages, one program behind the other, beside the programs of the version before and the pages
 -- where these stand; of the free pages they take the least ones, in order
-pub record TakesPages (view : OperatorView (List Group)) (earlier : List (List ℕ)) (standing : List ℕ) (programs : List (List ℕ)) (pages : List ℕ) : Type 0 where
-  pub each : (index : ℕ) (words own : List ℕ) → slice_get programs index ≡ Some words → slice_get (pages_of_each programs pages) index ≡ Some own → TakesFor view earlier standing words own
+pub record TakesPages (view : OperatorView (List Group)) (earlier : List (List ℕ)) (current_pages : List ℕ) (programs : List (List ℕ)) (pages : List ℕ) : Type 0 where
+  pub each : (index : ℕ) (words own : List ℕ) → slice_get programs index ≡ Some words → slice_get (pages_of_each programs pages) index ≡ Some own → TakesFor view earlier current_pages words own
   pub rise : RiseWhereFree view pages
   pub least : (index page q : ℕ) → slice_get pages index ≡ Some page → IsFreePage the_shape view page → IsFreePage the_shape view q → q < page → (j : ℕ) × (slice_get pages j ≡ Some q)
 
@@ -127,9 +127,9 @@ pub record Publishes (before after : OperatorValue) (config : List Group) : Type
   pub counted : length pages ≡ length (parts config)
   pub earlier : List Group
   pub current : IsCurrent before.view earlier
-  pub standing : List ℕ
-  pub named : get_elem? before.view.version_pages (number_after before.view.log) ≡ some standing
-  pub takes : TakesPages found.view (words_of_programs earlier) standing (words_of_programs config) pages
+  pub current_pages : List ℕ
+  pub named : get_elem? before.view.version_pages (number_after before.view.log) ≡ some current_pages
+  pub takes : TakesPages found.view (words_of_programs earlier) current_pages (words_of_programs config) pages
   pub fills : List Entry
   pub filled : (newest : Entry) → Contains fills newest → IsFormFill found.view taken config pages newest
   pub log : after.view.log ≡ entry (Publish taken) (current_word the_shape (number_after before.view.log + 1) taken) ∷ (fills ++ found.view.log)
@@ -149,7 +149,7 @@ IsUnfilled steps page = (k x : ℕ) → k < PAGE_WORDS → Contains steps (entry
 pub record SharesEqualPrograms (before after : OperatorValue) (config : List Group) : Type 0 where
   pub publication : Publishes before after config
   pub shared : (index : ℕ) (words own : List ℕ) → slice_get (words_of_programs config) index ≡ Some words → slice_get (pages_of_each (words_of_programs config) publication.pages) index ≡ Some own
-      → Contains (words_of_programs publication.earlier) words → HasPages (words_of_programs publication.earlier) publication.standing words own
+      → Contains (words_of_programs publication.earlier) words → HasPages (words_of_programs publication.earlier) publication.current_pages words own
   pub unfilled : (index i page : ℕ) (words own : List ℕ) → slice_get (words_of_programs config) index ≡ Some words → slice_get (pages_of_each (words_of_programs config) publication.pages) index ≡ Some own
       → Contains (words_of_programs publication.earlier) words → slice_get own i ≡ Some page → IsUnfilled publication.fills page
 

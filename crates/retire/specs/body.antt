@@ -1,5 +1,5 @@
 pub mod Filling
 pub mod Sink
-pub mod Taking
+pub mod Allocation
 pub mod Alike
-pub mod Change
+pub mod Diff

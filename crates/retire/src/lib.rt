@@ -11,14 +11,14 @@ ghost use Rattle.read_section.specs.Operator.{OperatorValue};
 ghost use Rattle.retire.specs.Publish.{IsBusy, IsRefusedAs, Publishes, SharesEqualPrograms, StandsInRow};
 ghost use Rattle.retire.specs.Sweep.{Sweeps};
 
-mod carried;
-mod change;
+mod allocation;
+mod current_pages;
+mod diff;
 mod fault;
 mod pages;
 mod row;
+mod row_reuse;
 mod sink;
-mod standing;
-mod taken;
 mod version;
 
 pub use fault::PublishFault;

@@ -1,4 +1,4 @@
-//! Pages of the pool: which are taken for a configuration's programs, and how they are filled.
+//! Pages of the pool: which are allocated to a configuration's programs, and how they are filled.
 
 ghost use Rattle.std.specs.Prelude.{◌≡◌, ◌+◌, ◌<◌, ◌≤◌, ◌↔◌, IfNone, IfSome, IsTrue, Some, [], drop, length, slice_get, take, ℕ};
 ghost use Rattle.std.specs.List.{flat_map};
@@ -10,10 +10,10 @@ ghost use Rattle.versions.specs.Table.{the_shape};
 ghost use Rattle.read_section.specs.Operator.{HasFreeRow};
 ghost use Rattle.retire.specs.body.Filling.{AreFreeBelow, AreFreePages, AreReady, FillsLast, FillsNew, FillsParts, IsReady};
 ghost use Rattle.retire.specs.body.Alike.{IsLikeCurrent};
-ghost use Rattle.retire.specs.body.Taking.{AreTaken, ChoosesPages, IsBehindNoneFree, IsCounted, IsPassing, NoneFree, ReplacesOne, TakesOneMore};
+ghost use Rattle.retire.specs.body.Allocation.{IsAllocation, ChoosesPages, IsBehindNoneFree, IsCounted, IsPassing, NoneFree, ReplacesOne, TakesOneMore};
 
-use crate::standing::Current;
-use crate::taken::TakenPages;
+use crate::current_pages::Current;
+use crate::allocation::Allocation;
 use config_image::{PAGE_WORDS, Programs, pages_for};
 use member_group::Config;
 use read_section::Operator;
@@ -23,23 +23,23 @@ use std::alloc::Global;
 fn take_for<const N: usize>(
     operator: &Operator,
     current: &mut Current<'_>,
-    taken: &mut TakenPages<N>,
+    allocation: &mut Allocation<N>,
     words: &[u64],
 )
     requires row { HasFreeRow operator.now.view }
     requires passing { IsPassing (words_of_programs current.old.config.now) current.old.pages.now current.old.left.programs current.old.left.pages.now }
     requires held { NoneFree operator.now.view current.old.pages.now }
-    requires room { length taken.old.pages + pages_for (length words.now) ≤ N }
+    requires room { length allocation.old.pages + pages_for (length words.now) ≤ N }
     requires limit { N ≤ PAGE_LIMIT }
-    requires taken { AreTaken operator.now.view taken.old }
+    requires allocation { IsAllocation operator.now.view allocation.old }
     ensures same { (current.new.config ≡ current.old.config) × (current.new.pages ≡ current.old.pages) }
     ensures passing { IsPassing (words_of_programs current.old.config.now) current.old.pages.now current.new.left.programs current.new.left.pages.now }
-    ensures taken { AreTaken operator.now.view taken.new }
-    ensures one_more { TakesOneMore operator.now.view (words_of_programs current.old.config.now) current.old.pages.now words.now taken.old taken.new }
+    ensures allocation { IsAllocation operator.now.view allocation.new }
+    ensures one_more { TakesOneMore operator.now.view (words_of_programs current.old.config.now) current.old.pages.now words.now allocation.old allocation.new }
 {
     match current.find_equal(words) {
-        Some(own) => taken.share(own),
-        None => taken.take_free(operator, pages_for(words.len())),
+        Some(own) => allocation.share(own),
+        None => allocation.allocate(operator, pages_for(words.len())),
     }
 }
 
@@ -48,24 +48,24 @@ fn take_for<const N: usize>(
 fn choose_each<'a, const N: usize>(
     operator: &Operator,
     config: &'a Config,
-    taken: &mut TakenPages<N>,
+    allocation: &mut Allocation<N>,
 ) -> Option<(&'a [u64], usize)>
     requires row { HasFreeRow operator.now.view }
     requires enough { length (parts config.now) ≤ N }
     requires limit { N ≤ PAGE_LIMIT }
-    requires none { taken.old ≡ record { pages = []; from = 0 } }
-    ensures chosen { ChoosesPages operator.now.view config.now taken.new.pages }
-    ensures below { AreFreeBelow operator.now.view taken.new.pages taken.new.from }
-    ensures first { IfSome result (λ first. IsBehindNoneFree operator.now.view (words_of_programs config.now) taken.new.pages first.0.now first.1) }
+    requires none { allocation.old ≡ record { pages = []; from = 0 } }
+    ensures chosen { ChoosesPages operator.now.view config.now allocation.new.pages }
+    ensures below { AreFreeBelow operator.now.view allocation.new.pages allocation.new.from }
+    ensures first { IfSome result (λ first. IsBehindNoneFree operator.now.view (words_of_programs config.now) allocation.new.pages first.0.now first.1) }
 {
     let mut current = Current::of(operator);
     let mut programs = Programs::of(config);
     let mut first = None;
-    while let Some(words) = current.share_equal(&mut programs, taken) {
-        if taken.end() == 0 {
-            first = Some((words, taken.count()));
+    while let Some(words) = current.share_equal(&mut programs, allocation) {
+        if allocation.end() == 0 {
+            first = Some((words, allocation.count()));
         }
-        take_for(operator, &mut current, taken, words);
+        take_for(operator, &mut current, allocation, words);
     }
     first
 }
@@ -75,7 +75,7 @@ fn choose_each<'a, const N: usize>(
 fn replace_one<const N: usize>(
     operator: &Operator,
     current: &mut Current<'_>,
-    taken: &mut TakenPages<N>,
+    allocation: &mut Allocation<N>,
     words: &[u64],
     at: usize,
 )
@@ -85,13 +85,13 @@ fn replace_one<const N: usize>(
     requires room { length current.old.pages.now ≤ N }
     requires limit { N ≤ PAGE_LIMIT }
     requires inside { at + pages_for (length words.now) ≤ length current.old.pages.now }
-    requires none { taken.old ≡ record { pages = []; from = 0 } }
-    ensures replaced { ReplacesOne operator.now.view (words_of_programs current.old.config.now) current.old.pages.now words.now at taken.new }
+    requires none { allocation.old ≡ record { pages = []; from = 0 } }
+    ensures replaced { ReplacesOne operator.now.view (words_of_programs current.old.config.now) current.old.pages.now words.now at allocation.new }
 {
     let pages = current.pages();
-    taken.share(&pages[..at]);
-    take_for(operator, current, taken, words);
-    taken.share(&pages[at + pages_for(words.len())..]);
+    allocation.share(&pages[..at]);
+    take_for(operator, current, allocation, words);
+    allocation.share(&pages[at + pages_for(words.len())..]);
 }
 
 /// What was found where the pages of a version were chosen.
@@ -103,29 +103,29 @@ pub(crate) struct Chosen<'a> {
     pub(crate) is_like: bool,
 }
 
-// Chooses pages where the configuration is like the current one, and one program at most has other words. Elsewhere nothing is taken.
+// Chooses pages where the configuration is like the current one, and one program at most has other words. Otherwise nothing is allocated.
 fn choose_alike<'a, const N: usize>(
     operator: &Operator,
     config: &'a Config,
-    taken: &mut TakenPages<N>,
+    allocation: &mut Allocation<N>,
 ) -> Option<Chosen<'a>>
     requires row { HasFreeRow operator.now.view }
     requires enough { length (parts config.now) ≤ N }
     requires limit { N ≤ PAGE_LIMIT }
-    requires none { taken.old ≡ record { pages = []; from = 0 } }
-    ensures chosen { IfSome result (λ chosen. ChoosesPages operator.now.view config.now taken.new.pages) }
-    ensures below { IfSome result (λ chosen. AreFreeBelow operator.now.view taken.new.pages taken.new.from) }
-    ensures first { IfSome result (λ chosen. IfSome chosen.first (λ first. IsBehindNoneFree operator.now.view (words_of_programs config.now) taken.new.pages first.0.now first.1)) }
+    requires none { allocation.old ≡ record { pages = []; from = 0 } }
+    ensures chosen { IfSome result (λ chosen. ChoosesPages operator.now.view config.now allocation.new.pages) }
+    ensures below { IfSome result (λ chosen. AreFreeBelow operator.now.view allocation.new.pages allocation.new.from) }
+    ensures first { IfSome result (λ chosen. IfSome chosen.first (λ first. IsBehindNoneFree operator.now.view (words_of_programs config.now) allocation.new.pages first.0.now first.1)) }
     ensures like { IfSome result (λ chosen. IsLikeCurrent operator.now.view config.now) }
-    ensures none { IfNone result (taken.new ≡ taken.old) }
+    ensures none { IfNone result (allocation.new ≡ allocation.old) }
 {
     let mut current = Current::of(operator);
     let Some(walk) = current.compare(config) else {
         return None;
     };
     match walk.differs {
-        Some((words, at)) => replace_one(operator, &mut current, taken, words, at),
-        None => taken.share(current.pages()),
+        Some((words, at)) => replace_one(operator, &mut current, allocation, words, at),
+        None => allocation.share(current.pages()),
     }
     Some(Chosen {
         first: walk.differs,
@@ -138,21 +138,21 @@ fn choose_alike<'a, const N: usize>(
 pub(crate) fn choose_pages<'a, const N: usize>(
     operator: &Operator,
     config: &'a Config,
-    taken: &mut TakenPages<N>,
+    allocation: &mut Allocation<N>,
 ) -> Chosen<'a>
     requires row { HasFreeRow operator.now.view }
     requires enough { length (parts config.now) ≤ N }
     requires limit { N ≤ PAGE_LIMIT }
-    requires none { taken.old ≡ record { pages = []; from = 0 } }
-    ensures chosen { ChoosesPages operator.now.view config.now taken.new.pages }
-    ensures below { AreFreeBelow operator.now.view taken.new.pages taken.new.from }
-    ensures first { IfSome result.first (λ first. IsBehindNoneFree operator.now.view (words_of_programs config.now) taken.new.pages first.0.now first.1) }
+    requires none { allocation.old ≡ record { pages = []; from = 0 } }
+    ensures chosen { ChoosesPages operator.now.view config.now allocation.new.pages }
+    ensures below { AreFreeBelow operator.now.view allocation.new.pages allocation.new.from }
+    ensures first { IfSome result.first (λ first. IsBehindNoneFree operator.now.view (words_of_programs config.now) allocation.new.pages first.0.now first.1) }
     ensures like { IsTrue result.is_like → IsLikeCurrent operator.now.view config.now }
 {
-    match choose_alike(operator, config, taken) {
+    match choose_alike(operator, config, allocation) {
         Some(chosen) => chosen,
         None => Chosen {
-            first: choose_each(operator, config, taken),
+            first: choose_each(operator, config, allocation),
             is_like: false,
         },
     }

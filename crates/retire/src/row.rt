@@ -11,7 +11,7 @@ ghost use Rattle.retire.specs.Publish.{IsBusy, IsLeastFreeRow, LooksForRow, Scan
 ghost use Rattle.retire.specs.body.Alike.{IsLikeCurrent};
 ghost use Rattle.retire.specs.body.Filling.{FillsRow, HoldsFront, HoldsRow};
 
-use crate::carried::{copy_front, fill_names};
+use crate::row_reuse::{copy_front, fill_names};
 use crate::sink::{fill_front, fill_other};
 use config_image::RowHeader;
 use member_group::Config;
@@ -52,8 +52,8 @@ pub(crate) fn look_for_row(operator: &mut Operator) -> Option<usize>
     free_row(operator)
 }
 
-// Fills the words of a row before its last zeros, and tells how many there are. Where the configuration is like the current one they
-// are carried over from the current row, which has as many names, and are made anew where it is not.
+// Fills the words of a row before its last zeros, and returns how many there are. If the configuration is like the current one, the
+// words of the current row are reused, which has as many page table entries. Otherwise they are made anew.
 fn fill_words(
     operator: &mut Operator,
     row: usize,

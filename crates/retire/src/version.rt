@@ -9,9 +9,9 @@ ghost use Rattle.versions.specs.Table.{the_shape};
 ghost use Rattle.read_section.specs.Layout.{IsPublishable};
 ghost use Rattle.retire.specs.body.Filling.{FillsVersion};
 
+use crate::allocation::Allocation;
 use crate::pages::{choose_pages, fill_pages};
 use crate::row::fill_row;
-use crate::taken::TakenPages;
 use config_image::PAGE_LIMIT;
 use member_group::Config;
 use read_section::Operator;
@@ -30,10 +30,10 @@ fn fill_by<const N: usize>(operator: &mut Operator, row: usize, config: &Config)
     requires limit { N ≤ PAGE_LIMIT }
     ensures { (pages : List ℕ) × FillsVersion operator.old operator.new row config.now pages }
 {
-    let mut taken = TakenPages::<N>::none();
-    let chosen = choose_pages(operator, config, &mut taken);
-    let pages = taken.as_slice();
-    fill_pages(operator, config, pages, taken.end(), chosen.first);
+    let mut allocation = Allocation::<N>::none();
+    let chosen = choose_pages(operator, config, &mut allocation);
+    let pages = allocation.as_slice();
+    fill_pages(operator, config, pages, allocation.end(), chosen.first);
     fill_row(operator, row, config, pages, chosen.is_like);
 }
 

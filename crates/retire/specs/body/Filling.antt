@@ -15,7 +15,7 @@ use Rattle.versions.specs.Layout.{page_begin, stored_words}
 use Rattle.versions.specs.Table.{the_shape}
 use Rattle.read_section.specs.Operator.{OperatorValue, filled}
 use Rattle.retire.specs.Publish.{IsFillOf, KeepsOtherPages, KeepsOtherRows, RiseWhereFree}
-use Rattle.retire.specs.body.Taking.{AllFree, ChoosesPages, NoneFree}
+use Rattle.retire.specs.body.Allocation.{AllFree, ChoosesPages, NoneFree}
 
 -- fills, and no other step: each is one of these. What was free is free still, and no other page is
 pub record Fills (before after : OperatorValue) (IsFill : Entry → Type 0) : Type 0 where

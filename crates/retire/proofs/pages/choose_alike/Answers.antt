@@ -1,10 +1,10 @@
 use Rattle.std.proofs.Common.{◌≡◌, IfSome, MatchOption, [], ap, arith, length, refl, subst, sym}
 use Rattle.config_image.specs.Walk.{words_of_programs}
 use Rattle.config_image.proofs.ProgramLemmas.{parts-by_words}
-use Rattle.retire.specs.body.Change.{DifferInOne, pages_in}
-use Rattle.retire.specs.body.Taking.{IsBehindNoneFree, TakenValue}
-use Rattle.retire.proofs.ReplacedLemmas.{all_shared, as_many, none_before_one, one_inside, others_shared, whole_taken}
-use Rattle.retire.proofs.TakingLemmas.{SomeTaken, all_taken, current_held}
+use Rattle.retire.specs.body.Diff.{DifferInOne, pages_in}
+use Rattle.retire.specs.body.Allocation.{IsBehindNoneFree, AllocationValue}
+use Rattle.retire.proofs.ReplacedLemmas.{all_shared, as_many, none_before_one, one_inside, others_shared, whole_allocated}
+use Rattle.retire.proofs.AllocationLemmas.{SomeAllocated, all_allocated, current_held}
 use Rattle.retire.proofs.pages.choose_alike.Goals.{in-Some-differs, in-None}
 use Rattle.retire.proofs.pages.choose_alike.Goals as goal
 
@@ -30,44 +30,44 @@ share-requires g c = let of = c.of-current.result in let programs = words_of_pro
         ap pages_in same,
         c.of-current.ensures.none_passed.counted,
         ap length c.pages.ensures,
-        ap (λ (v : TakenValue). length v.pages) c.requires.none,
+        ap (λ (v : AllocationValue). length v.pages) c.requires.none,
       ),
     )
 
 pub returns-clause-chosen : goal.returns-clause-chosen
 returns-clause-chosen g c = let view = c.args.operator.now.view in let of = c.of-current.result in let programs = words_of_programs c.args.config.now in let earlier = words_of_programs of.config.now in
     let counted = c.of-current.ensures.none_passed.counted in let held = current_held view of.config.now of.pages.now c.of-current.ensures.stands in let differ = c.in-Some.ensures.passed.differ in
-    let taken : SomeTaken view earlier of.pages.now programs [] c.match-walk.taken = elim c.match-walk.branch [
+    let allocation : SomeAllocated view earlier of.pages.now programs [] c.match-walk.allocation = elim c.match-walk.branch [
       | in-Some-differs w ↦ let one = subst (λ o. MatchOption o (programs ≡ earlier) (λ one. DifferInOne programs earlier one.0.now one.1)) w.in-Some-differs.is differ in
-          subst (SomeTaken view earlier of.pages.now programs []) (sym w.taken-is)
-          (others_shared view earlier of.pages.now counted held programs w.in-Some-differs.words.now w.in-Some-differs.at one w.replace_one.new.taken w.replace_one.ensures.replaced)
+          subst (SomeAllocated view earlier of.pages.now programs []) (sym w.allocation-is)
+          (others_shared view earlier of.pages.now counted held programs w.in-Some-differs.words.now w.in-Some-differs.at one w.replace_one.new.allocation w.replace_one.ensures.replaced)
       | in-None w ↦ let same = subst (λ o. MatchOption o (programs ≡ earlier) (λ one. DifferInOne programs earlier one.0.now one.1)) w.in-None.is differ in
-          subst (SomeTaken view earlier of.pages.now programs []) (sym w.taken-is)
-          (all_shared view earlier of.pages.now counted held programs w.share.new.self same (whole_taken c.args.taken.now w.share.new.self of.pages.now w.pages.result.now c.requires.none w.pages.ensures w.share.ensures))
+          subst (SomeAllocated view earlier of.pages.now programs []) (sym w.allocation-is)
+          (all_shared view earlier of.pages.now counted held programs w.share.new.self same (whole_allocated c.args.allocation.now w.share.new.self of.pages.now w.pages.result.now c.requires.none w.pages.ensures w.share.ensures))
     ] in
-    let t = all_taken view earlier of.pages.now programs [] c.match-walk.taken taken refl in
-    record { earlier = of.config.now; current = c.of-current.ensures.current; standing = of.pages.now; stands = c.of-current.ensures.stands; takes = t.0; counted = t.1 }
+    let t = all_allocated view earlier of.pages.now programs [] c.match-walk.allocation allocation refl in
+    record { earlier = of.config.now; current = c.of-current.ensures.current; current_pages = of.pages.now; stands = c.of-current.ensures.stands; takes = t.0; counted = t.1 }
 
 pub returns-clause-below : goal.returns-clause-below
 returns-clause-below g c = let view = c.args.operator.now.view in let of = c.of-current.result in let programs = words_of_programs c.args.config.now in let earlier = words_of_programs of.config.now in
     let counted = c.of-current.ensures.none_passed.counted in let held = current_held view of.config.now of.pages.now c.of-current.ensures.stands in let differ = c.in-Some.ensures.passed.differ in
-    let taken : SomeTaken view earlier of.pages.now programs [] c.match-walk.taken = elim c.match-walk.branch [
+    let allocation : SomeAllocated view earlier of.pages.now programs [] c.match-walk.allocation = elim c.match-walk.branch [
       | in-Some-differs w ↦ let one = subst (λ o. MatchOption o (programs ≡ earlier) (λ one. DifferInOne programs earlier one.0.now one.1)) w.in-Some-differs.is differ in
-          subst (SomeTaken view earlier of.pages.now programs []) (sym w.taken-is)
-          (others_shared view earlier of.pages.now counted held programs w.in-Some-differs.words.now w.in-Some-differs.at one w.replace_one.new.taken w.replace_one.ensures.replaced)
+          subst (SomeAllocated view earlier of.pages.now programs []) (sym w.allocation-is)
+          (others_shared view earlier of.pages.now counted held programs w.in-Some-differs.words.now w.in-Some-differs.at one w.replace_one.new.allocation w.replace_one.ensures.replaced)
       | in-None w ↦ let same = subst (λ o. MatchOption o (programs ≡ earlier) (λ one. DifferInOne programs earlier one.0.now one.1)) w.in-None.is differ in
-          subst (SomeTaken view earlier of.pages.now programs []) (sym w.taken-is)
-          (all_shared view earlier of.pages.now counted held programs w.share.new.self same (whole_taken c.args.taken.now w.share.new.self of.pages.now w.pages.result.now c.requires.none w.pages.ensures w.share.ensures))
+          subst (SomeAllocated view earlier of.pages.now programs []) (sym w.allocation-is)
+          (all_shared view earlier of.pages.now counted held programs w.share.new.self same (whole_allocated c.args.allocation.now w.share.new.self of.pages.now w.pages.result.now c.requires.none w.pages.ensures w.share.ensures))
     ] in
-    taken.taken_are.below
+    allocation.allocation_is.below
 
 pub returns-clause-first : goal.returns-clause-first
 returns-clause-first g c = let view = c.args.operator.now.view in let of = c.of-current.result in let programs = words_of_programs c.args.config.now in let earlier = words_of_programs of.config.now in
     let counted = c.of-current.ensures.none_passed.counted in let held = current_held view of.config.now of.pages.now c.of-current.ensures.stands in let differ = c.in-Some.ensures.passed.differ in
     elim c.match-walk.branch [
       | in-Some-differs w ↦ let one = subst (λ o. MatchOption o (programs ≡ earlier) (λ one. DifferInOne programs earlier one.0.now one.1)) w.in-Some-differs.is differ in
-          subst (λ o. IfSome o (λ first. IsBehindNoneFree view programs c.match-walk.taken.pages first.0.now first.1)) (sym w.in-Some-differs.is)
-          (subst (λ (v : TakenValue). IsBehindNoneFree view programs v.pages w.in-Some-differs.words.now w.in-Some-differs.at) (sym w.taken-is)
-          (none_before_one view earlier of.pages.now counted held programs w.in-Some-differs.words.now w.in-Some-differs.at one w.replace_one.new.taken w.replace_one.ensures.replaced))
-      | in-None w ↦ subst (λ o. IfSome o (λ first. IsBehindNoneFree view programs c.match-walk.taken.pages first.0.now first.1)) (sym w.in-None.is) tt
+          subst (λ o. IfSome o (λ first. IsBehindNoneFree view programs c.match-walk.allocation.pages first.0.now first.1)) (sym w.in-Some-differs.is)
+          (subst (λ (v : AllocationValue). IsBehindNoneFree view programs v.pages w.in-Some-differs.words.now w.in-Some-differs.at) (sym w.allocation-is)
+          (none_before_one view earlier of.pages.now counted held programs w.in-Some-differs.words.now w.in-Some-differs.at one w.replace_one.new.allocation w.replace_one.ensures.replaced))
+      | in-None w ↦ subst (λ o. IfSome o (λ first. IsBehindNoneFree view programs c.match-walk.allocation.pages first.0.now first.1)) (sym w.in-None.is) tt
     ]

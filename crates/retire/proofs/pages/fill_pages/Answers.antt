@@ -3,7 +3,7 @@ use Rattle.config_image.specs.Pooled.{pages_for}
 use Rattle.config_image.specs.Walk.{words_of_programs}
 use Rattle.read_section.specs.Operator.{OperatorValue}
 use Rattle.retire.specs.body.Filling.{AreFreeBelow}
-use Rattle.retire.specs.body.Taking.{IsBehindNoneFree}
+use Rattle.retire.specs.body.Allocation.{IsBehindNoneFree}
 use Rattle.retire.proofs.OneNewLemmas.{only_filled, own_inside, own_ready}
 use Rattle.retire.proofs.PageLemmas.{none_to_fill}
 use Rattle.retire.proofs.SharingLemmas.{true_false}

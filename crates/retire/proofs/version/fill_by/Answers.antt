@@ -4,7 +4,7 @@ use Rattle.retire.specs.body.Alike.{AreAlike}
 use Rattle.config_image.proofs.ProgramLemmas.{parts-by_words}
 use Rattle.versions.proofs.FormLemmas.{are_pages}
 use Rattle.retire.specs.body.Filling.{FillsParts}
-use Rattle.retire.specs.body.Taking.{ChoosesPages}
+use Rattle.retire.specs.body.Allocation.{ChoosesPages}
 use Rattle.retire.proofs.ReadyLemmas.{chosen_counted, chosen_ready}
 use Rattle.retire.proofs.version.fill_by.Goals as goal
 

@@ -1,5 +1,0 @@
-use Rattle.retire.proofs.CarriedLemmas.{Named}
-use Rattle.retire.proofs.carried.fill_names.Given as goal
-
-abbrev pub invariant-loop-index : goal.invariant-loop-index
-invariant-loop-index l = Named l.fn.operator l.operator l.row l.from l.begin l.pages l.index

@@ -1,5 +1,0 @@
-use Rattle.std.proofs.Common.{rules}
-use Rattle.retire.proofs.taken.TakenPages.none.Goals as goal
-
-pub returns : goal.returns
-returns g c = search rules
