@@ -13,7 +13,7 @@ use crate::packet_line::{PacketSize, read_packet_into};
 use control_line::{Reason, Reply, line};
 use dispatch::judge;
 use member_group::Config;
-use read_section::{OpenFault, Operator, Worker, open};
+use read_section::{Operator, Worker, open_within};
 use std::alloc::{AllocError, Global};
 
 /// An operator and the workers of its table. The first of them judges packets.
@@ -53,18 +53,13 @@ impl Switch {
     pub(crate) fn open(alloc: Global) -> Result<Switch, AllocError>
         ensures ready { IfOk result (λ switch. IsReady switch.operator switch.workers.items at_start) }
     {
-        match open(Config::new(alloc)) {
-            Ok((mut operator, mut workers)) => {
-                meet_all(&mut operator, &mut workers);
-                Ok(Switch {
-                    operator,
-                    workers,
-                    packet: Vec::new(alloc),
-                })
-            }
-            Err(OpenFault::OutOfMemory) => Err(AllocError),
-            Err(OpenFault::TooBig) => unreachable!(),
-        }
+        let (mut operator, mut workers) = open_within(Config::new(alloc))?;
+        meet_all(&mut operator, &mut workers);
+        Ok(Switch {
+            operator,
+            workers,
+            packet: Vec::new(alloc),
+        })
     }
 
     /// Does what a line asks for, and makes its reply. The workers have met the operator again then.

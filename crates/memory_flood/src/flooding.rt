@@ -15,7 +15,7 @@ use crate::flood_jobs::jobs;
 use crate::flood_versions::{opening, successors};
 use dispatch::{Gate, Tally, Totals, gather};
 use member_group::Config;
-use read_section::{OpenFault, Operator, WORKERS, Worker, open};
+use read_section::{Operator, WORKERS, Worker, open_within};
 use retire::Retire;
 use std::alloc::{AllocError, Global};
 use std::io::Write;
@@ -31,11 +31,8 @@ fn open_versions(alloc: Global) -> Result<(Operator, Vec<Worker>, Vec<Config>), 
 {
     let opening = opening(alloc)?;
     let successors = successors(alloc, &opening)?;
-    match open(opening) {
-        Ok((operator, workers)) => Ok((operator, workers, successors)),
-        Err(OpenFault::OutOfMemory) => Err(AllocError),
-        Err(OpenFault::TooBig) => unreachable!(),
-    }
+    let (operator, workers) = open_within(opening)?;
+    Ok((operator, workers, successors))
 }
 
 // Tries to publish each; where no row is free it goes on with the next.

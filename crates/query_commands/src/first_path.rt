@@ -14,7 +14,7 @@ use bpf_insn::Words;
 use bpf_machine::{Outcome, run};
 use config_image::{find_group, selector_of};
 use member_group::{Command, Config};
-use read_section::{OpenFault, Operator, Worker, open};
+use read_section::{Operator, Worker, open_within};
 use retire::Retire;
 use sample_group::{SAMPLE_GROUP, SAMPLE_PACKET, applied, program};
 use std::alloc::{AllocError, Global};
@@ -78,13 +78,9 @@ fn configuration(alloc: Global, words: &[u64]) -> Result<Config, AllocError>
 fn open_first(alloc: Global) -> Result<(Operator, Worker), AllocError>
     ensures opened { IfOk result (λ parts. IsOpenedWith FIRST_PROGRAM.now parts.0 parts.1) }
 {
-    let mut parts = match open(configuration(alloc, FIRST_PROGRAM)?) {
-        Ok(parts) => parts,
-        Err(OpenFault::OutOfMemory) => return Err(AllocError),
-        Err(OpenFault::TooBig) => unreachable!(),
-    };
-    match parts.1.pop() {
-        Some(worker) => Ok((parts.0, worker)),
+    let (operator, mut workers) = open_within(configuration(alloc, FIRST_PROGRAM)?)?;
+    match workers.pop() {
+        Some(worker) => Ok((operator, worker)),
         None => unreachable!(),
     }
 }

@@ -32,6 +32,7 @@ pub use fault::OpenFault;
 use member_group::Config;
 pub use operator::{Operator, Reclaimed};
 pub use section::Section;
+use std::alloc::AllocError;
 use versions::{Book, opening_words};
 pub use versions::{CHARGE_LIMIT, LAST_NUMBER, PAGES, ROWS, WORKERS};
 pub use versions_rule::{SeatView, VersionsRule, held_words_stand};
@@ -56,4 +57,17 @@ pub fn open(config: Config) -> Result<(Operator, Vec<Worker>), OpenFault>
     let pages = CurrentPages::first(alloc, count)?;
     let (seat, workers) = open_table(alloc, &words, &config)?;
     Ok((Operator::opened(seat, config, book, words, pages), workers))
+}
+
+/// Opens a table, as `open` does, at a configuration that is not too big.
+pub fn open_within(config: Config) -> Result<(Operator, Vec<Worker>), AllocError>
+    requires within { charge_of config ≤ CHARGE_LIMIT }
+    ensures opened { IfOk result (λ parts. parts.0 ≡ opened_operator parts.0.table config) }
+    ensures workers { IfOk result (λ parts. AreOpenedWorkers parts.0.table config parts.1.items) }
+{
+    match open(config) {
+        Ok(parts) => Ok(parts),
+        Err(OpenFault::OutOfMemory) => Err(AllocError),
+        Err(OpenFault::TooBig) => unreachable!(),
+    }
 }

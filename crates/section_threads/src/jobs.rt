@@ -7,7 +7,7 @@ ghost use Rattle.section_threads.specs.Jobs.{AreJobs, AreTaken};
 use crate::placing::Placing;
 use crate::threads::Job;
 use member_group::Config;
-use read_section::{OpenFault, WORKERS, Worker, open};
+use read_section::{WORKERS, Worker, open_within};
 use std::alloc::{AllocError, Global};
 
 // Takes the workers of the jobs out of the table's, that of the highest number first.
@@ -46,9 +46,6 @@ pub fn open_jobs(
     requires at_most { threads ≤ WORKERS }
     ensures { IfOk result (λ jobs. AreJobs placing threads rounds jobs.items) }
 {
-    match open(Config::new(alloc)) {
-        Ok((_operator, mut workers)) => take_jobs(alloc, &mut workers, threads, rounds, placing),
-        Err(OpenFault::OutOfMemory) => Err(AllocError),
-        Err(OpenFault::TooBig) => unreachable!(),
-    }
+    let (_operator, mut workers) = open_within(Config::new(alloc))?;
+    take_jobs(alloc, &mut workers, threads, rounds, placing)
 }

@@ -13,7 +13,7 @@ use control_datagram::BoundAddresses;
 use dispatch::{Counter, Tally};
 use ipv4_fields::Endpoint;
 use member_group::Config;
-use read_section::{OpenFault, Operator, WORKERS, Worker, open};
+use read_section::{Operator, WORKERS, Worker, open_within};
 use std::alloc::{AllocError, Global};
 use std::net::Net;
 use std::sync::Wait;
@@ -38,14 +38,9 @@ fn open_table(alloc: Global) -> Result<(Operator, Vec<Worker>), AllocError>
     ensures workers { IfOk result (λ opened. vec_len opened.1 ≡ WORKERS) }
     ensures opening { IfOk result (λ opened. All (IsNewWorker [] opened.0.table) opened.1.items) }
 {
-    match open(Config::new(alloc)) {
-        Ok((operator, mut workers)) => {
-            spread(&mut workers);
-            Ok((operator, workers))
-        }
-        Err(OpenFault::OutOfMemory) => Err(AllocError),
-        Err(OpenFault::TooBig) => unreachable!(),
-    }
+    let (operator, mut workers) = open_within(Config::new(alloc))?;
+    spread(&mut workers);
+    Ok((operator, workers))
 }
 
 // Binds both sockets, and makes so many jobs of the workers and the counters, with the queues that lead to them.

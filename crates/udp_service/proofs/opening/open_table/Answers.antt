@@ -5,8 +5,8 @@ use Rattle.udp_service.proofs.opening.open_table.Goals as goal
 use Rattle.worker_threads.proofs.CountedLemmas.{opened_workers}
 use Rattle.worker_threads.specs.Counted.{IsNewWorker}
 
-pub returns-in-Ok-clause-opening : goal.returns-in-Ok-clause-opening
-returns-in-Ok-clause-opening c =
-    let table = c.in-Ok.operator.table in let workers = c.in-Ok.workers.items in
+pub returns-clause-opening : goal.returns-clause-opening
+returns-clause-opening c =
+    let table = c.in_ok-operator.operator.table in let workers = c.in_ok-operator.workers.items in
     All-permutation (IsNewWorker [] table) workers c.spread.new.workers.items c.spread.ensures.same_workers
-    (opened_workers [] table workers (subst (λ config. AreOpenedWorkers table config workers) c.new.ensures.empty c.in-Ok.ensures.workers))
+    (opened_workers [] table workers (subst (λ config. AreOpenedWorkers table config workers) c.new.ensures.empty c.in_ok-operator.ensures.workers))
