@@ -15,13 +15,13 @@ use crate::flood_jobs::jobs;
 use crate::flood_versions::{opening, successors};
 use dispatch::{Gate, Tally, Totals, gather};
 use member_group::Config;
-use read_section::{Operator, WORKERS, Worker, open_within};
+use read_section::{Operator, WORKERS, Worker, open_within, spread};
 use retire::Retire;
 use std::alloc::{AllocError, Global};
 use std::io::Write;
 use std::sync::Wait;
 use std::thread::Threads;
-use worker_threads::{ServeFault, run_counted, spread, write_totals};
+use worker_threads::{ServeFault, run_counted, write_totals};
 
 // The table at its opening version, and the versions that are to follow.
 fn open_versions(alloc: Global) -> Result<(Operator, Vec<Worker>, Vec<Config>), AllocError>

@@ -23,6 +23,7 @@ mod section;
 mod versions_rule;
 mod whole;
 mod worker;
+mod worker_order;
 
 use crate::current_pages::CurrentPages;
 use crate::seat::open_table;
@@ -38,6 +39,7 @@ pub use versions::{CHARGE_LIMIT, LAST_NUMBER, PAGES, ROWS, WORKERS};
 pub use versions_rule::{SeatView, VersionsRule, held_words_stand};
 pub use whole::sections_are_whole;
 pub use worker::Worker;
+pub use worker_order::spread;
 
 /// Opens a table at version 0, which is `config`, with its operator and its workers. Takes their memory from the
 /// configuration's allocator.

@@ -9,7 +9,7 @@ use read_section::WORKERS;
 /// Which workers the threads have.
 #[derive(Clone, Copy, Debug, PartialEq, Eq)]
 pub enum Placing {
-    /// Of up to eight threads the workers are 7, 15, 23 and so on, those that `spread` of worker_threads puts first. Their read words are
+    /// Of up to eight threads the workers are 7, 15, 23 and so on, those that `spread` of read_section puts first. Their read words are
     /// eight apart. Of more threads they are `64 / threads` apart.
     Spread,
     /// The last workers of the table, whose read words lie side by side.

@@ -13,12 +13,12 @@ use control_datagram::BoundAddresses;
 use dispatch::{Counter, Tally};
 use ipv4_fields::Endpoint;
 use member_group::Config;
-use read_section::{Operator, WORKERS, Worker, open_within};
+use read_section::{Operator, WORKERS, Worker, open_within, spread};
 use std::alloc::{AllocError, Global};
 use std::net::Net;
 use std::sync::Wait;
 use worker_devices::{WorkerQueue, WorkerQueues};
-use worker_threads::{ServeFault, spread};
+use worker_threads::ServeFault;
 
 /// What the service has beside its jobs.
 #[derive(Drop)]

@@ -9,11 +9,9 @@ mod named_tally;
 mod open_gate;
 mod serve_fault;
 mod totals_line;
-mod worker_order;
 
 pub use counted_jobs::run_counted;
 pub use named_tally::{NamedTally, TallyName};
 pub use open_gate::OpenGate;
 pub use serve_fault::ServeFault;
 pub use totals_line::write_totals;
-pub use worker_order::spread;

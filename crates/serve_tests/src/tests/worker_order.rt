@@ -3,9 +3,8 @@
 ghost use Rattle.std.specs.Prelude.{◌<◌};
 
 use member_group::Config;
-use read_section::{Operator, WORKERS, Worker, open};
+use read_section::{Operator, WORKERS, Worker, open, spread};
 use std::process::Abort;
-use worker_threads::spread;
 
 // Which worker it is: the one whose read word tells that it is inside a section.
 fn number_of(operator: &mut Operator, worker: &mut Worker) -> Option<usize> {

@@ -1,9 +1,10 @@
 //! In which order a command takes workers (docs/DECISIONS.md, "Which worker is taken first").
 
 ghost use Rattle.std.specs.Prelude.{◌≡◌, ◌≤◌, vec_len, IsPermutation};
-ghost use Rattle.worker_threads.specs.declared.worker_order.TheConstants.{APART};
+ghost use Rattle.read_section.specs.declared.worker_order.TheConstants.{APART};
 
-use read_section::{WORKERS, Worker};
+use crate::worker::Worker;
+use versions::WORKERS;
 
 // Read words that are so many words apart never share a cache line of 64 bytes.
 const APART: usize = 8;

@@ -1,6 +1,6 @@
 use Rattle.std.proofs.Common.{◌≡◌, IsPermutation}
 use Rattle.std.specs.Prelude.{vec_len}
-use Rattle.worker_threads.proofs.worker_order.move_first_of_lines.Given as goal
+use Rattle.read_section.proofs.worker_order.move_first_of_lines.Given as goal
 
 abbrev pub invariant-loop-line : goal.invariant-loop-line
 invariant-loop-line l = IsPermutation l.fn.workers.items l.workers.items × (vec_len l.workers ≡ vec_len l.fn.workers)

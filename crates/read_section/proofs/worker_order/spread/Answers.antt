@@ -1,6 +1,6 @@
 use Rattle.std.proofs.Common.{◌∙◌}
 use Rattle.std.proofs.lemmas.List.Sorted.{IsPermutation-trans}
-use Rattle.worker_threads.proofs.worker_order.spread.Goals as goal
+use Rattle.read_section.proofs.worker_order.spread.Goals as goal
 
 pub loop-preserved : goal.loop-preserved
 loop-preserved c = (IsPermutation-trans _ _ _ c.loop.invariant.0 c.move_to_end.ensures.same_workers, c.move_to_end.ensures.count ∙ c.loop.invariant.1)

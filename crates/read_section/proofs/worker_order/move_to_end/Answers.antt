@@ -2,7 +2,7 @@ use Rattle.std.proofs.Common.{◌∙◌, ◌<◌, ◌++◌, ◌∷◌, IsPermuta
 use Rattle.std.proofs.lemmas.List.Sorted.{IsPermutation-remove, IsPermutation-sym, IsPermutation-to_front, IsPermutation-trans}
 use Rattle.std.specs.List.{remove}
 use Rattle.read_section.specs.Worker.{WorkerValue}
-use Rattle.worker_threads.proofs.worker_order.move_to_end.Goals as goal
+use Rattle.read_section.proofs.worker_order.move_to_end.Goals as goal
 
 pub returns-clause-same_workers : goal.returns-clause-same_workers
 returns-clause-same_workers c =
