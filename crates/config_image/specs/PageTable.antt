@@ -1,7 +1,7 @@
 -- The two packed words of a row (docs/SWITCH.md, "The pooled form"): its header, and its page table entries.
 use Rattle.std.specs.Prelude.{◌*◌, ◌+◌, ◌/◌, ◌%◌, ◌^◌, ℕ}
 
--- the header of a row: the image's length, where its programs begin, and behind that 16 bits with the number of page table entries
+-- the header of a row: the image's length, where its programs begin, and in the low 16 bits the number of page table entries
 abbrev pub header_word : ℕ → ℕ → ℕ → ℕ
 header_word len begin count = len * 2 ^ 32 + begin * 65536 + count
 
@@ -14,7 +14,7 @@ header_begin header = header / 65536 % 65536
 abbrev pub header_count : ℕ → ℕ
 header_count header = header % 65536
 
--- a page table entry, the name of a page: the place in the image of a part's first word, and behind it 16 bits with the part's page
+-- the page table entry of a part: the place in the image of its first word, and in the low 16 bits its page
 abbrev pub entry_word : ℕ → ℕ → ℕ
 entry_word start page = start * 65536 + page
 

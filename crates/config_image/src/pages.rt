@@ -23,7 +23,7 @@ pub use cache::{Extent, ExtentCache};
 pub use search::{FoundPart, Search};
 pub use table::{PageEntry, RowHeader};
 
-/// Tells how many pages a program of so many words takes: one for each `PAGE_WORDS` words, and one for what is left.
+/// The number of pages that a program of so many words takes: one for each `PAGE_WORDS` words, and one for the rest.
 #[inline(always)]
 pub fn pages_for(len: usize) -> usize
     requires { len + PAGE_WORDS < 2 ^ 64 }
@@ -32,7 +32,7 @@ pub fn pages_for(len: usize) -> usize
     (len + (PAGE_WORDS - 1)) / PAGE_WORDS
 }
 
-// How many pages a program takes, none where there is no program.
+// How many pages a program takes, none if there is no program.
 fn program_pages<A: Allocator>(program: Option<&Program<A>>) -> u32
     ensures pages { result ≡ pages_for (length (words_of (option_map (λ lent. lent.now) program.entry))) }
     ensures limited { result ≤ pages_for MAX_INSTRUCTIONS }
@@ -72,7 +72,7 @@ fn pages_in<A: Allocator>(groups: &[Group<A>]) -> u32
     pages
 }
 
-/// Tells how many pages the programs of a configuration take, each as `pages_for` tells.
+/// The number of pages that the programs of a configuration take, by `pages_for`.
 ///
 /// It takes time for each group and each member, and none for the words of a program.
 #[tactic(auto, using(crate::proofs::PooledLemmas::few_pages))]

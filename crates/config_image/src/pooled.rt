@@ -1,4 +1,4 @@
-//! Rows in pooled form: the words of an image before its programs, and the names of pages in place of the programs
+//! Rows in pooled form: the words of an image before its programs, and then a page table entry for each part of the programs
 //! (docs/SWITCH.md, "The pooled form").
 
 ghost use Rattle.std.specs.Prelude.{◌≡◌, ◌+◌, ◌*◌, ◌/◌, ◌<◌, ◌≤◌, ◌++◌, List, drop, flat_map, length, slice_index, take, ℕ};

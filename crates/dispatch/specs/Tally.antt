@@ -44,7 +44,7 @@ counted place counter = record counter { log = place ∷ counter.log }
 abbrev pub loaded : ℕ → ℕ → TallyValue → TallyValue
 loaded place word tally = record tally { log = record { place = place; word = word } ∷ tally.log }
 
--- one load of each word below a place, which gave what stands in a list there
+-- one load of each word below a place, which returned the list's word at that place
 abbrev pub loaded_below : ℕ → List ℕ → List Load → List Load
 loaded_below zero words log = log
 loaded_below (suc place) words log = record { place = place; word = slice_index words place } ∷ loaded_below place words log

@@ -20,7 +20,7 @@ pub(crate) fn place(kind: Kind) -> usize
 /// How often each kind was counted.
 #[derive(Clone, Copy, Debug, PartialEq, Eq)]
 pub struct Totals {
-    /// One total a kind, in the order of the kinds.
+    /// A total for each kind, in the order of `Kind`.
     pub counts: [u64; KINDS],
 }
 

@@ -12,14 +12,14 @@ ghost use Rattle.retire.specs.body.Filling.{AreFreeBelow, AreFreePages, AreReady
 ghost use Rattle.retire.specs.body.Alike.{IsLikeCurrent};
 ghost use Rattle.retire.specs.body.Allocation.{IsAllocation, ChoosesPages, IsBehindNoneFree, IsCounted, IsPassing, NoneFree, ReplacesOne, TakesOneMore};
 
-use crate::current_pages::Current;
 use crate::allocation::Allocation;
+use crate::current_pages::Current;
 use config_image::{PAGE_WORDS, Programs, pages_for};
 use member_group::Config;
 use read_section::Operator;
 use std::alloc::Global;
 
-// Takes the pages of an equal program of the current version, or free ones.
+// Shares the pages of an equal program of the current version, or allocates free ones.
 fn take_for<const N: usize>(
     operator: &Operator,
     current: &mut Current<'_>,
@@ -43,8 +43,8 @@ fn take_for<const N: usize>(
     }
 }
 
-// Chooses pages program by program. Gives a program, and how many pages are before its own, of which none is free: where one program
-// is new it is that one.
+// Chooses pages program by program. Returns a program, and how many pages are before its own, none of which is free: if one program
+// is new, it is that one.
 fn choose_each<'a, const N: usize>(
     operator: &Operator,
     config: &'a Config,
@@ -70,8 +70,8 @@ fn choose_each<'a, const N: usize>(
     first
 }
 
-// Takes the pages of the current version for all programs but one. This one has so many pages before its own there, and as many words
-// as the program in its place.
+// Shares the pages of the current version for all programs but one. That one has so many pages before its own, and as many words as
+// the program in its place.
 fn replace_one<const N: usize>(
     operator: &Operator,
     current: &mut Current<'_>,

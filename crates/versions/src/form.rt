@@ -18,7 +18,7 @@ use config_image::{
 use member_group::Config;
 use std::alloc::Allocator;
 
-/// Lends the names of pages among the words of a row, in their order. Each is a `PageEntry`.
+/// Lends the page table entries among the words of a row, in their order. Each is a `PageEntry`.
 ///
 /// It is told by the row's first word, also where the row holds no configuration.
 pub fn row_names(row: &[u64]) -> &[u64]

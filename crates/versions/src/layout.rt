@@ -91,7 +91,7 @@ pub fn page_place(page: usize, k: usize) -> usize
     POOL_BEGIN + page * PAGE_WORDS + k
 }
 
-/// The word that `current` has if this version is current and stands in a row.
+/// The word of `current` while this version is current and in this row.
 #[inline(always)]
 pub fn current_word(number: u64, row: usize) -> u64
     requires number { number ≤ LAST_NUMBER }
@@ -101,7 +101,7 @@ pub fn current_word(number: u64, row: usize) -> u64
     number * ROWS as u64 + row as u64
 }
 
-/// The number of the version of a word that `current` had.
+/// The number of the version in a word of `current`.
 #[inline(always)]
 pub fn current_version(word: u64) -> u64
     ensures { result ≡ word / ROWS }
@@ -109,7 +109,7 @@ pub fn current_version(word: u64) -> u64
     word / ROWS as u64
 }
 
-/// The row of that version.
+/// The row of the version in a word of `current`.
 #[inline(always)]
 pub fn current_row(word: u64) -> usize
     ensures row { result ≡ word % ROWS }
@@ -124,7 +124,7 @@ pub(crate) fn is_in_row(row: usize, place: usize) -> bool
     place >= ROWS_BEGIN && (place - ROWS_BEGIN) / ROW_WORDS == row
 }
 
-/// Tells word `i` of a row that has the image of a configuration, counted from 0, and 0 behind that: what a section shows.
+/// Word `i` of the row that a section shows, counted from 0: a word of the configuration's image, or 0 after its end.
 pub fn row_word<A: Allocator>(config: &Config<A>, i: usize) -> u64
     requires { i < ROW_WORDS }
     ensures { result ≡ slice_index (row config.now) i }

@@ -27,7 +27,7 @@ impl RowHeader {
         (self.0 >> 32) as usize
     }
 
-    /// The place of the row where its page table begins: the image's programs begin there.
+    /// The place of the page table in the row, which is also the place of the programs in the image.
     #[inline(always)]
     pub fn programs_at(self) -> usize
         ensures { result ≡ header_begin self.0 }
@@ -44,7 +44,7 @@ impl RowHeader {
     }
 }
 
-/// A page table entry, called the name of a page: where a part of the image starts, and in the low 16 bits the part's page.
+/// The page table entry of a part: where the part starts in the image, and in the low 16 bits its page.
 #[derive(Clone, Copy, Debug, PartialEq, Eq)]
 pub struct PageEntry(pub u64);
 
