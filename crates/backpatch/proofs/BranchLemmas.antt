@@ -10,42 +10,42 @@ use Rattle.bpf_insn.specs.Table.{offsets}
 use Rattle.bpf_verify.specs.Accepted.{IsFaultless}
 use Rattle.bpf_verify.specs.Path.{IsAt}
 use Rattle.bpf_machine.specs.Meaning.{Cells, mean}
-use Rattle.backpatch.specs.declared.hole.Hole.{Hole}
-use Rattle.backpatch.specs.declared.hole.Side.{Side}
-use Rattle.backpatch.specs.declared.hole.Side.TheVariants.{Always, WhenFalse, WhenTrue}
+use Rattle.backpatch.specs.declared.fixup.Fixup.{Fixup}
+use Rattle.backpatch.specs.declared.fixup.Side.{Side}
+use Rattle.backpatch.specs.declared.fixup.Side.TheVariants.{Always, WhenFalse, WhenTrue}
 use Rattle.backpatch.specs.Checks.{Checks, asks}
-use Rattle.backpatch.specs.Holes.{CanReach, HasJump, IsAppended, IsFilled, IsHole, IsLonger, LeadsTo, Open, hole_at, offset_of, shape_of}
+use Rattle.backpatch.specs.Fixups.{CanReach, HasJump, IsAppended, IsFilled, IsFixup, IsLonger, LabelValue, LeadsTo, fixup_at, offset_of, shape_of}
 use Rattle.backpatch.specs.Pieces.{HasFarJumpsOnly, IsFarFrom, IsJump, IsPiece, Writes, far_words}
 use Rattle.backpatch.specs.Runs.{ComesTo}
 use Rattle.backpatch.specs.body.Noting.{IsNoted}
 use Rattle.backpatch.proofs.JumpLemmas.{filled_jump, jump_comes, jump_faultless, test_checks, test_faultless}
-use Rattle.backpatch.proofs.LandLemmas.{appended_at, appended_long, appended_longer, longer_both, reach_near}
+use Rattle.backpatch.proofs.BindLemmas.{appended_at, appended_long, appended_longer, longer_both, reach_near}
 
--- the only hole
-pub only : (hole other : Hole) → Contains (hole ∷ []) other → other ≡ hole
-only hole other (zero, inside, is) = sym is
-only hole other (suc k, inside, is) = absurd (omega arith)
+-- the only fixup
+pub only : (fixup other : Fixup) → Contains (fixup ∷ []) other → other ≡ fixup
+only fixup other (zero, inside, is) = sym is
+only fixup other (suc k, inside, is) = absurd (omega arith)
 
-pub first_of : (hole : Hole) → Contains (hole ∷ []) hole
-first_of hole = (0, omega arith, refl)
+pub first_of : (fixup : Fixup) → Contains (fixup ∷ []) fixup
+first_of fixup = (0, omega arith, refl)
 
--- the hole of the yes jump or of the no jump is this jump
-abbrev Waits : Hole → Hole → ℕ → Side → Type 0
-Waits hy hn place side = IsHole (hy ∷ []) place side ⊎ IsHole (hn ∷ []) place side
+-- the fixup of the yes jump or of the no jump is this jump
+abbrev Waits : Fixup → Fixup → ℕ → Side → Type 0
+Waits hy hn place side = IsFixup (hy ∷ []) place side ⊎ IsFixup (hn ∷ []) place side
 
 -- how a jump of the test at p goes on
-abbrev IsNear : ℕ → Side → ℕ → Hole → Type 0
-IsNear p side by hole = (hole ≡ hole_at p side) × (by ≤ p + 256)
+abbrev IsNear : ℕ → Side → ℕ → Fixup → Type 0
+IsNear p side by fixup = (fixup ≡ fixup_at p side) × (by ≤ p + 256)
 
-record IsFar (hy hn : Hole) (code : List ℕ) (p until : ℕ) (side : Side) (skip by : ℕ) (hole : Hole) : Type 0 where
-  is : hole ≡ hole_at (p + 1 + skip) Always
+record IsFar (hy hn : Fixup) (code : List ℕ) (p until : ℕ) (side : Side) (skip by : ℕ) (fixup : Fixup) : Type 0 where
+  is : fixup ≡ fixup_at (p + 1 + skip) Always
   far : p + 256 < by
   inside : p + 1 + skip < until
   jump : IsAt code (p + 1 + skip) (Jump 0)
   closed : ¬ Waits hy hn p side
 
-abbrev IsWay : Hole → Hole → List ℕ → ℕ → ℕ → Side → ℕ → ℕ → Hole → Type 0
-IsWay hy hn code p until side skip by hole = IsNear p side by hole ⊎ IsFar hy hn code p until side skip by hole
+abbrev IsWay : Fixup → Fixup → List ℕ → ℕ → ℕ → Side → ℕ → ℕ → Fixup → Type 0
+IsWay hy hn code p until side skip by fixup = IsNear p side by fixup ⊎ IsFar hy hn code p until side skip by fixup
 
 -- a check that goes to its targets by ways that change nothing
 pub through : (check : ℕ → ℕ → Bool) (at_yes at_no near_yes near_no words : List ℕ) → ComesTo at_yes near_yes → ComesTo at_no near_no → Checks (λ a. a) check near_yes near_no words → Checks (λ a. a) check at_yes at_no words
@@ -60,21 +60,21 @@ through check at_yes at_no near_yes near_no words yes_comes no_comes h = record 
 pub comes_here : (words : List ℕ) → ComesTo words words
 comes_here words = record { loads_stored = λ d h. h; goes = λ packet a x cells. refl }
 
-module _ (code : List ℕ) (p until by_yes by_no jt jf : ℕ) (test : Test) (operand : Operand) (hy hn : Hole) (at : IsAt code p (JumpIf test operand (offsets jt jf))) (some : p < until) (few : until ≤ p + 3) (apart : hy ≡ hn → ⊥)
+module _ (code : List ℕ) (p until by_yes by_no jt jf : ℕ) (test : Test) (operand : Operand) (hy hn : Fixup) (at : IsAt code p (JumpIf test operand (offsets jt jf))) (some : p < until) (few : until ≤ p + 3) (apart : hy ≡ hn → ⊥)
     (yes_way : IsWay hy hn code p until WhenTrue jt by_yes hy) (no_way : IsWay hy hn code p until WhenFalse jf by_no hn)
     (covers : (pc : ℕ) → p ≤ pc → pc < until → (pc ≡ p) ⊎ ((pc ≡ hy.place) ⊎ (pc ≡ hn.place))) where
   -- where a jump of the test leads to in a program, and how it comes to its target from there
   abbrev Leads : List ℕ → ℕ → Side → Type 0
   Leads program target side = (to : ℕ) × LeadsTo program p side to × (to < length program) × ComesTo (drop target program) (drop to program)
 
-  within : (side : Side) (skip by : ℕ) (hole : Hole) → IsWay hy hn code p until side skip by hole → (p ≤ hole.place) × (hole.place < until)
-  within side skip by hole (inl near) = let e = ap (λ h. h.place) near.0 in (omega arith, omega arith)
-  within side skip by hole (inr far) = let e = ap (λ h. h.place) far.is in let i = far.inside in (omega arith, omega arith)
+  within : (side : Side) (skip by : ℕ) (fixup : Fixup) → IsWay hy hn code p until side skip by fixup → (p ≤ fixup.place) × (fixup.place < until)
+  within side skip by fixup (inl near) = let e = ap (λ h. h.place) near.0 in (omega arith, omega arith)
+  within side skip by fixup (inr far) = let e = ap (λ h. h.place) far.is in let i = far.inside in (omega arith, omega arith)
 
-  has_jump : (side : Side) (skip by : ℕ) (hole : Hole) → offset_of side (JumpIf test operand (offsets jt jf)) ≡ Some skip → IsWay hy hn code p until side skip by hole → HasJump code hole.place hole.side × CanReach hole.place hole.side by
-  has_jump side skip by hole has (inl near) =
+  has_jump : (side : Side) (skip by : ℕ) (fixup : Fixup) → offset_of side (JumpIf test operand (offsets jt jf)) ≡ Some skip → IsWay hy hn code p until side skip by fixup → HasJump code fixup.place fixup.side × CanReach fixup.place fixup.side by
+  has_jump side skip by fixup has (inl near) =
       subst (λ h. HasJump code h.place h.side × CanReach h.place h.side by) (sym near.0) ((JumpIf test operand (offsets jt jf), skip, at, has), reach_near p side by near.1)
-  has_jump side skip by hole has (inr far) =
+  has_jump side skip by fixup has (inr far) =
       subst (λ h. HasJump code h.place h.side × CanReach h.place h.side by) (sym far.is) ((Jump 0, 0, far.jump, refl), tt)
 
   module _ (program : List ℕ) (on_yes on_no : ℕ) (yes_behind : until ≤ on_yes) (no_behind : until ≤ on_no) (yes_inside : on_yes < length program) (no_inside : on_no < length program)
@@ -85,18 +85,18 @@ module _ (code : List ℕ) (p until by_yes by_no jt jf : ℕ) (test : Test) (ope
     stood : Stood
     stood = full.stands p (omega arith) some (JumpIf test operand (offsets jt jf)) at
 
-    leads : (side : Side) (skip by target : ℕ) (hole : Hole) → offset_of side (JumpIf test operand (offsets jt jf)) ≡ Some skip → target < length program → LeadsTo program hole.place hole.side target
-        → IsWay hy hn code p until side skip by hole → Leads program target side
-    leads side skip by target hole has inside filled (inl near) = (target, subst (λ h. LeadsTo program h.place h.side target) near.0 filled, inside, comes_here (drop target program))
-    leads side skip by target hole has inside filled (inr far) =
+    leads : (side : Side) (skip by target : ℕ) (fixup : Fixup) → offset_of side (JumpIf test operand (offsets jt jf)) ≡ Some skip → target < length program → LeadsTo program fixup.place fixup.side target
+        → IsWay hy hn code p until side skip by fixup → Leads program target side
+    leads side skip by target fixup has inside filled (inl near) = (target, subst (λ h. LeadsTo program h.place h.side target) near.0 filled, inside, comes_here (drop target program))
+    leads side skip by target fixup has inside filled (inr far) =
         let s = full.stands (p + 1 + skip) (omega arith) far.inside (Jump 0) far.jump in
         let j = filled_jump program (p + 1 + skip) target s.0 s.1 s.2 (subst (λ h. LeadsTo program h.place h.side target) far.is filled) in
         let same : offset_of side stood.0 ≡ Some skip = ⊎_elim (λ waits. absurd (far.closed waits)) (λ same. same ∙ has) (stood.3 side) in
         (p + 1 + skip, (stood.0, skip, stood.1, same, refl), (let i = far.inside in omega arith), jump_comes program (p + 1 + skip) j.0 target j.1 j.2)
 
-    way_sound : (side : Side) (skip by target : ℕ) (hole : Hole) → target < length program → LeadsTo program hole.place hole.side target → IsWay hy hn code p until side skip by hole → IsFaultless program p → IsFaultless program hole.place
-    way_sound side skip by target hole inside filled (inl near) test_ok = subst (λ h. IsFaultless program h.place) (sym near.0) test_ok
-    way_sound side skip by target hole inside filled (inr far) test_ok =
+    way_sound : (side : Side) (skip by target : ℕ) (fixup : Fixup) → target < length program → LeadsTo program fixup.place fixup.side target → IsWay hy hn code p until side skip by fixup → IsFaultless program p → IsFaultless program fixup.place
+    way_sound side skip by target fixup inside filled (inl near) test_ok = subst (λ h. IsFaultless program h.place) (sym near.0) test_ok
+    way_sound side skip by target fixup inside filled (inr far) test_ok =
         let s = full.stands (p + 1 + skip) (omega arith) far.inside (Jump 0) far.jump in
         let j = filled_jump program (p + 1 + skip) target s.0 s.1 s.2 (subst (λ h. LeadsTo program h.place h.side target) far.is filled) in
         subst (λ h. IsFaultless program h.place) (sym far.is) (jump_faultless program (p + 1 + skip) j.0 target j.1 j.2 inside)
@@ -129,23 +129,23 @@ module _ (code : List ℕ) (p until by_yes by_no jt jf : ℕ) (test : Test) (ope
   branch_piece = record {
     forward = omega arith;
     light = omega arith;
-    yes_within = λ hole is. subst (λ h. (p ≤ h.place) × (h.place < until)) (sym (only hy hole is)) (within WhenTrue jt by_yes hy yes_way);
-    no_within = λ hole is. subst (λ h. (p ≤ h.place) × (h.place < until)) (sym (only hn hole is)) (within WhenFalse jf by_no hn no_way);
-    apart = λ hole y n. apart (sym (only hy hole y) ∙ only hn hole n);
+    yes_within = λ fixup is. subst (λ h. (p ≤ h.place) × (h.place < until)) (sym (only hy fixup is)) (within WhenTrue jt by_yes hy yes_way);
+    no_within = λ fixup is. subst (λ h. (p ≤ h.place) × (h.place < until)) (sym (only hn fixup is)) (within WhenFalse jf by_no hn no_way);
+    apart = λ fixup y n. apart (sym (only hy fixup y) ∙ only hn fixup n);
     meant = branch_meant;
     sound = branch_sound;
   }
 
-  -- at a place stands the test, or a JA for an exit that is far from the test
+  -- at a place stands the test, or a JA for a label that is far from the test
   abbrev IsSparing : ℕ → ℕ → Type 0
   IsSparing last pc = (insn : Insn) × IsAt code pc insn × (IsJump insn → IsFarFrom last p pc)
 
   test_sparing : (last : ℕ) → IsSparing last p
   test_sparing last = (JumpIf test operand (offsets jt jf), at, λ is. absurd is)
 
-  way_sparing : (last : ℕ) (side : Side) (skip by : ℕ) (hole : Hole) → by ≤ last → IsWay hy hn code p until side skip by hole → IsSparing last hole.place
-  way_sparing last side skip by hole low (inl near) = subst (IsSparing last) (sym (ap (λ h. h.place) near.0)) (test_sparing last)
-  way_sparing last side skip by hole low (inr far) =
+  way_sparing : (last : ℕ) (side : Side) (skip by : ℕ) (fixup : Fixup) → by ≤ last → IsWay hy hn code p until side skip by fixup → IsSparing last fixup.place
+  way_sparing last side skip by fixup low (inl near) = subst (IsSparing last) (sym (ap (λ h. h.place) near.0)) (test_sparing last)
+  way_sparing last side skip by fixup low (inr far) =
       let f = far.far in let i = far.inside in
       subst (IsSparing last) (sym (ap (λ h. h.place) far.is)) (Jump 0, far.jump, λ is. record { place = p; inside = omega arith; before = omega arith; beside = omega arith; far = omega arith })
 
@@ -154,8 +154,8 @@ module _ (code : List ℕ) (p until by_yes by_no jt jf : ℕ) (test : Test) (ope
       (λ e. subst (IsSparing last) (sym e) (way_sparing last WhenTrue jt by_yes hy low_yes yes_way))
       (λ e. subst (IsSparing last) (sym e) (way_sparing last WhenFalse jf by_no hn low_no no_way)) more) (covers pc low high)
 
-  branch_written : (before : List ℕ) (yes_old yes_new no_old no_new : Open) → p ≡ length before → until ≡ length code → by_yes ≡ yes_old.by → by_no ≡ no_old.by → IsLonger before code
-      → yes_new.holes ≡ yes_old.holes ++ hy ∷ [] → no_new.holes ≡ no_old.holes ++ hn ∷ [] → yes_new.by ≡ yes_old.by → no_new.by ≡ no_old.by
+  branch_written : (before : List ℕ) (yes_old yes_new no_old no_new : LabelValue) → p ≡ length before → until ≡ length code → by_yes ≡ yes_old.by → by_no ≡ no_old.by → IsLonger before code
+      → yes_new.fixups ≡ yes_old.fixups ++ hy ∷ [] → no_new.fixups ≡ no_old.fixups ++ hn ∷ [] → yes_new.by ≡ yes_old.by → no_new.by ≡ no_old.by
       → Writes (Checks (λ a. a) (asks test operand)) 3 before code yes_old yes_new no_old no_new
   branch_written before yes_old yes_new no_old no_new begins ends yes_is no_is grows yes_grows no_grows yes_by no_by = record {
     ys = hy ∷ [];
@@ -167,9 +167,9 @@ module _ (code : List ℕ) (p until by_yes by_no jt jf : ℕ) (test : Test) (ope
     no_by = no_by;
     piece = subst (λ b. IsPiece (Checks (λ a. a) (asks test operand)) 3 b (length code) code (hy ∷ []) (hn ∷ [])) begins
         (subst (λ e. IsPiece (Checks (λ a. a) (asks test operand)) 3 p e code (hy ∷ []) (hn ∷ [])) ends branch_piece);
-    yes_open = λ hole is. subst (λ h. HasJump code h.place h.side × CanReach h.place h.side yes_old.by) (sym (only hy hole is))
+    yes_open = λ fixup is. subst (λ h. HasJump code h.place h.side × CanReach h.place h.side yes_old.by) (sym (only hy fixup is))
         (subst (λ by. HasJump code hy.place hy.side × CanReach hy.place hy.side by) yes_is (has_jump WhenTrue jt by_yes hy refl yes_way));
-    no_open = λ hole is. subst (λ h. HasJump code h.place h.side × CanReach h.place h.side no_old.by) (sym (only hn hole is))
+    no_open = λ fixup is. subst (λ h. HasJump code h.place h.side × CanReach h.place h.side no_old.by) (sym (only hn fixup is))
         (subst (λ by. HasJump code hn.place hn.side × CanReach hn.place hn.side by) no_is (has_jump WhenFalse jf by_no hn refl no_way));
     far_jumps = λ last low_yes low_no. subst (λ b. HasFarJumpsOnly last b (length code) code) begins (subst (λ e. HasFarJumpsOnly last p e code) ends (branch_far_jumps last (omega arith) (omega arith)));
   }
@@ -212,24 +212,24 @@ false_always e = cc
 always_false : Always ≡ WhenFalse → ⊥
 always_false e = cc
 
-closed_by : (hy hn : Hole) (p : ℕ) (side : Side) → (side ≡ hy.side → ⊥) → (side ≡ hn.side → ⊥) → ¬ Waits hy hn p side
-closed_by hy hn p side yes_other no_other waits = ⊎_elim (λ y. yes_other (ap (λ h. h.side) (only hy (hole_at p side) y))) (λ n. no_other (ap (λ h. h.side) (only hn (hole_at p side) n))) waits
+closed_by : (hy hn : Fixup) (p : ℕ) (side : Side) → (side ≡ hy.side → ⊥) → (side ≡ hn.side → ⊥) → ¬ Waits hy hn p side
+closed_by hy hn p side yes_other no_other waits = ⊎_elim (λ y. yes_other (ap (λ h. h.side) (only hy (fixup_at p side) y))) (λ n. no_other (ap (λ h. h.side) (only hn (fixup_at p side) n))) waits
 
 -- how many words were written
-noted_words : (far : Bool) (place : ℕ) (side : Side) (code later : List ℕ) (old new : Open) → IsNoted far place side code later old new → length later ≡ length code + (if far then 1 else 0)
+noted_words : (far : Bool) (place : ℕ) (side : Side) (code later : List ℕ) (old new : LabelValue) → IsNoted far place side code later old new → length later ≡ length code + (if far then 1 else 0)
 noted_words false place side code later old new h = omega (arith, ap length h.0)
 noted_words true place side code later old new h = appended_long (Jump 0) code later h.0
 
-pub pass_words : (far : Bool) (p : ℕ) (side : Side) (insn : Insn) (before mid after : List ℕ) (old new : Open) → p ≡ length before → IsAppended insn before mid → Tells p old.by far → IsNoted far p side mid after old new
+pub fall_through_words : (far : Bool) (p : ℕ) (side : Side) (insn : Insn) (before mid after : List ℕ) (old new : LabelValue) → p ≡ length before → IsAppended insn before mid → Tells p old.by far → IsNoted far p side mid after old new
     → length after ≡ p + 1 + far_words p old.by
-pass_words far p side insn before mid after old new begins does told noted = omega (arith, begins, appended_long insn before mid does, noted_words far p side mid after old new noted, told_words p old.by far told)
+fall_through_words far p side insn before mid after old new begins does told noted = omega (arith, begins, appended_long insn before mid does, noted_words far p side mid after old new noted, told_words p old.by far told)
 
-pub branch_words : (far_yes far_no : Bool) (p : ℕ) (insn : Insn) (before c1 c2 c3 : List ℕ) (yes_old yes_new no_old no_new : Open) → p ≡ length before → IsAppended insn before c1
+pub branch_words : (far_yes far_no : Bool) (p : ℕ) (insn : Insn) (before c1 c2 c3 : List ℕ) (yes_old yes_new no_old no_new : LabelValue) → p ≡ length before → IsAppended insn before c1
     → Tells p yes_old.by far_yes → Tells p no_old.by far_no → IsNoted far_yes p WhenTrue c1 c2 yes_old yes_new → IsNoted far_no p WhenFalse c2 c3 no_old no_new → length c3 ≡ p + 1 + far_words p yes_old.by + far_words p no_old.by
 branch_words far_yes far_no p insn before c1 c2 c3 yes_old yes_new no_old no_new begins does yes_told no_told yes_noted no_noted =
     omega (arith, begins, appended_long insn before c1 does, noted_words far_yes p WhenTrue c1 c2 yes_old yes_new yes_noted, noted_words far_no p WhenFalse c2 c3 no_old no_new no_noted, told_words p yes_old.by far_yes yes_told, told_words p no_old.by far_no no_told)
 
-module _ (before c1 c2 c3 : List ℕ) (p jf : ℕ) (test : Test) (operand : Operand) (yes_old yes_new no_old no_new : Open) (begins : p ≡ length before) (does : IsAppended (JumpIf test operand (offsets 0 jf)) before c1)
+module _ (before c1 c2 c3 : List ℕ) (p jf : ℕ) (test : Test) (operand : Operand) (yes_old yes_new no_old no_new : LabelValue) (begins : p ≡ length before) (does : IsAppended (JumpIf test operand (offsets 0 jf)) before c1)
     (yes_by : yes_new.by ≡ yes_old.by) (no_by : no_new.by ≡ no_old.by) where
   abbrev Written : Type 0
   Written = Writes (Checks (λ a. a) (asks test operand)) 3 before c3 yes_old yes_new no_old no_new
@@ -249,46 +249,46 @@ module _ (before c1 c2 c3 : List ℕ) (p jf : ℕ) (test : Test) (operand : Oper
   same_longer : (code later : List ℕ) → later ≡ code → IsLonger code later
   same_longer code later same pc insn at = subst (λ l. IsAt l pc insn) (sym same) at
 
-  near_near : jf ≡ 0 → yes_old.by ≤ p + 256 → c2 ≡ c1 → yes_new.holes ≡ yes_old.holes ++ hole_at p WhenTrue ∷ [] → no_old.by ≤ p + 256 → c3 ≡ c2 → no_new.holes ≡ no_old.holes ++ hole_at p WhenFalse ∷ [] → Written
+  near_near : jf ≡ 0 → yes_old.by ≤ p + 256 → c2 ≡ c1 → yes_new.fixups ≡ yes_old.fixups ++ fixup_at p WhenTrue ∷ [] → no_old.by ≤ p + 256 → c3 ≡ c2 → no_new.fixups ≡ no_old.fixups ++ fixup_at p WhenFalse ∷ [] → Written
   near_near skip short_yes same yes_grows short_no same' no_grows =
       let grows : IsLonger c1 c3 = same_longer c1 c3 (same' ∙ same) in let l : length c3 ≡ p + 1 = ap length (same' ∙ same) ∙ long in
-      branch_written c3 p (p + 1) yes_old.by no_old.by 0 0 test operand (hole_at p WhenTrue) (hole_at p WhenFalse) (at_as 0 skip c3 grows) (omega arith) (omega arith)
+      branch_written c3 p (p + 1) yes_old.by no_old.by 0 0 test operand (fixup_at p WhenTrue) (fixup_at p WhenFalse) (at_as 0 skip c3 grows) (omega arith) (omega arith)
       (λ e. true_false (ap (λ h. h.side) e)) (inl (refl, short_yes)) (inl (refl, short_no)) (λ pc low high. inl (omega arith))
       before yes_old yes_new no_old no_new begins (sym l) refl refl (grown c3 grows) yes_grows no_grows yes_by no_by
 
-  far_near : jf ≡ 0 → p + 256 < yes_old.by → IsAppended (Jump 0) c1 c2 → yes_new.holes ≡ yes_old.holes ++ hole_at (length c1) Always ∷ [] → no_old.by ≤ p + 256 → c3 ≡ c2 → no_new.holes ≡ no_old.holes ++ hole_at p WhenFalse ∷ [] → Written
+  far_near : jf ≡ 0 → p + 256 < yes_old.by → IsAppended (Jump 0) c1 c2 → yes_new.fixups ≡ yes_old.fixups ++ fixup_at (length c1) Always ∷ [] → no_old.by ≤ p + 256 → c3 ≡ c2 → no_new.fixups ≡ no_old.fixups ++ fixup_at p WhenFalse ∷ [] → Written
   far_near skip far_yes jump yes_grows short_no same no_grows =
       let grows : IsLonger c1 c3 = longer_both c1 c2 c3 (appended_longer (Jump 0) c1 c2 jump) (same_longer c2 c3 same) in
       let l : length c3 ≡ p + 2 = omega (arith, ap length same, appended_long (Jump 0) c1 c2 jump, long) in
       let there : IsAt c3 (p + 1 + 0) (Jump 0) = subst (λ n. IsAt c3 n (Jump 0)) (omega (arith, long)) (same_longer c2 c3 same (length c1) (Jump 0) (appended_at (Jump 0) c1 c2 jump)) in
-      branch_written c3 p (p + 2) yes_old.by no_old.by 0 0 test operand (hole_at (length c1) Always) (hole_at p WhenFalse) (at_as 0 skip c3 grows) (omega arith) (omega arith)
+      branch_written c3 p (p + 2) yes_old.by no_old.by 0 0 test operand (fixup_at (length c1) Always) (fixup_at p WhenFalse) (at_as 0 skip c3 grows) (omega arith) (omega arith)
       (λ e. always_false (ap (λ h. h.side) e))
-      (inr (record { is = ap (λ n. hole_at n Always) (omega (arith, long)); far = far_yes; inside = omega arith; jump = there; closed = closed_by (hole_at (length c1) Always) (hole_at p WhenFalse) p WhenTrue true_always true_false }))
+      (inr (record { is = ap (λ n. fixup_at n Always) (omega (arith, long)); far = far_yes; inside = omega arith; jump = there; closed = closed_by (fixup_at (length c1) Always) (fixup_at p WhenFalse) p WhenTrue true_always true_false }))
       (inl (refl, short_no)) (λ pc low high. ⊎_elim (λ below. inl (omega arith)) (λ up. inr (inl (omega (arith, long)))) (cases_lt pc (p + 1)))
       before yes_old yes_new no_old no_new begins (sym l) refl refl (grown c3 grows) yes_grows no_grows yes_by no_by
 
-  near_far : jf ≡ 0 → yes_old.by ≤ p + 256 → c2 ≡ c1 → yes_new.holes ≡ yes_old.holes ++ hole_at p WhenTrue ∷ [] → p + 256 < no_old.by → IsAppended (Jump 0) c2 c3 → no_new.holes ≡ no_old.holes ++ hole_at (length c2) Always ∷ [] → Written
+  near_far : jf ≡ 0 → yes_old.by ≤ p + 256 → c2 ≡ c1 → yes_new.fixups ≡ yes_old.fixups ++ fixup_at p WhenTrue ∷ [] → p + 256 < no_old.by → IsAppended (Jump 0) c2 c3 → no_new.fixups ≡ no_old.fixups ++ fixup_at (length c2) Always ∷ [] → Written
   near_far skip short_yes same yes_grows far_no jump no_grows =
       let grows : IsLonger c1 c3 = longer_both c1 c2 c3 (same_longer c1 c2 same) (appended_longer (Jump 0) c2 c3 jump) in
       let l : length c3 ≡ p + 2 = omega (arith, ap length same, appended_long (Jump 0) c2 c3 jump, long) in
       let there : IsAt c3 (p + 1 + 0) (Jump 0) = subst (λ n. IsAt c3 n (Jump 0)) (omega (arith, long, ap length same)) (appended_at (Jump 0) c2 c3 jump) in
-      branch_written c3 p (p + 2) yes_old.by no_old.by 0 0 test operand (hole_at p WhenTrue) (hole_at (length c2) Always) (at_as 0 skip c3 grows) (omega arith) (omega arith)
+      branch_written c3 p (p + 2) yes_old.by no_old.by 0 0 test operand (fixup_at p WhenTrue) (fixup_at (length c2) Always) (at_as 0 skip c3 grows) (omega arith) (omega arith)
       (λ e. true_always (ap (λ h. h.side) e)) (inl (refl, short_yes))
-      (inr (record { is = ap (λ n. hole_at n Always) (omega (arith, long, ap length same)); far = far_no; inside = omega arith; jump = there; closed = closed_by (hole_at p WhenTrue) (hole_at (length c2) Always) p WhenFalse false_true false_always }))
+      (inr (record { is = ap (λ n. fixup_at n Always) (omega (arith, long, ap length same)); far = far_no; inside = omega arith; jump = there; closed = closed_by (fixup_at p WhenTrue) (fixup_at (length c2) Always) p WhenFalse false_true false_always }))
       (λ pc low high. ⊎_elim (λ below. inl (omega arith)) (λ up. inr (inr (omega (arith, long, ap length same)))) (cases_lt pc (p + 1)))
       before yes_old yes_new no_old no_new begins (sym l) refl refl (grown c3 grows) yes_grows no_grows yes_by no_by
 
-  far_far : jf ≡ 1 → p + 256 < yes_old.by → IsAppended (Jump 0) c1 c2 → yes_new.holes ≡ yes_old.holes ++ hole_at (length c1) Always ∷ [] → p + 256 < no_old.by → IsAppended (Jump 0) c2 c3 → no_new.holes ≡ no_old.holes ++ hole_at (length c2) Always ∷ [] → Written
+  far_far : jf ≡ 1 → p + 256 < yes_old.by → IsAppended (Jump 0) c1 c2 → yes_new.fixups ≡ yes_old.fixups ++ fixup_at (length c1) Always ∷ [] → p + 256 < no_old.by → IsAppended (Jump 0) c2 c3 → no_new.fixups ≡ no_old.fixups ++ fixup_at (length c2) Always ∷ [] → Written
   far_far skip far_yes jump_yes yes_grows far_no jump_no no_grows =
       let grows : IsLonger c1 c3 = longer_both c1 c2 c3 (appended_longer (Jump 0) c1 c2 jump_yes) (appended_longer (Jump 0) c2 c3 jump_no) in
       let l2 : length c2 ≡ p + 2 = omega (arith, appended_long (Jump 0) c1 c2 jump_yes, long) in
       let l : length c3 ≡ p + 3 = omega (arith, appended_long (Jump 0) c2 c3 jump_no) in
       let first : IsAt c3 (p + 1 + 0) (Jump 0) = subst (λ n. IsAt c3 n (Jump 0)) (omega (arith, long)) (appended_longer (Jump 0) c2 c3 jump_no (length c1) (Jump 0) (appended_at (Jump 0) c1 c2 jump_yes)) in
       let second : IsAt c3 (p + 1 + 1) (Jump 0) = subst (λ n. IsAt c3 n (Jump 0)) (omega arith) (appended_at (Jump 0) c2 c3 jump_no) in
-      branch_written c3 p (p + 3) yes_old.by no_old.by 0 1 test operand (hole_at (length c1) Always) (hole_at (length c2) Always) (at_as 1 skip c3 grows) (omega arith) (omega arith)
+      branch_written c3 p (p + 3) yes_old.by no_old.by 0 1 test operand (fixup_at (length c1) Always) (fixup_at (length c2) Always) (at_as 1 skip c3 grows) (omega arith) (omega arith)
       (λ e. let f = ap (λ h. h.place) e in omega (arith, long))
-      (inr (record { is = ap (λ n. hole_at n Always) (omega (arith, long)); far = far_yes; inside = omega arith; jump = first; closed = closed_by (hole_at (length c1) Always) (hole_at (length c2) Always) p WhenTrue true_always true_always }))
-      (inr (record { is = ap (λ n. hole_at n Always) (omega arith); far = far_no; inside = omega arith; jump = second; closed = closed_by (hole_at (length c1) Always) (hole_at (length c2) Always) p WhenFalse false_always false_always }))
+      (inr (record { is = ap (λ n. fixup_at n Always) (omega (arith, long)); far = far_yes; inside = omega arith; jump = first; closed = closed_by (fixup_at (length c1) Always) (fixup_at (length c2) Always) p WhenTrue true_always true_always }))
+      (inr (record { is = ap (λ n. fixup_at n Always) (omega arith); far = far_no; inside = omega arith; jump = second; closed = closed_by (fixup_at (length c1) Always) (fixup_at (length c2) Always) p WhenFalse false_always false_always }))
       (λ pc low high. ⊎_elim (λ below. inl (omega arith)) (λ up. inr (⊎_elim (λ below. inl (omega (arith, long))) (λ up'. inr (omega arith)) (cases_lt pc (p + 2)))) (cases_lt pc (p + 1)))
       before yes_old yes_new no_old no_new begins (sym l) refl refl (grown c3 grows) yes_grows no_grows yes_by no_by
 

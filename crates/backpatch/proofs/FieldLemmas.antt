@@ -9,10 +9,10 @@ use Rattle.bpf_insn.specs.declared.instruction.Operand.{Operand}
 use Rattle.bpf_insn.specs.declared.instruction.Operand.TheVariants.{K, X}
 use Rattle.bpf_insn.specs.Table.{offsets}
 use Rattle.bpf_insn.specs.Word.{FieldsFit, OperandFits, instruction_of, operand_word, test_code, word, word_of}
-use Rattle.backpatch.specs.declared.hole.Side.{Side}
-use Rattle.backpatch.specs.declared.hole.Side.TheVariants.{Always, WhenFalse, WhenTrue}
-use Rattle.backpatch.specs.declared.hole.Hole.{Hole}
-use Rattle.backpatch.specs.Holes.{CanReach, HasJump, offset_of}
+use Rattle.backpatch.specs.declared.fixup.Side.{Side}
+use Rattle.backpatch.specs.declared.fixup.Side.TheVariants.{Always, WhenFalse, WhenTrue}
+use Rattle.backpatch.specs.declared.fixup.Fixup.{Fixup}
+use Rattle.backpatch.specs.Fixups.{CanReach, HasJump, offset_of}
 use Rattle.backpatch.specs.body.Filling.{IsFilledIn, SkipFits, with_jf, with_jt, with_k, with_offset, with_skip}
 
 operand-jt : (code : ℕ) (operand : Operand) (jt jf k w : ℕ) → OperandFits operand → jt < 2 ^ 8 → jf < 2 ^ 8 → operand_word code operand jt jf ≡ w → with_jt w k ≡ operand_word code operand k jf
@@ -45,15 +45,15 @@ skip-fits WhenTrue place to near behind room = omega arith
 skip-fits WhenFalse place to near behind room = omega arith
 skip-fits Always place to near behind room = omega arith
 
--- the word at a hole's place is filled by its bits
-pub is_filled : (hole : Hole) (to word filled : ℕ) (words : List ℕ) → word ≡ slice_index_or words hole.place word → filled ≡ with_skip hole.side word (to - hole.place - 1) →
-    HasJump words hole.place hole.side → hole.place < to → CanReach hole.place hole.side to → to ≤ 4096 → IsFilledIn hole to words (slice_set words hole.place filled)
-is_filled hole to word filled words read wrote there behind near room =
+-- the word at a fixup's place is filled by its bits
+pub is_filled : (fixup : Fixup) (to word filled : ℕ) (words : List ℕ) → word ≡ slice_index_or words fixup.place word → filled ≡ with_skip fixup.side word (to - fixup.place - 1) →
+    HasJump words fixup.place fixup.side → fixup.place < to → CanReach fixup.place fixup.side to → to ≤ 4096 → IsFilledIn fixup to words (slice_set words fixup.place filled)
+is_filled fixup to word filled words read wrote there behind near room =
     let at = there.2 in
-    let same : word ≡ at.0 = read ∙ get_or_from_slice_get words hole.place at.0 word at.1 in (
+    let same : word ≡ at.0 = read ∙ get_or_from_slice_get words fixup.place at.0 word at.1 in (
       there.0,
       filled,
       at,
-      rw (wrote, same) (reads-with_skip hole.side there.1 (to - hole.place - 1) at.0 there.0 at.2 there.3 (skip-fits hole.side hole.place to near behind room)),
+      rw (wrote, same) (reads-with_skip fixup.side there.1 (to - fixup.place - 1) at.0 there.0 at.2 there.3 (skip-fits fixup.side fixup.place to near behind room)),
       refl,
     )

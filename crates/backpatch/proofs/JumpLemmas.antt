@@ -13,9 +13,9 @@ use Rattle.bpf_verify.specs.declared.fault.Fault.TheVariants.{JumpOutside}
 use Rattle.bpf_verify.specs.Path.{IsAt, successors}
 use Rattle.bpf_verify.proofs.PlaceLemmas.{IsAt-unique, contains-cons}
 use Rattle.bpf_machine.specs.Meaning.{Cells, holds, mean, operand_value}
-use Rattle.backpatch.specs.declared.hole.Side.TheVariants.{Always, WhenFalse, WhenTrue}
+use Rattle.backpatch.specs.declared.fixup.Side.TheVariants.{Always, WhenFalse, WhenTrue}
 use Rattle.backpatch.specs.Checks.{Checks, asks}
-use Rattle.backpatch.specs.Holes.{LeadsTo, offset_of, shape_of}
+use Rattle.backpatch.specs.Fixups.{LeadsTo, offset_of, shape_of}
 use Rattle.backpatch.specs.Runs.{ComesTo, IsPushed, LoadsStored}
 use Rattle.backpatch.proofs.PushedLemmas.{dropped, loads_pushed, mean_pushed, pushed_at}
 

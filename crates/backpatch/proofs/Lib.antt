@@ -4,12 +4,12 @@ pub mod PartLemmas
 pub mod WritesLemmas
 pub mod GuardLemmas
 pub mod BothLemmas
-pub mod LandLemmas
+pub mod BindLemmas
 pub mod FillLemmas
 pub mod FieldLemmas
 pub mod CheckLemmas
 pub mod JumpLemmas
 pub mod BranchLemmas
-pub mod PassLemmas
-pub mod LeaveLemmas
+pub mod FallThroughLemmas
+pub mod AlwaysLemmas
 pub mod FinishLemmas

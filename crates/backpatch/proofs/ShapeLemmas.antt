@@ -3,9 +3,9 @@ use Rattle.std.proofs.Common.{◌≡◌, ◌∙◌, Option, Some, ap, refl, subs
 use Rattle.bpf_insn.specs.declared.instruction.Insn.{Insn}
 use Rattle.bpf_insn.specs.declared.instruction.Insn.TheVariants.{Jump, JumpIf}
 use Rattle.bpf_insn.specs.Table.{offsets}
-use Rattle.backpatch.specs.declared.hole.Side.{Side}
-use Rattle.backpatch.specs.declared.hole.Side.TheVariants.{Always, WhenFalse, WhenTrue}
-use Rattle.backpatch.specs.Holes.{offset_of, shape_of}
+use Rattle.backpatch.specs.declared.fixup.Side.{Side}
+use Rattle.backpatch.specs.declared.fixup.Side.TheVariants.{Always, WhenFalse, WhenTrue}
+use Rattle.backpatch.specs.Fixups.{offset_of, shape_of}
 use Rattle.backpatch.specs.Pieces.{IsJump}
 
 -- an instruction is its shape and its jumps

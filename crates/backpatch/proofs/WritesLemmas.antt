@@ -1,12 +1,12 @@
--- What functions that write a piece ensure: another meaning, a greater weight, the exits exchanged; what can be landed.
+-- What functions that write a piece ensure: another meaning, a greater weight, the labels exchanged; what can be bound.
 use Rattle.std.proofs.Common.{◌≡◌, ◌∙◌, ◌++◌, ◌≤◌, List, [], ap, arith, length, subst, sym, ℕ}
-use Rattle.backpatch.specs.Holes.{AreOpen, Open}
+use Rattle.backpatch.specs.Fixups.{AreOpen, LabelValue}
 use Rattle.backpatch.specs.Pieces.{Behind, Meaning, Writes}
 use Rattle.backpatch.proofs.PartLemmas.{IsPart-means, IsPiece-not}
 
 -- ---- one piece
 
-pub Writes-means : {one other : Meaning} {w : ℕ} {before after : List ℕ} {y y' n n' : Open} → ((at_yes at_no words : List ℕ) → one at_yes at_no words → other at_yes at_no words)
+pub Writes-means : {one other : Meaning} {w : ℕ} {before after : List ℕ} {y y' n n' : LabelValue} → ((at_yes at_no words : List ℕ) → one at_yes at_no words → other at_yes at_no words)
     → Writes one w before after y y' n n' → Writes other w before after y y' n n'
 Writes-means {one} {other} {w} {before} {after} so h = record {
   ys = h.ys;
@@ -22,7 +22,7 @@ Writes-means {one} {other} {w} {before} {after} so h = record {
   far_jumps = h.far_jumps;
 }
 
-pub Writes-weight : {means : Meaning} {w : ℕ} {before after : List ℕ} {y y' n n' : Open} (v : ℕ) → w ≤ v → Writes means w before after y y' n n' → Writes means v before after y y' n n'
+pub Writes-weight : {means : Meaning} {w : ℕ} {before after : List ℕ} {y y' n n' : LabelValue} (v : ℕ) → w ≤ v → Writes means w before after y y' n n' → Writes means v before after y y' n n'
 Writes-weight {means} {w} {before} {after} v more h = record {
   ys = h.ys;
   ns = h.ns;
@@ -37,8 +37,8 @@ Writes-weight {means} {w} {before} {after} v more h = record {
   far_jumps = h.far_jumps;
 }
 
--- its exits exchanged
-pub Writes-not : {one other : Meaning} {w : ℕ} {before after : List ℕ} {y y' n n' : Open} → ((at_yes at_no words : List ℕ) → one at_no at_yes words → other at_yes at_no words)
+-- its labels exchanged
+pub Writes-not : {one other : Meaning} {w : ℕ} {before after : List ℕ} {y y' n n' : LabelValue} → ((at_yes at_no words : List ℕ) → one at_no at_yes words → other at_yes at_no words)
     → Writes one w before after y y' n n' → Writes other w before after n n' y y'
 Writes-not {one} {other} {w} {before} {after} so h = record {
   ys = h.ns;
@@ -54,16 +54,16 @@ Writes-not {one} {other} {w} {before} {after} so h = record {
   far_jumps = λ last low_yes low_no. h.far_jumps last low_no low_yes;
 }
 
--- all holes of an exit that was empty before are the piece's
-pub all_yes : {means : Meaning} {w : ℕ} {before after : List ℕ} {on on' n n' : Open} → on.holes ≡ [] → (h : Writes means w before after on on' n n') → on'.holes ≡ h.ys
-all_yes empty h = h.yes_grows ∙ ap (λ holes. holes ++ h.ys) empty
+-- all fixups of a label that was empty before are the piece's
+pub all_yes : {means : Meaning} {w : ℕ} {before after : List ℕ} {on on' n n' : LabelValue} → on.fixups ≡ [] → (h : Writes means w before after on on' n n') → on'.fixups ≡ h.ys
+all_yes empty h = h.yes_grows ∙ ap (λ fixups. fixups ++ h.ys) empty
 
-pub all_no : {means : Meaning} {w : ℕ} {before after : List ℕ} {y y' on on' : Open} → on.holes ≡ [] → (h : Writes means w before after y y' on on') → on'.holes ≡ h.ns
-all_no empty h = h.no_grows ∙ ap (λ holes. holes ++ h.ns) empty
+pub all_no : {means : Meaning} {w : ℕ} {before after : List ℕ} {y y' on on' : LabelValue} → on.fixups ≡ [] → (h : Writes means w before after y y' on on') → on'.fixups ≡ h.ns
+all_no empty h = h.no_grows ∙ ap (λ fixups. fixups ++ h.ns) empty
 
--- an exit that was empty before can be landed behind
-pub landable : {means : Meaning} {w : ℕ} {before after : List ℕ} {on on' n n' : Open} → on.holes ≡ [] → Writes means w before after on on' n n' → AreOpen on'.holes on'.by after
-landable {after = after} {on' = on'} empty h = subst (λ by. AreOpen on'.holes by after) (sym h.yes_by) (subst (λ holes. AreOpen holes _ after) (sym (all_yes empty h)) h.yes_open)
+-- a label that was empty before can be bound behind
+pub bindable : {means : Meaning} {w : ℕ} {before after : List ℕ} {on on' n n' : LabelValue} → on.fixups ≡ [] → Writes means w before after on on' n n' → AreOpen on'.fixups on'.by after
+bindable {after = after} {on' = on'} empty h = subst (λ by. AreOpen on'.fixups by after) (sym h.yes_by) (subst (λ fixups. AreOpen fixups _ after) (sym (all_yes empty h)) h.yes_open)
 
-pub landable_no : {means : Meaning} {w : ℕ} {before after : List ℕ} {y y' on on' : Open} → on.holes ≡ [] → Writes means w before after y y' on on' → AreOpen on'.holes on'.by after
-landable_no {after = after} {on' = on'} empty h = subst (λ by. AreOpen on'.holes by after) (sym h.no_by) (subst (λ holes. AreOpen holes _ after) (sym (all_no empty h)) h.no_open)
+pub bindable_no : {means : Meaning} {w : ℕ} {before after : List ℕ} {y y' on on' : LabelValue} → on.fixups ≡ [] → Writes means w before after y y' on on' → AreOpen on'.fixups on'.by after
+bindable_no {after = after} {on' = on'} empty h = subst (λ by. AreOpen on'.fixups by after) (sym h.no_by) (subst (λ fixups. AreOpen fixups _ after) (sym (all_no empty h)) h.no_open)

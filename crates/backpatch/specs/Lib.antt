@@ -1,4 +1,4 @@
-pub mod Holes
+pub mod Fixups
 pub mod Pieces
 pub mod Runs
 pub mod Checks

@@ -1,11 +1,11 @@
--- Pieces of a program with holes: what they mean however their holes are filled, and what a function that writes one ensures.
+-- Pieces of a program with fixups: what they mean however their fixups are filled, and what a function that writes one ensures.
 use Rattle.std.specs.Prelude.{◌≡◌, ◌+◌, ◌++◌, ◌<◌, ◌≤◌, if◌then◌else◌, List, drop, length, nat_lt, ℕ}
 use Rattle.bpf_insn.specs.declared.instruction.Insn.{Insn}
 use Rattle.bpf_insn.specs.declared.instruction.Insn.TheVariants.{Jump}
 use Rattle.bpf_verify.specs.Accepted.{IsFaultless}
 use Rattle.bpf_verify.specs.Path.{IsAt}
-use Rattle.backpatch.specs.declared.hole.Hole.{Hole}
-use Rattle.backpatch.specs.Holes.{AreApart, AreOpen, AreWithin, IsFilled, IsLonger, Open}
+use Rattle.backpatch.specs.declared.fixup.Fixup.{Fixup}
+use Rattle.backpatch.specs.Fixups.{AreApart, AreOpen, AreWithin, IsFilled, IsLonger, LabelValue}
 
 -- what the words at the yes target, at the no target and at the beginning of a piece have to do with each other
 abbrev pub Meaning : Type 1
@@ -23,7 +23,7 @@ abbrev pub IsJump : Insn → Type 0
 IsJump (Jump k) = Unit {0}
 IsJump insn = ⊥
 
--- how many words more a test at a place takes for an exit: one where the exit can be too far for a jump of the test
+-- how many words more a test at a place takes for a label: one where the label can be too far for a jump of the test
 abbrev pub far_words : ℕ → ℕ → ℕ
 far_words place by = if nat_lt (place + 256) by then 1 else 0
 
@@ -43,8 +43,8 @@ pub record IsFarFrom (last from pc : ℕ) : Type 0 where
 abbrev pub HasFarJumpsOnly : ℕ → ℕ → ℕ → List ℕ → Type 0
 HasFarJumpsOnly last from until code = AreInstructions (λ pc insn. IsJump insn → IsFarFrom last from pc) from until code
 
--- a part of the code: however its holes are filled, it means this, and no place of it has a fault
-pub record IsPart (targets : Targets) (means : Meaning) (weight from until : ℕ) (code : List ℕ) (ys ns : List Hole) : Type 0 where
+-- a part of the code: however its fixups are filled, it means this, and no place of it has a fault
+pub record IsPart (targets : Targets) (means : Meaning) (weight from until : ℕ) (code : List ℕ) (ys ns : List Fixup) : Type 0 where
   pub forward : from ≤ until
   pub light : until ≤ from + weight
   pub yes_within : AreWithin from until ys
@@ -58,16 +58,16 @@ pub record IsPart (targets : Targets) (means : Meaning) (weight from until : ℕ
       → IsFilled from until code ys ns on_yes on_no program → (pc : ℕ) → from ≤ pc → pc < until → IsFaultless program pc
 
 -- a piece goes to one of two targets behind it
-abbrev pub IsPiece : Meaning → ℕ → ℕ → ℕ → List ℕ → List Hole → List Hole → Type 0
+abbrev pub IsPiece : Meaning → ℕ → ℕ → ℕ → List ℕ → List Fixup → List Fixup → Type 0
 IsPiece means weight from until code ys ns = IsPart Behind means weight from until code ys ns
 
--- what a function that writes a piece ensures, of the code before and after and of its two exits before and after
-pub record Writes (means : Meaning) (weight : ℕ) (before after : List ℕ) (yes_old yes_new no_old no_new : Open) : Type 0 where
-  pub ys : List Hole
-  pub ns : List Hole
+-- what a function that writes a piece ensures, of the code before and after and of its two labels before and after
+pub record Writes (means : Meaning) (weight : ℕ) (before after : List ℕ) (yes_old yes_new no_old no_new : LabelValue) : Type 0 where
+  pub ys : List Fixup
+  pub ns : List Fixup
   pub longer : IsLonger before after
-  pub yes_grows : yes_new.holes ≡ yes_old.holes ++ ys
-  pub no_grows : no_new.holes ≡ no_old.holes ++ ns
+  pub yes_grows : yes_new.fixups ≡ yes_old.fixups ++ ys
+  pub no_grows : no_new.fixups ≡ no_old.fixups ++ ns
   pub yes_by : yes_new.by ≡ yes_old.by
   pub no_by : no_new.by ≡ no_old.by
   pub piece : IsPiece means weight (length before) (length after) after ys ns

@@ -3,9 +3,9 @@
 ghost use Rattle.std.specs.Prelude.{◌≡◌, ◌<◌, ◌≤◌, ◌+◌, ◌^◌, ◌++◌, ◌∷◌, Contains, IfOk, OnOk, [], false, length, true};
 ghost use Rattle.bpf_insn.specs.declared.instruction.Insn.TheVariants.{Jump};
 ghost use Rattle.bpf_verify.specs.declared.TheConstants.{MAX_INSTRUCTIONS};
-ghost use Rattle.backpatch.specs.Holes.{AreOpen, CanReach, HasJump, IsAppended, IsLanded, Open, hole_at};
-ghost use Rattle.backpatch.specs.declared.hole.Hole.{Hole as HoleValue};
-ghost use Rattle.backpatch.specs.declared.hole.Side.TheVariants.{Always};
+ghost use Rattle.backpatch.specs.Fixups.{AreOpen, CanReach, HasJump, IsAppended, IsBound, LabelValue, fixup_at};
+ghost use Rattle.backpatch.specs.declared.fixup.Fixup.{Fixup as FixupValue};
+ghost use Rattle.backpatch.specs.declared.fixup.Side.TheVariants.{Always};
 ghost use Rattle.backpatch.specs.Pieces.{Writes, far_words};
 ghost use Rattle.backpatch.specs.Runs.{GoesToYes};
 ghost use Rattle.backpatch.specs.Checks.{Checks, asks};
@@ -13,16 +13,16 @@ ghost use Rattle.backpatch.specs.Guards.{Guards};
 ghost use Rattle.backpatch.specs.body.Filling.{IsFilledIn, SkipFits, with_jf, with_jt, with_k, with_skip};
 ghost use Rattle.backpatch.specs.body.Noting.{IsNoted};
 
-use crate::exit::Exit;
-use crate::hole::{Hole, Side};
+use crate::fixup::{Fixup, Side};
+use crate::label::Label;
 use bpf_insn::{Insn, Offsets, Operand, Test};
 use std::alloc::{AllocError, Allocator};
 use std::marker::Model;
 
-/// The words of a program, as far as it is written, and where the lists of its exits are allocated.
+/// The words of a program, as far as it is written, and where the lists of its labels are allocated.
 ///
 /// Contracts see it as the list of its words. A place is how many words stand before it. After a call that failed, nothing is
-/// said of the code and of the exits that were passed.
+/// said of the code and of the labels that were passed.
 #[derive(Drop)]
 pub struct Code<'a, A: Allocator> {
     words: Vec<u64, A>,
@@ -38,7 +38,7 @@ impl<'a, A: Allocator> Model for Code<'a, A> {
 }
 
 impl<'a, A: Allocator> Code<'a, A> {
-    /// A program with no word yet. `room` is a hint of how many words it will have; the lists of its exits are allocated in
+    /// A program with no word yet. `room` is a hint of how many words it will have; the lists of its labels are allocated in
     /// `lists`. Fails where the allocation is refused.
     pub fn with_room(alloc: A, lists: &'a A, room: usize) -> Result<Code<'a, A>, AllocError>
         ensures empty { IfOk result (λ code. code ≡ []) }
@@ -57,12 +57,12 @@ impl<'a, A: Allocator> Code<'a, A> {
         self.words.len() as u32
     }
 
-    /// An exit that no jump goes to yet, which will stand at the place `by` at the latest.
-    pub fn exit(&self, by: u32) -> Exit<'a, A>
-        ensures empty { result.holes ≡ [] }
+    /// A label that no jump goes to yet, which will stand at the place `by` at the latest.
+    pub fn label(&self, by: u32) -> Label<'a, A>
+        ensures empty { result.fixups ≡ [] }
         ensures by { result.by ≡ by }
     {
-        Exit::new(self.lists, by)
+        Label::new(self.lists, by)
     }
 
     /// Writes an instruction. Fails where an allocation is refused.
@@ -74,25 +74,25 @@ impl<'a, A: Allocator> Code<'a, A> {
         Ok(())
     }
 
-    /// Says that the exit stands at the end: each of its jumps leads there.
-    pub fn land(&mut self, exit: &Exit<'a, A>)
-        requires open { AreOpen exit.now.holes exit.now.by self.old }
-        requires by { length self.old ≤ exit.now.by }
+    /// Binds the label to the end: each of its jumps leads there.
+    pub fn bind(&mut self, label: &Label<'a, A>)
+        requires open { AreOpen label.now.fixups label.now.by self.old }
+        requires by { length self.old ≤ label.now.by }
         requires room { length self.old ≤ MAX_INSTRUCTIONS }
-        ensures landed { IsLanded exit.now.holes self.old self.new }
+        ensures bound { IsBound label.now.fixups self.old self.new }
     {
-        fill_all(&mut self.words, exit.holes());
+        fill_all(&mut self.words, label.fixups());
     }
 
-    /// Writes a test: it goes to `yes` where it holds and to `no` where it does not. Where an exit can be more than 256 places
+    /// Writes a test: it goes to `yes` where it holds and to `no` where it does not. Where a label can be more than 256 places
     /// behind it, too far for the jump of a test, it goes there by a JA. Fails where an allocation is refused.
     #[inline(always)]
     pub fn branch(
         &mut self,
         test: Test,
         operand: Operand,
-        yes: &mut Exit<'a, A>,
-        no: &mut Exit<'a, A>,
+        yes: &mut Label<'a, A>,
+        no: &mut Label<'a, A>,
     ) -> Result<(), AllocError>
         requires room { length self.old + 3 ≤ MAX_INSTRUCTIONS }
         ensures writes { OnOk result (Writes (Checks (λ a. a) (asks test operand)) 3 self.old self.new yes.old yes.new no.old no.new) }
@@ -109,14 +109,14 @@ impl<'a, A: Allocator> Code<'a, A> {
         Ok(())
     }
 
-    /// Writes a test that falls through where it holds, and goes to `no` where it does not: as `branch`, without an exit for what
+    /// Writes a test that falls through where it holds, and goes to `no` where it does not: as `branch`, without a label for what
     /// stands behind it. Fails where an allocation is refused.
     #[inline(always)]
-    pub fn pass(
+    pub fn branch_unless(
         &mut self,
         test: Test,
         operand: Operand,
-        no: &mut Exit<'a, A>,
+        no: &mut Label<'a, A>,
     ) -> Result<(), AllocError>
         requires room { length self.old + 2 ≤ MAX_INSTRUCTIONS }
         ensures guards { OnOk result (Guards (Checks (λ a. a) (asks test operand)) 2 self.old self.new no.old no.new) }
@@ -124,7 +124,7 @@ impl<'a, A: Allocator> Code<'a, A> {
     {
         let place = self.len();
         let far = is_far(place, no.by());
-        // Where the exit is far, the test leads over the JA to it.
+        // Where the label is far, the test leads over the JA to it.
         let jt = if far { 1 } else { 0 };
         self.push(Insn::JumpIf(test, operand, Offsets { jt, jf: 0 }))?;
         self.note(far, place, Side::WhenFalse, no)?;
@@ -133,11 +133,11 @@ impl<'a, A: Allocator> Code<'a, A> {
 
     /// Writes a test that goes to `yes` where it holds, and falls through where it does not. Fails where an allocation is refused.
     #[inline(always)]
-    pub fn divert(
+    pub fn branch_if(
         &mut self,
         test: Test,
         operand: Operand,
-        yes: &mut Exit<'a, A>,
+        yes: &mut Label<'a, A>,
     ) -> Result<(), AllocError>
         requires room { length self.old + 2 ≤ MAX_INSTRUCTIONS }
         ensures guards { OnOk result (Guards (λ at_no at_yes words. Checks (λ a. a) (asks test operand) at_yes at_no words) 2 self.old self.new yes.old yes.new) }
@@ -151,19 +151,19 @@ impl<'a, A: Allocator> Code<'a, A> {
         Ok(())
     }
 
-    /// Writes an instruction that goes to the exit always. Fails where an allocation is refused.
-    pub fn leave(&mut self, exit: &mut Exit<'a, A>) -> Result<(), AllocError>
+    /// Writes an instruction that goes to the label always. Fails where an allocation is refused.
+    pub fn branch_always(&mut self, label: &mut Label<'a, A>) -> Result<(), AllocError>
         requires room { length self.old + 1 ≤ MAX_INSTRUCTIONS }
-        ensures writes { OnOk result ((other : Open) → Writes GoesToYes 1 self.old self.new exit.old exit.new other other) }
+        ensures writes { OnOk result ((other : LabelValue) → Writes GoesToYes 1 self.old self.new label.old label.new other other) }
     {
         let place = self.len();
-        if is_far(place, exit.by()) {
-            self.jump(exit)?;
+        if is_far(place, label.by()) {
+            self.jump(label)?;
         } else {
             // It goes there where A is 0 and where it is not.
             self.push(Insn::JumpIf(Test::Equal, Operand::K(0), Offsets { jt: 0, jf: 0 }))?;
-            exit.add(place, Side::WhenTrue)?;
-            exit.add(place, Side::WhenFalse)?;
+            label.add(place, Side::WhenTrue)?;
+            label.add(place, Side::WhenFalse)?;
         }
         Ok(())
     }
@@ -175,30 +175,30 @@ impl<'a, A: Allocator> Code<'a, A> {
         far: bool,
         place: u32,
         side: Side,
-        exit: &mut Exit<'a, A>,
+        label: &mut Label<'a, A>,
     ) -> Result<(), AllocError>
         requires room { length self.old ≤ MAX_INSTRUCTIONS }
-        ensures noted { OnOk result (IsNoted far place side self.old self.new exit.old exit.new) }
-        ensures by { exit.new.by ≡ exit.old.by }
+        ensures noted { OnOk result (IsNoted far place side self.old self.new label.old label.new) }
+        ensures by { label.new.by ≡ label.old.by }
     {
         if far {
-            self.jump(exit)?;
+            self.jump(label)?;
         } else {
-            exit.add(place, side)?;
+            label.add(place, side)?;
         }
         Ok(())
     }
 
-    // Writes a JA to the exit.
-    fn jump(&mut self, exit: &mut Exit<'a, A>) -> Result<(), AllocError>
+    // Writes a JA to the label.
+    fn jump(&mut self, label: &mut Label<'a, A>) -> Result<(), AllocError>
         requires room { length self.old ≤ MAX_INSTRUCTIONS }
         ensures appended { OnOk result (IsAppended (Jump 0) self.old self.new) }
-        ensures holes { OnOk result (exit.new.holes ≡ exit.old.holes ++ hole_at (length self.old) Always ∷ []) }
-        ensures by { exit.new.by ≡ exit.old.by }
+        ensures fixups { OnOk result (label.new.fixups ≡ label.old.fixups ++ fixup_at (length self.old) Always ∷ []) }
+        ensures by { label.new.by ≡ label.old.by }
     {
         let place = self.len();
         self.push(Insn::Jump(0))?;
-        exit.add(place, Side::Always)
+        label.add(place, Side::Always)
     }
 
     /// Gives the words.
@@ -209,7 +209,7 @@ impl<'a, A: Allocator> Code<'a, A> {
     }
 }
 
-// Tests whether an exit can be too far for the jump of a test at the place.
+// Tests whether a label can be too far for the jump of a test at the place.
 fn is_far(place: u32, by: u32) -> bool
     requires room { place ≤ MAX_INSTRUCTIONS }
     ensures far { result ≡ true → place + 256 < by }
@@ -218,18 +218,18 @@ fn is_far(place: u32, by: u32) -> bool
     by > place + 256
 }
 
-// Fills the jump of a hole: its bits of the word.
-fn fill<A: Allocator>(words: &mut Vec<u64, A>, hole: Hole, to: usize)
-    requires there { HasJump words.old.items hole.place hole.side }
-    requires within { hole.place < length words.old.items }
-    requires behind { hole.place < to }
-    requires near { CanReach hole.place hole.side to }
+// Fills the jump of a fixup: its bits of the word.
+fn fill<A: Allocator>(words: &mut Vec<u64, A>, fixup: Fixup, to: usize)
+    requires there { HasJump words.old.items fixup.place fixup.side }
+    requires within { fixup.place < length words.old.items }
+    requires behind { fixup.place < to }
+    requires near { CanReach fixup.place fixup.side to }
     requires room { to ≤ MAX_INSTRUCTIONS }
-    ensures filled { IsFilledIn hole to words.old.items words.new.items }
+    ensures filled { IsFilledIn fixup to words.old.items words.new.items }
 {
-    let place = hole.place as usize;
+    let place = fixup.place as usize;
     let skip = to - place - 1;
-    words[place] = with_skip(hole.side, words[place], skip as u64);
+    words[place] = with_skip(fixup.side, words[place], skip as u64);
 }
 
 // The word with another jump.
@@ -265,16 +265,16 @@ fn with_k(word: u64, k: u64) -> u64
     word / (1 << 32) * (1 << 32) + k
 }
 
-// Fills holes with the end.
-fn fill_all<A: Allocator>(words: &mut Vec<u64, A>, holes: &[Hole])
-    requires there { (hole : HoleValue) → Contains holes.now hole → HasJump words.old.items hole.place hole.side }
-    requires within { (hole : HoleValue) → Contains holes.now hole → hole.place < length words.old.items }
-    requires near { (hole : HoleValue) → Contains holes.now hole → CanReach hole.place hole.side (length words.old.items) }
+// Fills fixups with the end.
+fn fill_all<A: Allocator>(words: &mut Vec<u64, A>, fixups: &[Fixup])
+    requires there { (fixup : FixupValue) → Contains fixups.now fixup → HasJump words.old.items fixup.place fixup.side }
+    requires within { (fixup : FixupValue) → Contains fixups.now fixup → fixup.place < length words.old.items }
+    requires near { (fixup : FixupValue) → Contains fixups.now fixup → CanReach fixup.place fixup.side (length words.old.items) }
     requires room { length words.old.items ≤ MAX_INSTRUCTIONS }
-    ensures landed { IsLanded holes.now words.old.items words.new.items }
+    ensures bound { IsBound fixups.now words.old.items words.new.items }
 {
     let to = words.len();
-    for hole in holes {
-        fill(words, *hole, to);
+    for fixup in fixups {
+        fill(words, *fixup, to);
     }
 }

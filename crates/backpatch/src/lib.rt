@@ -1,11 +1,11 @@
 //! A classic BPF program that is written from its first instruction to its last. A jump is written before its target is
-//! known: it is noted in the list of the exit that it goes to, and filled in where the exit comes to stand.
+//! known: it is a fixup of the label that it goes to, and is filled in when the label is bound.
 #![tactic(auto)]
 
 mod code;
-mod exit;
-mod hole;
+mod fixup;
+mod label;
 
 pub use code::Code;
-pub use exit::Exit;
-pub use hole::{Hole, Side};
+pub use fixup::{Fixup, Side};
+pub use label::Label;

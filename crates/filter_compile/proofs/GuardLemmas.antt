@@ -1,7 +1,7 @@
 -- Guards: a test that is left out, and one that falls through where it is true.
 use Rattle.std.proofs.Common.{◌≡◌, ◌∙◌, ◌+◌, ◌≤◌, Bool, List, None, Option, Some, arith, false, refl, subst, sym, true, ℕ}
 use Rattle.std.specs.Prelude.{◌≢◌, ◌&&◌}
-use Rattle.backpatch.specs.Holes.{Open}
+use Rattle.backpatch.specs.Fixups.{LabelValue}
 use Rattle.backpatch.specs.Pieces.{Meaning, Writes}
 use Rattle.backpatch.specs.Guards.{Guards}
 use Rattle.backpatch.proofs.GuardLemmas.{Guards-guards, Guards-means, Guards-none, Guards-weight, Guards-writes}
@@ -22,7 +22,7 @@ use Rattle.packet_facts.proofs.FactLemmas.{first_fragment_yes, ip_by_fragment, i
 use Rattle.filter_compile.specs.body.Piece.{Decides, Tests}
 use Rattle.filter_compile.specs.declared.sides.Passed.{Passed}
 use Rattle.filter_compile.specs.declared.sides.Sides.{Sides}
-use Rattle.filter_compile.specs.body.Sides.{Adds, HoldsWhere, Leaves}
+use Rattle.filter_compile.specs.body.Sides.{Adds, BranchesAlways, HoldsWhere}
 use Rattle.filter_compile.specs.body.Weight.{is_yes, leads_to_ports}
 use Rattle.filter_compile.proofs.TestLemmas.{Tests-and, Tests-decided, Tests-no, Tests-none, Tests-yes}
 
@@ -61,13 +61,13 @@ pub leads : (known : Known) (transport : Transport) → first_fragment_of known 
 leads known transport first told = rw (first, told) refl
 
 -- nothing is written
-pub Guards-left_out : (known on : Known) (if_no : Option Known) (truth : List ℕ → Truth) (weight : ℕ) (code : List ℕ) (n : Open) → on ≡ known → ((packet : List ℕ) (a x : ℕ) → Holds known packet a x → truth packet ≡ Yes)
+pub Guards-left_out : (known on : Known) (if_no : Option Known) (truth : List ℕ → Truth) (weight : ℕ) (code : List ℕ) (n : LabelValue) → on ≡ known → ((packet : List ℕ) (a x : ℕ) → Holds known packet a x → truth packet ≡ Yes)
     → Guards (Tests (Holds known) (Holds on) (HoldsWhere if_no) truth) weight code code n n
 Guards-left_out known on if_no truth weight code n same if_yes = Guards-weight weight (omega arith)
     (Guards-none code n (λ at_no words. Tests-none (Holds known) (Holds on) (HoldsWhere if_no) truth at_no words (λ packet a x h. subst (λ k. Holds k packet a x) (sym same) h) if_yes))
 
 -- a guard in front of a guard
-pub Guards-both : (known on on' last : Known) (one two if_no : Option Known) (first second : List ℕ → Truth) {v w : ℕ} {c0 c1 c2 : List ℕ} {n n' n'' : Open} → last ≡ on' → ((packet : List ℕ) (a x : ℕ) → HoldsWhere one packet a x → HoldsWhere if_no packet a x)
+pub Guards-both : (known on on' last : Known) (one two if_no : Option Known) (first second : List ℕ → Truth) {v w : ℕ} {c0 c1 c2 : List ℕ} {n n' n'' : LabelValue} → last ≡ on' → ((packet : List ℕ) (a x : ℕ) → HoldsWhere one packet a x → HoldsWhere if_no packet a x)
     → ((packet : List ℕ) (a x : ℕ) → HoldsWhere two packet a x → HoldsWhere if_no packet a x) → Guards (Tests (Holds known) (Holds on) (HoldsWhere one) first) v c0 c1 n n' → Guards (Tests (Holds on) (Holds on') (HoldsWhere two) second) w c1 c2 n' n''
     → Guards (Tests (Holds known) (Holds last) (HoldsWhere if_no) (λ packet. first packet and_then second packet)) (v + w) c0 c2 n n''
 Guards-both known on on' last one two if_no first second {v = v} {w = w} {c0 = c0} {c2 = c2} {n = n} {n'' = n''} same of_one of_two guards guards' =
@@ -76,11 +76,11 @@ Guards-both known on on' last one two if_no first second {v = v} {w = w} {c0 = c
 
 -- ---- guards one behind the other
 
-pub Adds-none : (passed : Passed) (truth : List ℕ → Truth) (weight : ℕ) (code : List ℕ) (n : Open) → ((packet : List ℕ) (a x : ℕ) → Holds passed.on packet a x → truth packet ≡ Yes) → Adds truth weight code code passed passed n n
+pub Adds-none : (passed : Passed) (truth : List ℕ → Truth) (weight : ℕ) (code : List ℕ) (n : LabelValue) → ((packet : List ℕ) (a x : ℕ) → Holds passed.on packet a x → truth packet ≡ Yes) → Adds truth weight code code passed passed n n
 Adds-none passed truth weight code n if_yes = record { guards = Guards-left_out passed.on passed.on passed.no truth weight code n refl if_yes; missed = λ packet a x m. m }
 
 -- a test, and what it tells where A holds what the test leaves there
-pub Adds-asked : (old new : Passed) (asked on if_no : Known) (given after : Option Loaded) (truth : List ℕ → Truth) (weight : ℕ) {c0 c1 : List ℕ} {n n' : Open} → new.on ≡ on → ((packet : List ℕ) (a x : ℕ) → HoldsWhere old.no packet a x → HoldsWhere new.no packet a x)
+pub Adds-asked : (old new : Passed) (asked on if_no : Known) (given after : Option Loaded) (truth : List ℕ → Truth) (weight : ℕ) {c0 c1 : List ℕ} {n n' : LabelValue} → new.on ≡ on → ((packet : List ℕ) (a x : ℕ) → HoldsWhere old.no packet a x → HoldsWhere new.no packet a x)
     → ((packet : List ℕ) (a x : ℕ) → Holds if_no packet a x → HoldsWhere new.no packet a x) → ((packet : List ℕ) (a x : ℕ) → Holds old.on packet a x → IsInA given packet a)
     → ((packet : List ℕ) (a a' x : ℕ) → Holds old.on packet a x → IsInA after packet a' → Holds asked packet a' x)
     → ((packet : List ℕ) (a x : ℕ) → Holds asked packet a x → truth packet ≡ Yes → Holds on packet a x) → ((packet : List ℕ) (a x : ℕ) → Holds asked packet a x → truth packet ≡ No → Holds if_no packet a x)
@@ -93,36 +93,36 @@ Adds-asked old new asked on if_no given after truth weight same of_self of_no in
 }
 
 -- one guard behind another
-pub Adds-both : {first second : List ℕ → Truth} {v w : ℕ} {c0 c1 c2 : List ℕ} {a b c : Passed} {n n' n'' : Open} → Adds first v c0 c1 a b n n' → Adds second w c1 c2 b c n' n'' → Adds (λ packet. first packet and_then second packet) (v + w) c0 c2 a c n n''
+pub Adds-both : {first second : List ℕ → Truth} {v w : ℕ} {c0 c1 c2 : List ℕ} {a b c : Passed} {n n' n'' : LabelValue} → Adds first v c0 c1 a b n n' → Adds second w c1 c2 b c n' n'' → Adds (λ packet. first packet and_then second packet) (v + w) c0 c2 a c n n''
 Adds-both {first = first} {second = second} {a = a} {b = b} {c = c} one two = record {
   guards = Guards-both a.on b.on c.on c.on b.no c.no c.no first second refl two.missed (λ packet a x m. m) one.guards two.guards;
   missed = λ packet a x m. two.missed packet a x (one.missed packet a x m);
 }
 
-pub Adds-weight : {truth : List ℕ → Truth} {v : ℕ} {c0 c1 : List ℕ} {a b : Passed} {n n' : Open} (w : ℕ) → v ≤ w → Adds truth v c0 c1 a b n n' → Adds truth w c0 c1 a b n n'
+pub Adds-weight : {truth : List ℕ → Truth} {v : ℕ} {c0 c1 : List ℕ} {a b : Passed} {n n' : LabelValue} (w : ℕ) → v ≤ w → Adds truth v c0 c1 a b n n' → Adds truth w c0 c1 a b n n'
 Adds-weight w more adds = record { guards = Guards-weight w more adds.guards; missed = adds.missed }
 
 -- the guards behind what is known, with which they begin
-pub Guards-added : (known : Known) (truth : List ℕ → Truth) (weight : Known → ℕ) {c0 c1 : List ℕ} (old new : Passed) {n n' : Open} → old.on ≡ known → Adds truth (weight old.on) c0 c1 old new n n'
+pub Guards-added : (known : Known) (truth : List ℕ → Truth) (weight : Known → ℕ) {c0 c1 : List ℕ} (old new : Passed) {n n' : LabelValue} → old.on ≡ known → Adds truth (weight old.on) c0 c1 old new n n'
     → Guards (Tests (Holds known) (Holds new.on) (HoldsWhere new.no) truth) (weight known) c0 c1 n n'
 Guards-added known truth weight {c0 = c0} {c1 = c1} old new {n = n} {n' = n'} same adds = subst (λ k. Guards (Tests (Holds k) (Holds new.on) (HoldsWhere new.no) truth) (weight k) c0 c1 n n') same adds.guards
 
 -- ---- pieces
 
 -- what is known to be true goes there at once
-pub Writes-yes : (known : Known) (sides : Sides) (truth : List ℕ → Truth) (weight : ℕ) {c0 c1 : List ℕ} {y y' : Open} (n : Open) → 1 ≤ weight → ((packet : List ℕ) (a x : ℕ) → Holds known packet a x → truth packet ≡ Yes)
-    → Leaves known sides c0 c1 y y' → Writes (Tests (Holds known) (Holds sides.yes) (Holds sides.no) truth) weight c0 c1 y y' n n
-Writes-yes known sides truth weight n few if_yes leaves = Writes-weight weight few
-    (Writes-means (λ at_yes at_no words h. Tests-yes (Holds known) (Holds sides.yes) (Holds sides.no) truth at_yes at_no words (λ packet a x g. subst (λ k. Holds k packet a x) (sym leaves.yes) g) if_yes h) (leaves.writes n))
+pub Writes-yes : (known : Known) (sides : Sides) (truth : List ℕ → Truth) (weight : ℕ) {c0 c1 : List ℕ} {y y' : LabelValue} (n : LabelValue) → 1 ≤ weight → ((packet : List ℕ) (a x : ℕ) → Holds known packet a x → truth packet ≡ Yes)
+    → BranchesAlways known sides c0 c1 y y' → Writes (Tests (Holds known) (Holds sides.yes) (Holds sides.no) truth) weight c0 c1 y y' n n
+Writes-yes known sides truth weight n few if_yes branches_always = Writes-weight weight few
+    (Writes-means (λ at_yes at_no words h. Tests-yes (Holds known) (Holds sides.yes) (Holds sides.no) truth at_yes at_no words (λ packet a x g. subst (λ k. Holds k packet a x) (sym branches_always.yes) g) if_yes h) (branches_always.writes n))
 
-pub Writes-no : (known : Known) (sides : Sides) (truth : List ℕ → Truth) (weight : ℕ) {c0 c1 : List ℕ} {n n' : Open} (y : Open) → 1 ≤ weight → ((packet : List ℕ) (a x : ℕ) → Holds known packet a x → truth packet ≡ No)
-    → Leaves known sides c0 c1 n n' → Writes (Tests (Holds known) (Holds sides.yes) (Holds sides.no) truth) weight c0 c1 y y n n'
-Writes-no known sides truth weight y few is_no leaves = Writes-weight weight few
+pub Writes-no : (known : Known) (sides : Sides) (truth : List ℕ → Truth) (weight : ℕ) {c0 c1 : List ℕ} {n n' : LabelValue} (y : LabelValue) → 1 ≤ weight → ((packet : List ℕ) (a x : ℕ) → Holds known packet a x → truth packet ≡ No)
+    → BranchesAlways known sides c0 c1 n n' → Writes (Tests (Holds known) (Holds sides.yes) (Holds sides.no) truth) weight c0 c1 y y n n'
+Writes-no known sides truth weight y few is_no branches_always = Writes-weight weight few
     (Writes-not {other = Tests (Holds known) (Holds sides.yes) (Holds sides.no) truth}
-    (λ at_yes at_no words h. Tests-no (Holds known) (Holds sides.yes) (Holds sides.no) truth at_yes at_no words (λ packet a x g. subst (λ k. Holds k packet a x) (sym leaves.no) g) is_no h) (leaves.writes y))
+    (λ at_yes at_no words h. Tests-no (Holds known) (Holds sides.yes) (Holds sides.no) truth at_yes at_no words (λ packet a x g. subst (λ k. Holds k packet a x) (sym branches_always.no) g) is_no h) (branches_always.writes y))
 
 -- a decision, and what it tells where A holds what the decision leaves there
-pub Writes-decided : (known asked if_yes if_no : Known) (given after : Option Loaded) (truth : List ℕ → Truth) {weight : ℕ} {c0 c1 : List ℕ} {y y' n n' : Open} → ((packet : List ℕ) (a x : ℕ) → Holds known packet a x → IsInA given packet a)
+pub Writes-decided : (known asked if_yes if_no : Known) (given after : Option Loaded) (truth : List ℕ → Truth) {weight : ℕ} {c0 c1 : List ℕ} {y y' n n' : LabelValue} → ((packet : List ℕ) (a x : ℕ) → Holds known packet a x → IsInA given packet a)
     → ((packet : List ℕ) (a a' x : ℕ) → Holds known packet a x → IsInA after packet a' → Holds asked packet a' x)
     → ((packet : List ℕ) (a x : ℕ) → Holds asked packet a x → truth packet ≡ Yes → Holds if_yes packet a x) → ((packet : List ℕ) (a x : ℕ) → Holds asked packet a x → truth packet ≡ No → Holds if_no packet a x)
     → Writes (Decides false given after truth) weight c0 c1 y y' n n' → Writes (Tests (Holds known) (Holds if_yes) (Holds if_no) truth) weight c0 c1 y y' n n'
@@ -131,7 +131,7 @@ Writes-decided known asked if_yes if_no given after truth in_a left on_yes on_no
     (λ packet a a' x g is no. on_no packet a' x (left packet a a' x g is) no) h) writes
 
 -- a guard in front of a piece
-pub Writes-guarded : (known on if_yes second_no if_no : Known) (missed : Option Known) (first second : List ℕ → Truth) (weight : ℕ) {v w : ℕ} {c0 c1 c2 : List ℕ} {y y' n n' n'' : Open} → v + w ≤ weight
+pub Writes-guarded : (known on if_yes second_no if_no : Known) (missed : Option Known) (first second : List ℕ → Truth) (weight : ℕ) {v w : ℕ} {c0 c1 c2 : List ℕ} {y y' n n' n'' : LabelValue} → v + w ≤ weight
     → ((packet : List ℕ) (a x : ℕ) → HoldsWhere missed packet a x → Holds if_no packet a x) → ((packet : List ℕ) (a x : ℕ) → Holds second_no packet a x → Holds if_no packet a x)
     → Guards (Tests (Holds known) (Holds on) (HoldsWhere missed) first) v c0 c1 n n' → Writes (Tests (Holds on) (Holds if_yes) (Holds second_no) second) w c1 c2 y y' n' n''
     → Writes (Tests (Holds known) (Holds if_yes) (Holds if_no) (λ packet. first packet and_then second packet)) weight c0 c2 y y' n n''
@@ -139,7 +139,7 @@ Writes-guarded known on if_yes second_no if_no missed first second weight few of
     (Guards-writes (λ at_yes at_no mid words h k. Tests-and (Holds known) (Holds on) (Holds if_yes) (HoldsWhere missed) (Holds second_no) (Holds if_no) first second of_self of_no at_yes at_no mid words k h) guards writes)
 
 -- a piece behind one that goes to yes, or falls through where it does not hold
-pub Guards-writes_no : {one two both : Meaning} {v w : ℕ} {c0 c1 c2 : List ℕ} {y y' y'' n n' : Open} → ((at_yes at_no mid words : List ℕ) → one at_yes mid words → two at_yes at_no mid → both at_yes at_no words)
+pub Guards-writes_no : {one two both : Meaning} {v w : ℕ} {c0 c1 c2 : List ℕ} {y y' y'' n n' : LabelValue} → ((at_yes at_no mid words : List ℕ) → one at_yes mid words → two at_yes at_no mid → both at_yes at_no words)
     → Guards (λ at_no at_yes words. one at_yes at_no words) v c0 c1 y y' → Writes two w c1 c2 y' y'' n n' → Writes both (v + w) c0 c2 y y'' n n'
 Guards-writes_no {one = one} {two = two} {both = both} or guards writes =
     let turned : Writes (λ at_no at_yes words. both at_yes at_no words) _ _ _ _ _ _ _ = Guards-writes {one = λ at_no at_yes words. one at_yes at_no words} {two = λ at_no at_yes words. two at_yes at_no words} (λ at_no at_yes mid words h k. or at_yes at_no mid words h k)

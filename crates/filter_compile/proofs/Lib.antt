@@ -6,7 +6,7 @@ pub mod TestLemmas
 pub mod HeaderLemmas
 pub mod WeightLemmas
 pub mod GuardLemmas
-pub mod ElsewhereLemmas
+pub mod NonIpv4Lemmas
 pub mod ProgramLemmas
 pub mod StepLemmas
 pub mod RelationLemmas

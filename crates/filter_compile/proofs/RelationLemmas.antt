@@ -2,7 +2,7 @@
 use Rattle.std.proofs.Common.{◌≡◌, ◌∙◌, ◌+◌, ◌≤◌, Bool, List, None, Option, Some, ap, arith, false, refl, subst, sym, ℕ}
 use Rattle.bpf_insn.specs.declared.instruction.Insn.TheVariants.{LoadXLength}
 use Rattle.backpatch.specs.Checks.{Checks}
-use Rattle.backpatch.specs.Holes.{IsAppended, Open}
+use Rattle.backpatch.specs.Fixups.{IsAppended, LabelValue}
 use Rattle.backpatch.specs.Pieces.{Writes}
 use Rattle.backpatch.specs.Guards.{Guards}
 use Rattle.backpatch.specs.body.Straight.{Extends}
@@ -33,7 +33,7 @@ use Rattle.filter_compile.proofs.TestLemmas.{Compares-checks, Compares-pair, Com
 -- ---- guards
 
 -- what the guards test, with what was told of all protocols
-pub Adds-told : (known : Known) (used : Accesses) (old new : Passed) (any transport : Bool) {c0 c1 : List ℕ} {n n' : Open} → any ≡ any_accessor (used_by used) → transport ≡ any_transport (used_by used)
+pub Adds-told : (known : Known) (used : Accesses) (old new : Passed) (any transport : Bool) {c0 c1 : List ℕ} {n n' : LabelValue} → any ≡ any_accessor (used_by used) → transport ≡ any_transport (used_by used)
     → Adds (λ packet. where_so any (is_ip packet) and_then where_so used.tcp (is_protocol 6 packet) and_then where_so used.udp (is_protocol 17 packet) and_then where_so used.icmp (is_protocol 1 packet) and_then where_so transport (is_first_fragment packet))
     (weight_where any (version_weight_under known) + weight_where used.tcp 4 + weight_where used.udp 4 + weight_where used.icmp 4 + weight_where transport 4) c0 c1 old new n n'
     → Adds (guards (used_by used)) (weight_of_guards_under known (used_by used)) c0 c1 old new n n'
@@ -45,7 +45,7 @@ Adds-told known used old new any transport {c0 = c0} {c1 = c1} {n = n} {n' = n'}
 
 -- ---- comparisons
 
-module _ (relator : Relation) (right : ArithTree) (held : Bool) {c0 : List ℕ} {y y' n n' : Open} where
+module _ (relator : Relation) (right : ArithTree) (held : Bool) {c0 : List ℕ} {y y' n n' : LabelValue} where
   pub Writes-compared_number : (k : ℕ) {c1 : List ℕ} → ((packet : List ℕ) → value_of_arith right packet ≡ Some k) → Writes (Checks (λ a. a) (λ a x. holds relator a k)) 3 c0 c1 y y' n n'
       → Writes (Compares (compared_with relator (value_of_arith right)) held held) (weight_of_arith right + 6) c0 c1 y y' n n'
   Writes-compared_number k same writes = Writes-weight (weight_of_arith right + 6) (omega arith)
@@ -82,7 +82,7 @@ module _ (relator : Relation) (left right : ArithTree) (used : Accesses) (same_g
   pub relation_weight : 1 ≤ weight_under known (relation left relator right)
   relation_weight = omega arith
 
-  module _ (on last if_no : Known) (missed : Option Known) (held between after : Bool) {c0 c1 c2 c3 : List ℕ} {y y' n n' n'' : Open} (knows : (packet : List ℕ) (a x : ℕ) → Holds on packet a x → Knows held packet x)
+  module _ (on last if_no : Known) (missed : Option Known) (held between after : Bool) {c0 c1 c2 c3 : List ℕ} {y y' n n' n'' : LabelValue} (knows : (packet : List ℕ) (a x : ℕ) → Holds on packet a x → Knows held packet x)
       (tells : (packet : List ℕ) (a a' x x' : ℕ) → Holds on packet a x → Knows after packet x' → Holds last packet a' x') (of_self : (packet : List ℕ) (a x : ℕ) → HoldsWhere missed packet a x → Holds if_no packet a x) (of_no : (packet : List ℕ) (a x : ℕ) → Holds last packet a x → Holds if_no packet a x)
       (guarded : Guards (Tests (Holds known) (Holds on) (HoldsWhere missed) (guards (used_by used))) (weight_of_guards_under known (used_by used)) c0 c1 n n')
       (computes : Extends (Computes (λ packet a. value_of_arith left packet) held between 0) (weight_of_arith left) c1 c2)

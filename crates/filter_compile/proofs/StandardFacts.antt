@@ -6,6 +6,6 @@ use Rattle.filter_compile.specs.declared.TheConstants.{ACCEPTED, SHORT}
 accepted : ACCEPTED ≡ 65535
 accepted = refl
 
--- the weight of the tests is at most 255 then, so a first test's exits stand within the 255 places that a jump skips
+-- the weight of the tests is at most 255 then, so a first test's labels stand within the 255 places that a jump skips
 short : SHORT ≡ 257
 short = refl

@@ -8,7 +8,7 @@ use Rattle.bpf_insn.specs.declared.instruction.Operation.{Operation}
 use Rattle.bpf_insn.specs.declared.instruction.Operation.TheVariants.{Add}
 use Rattle.bpf_verify.specs.declared.TheConstants.{CELLS}
 use Rattle.bpf_verify.specs.declared.fault.Fault.TheVariants.{BadCell}
-use Rattle.backpatch.specs.Holes.{IsAppended}
+use Rattle.backpatch.specs.Fixups.{IsAppended}
 use Rattle.backpatch.specs.Runs.{IsPushed}
 use Rattle.backpatch.specs.body.Straight.{Extends}
 use Rattle.backpatch.proofs.GuardLemmas.{Extends-extends, Extends-means, Extends-pushed, Extends-weight}

@@ -5,5 +5,5 @@ pub mod Sides
 pub mod Arithmetic
 pub mod Program
 pub mod Weight
-pub mod Elsewhere
+pub mod NonIpv4
 pub mod Front

@@ -8,7 +8,7 @@ ghost use Rattle.filter_tree.specs.Primitive.{is_between};
 ghost use Rattle.filter_compile.specs.body.Header.{keeps_a, passes, weight_of_check, where_kept};
 ghost use Rattle.filter_compile.specs.body.Piece.{Asks};
 
-use backpatch::{Code, Exit};
+use backpatch::{Code, Label};
 use bpf_insn::{Insn, Operand, Operation, Test};
 use filter_tree::Prefix;
 use packet_facts::Loaded;
@@ -29,8 +29,8 @@ pub(crate) enum Check {
 fn covered<'a, A: Allocator>(
     code: &mut Code<'a, A>,
     prefix: Prefix,
-    yes: &mut Exit<'a, A>,
-    no: &mut Exit<'a, A>,
+    yes: &mut Label<'a, A>,
+    no: &mut Label<'a, A>,
 ) -> Result<(), AllocError>
     requires room { length code.old + 4 ≤ MAX_INSTRUCTIONS }
     ensures writes { OnOk result (Writes (Asks false (covers prefix)) 4 code.old code.new yes.old yes.new no.old no.new) }
@@ -50,21 +50,21 @@ fn between<'a, A: Allocator>(
     code: &mut Code<'a, A>,
     n: u16,
     m: u16,
-    yes: &mut Exit<'a, A>,
-    no: &mut Exit<'a, A>,
+    yes: &mut Label<'a, A>,
+    no: &mut Label<'a, A>,
 ) -> Result<(), AllocError>
     requires room { length code.old + 6 ≤ MAX_INSTRUCTIONS }
     requires behind { length code.old + 6 ≤ no.old.by }
     ensures writes { OnOk result (Writes (Asks true (is_between n m)) 6 code.old code.new yes.old yes.new no.old no.new) }
 {
-    let mut on = code.exit(code.len() + 3);
+    let mut on = code.label(code.len() + 3);
     code.branch(
         Test::GreaterOrEqual,
         Operand::K(n.min(m) as u32),
         &mut on,
         no,
     )?;
-    code.land(&on);
+    code.bind(&on);
     code.branch(Test::Greater, Operand::K(n.max(m) as u32), no, yes)
 }
 
@@ -72,8 +72,8 @@ fn between<'a, A: Allocator>(
 pub(crate) fn ask<'a, A: Allocator>(
     code: &mut Code<'a, A>,
     check: &Check,
-    yes: &mut Exit<'a, A>,
-    no: &mut Exit<'a, A>,
+    yes: &mut Label<'a, A>,
+    no: &mut Label<'a, A>,
 ) -> Result<(), AllocError>
     requires room { length code.old + weight_of_check check.now ≤ MAX_INSTRUCTIONS }
     requires behind { length code.old + weight_of_check check.now ≤ no.old.by }

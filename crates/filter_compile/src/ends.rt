@@ -15,7 +15,7 @@ ghost use Rattle.filter_compile.specs.body.Sides.{IsSameButA};
 use crate::check::{Check, ask, left_in_a};
 use crate::load::load;
 use crate::sides::Sides;
-use backpatch::{Code, Exit};
+use backpatch::{Code, Label};
 use filter_tree::Direction;
 use packet_facts::{Known, Loaded};
 use std::alloc::{AllocError, Allocator};
@@ -54,8 +54,8 @@ fn test_end<'a, A: Allocator>(
     end: Loaded,
     check: &Check,
     known: Known,
-    yes: &mut Exit<'a, A>,
-    no: &mut Exit<'a, A>,
+    yes: &mut Label<'a, A>,
+    no: &mut Label<'a, A>,
 ) -> Result<Known, AllocError>
     requires header { by_header end ≡ true → header_in_x_of known ≡ true }
     requires room { length code.old + (weight_of_check check.now + 1) ≤ MAX_INSTRUCTIONS }
@@ -78,8 +78,8 @@ pub(crate) fn ends<'a, A: Allocator>(
     direction: Direction,
     check: &Check,
     known: Known,
-    yes: &mut Exit<'a, A>,
-    no: &mut Exit<'a, A>,
+    yes: &mut Label<'a, A>,
+    no: &mut Label<'a, A>,
 ) -> Result<Sides, AllocError>
     requires header { part ≡ Port → header_in_x_of known ≡ true }
     requires room { length code.old + weight_of_ends direction check.now ≤ MAX_INSTRUCTIONS }
@@ -101,15 +101,15 @@ pub(crate) fn ends<'a, A: Allocator>(
     }
 }
 
-// Each of these holds an exit of its own, which `ends` would drop on all its ways out.
+// Each of these holds a label of its own, which `ends` would drop on all its ways out.
 
 fn either_end<'a, A: Allocator>(
     code: &mut Code<'a, A>,
     part: Part,
     check: &Check,
     known: Known,
-    yes: &mut Exit<'a, A>,
-    no: &mut Exit<'a, A>,
+    yes: &mut Label<'a, A>,
+    no: &mut Label<'a, A>,
 ) -> Result<Sides, AllocError>
     requires header { part ≡ Port → header_in_x_of known ≡ true }
     requires room { length code.old + weight_of_ends Either check.now ≤ MAX_INSTRUCTIONS }
@@ -117,9 +117,9 @@ fn either_end<'a, A: Allocator>(
     requires behind { length code.old + weight_of_ends Either check.now ≤ no.old.by }
     ensures writes { IfOk result (λ sides. Writes (Tests (Holds known) (Holds sides.yes) (Holds sides.no) (ends_pass part Either check.now)) (weight_of_ends Either check.now) code.old code.new yes.old yes.new no.old no.new) }
 {
-    let mut on = code.exit(code.len() + ONE_END);
+    let mut on = code.label(code.len() + ONE_END);
     let first = test_end(code, part.source(), check, known, yes, &mut on)?;
-    code.land(&on);
+    code.bind(&on);
     let second = test_end(code, part.destination(), check, first, yes, no)?;
     Ok(Sides {
         yes: known.with_in_a(None),
@@ -132,8 +132,8 @@ fn both_ends<'a, A: Allocator>(
     part: Part,
     check: &Check,
     known: Known,
-    yes: &mut Exit<'a, A>,
-    no: &mut Exit<'a, A>,
+    yes: &mut Label<'a, A>,
+    no: &mut Label<'a, A>,
 ) -> Result<Sides, AllocError>
     requires header { part ≡ Port → header_in_x_of known ≡ true }
     requires room { length code.old + weight_of_ends Both check.now ≤ MAX_INSTRUCTIONS }
@@ -141,9 +141,9 @@ fn both_ends<'a, A: Allocator>(
     requires behind { length code.old + weight_of_ends Both check.now ≤ no.old.by }
     ensures writes { IfOk result (λ sides. Writes (Tests (Holds known) (Holds sides.yes) (Holds sides.no) (ends_pass part Both check.now)) (weight_of_ends Both check.now) code.old code.new yes.old yes.new no.old no.new) }
 {
-    let mut on = code.exit(code.len() + ONE_END);
+    let mut on = code.label(code.len() + ONE_END);
     let first = test_end(code, part.source(), check, known, &mut on, no)?;
-    code.land(&on);
+    code.bind(&on);
     let second = test_end(code, part.destination(), check, first, yes, no)?;
     Ok(Sides {
         yes: second,

@@ -10,7 +10,7 @@ ghost use Rattle.filter_tree.specs.Tree.{conjunction as conjunction_tree, disjun
 ghost use Rattle.filter_tree.specs.Truth.{truth_of};
 ghost use Rattle.filter_tree.specs.View.{tree_of};
 ghost use Rattle.packet_facts.specs.Known.{Holds};
-ghost use Rattle.filter_compile.specs.body.Elsewhere.{elsewhere};
+ghost use Rattle.filter_compile.specs.body.NonIpv4.{non_ipv4};
 ghost use Rattle.filter_compile.specs.body.Front.{BeginsWith, MayAsk};
 ghost use Rattle.filter_compile.specs.body.Piece.{Tests};
 ghost use Rattle.filter_compile.specs.body.Weight.{weight_under};
@@ -20,7 +20,7 @@ use crate::front::{Front, ask, in_front};
 use crate::primitive::primitive;
 use crate::relation::relation;
 use crate::sides::Sides;
-use backpatch::{Code, Exit};
+use backpatch::{Code, Label};
 use filter_tree::Expr;
 use packet_facts::Known;
 use std::alloc::{AllocError, Allocator};
@@ -45,8 +45,8 @@ pub(crate) fn expression<'a, A: Allocator, B: Allocator>(
     expr: &Expr<B>,
     known: Known,
     end: u32,
-    yes: &mut Exit<'a, A>,
-    no: &mut Exit<'a, A>,
+    yes: &mut Label<'a, A>,
+    no: &mut Label<'a, A>,
 ) -> Result<Sides, AllocError>
     requires cells { cells_of (tree_of expr.now) ≤ CELLS }
     requires room { length code.old + weight_under known (tree_of expr.now) ≤ end }
@@ -72,8 +72,8 @@ fn compound<'a, A: Allocator, B: Allocator>(
     expr: &Expr<B>,
     known: Known,
     end: u32,
-    yes: &mut Exit<'a, A>,
-    no: &mut Exit<'a, A>,
+    yes: &mut Label<'a, A>,
+    no: &mut Label<'a, A>,
 ) -> Result<Sides, AllocError>
     requires cells { cells_of (tree_of expr.now) ≤ CELLS }
     requires room { length code.old + weight_under known (tree_of expr.now) ≤ end }
@@ -98,10 +98,10 @@ fn behind_guard<'a, A: Allocator, B: Allocator>(
     front: Front,
     known: Known,
     end: u32,
-    yes: &mut Exit<'a, A>,
-    no: &mut Exit<'a, A>,
+    yes: &mut Label<'a, A>,
+    no: &mut Label<'a, A>,
 ) -> Result<Sides, AllocError>
-    requires settled { elsewhere (tree_of expr.now) ≡ Some front.truth }
+    requires settled { non_ipv4 (tree_of expr.now) ≡ Some front.truth }
     requires may_ask { MayAsk front.guard known }
     requires begins { BeginsWith front.guard (tree_of expr.now) }
     requires cells { cells_of (tree_of expr.now) ≤ CELLS }
@@ -136,8 +136,8 @@ fn parts<'a, A: Allocator, B: Allocator>(
     expr: &Expr<B>,
     known: Known,
     end: u32,
-    yes: &mut Exit<'a, A>,
-    no: &mut Exit<'a, A>,
+    yes: &mut Label<'a, A>,
+    no: &mut Label<'a, A>,
 ) -> Result<Sides, AllocError>
     requires cells { cells_of (tree_of expr.now) ≤ CELLS }
     requires room { length code.old + weight_under known (tree_of expr.now) ≤ end }
@@ -171,8 +171,8 @@ fn conjunction<'a, A: Allocator, B: Allocator>(
     right: &Expr<B>,
     known: Known,
     end: u32,
-    yes: &mut Exit<'a, A>,
-    no: &mut Exit<'a, A>,
+    yes: &mut Label<'a, A>,
+    no: &mut Label<'a, A>,
 ) -> Result<Sides, AllocError>
     requires cells { cells_of (conjunction_tree (tree_of left.now) (tree_of right.now)) ≤ CELLS }
     requires room { length code.old + weight_under known (conjunction_tree (tree_of left.now) (tree_of right.now)) ≤ end }
@@ -197,8 +197,8 @@ fn disjunction<'a, A: Allocator, B: Allocator>(
     right: &Expr<B>,
     known: Known,
     end: u32,
-    yes: &mut Exit<'a, A>,
-    no: &mut Exit<'a, A>,
+    yes: &mut Label<'a, A>,
+    no: &mut Label<'a, A>,
 ) -> Result<Sides, AllocError>
     requires cells { cells_of (disjunction_tree (tree_of left.now) (tree_of right.now)) ≤ CELLS }
     requires room { length code.old + weight_under known (disjunction_tree (tree_of left.now) (tree_of right.now)) ≤ end }
@@ -222,7 +222,7 @@ fn left_of_and<'a, A: Allocator, B: Allocator>(
     left: &Expr<B>,
     known: Known,
     end: u32,
-    no: &mut Exit<'a, A>,
+    no: &mut Label<'a, A>,
 ) -> Result<Sides, AllocError>
     requires cells { cells_of (tree_of left.now) ≤ CELLS }
     requires room { length code.old + weight_under known (tree_of left.now) ≤ end }
@@ -230,9 +230,9 @@ fn left_of_and<'a, A: Allocator, B: Allocator>(
     requires behind { end ≤ no.old.by }
     ensures guards { IfOk result (λ sides. Guards (Tests (Holds known) (Holds sides.yes) (Holds sides.no) (truth_of (tree_of left.now))) (weight_under known (tree_of left.now)) code.old code.new no.old no.new) }
 {
-    let mut on = code.exit(end);
+    let mut on = code.label(end);
     let sides = expression(code, left, known, end, &mut on, no)?;
-    code.land(&on);
+    code.bind(&on);
     Ok(sides)
 }
 
@@ -243,7 +243,7 @@ fn left_of_or<'a, A: Allocator, B: Allocator>(
     left: &Expr<B>,
     known: Known,
     end: u32,
-    yes: &mut Exit<'a, A>,
+    yes: &mut Label<'a, A>,
 ) -> Result<Sides, AllocError>
     requires cells { cells_of (tree_of left.now) ≤ CELLS }
     requires room { length code.old + weight_under known (tree_of left.now) ≤ end }
@@ -251,8 +251,8 @@ fn left_of_or<'a, A: Allocator, B: Allocator>(
     requires behind { end ≤ yes.old.by }
     ensures guards { IfOk result (λ sides. Guards (λ at_no at_yes words. Tests (Holds known) (Holds sides.yes) (Holds sides.no) (truth_of (tree_of left.now)) at_yes at_no words) (weight_under known (tree_of left.now)) code.old code.new yes.old yes.new) }
 {
-    let mut on = code.exit(end);
+    let mut on = code.label(end);
     let sides = expression(code, left, known, end, yes, &mut on)?;
-    code.land(&on);
+    code.bind(&on);
     Ok(sides)
 }

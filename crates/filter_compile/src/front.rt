@@ -7,16 +7,16 @@ ghost use Rattle.backpatch.specs.Guards.{Guards};
 ghost use Rattle.filter_tree.specs.View.{tree_of};
 ghost use Rattle.packet_facts.specs.Known.{Holds};
 ghost use Rattle.packet_facts.specs.Told.{ip_of, transport_of};
-ghost use Rattle.filter_compile.specs.body.Elsewhere.{elsewhere};
+ghost use Rattle.filter_compile.specs.body.NonIpv4.{non_ipv4};
 ghost use Rattle.filter_compile.specs.body.Front.{BeginsWith, IsLearned, MayAsk, guard_truth, guard_weight, has_only_ports, is_ports, is_same};
 ghost use Rattle.filter_compile.specs.body.Piece.{Tests};
 ghost use Rattle.filter_compile.specs.body.Sides.{HoldsWhere};
 
-use crate::elsewhere::{begins_with_ip, elsewhere};
 use crate::guard::ask_ip;
+use crate::non_ipv4::{begins_with_ip, non_ipv4};
 use crate::primitive::guard_ports;
 use crate::sides::Passed;
-use backpatch::{Code, Exit};
+use backpatch::{Code, Label};
 use filter_tree::{Expr, Primitive, Transport};
 use packet_facts::Known;
 use std::alloc::{AllocError, Allocator};
@@ -120,9 +120,9 @@ fn asks_again<B: Allocator>(expr: &Expr<B>) -> bool {
         Expr::And(left, _) => match left.as_ref() {
             Expr::Primitive(_) => false,
             Expr::Relation(_, _, _) => false,
-            left => matches!(elsewhere(left), Some(true)),
+            left => matches!(non_ipv4(left), Some(true)),
         },
-        Expr::Or(left, _) => matches!(elsewhere(left), Some(false)),
+        Expr::Or(left, _) => matches!(non_ipv4(left), Some(false)),
         _ => false,
     }
 }
@@ -130,7 +130,7 @@ fn asks_again<B: Allocator>(expr: &Expr<B>) -> bool {
 /// Tells what is to be tested in front of an expression, so that its parts do not test it again: it begins with that test, has
 /// one truth on all packets that fail it, and whether a packet passes it is not known.
 pub(crate) fn in_front<B: Allocator>(expr: &Expr<B>, known: Known) -> Option<Front>
-    ensures settled { IfSome result (λ front. elsewhere (tree_of expr.now) ≡ Some front.truth) }
+    ensures settled { IfSome result (λ front. non_ipv4 (tree_of expr.now) ≡ Some front.truth) }
     ensures may_ask { IfSome result (λ front. MayAsk front.guard known) }
     ensures begins { IfSome result (λ front. BeginsWith front.guard (tree_of expr.now)) }
 {
@@ -138,7 +138,7 @@ pub(crate) fn in_front<B: Allocator>(expr: &Expr<B>, known: Known) -> Option<Fro
         return None;
     }
     let guard = first_guard(expr, known)?;
-    let truth = elsewhere(expr)?;
+    let truth = non_ipv4(expr)?;
     Some(Front { guard, truth })
 }
 
@@ -147,7 +147,7 @@ pub(crate) fn ask<'a, A: Allocator>(
     code: &mut Code<'a, A>,
     guard: Guard,
     known: Known,
-    no: &mut Exit<'a, A>,
+    no: &mut Label<'a, A>,
 ) -> Result<Passed, AllocError>
     requires room { length code.old + guard_weight guard known ≤ MAX_INSTRUCTIONS }
     requires behind { length code.old + guard_weight guard known ≤ no.old.by }

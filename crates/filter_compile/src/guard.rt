@@ -18,7 +18,7 @@ ghost use Rattle.filter_compile.specs.body.Weight.{leads_to_ports, version_weigh
 
 use crate::header::{pass_first_fragment, pass_ip, pass_ports, pass_protocol};
 use crate::sides::Passed;
-use backpatch::{Code, Exit};
+use backpatch::{Code, Label};
 use filter_tree::Transport;
 use packet_facts::{Known, Loaded};
 use std::alloc::{AllocError, Allocator};
@@ -43,7 +43,7 @@ pub(crate) fn guard_ip<'a, A: Allocator>(
     code: &mut Code<'a, A>,
     used: bool,
     passed: &mut Passed,
-    no: &mut Exit<'a, A>,
+    no: &mut Label<'a, A>,
 ) -> Result<(), AllocError>
     requires room { length code.old + weight_where used (version_weight_under passed.old.on) ≤ MAX_INSTRUCTIONS }
     ensures adds { OnOk result (Adds (λ packet. where_so used (is_ip packet)) (weight_where used (version_weight_under passed.old.on)) code.old code.new passed.old passed.new no.old no.new) }
@@ -62,7 +62,7 @@ pub(crate) fn guard_ip<'a, A: Allocator>(
 pub(crate) fn ask_ip<'a, A: Allocator>(
     code: &mut Code<'a, A>,
     passed: &mut Passed,
-    no: &mut Exit<'a, A>,
+    no: &mut Label<'a, A>,
 ) -> Result<(), AllocError>
     requires room { length code.old + 5 ≤ MAX_INSTRUCTIONS }
     ensures adds { OnOk result (Adds is_ip 5 code.old code.new passed.old passed.new no.old no.new) }
@@ -81,7 +81,7 @@ pub(crate) fn guard_protocol<'a, A: Allocator>(
     used: bool,
     n: u8,
     passed: &mut Passed,
-    no: &mut Exit<'a, A>,
+    no: &mut Label<'a, A>,
 ) -> Result<(), AllocError>
     requires room { length code.old + weight_where used 4 ≤ MAX_INSTRUCTIONS }
     ensures adds { OnOk result (Adds (λ packet. where_so used (is_protocol n packet)) (weight_where used 4) code.old code.new passed.old passed.new no.old no.new) }
@@ -100,7 +100,7 @@ fn ask_protocol<'a, A: Allocator>(
     code: &mut Code<'a, A>,
     n: u8,
     passed: &mut Passed,
-    no: &mut Exit<'a, A>,
+    no: &mut Label<'a, A>,
 ) -> Result<(), AllocError>
     requires room { length code.old + 4 ≤ MAX_INSTRUCTIONS }
     ensures adds { OnOk result (Adds (is_protocol n) 4 code.old code.new passed.old passed.new no.old no.new) }
@@ -122,7 +122,7 @@ pub(crate) fn guard_transport<'a, A: Allocator>(
     code: &mut Code<'a, A>,
     transport: Transport,
     passed: &mut Passed,
-    no: &mut Exit<'a, A>,
+    no: &mut Label<'a, A>,
 ) -> Result<(), AllocError>
     requires room { length code.old + weight_of_transport transport ≤ MAX_INSTRUCTIONS }
     requires behind { length code.old + weight_of_transport transport ≤ no.old.by }
@@ -146,7 +146,7 @@ pub(crate) fn guard_first_fragment<'a, A: Allocator>(
     code: &mut Code<'a, A>,
     used: bool,
     passed: &mut Passed,
-    no: &mut Exit<'a, A>,
+    no: &mut Label<'a, A>,
 ) -> Result<(), AllocError>
     requires room { length code.old + weight_where used 4 ≤ MAX_INSTRUCTIONS }
     ensures adds { OnOk result (Adds (λ packet. where_so used (is_first_fragment packet)) (weight_where used 4) code.old code.new passed.old passed.new no.old no.new) }
@@ -166,7 +166,7 @@ pub(crate) fn guard_first_fragment<'a, A: Allocator>(
 fn ask_first_fragment<'a, A: Allocator>(
     code: &mut Code<'a, A>,
     passed: &mut Passed,
-    no: &mut Exit<'a, A>,
+    no: &mut Label<'a, A>,
 ) -> Result<(), AllocError>
     requires room { length code.old + 4 ≤ MAX_INSTRUCTIONS }
     ensures adds { OnOk result (Adds is_first_fragment 4 code.old code.new passed.old passed.new no.old no.new) }

@@ -14,7 +14,7 @@ ghost use Rattle.filter_compile.specs.body.Header.{weight_of_transport};
 ghost use Rattle.filter_compile.specs.body.Piece.{Decides};
 
 use crate::load::load;
-use backpatch::{Code, Exit};
+use backpatch::{Code, Label};
 use bpf_insn::{Insn, Operand, Operation, Size, Test};
 use filter_tree::Transport;
 use packet_facts::Loaded;
@@ -24,8 +24,8 @@ use std::alloc::{AllocError, Allocator};
 #[inline(always)]
 pub(crate) fn is_ip<'a, A: Allocator>(
     code: &mut Code<'a, A>,
-    yes: &mut Exit<'a, A>,
-    no: &mut Exit<'a, A>,
+    yes: &mut Label<'a, A>,
+    no: &mut Label<'a, A>,
 ) -> Result<(), AllocError>
     requires room { length code.old + 5 ≤ MAX_INSTRUCTIONS }
     ensures writes { OnOk result (Writes (Decides false None None is_ip) 5 code.old code.new yes.old yes.new no.old no.new) }
@@ -41,8 +41,8 @@ pub(crate) fn is_protocol<'a, A: Allocator>(
     code: &mut Code<'a, A>,
     n: u8,
     in_a: Option<Loaded>,
-    yes: &mut Exit<'a, A>,
-    no: &mut Exit<'a, A>,
+    yes: &mut Label<'a, A>,
+    no: &mut Label<'a, A>,
 ) -> Result<(), AllocError>
     requires room { length code.old + 4 ≤ MAX_INSTRUCTIONS }
     ensures writes { OnOk result (Writes (Decides false in_a (Some LoadedProtocol) (is_protocol n)) 4 code.old code.new yes.old yes.new no.old no.new) }
@@ -55,15 +55,15 @@ pub(crate) fn is_protocol<'a, A: Allocator>(
 fn is_any_transport<'a, A: Allocator>(
     code: &mut Code<'a, A>,
     in_a: Option<Loaded>,
-    yes: &mut Exit<'a, A>,
-    no: &mut Exit<'a, A>,
+    yes: &mut Label<'a, A>,
+    no: &mut Label<'a, A>,
 ) -> Result<(), AllocError>
     requires room { length code.old + 10 ≤ MAX_INSTRUCTIONS }
     ensures writes { OnOk result (Writes (Decides false in_a (Some LoadedProtocol) (λ packet. tested (has_ports Unnamed) (field_of Protocol packet))) 10 code.old code.new yes.old yes.new no.old no.new) }
 {
     load(code, Loaded::Protocol, in_a)?;
-    code.divert(Test::Equal, Operand::K(6), yes)?;
-    code.divert(Test::Equal, Operand::K(17), yes)?;
+    code.branch_if(Test::Equal, Operand::K(6), yes)?;
+    code.branch_if(Test::Equal, Operand::K(17), yes)?;
     code.branch(Test::Equal, Operand::K(132), yes, no)
 }
 
@@ -72,14 +72,14 @@ fn is_any_transport<'a, A: Allocator>(
 #[inline(always)]
 pub(crate) fn pass_ip<'a, A: Allocator>(
     code: &mut Code<'a, A>,
-    no: &mut Exit<'a, A>,
+    no: &mut Label<'a, A>,
 ) -> Result<(), AllocError>
     requires room { length code.old + 5 ≤ MAX_INSTRUCTIONS }
     ensures guards { OnOk result (Guards (Decides false None None is_ip) 5 code.old code.new no.old no.new) }
 {
     code.push(Insn::LoadAbsolute(Size::Byte, 0))?;
     code.push(Insn::Alu(Operation::And, Operand::K(0xf0)))?;
-    code.pass(Test::Equal, Operand::K(0x40), no)
+    code.branch_unless(Test::Equal, Operand::K(0x40), no)
 }
 
 #[inline(always)]
@@ -87,13 +87,13 @@ pub(crate) fn pass_protocol<'a, A: Allocator>(
     code: &mut Code<'a, A>,
     n: u8,
     in_a: Option<Loaded>,
-    no: &mut Exit<'a, A>,
+    no: &mut Label<'a, A>,
 ) -> Result<(), AllocError>
     requires room { length code.old + 4 ≤ MAX_INSTRUCTIONS }
     ensures guards { OnOk result (Guards (Decides false in_a (Some LoadedProtocol) (is_protocol n)) 4 code.old code.new no.old no.new) }
 {
     load(code, Loaded::Protocol, in_a)?;
-    code.pass(Test::Equal, Operand::K(n as u32), no)
+    code.branch_unless(Test::Equal, Operand::K(n as u32), no)
 }
 
 /// Writes the guard that the protocol has ports: the one that is named, else TCP, UDP or SCTP.
@@ -101,7 +101,7 @@ pub(crate) fn pass_ports<'a, A: Allocator>(
     code: &mut Code<'a, A>,
     transport: Transport,
     in_a: Option<Loaded>,
-    no: &mut Exit<'a, A>,
+    no: &mut Label<'a, A>,
 ) -> Result<(), AllocError>
     requires room { length code.old + weight_of_transport transport ≤ MAX_INSTRUCTIONS }
     requires behind { length code.old + weight_of_transport transport ≤ no.old.by }
@@ -117,15 +117,15 @@ pub(crate) fn pass_ports<'a, A: Allocator>(
 fn pass_any_transport<'a, A: Allocator>(
     code: &mut Code<'a, A>,
     in_a: Option<Loaded>,
-    no: &mut Exit<'a, A>,
+    no: &mut Label<'a, A>,
 ) -> Result<(), AllocError>
     requires room { length code.old + 10 ≤ MAX_INSTRUCTIONS }
     requires behind { length code.old + 10 ≤ no.old.by }
     ensures guards { OnOk result (Guards (Decides false in_a (Some LoadedProtocol) (λ packet. tested (has_ports Unnamed) (field_of Protocol packet))) 10 code.old code.new no.old no.new) }
 {
-    let mut on = code.exit(code.len() + 10);
+    let mut on = code.label(code.len() + 10);
     is_any_transport(code, in_a, &mut on, no)?;
-    code.land(&on);
+    code.bind(&on);
     Ok(())
 }
 
@@ -133,11 +133,11 @@ fn pass_any_transport<'a, A: Allocator>(
 #[inline(always)]
 pub(crate) fn pass_first_fragment<'a, A: Allocator>(
     code: &mut Code<'a, A>,
-    no: &mut Exit<'a, A>,
+    no: &mut Label<'a, A>,
 ) -> Result<(), AllocError>
     requires room { length code.old + 4 ≤ MAX_INSTRUCTIONS }
     ensures guards { OnOk result (Guards (Decides false None None is_first_fragment) 4 code.old code.new no.old no.new) }
 {
     code.push(Insn::LoadAbsolute(Size::Half, 6))?;
-    code.divert(Test::CommonBit, Operand::K(0x1fff), no)
+    code.branch_if(Test::CommonBit, Operand::K(0x1fff), no)
 }

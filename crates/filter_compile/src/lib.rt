@@ -13,7 +13,6 @@ ghost use Rattle.filter_compile.specs.declared.fault.CompileFault.TheVariants.{C
 
 mod arithmetic;
 mod check;
-mod elsewhere;
 mod ends;
 mod expression;
 mod fault;
@@ -21,12 +20,13 @@ mod front;
 mod guard;
 mod header;
 mod load;
+mod non_ipv4;
 mod primitive;
 mod relation;
 mod sides;
 
 use crate::expression::expression;
-use backpatch::{Code, Exit};
+use backpatch::{Code, Label};
 use bpf_insn::Insn;
 use bpf_verify::{CELLS, MAX_INSTRUCTIONS, Program};
 pub use fault::CompileFault;
@@ -126,32 +126,32 @@ fn write_words<'a, A: Allocator, B: Allocator>(
     requires limit { size ≤ MAX_INSTRUCTIONS }
     ensures program { OnOk result (IsCompiledTo (tree_of expr.now) code.new) }
 {
-    let mut yes = code.exit(size - 2);
-    let mut no = code.exit(size - 1);
-    write_to_exits(code, expr, size, &mut yes, &mut no)
+    let mut yes = code.label(size - 2);
+    let mut no = code.label(size - 1);
+    write_to_labels(code, expr, size, &mut yes, &mut no)
 }
 
-// Writes the code in front of the two exits, and the returns behind them.
-fn write_to_exits<'a, A: Allocator, B: Allocator>(
+// Writes the code in front of the two labels, and the returns behind them.
+fn write_to_labels<'a, A: Allocator, B: Allocator>(
     code: &mut Code<'a, A>,
     expr: &Expr<B>,
     size: u32,
-    yes: &mut Exit<'a, A>,
-    no: &mut Exit<'a, A>,
+    yes: &mut Label<'a, A>,
+    no: &mut Label<'a, A>,
 ) -> Result<(), AllocError>
     requires empty { code.old ≡ [] }
     requires size { size ≡ size_of (tree_of expr.now) }
     requires cells { cells_of (tree_of expr.now) ≤ CELLS }
     requires limit { size ≤ MAX_INSTRUCTIONS }
-    requires yes_empty { yes.old.holes ≡ [] }
-    requires no_empty { no.old.holes ≡ [] }
+    requires yes_empty { yes.old.fixups ≡ [] }
+    requires no_empty { no.old.fixups ≡ [] }
     requires yes_by { yes.old.by ≡ size - 2 }
     requires no_by { no.old.by ≡ size - 1 }
     ensures program { OnOk result (IsCompiledTo (tree_of expr.now) code.new) }
 {
     expression(code, expr, Known::nothing(), size - 2, yes, no)?;
-    code.land(yes);
+    code.bind(yes);
     code.push(Insn::ReturnConstant(ACCEPTED))?;
-    code.land(no);
+    code.bind(no);
     code.push(Insn::ReturnConstant(0))
 }

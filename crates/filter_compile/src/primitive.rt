@@ -21,7 +21,7 @@ use crate::guard::{guard_first_fragment, guard_ip, guard_transport, leads_to_por
 use crate::header::{is_ip, is_protocol};
 use crate::load::load_header;
 use crate::sides::{Passed, Sides, settled};
-use backpatch::{Code, Exit};
+use backpatch::{Code, Label};
 use bpf_insn::{Insn, Operand, Test};
 use filter_tree::{Direction, Primitive, Transport};
 use packet_facts::{Known, Loaded};
@@ -30,8 +30,8 @@ use std::alloc::{AllocError, Allocator};
 fn version<'a, A: Allocator>(
     code: &mut Code<'a, A>,
     known: Known,
-    yes: &mut Exit<'a, A>,
-    no: &mut Exit<'a, A>,
+    yes: &mut Label<'a, A>,
+    no: &mut Label<'a, A>,
 ) -> Result<Sides, AllocError>
     requires room { length code.old + 5 ≤ MAX_INSTRUCTIONS }
     ensures writes { IfOk result (λ sides. Writes (Tests (Holds known) (Holds sides.yes) (Holds sides.no) is_ip) 5 code.old code.new yes.old yes.new no.old no.new) }
@@ -51,8 +51,8 @@ fn protocol<'a, A: Allocator>(
     code: &mut Code<'a, A>,
     n: u8,
     known: Known,
-    yes: &mut Exit<'a, A>,
-    no: &mut Exit<'a, A>,
+    yes: &mut Label<'a, A>,
+    no: &mut Label<'a, A>,
 ) -> Result<Sides, AllocError>
     requires room { length code.old + 4 ≤ MAX_INSTRUCTIONS }
     ensures writes { IfOk result (λ sides. Writes (Tests (Holds known) (Holds sides.yes) (Holds sides.no) (is_protocol n)) 4 code.old code.new yes.old yes.new no.old no.new) }
@@ -73,8 +73,8 @@ fn addresses<'a, A: Allocator>(
     direction: Direction,
     check: &Check,
     known: Known,
-    yes: &mut Exit<'a, A>,
-    no: &mut Exit<'a, A>,
+    yes: &mut Label<'a, A>,
+    no: &mut Label<'a, A>,
 ) -> Result<Sides, AllocError>
     requires room { length code.old + weight_of_addresses (version_weight_under known) direction check.now ≤ MAX_INSTRUCTIONS }
     requires yes_behind { length code.old + weight_of_addresses (version_weight_under known) direction check.now ≤ yes.old.by }
@@ -95,7 +95,7 @@ pub(crate) fn guard_ports<'a, A: Allocator>(
     code: &mut Code<'a, A>,
     transport: Transport,
     passed: &mut Passed,
-    no: &mut Exit<'a, A>,
+    no: &mut Label<'a, A>,
 ) -> Result<(), AllocError>
     requires room { length code.old + ports_weight_under passed.old.on transport ≤ MAX_INSTRUCTIONS }
     requires behind { length code.old + ports_weight_under passed.old.on transport ≤ no.old.by }
@@ -118,8 +118,8 @@ fn ports<'a, A: Allocator>(
     direction: Direction,
     check: &Check,
     known: Known,
-    yes: &mut Exit<'a, A>,
-    no: &mut Exit<'a, A>,
+    yes: &mut Label<'a, A>,
+    no: &mut Label<'a, A>,
 ) -> Result<Sides, AllocError>
     requires room { length code.old + weight_of_ports (ports_weight_under known transport) direction check.now ≤ MAX_INSTRUCTIONS }
     requires yes_behind { length code.old + weight_of_ports (ports_weight_under known transport) direction check.now ≤ yes.old.by }
@@ -142,8 +142,8 @@ fn bytes<'a, A: Allocator>(
     code: &mut Code<'a, A>,
     test: Test,
     n: u32,
-    yes: &mut Exit<'a, A>,
-    no: &mut Exit<'a, A>,
+    yes: &mut Label<'a, A>,
+    no: &mut Label<'a, A>,
 ) -> Result<(), AllocError>
     requires room { length code.old + 4 ≤ MAX_INSTRUCTIONS }
     ensures writes { OnOk result (Writes (Decides false None None (λ packet. answer (holds test (length packet) n))) 4 code.old code.new yes.old yes.new no.old no.new) }
@@ -158,8 +158,8 @@ pub(crate) fn primitive<'a, A: Allocator>(
     code: &mut Code<'a, A>,
     primitive: Primitive,
     known: Known,
-    yes: &mut Exit<'a, A>,
-    no: &mut Exit<'a, A>,
+    yes: &mut Label<'a, A>,
+    no: &mut Label<'a, A>,
 ) -> Result<Sides, AllocError>
     requires room { length code.old + weight_of_primitive_under known primitive ≤ MAX_INSTRUCTIONS }
     requires yes_behind { length code.old + weight_of_primitive_under known primitive ≤ yes.old.by }

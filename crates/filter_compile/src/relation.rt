@@ -18,7 +18,7 @@ ghost use Rattle.filter_compile.specs.body.Weight.{weight_of_guards_under, weigh
 use crate::arithmetic::{Simple, arithmetic, pair, simple_of};
 use crate::guard::{guard_first_fragment, guard_ip, guard_protocol};
 use crate::sides::{Passed, Sides, settled};
-use backpatch::{Code, Exit};
+use backpatch::{Code, Label};
 use bpf_insn::{Insn, Operand, Test};
 use filter_tree::{Accesses, Arith, Relation};
 use packet_facts::Known;
@@ -29,7 +29,7 @@ fn guards<'a, A: Allocator>(
     code: &mut Code<'a, A>,
     used: Accesses,
     passed: &mut Passed,
-    no: &mut Exit<'a, A>,
+    no: &mut Label<'a, A>,
 ) -> Result<(), AllocError>
     requires room { length code.old + weight_of_guards_under passed.old.on (used_by used) ≤ MAX_INSTRUCTIONS }
     ensures adds { OnOk result (Adds (guards (used_by used)) (weight_of_guards_under passed.old.on (used_by used)) code.old code.new passed.old passed.new no.old no.new) }
@@ -46,8 +46,8 @@ fn compare<'a, A: Allocator>(
     code: &mut Code<'a, A>,
     relation: Relation,
     right: Operand,
-    yes: &mut Exit<'a, A>,
-    no: &mut Exit<'a, A>,
+    yes: &mut Label<'a, A>,
+    no: &mut Label<'a, A>,
 ) -> Result<(), AllocError>
     requires room { length code.old + 3 ≤ MAX_INSTRUCTIONS }
     ensures writes { OnOk result (Writes (Checks (λ a. a) (λ a x. holds relation a (operand_value right x))) 3 code.old code.new yes.old yes.new no.old no.new) }
@@ -68,8 +68,8 @@ fn compare_with<'a, A: Allocator, B: Allocator>(
     relation: Relation,
     right: &Arith<B>,
     held: bool,
-    yes: &mut Exit<'a, A>,
-    no: &mut Exit<'a, A>,
+    yes: &mut Label<'a, A>,
+    no: &mut Label<'a, A>,
 ) -> Result<bool, AllocError>
     requires cells { 1 + cells_of_arith (arith_tree_of right.now) ≤ CELLS }
     requires room { length code.old + (weight_of_arith (arith_tree_of right.now) + 6) ≤ MAX_INSTRUCTIONS }
@@ -101,8 +101,8 @@ pub(crate) fn relation<'a, A: Allocator, B: Allocator>(
     relation: Relation,
     right: &Arith<B>,
     known: Known,
-    yes: &mut Exit<'a, A>,
-    no: &mut Exit<'a, A>,
+    yes: &mut Label<'a, A>,
+    no: &mut Label<'a, A>,
 ) -> Result<Sides, AllocError>
     requires cells { cells_of (relation_tree (arith_tree_of left.now) relation (arith_tree_of right.now)) ≤ CELLS }
     requires room { length code.old + weight_under known (relation_tree (arith_tree_of left.now) relation (arith_tree_of right.now)) ≤ MAX_INSTRUCTIONS }

@@ -3,9 +3,9 @@
 ghost use Rattle.std.specs.Prelude.{◌≡◌, ◌+◌, ◌≤◌, IfOk, List, None, Option, length, ℕ};
 ghost use Rattle.bpf_verify.specs.declared.TheConstants.{MAX_INSTRUCTIONS};
 ghost use Rattle.packet_facts.specs.Known.{Holds};
-ghost use Rattle.filter_compile.specs.body.Sides.{HoldsWhere, Leaves};
+ghost use Rattle.filter_compile.specs.body.Sides.{BranchesAlways, HoldsWhere};
 
-use backpatch::{Code, Exit};
+use backpatch::{Code, Label};
 use packet_facts::Known;
 use std::alloc::{AllocError, Allocator};
 
@@ -29,16 +29,16 @@ impl Sides {
     }
 }
 
-/// Writes the code of a test whose truth is known: it goes to one exit always.
+/// Writes the code of a test whose truth is known: it goes to one label always.
 pub(crate) fn settled<'a, A: Allocator>(
     code: &mut Code<'a, A>,
     known: Known,
-    exit: &mut Exit<'a, A>,
+    label: &mut Label<'a, A>,
 ) -> Result<Sides, AllocError>
     requires room { length code.old + 1 ≤ MAX_INSTRUCTIONS }
-    ensures leaves { IfOk result (λ sides. Leaves known sides code.old code.new exit.old exit.new) }
+    ensures branches_always { IfOk result (λ sides. BranchesAlways known sides code.old code.new label.old label.new) }
 {
-    code.leave(exit)?;
+    code.branch_always(label)?;
     Ok(Sides::both(known))
 }
 

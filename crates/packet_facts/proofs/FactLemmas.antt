@@ -77,9 +77,6 @@ module _ (known : Known) (packet : List ℕ) (a x : ℕ) (holds : Holds known pa
   pub ip_settled : Settles (ip_of known) (is_ip packet)
   ip_settled = settles_ip known.header packet holds.0
 
-  pub protocol_settled : (n : ℕ) → Settles (protocol_of known n) (is_protocol n packet)
-  protocol_settled n = settles_number (protocol_in known.header) n packet (protocol_is known.header packet holds.0)
-
   pub transport_settled : (transport : Transport) → Settles (transport_of known transport) (tested (has_ports transport) (field_of field_is.Protocol packet))
   transport_settled transport = settles_named transport known.header packet holds.0
 
@@ -87,20 +84,8 @@ module _ (known : Known) (packet : List ℕ) (a x : ℕ) (holds : Holds known pa
   pub ip_yes : ip_of known ≡ Some true → is_ip packet ≡ Yes
   ip_yes told = subst (λ o. Settles o (is_ip packet)) told ip_settled
 
-  pub ip_no : ip_of known ≡ Some false → is_ip packet ≡ No
-  ip_no told = subst (λ o. Settles o (is_ip packet)) told ip_settled
-
-  pub protocol_yes : (n : ℕ) → protocol_of known n ≡ Some true → is_protocol n packet ≡ Yes
-  protocol_yes n told = subst (λ o. Settles o (is_protocol n packet)) told (protocol_settled n)
-
-  pub protocol_no : (n : ℕ) → protocol_of known n ≡ Some false → is_protocol n packet ≡ No
-  protocol_no n told = subst (λ o. Settles o (is_protocol n packet)) told (protocol_settled n)
-
   pub transport_yes : (transport : Transport) → transport_of known transport ≡ Some true → tested (has_ports transport) (field_of field_is.Protocol packet) ≡ Yes
   transport_yes transport told = subst (λ o. Settles o (tested (has_ports transport) (field_of field_is.Protocol packet))) told (transport_settled transport)
-
-  pub transport_no : (transport : Transport) → transport_of known transport ≡ Some false → tested (has_ports transport) (field_of field_is.Protocol packet) ≡ No
-  transport_no transport told = subst (λ o. Settles o (tested (has_ports transport) (field_of field_is.Protocol packet))) told (transport_settled transport)
 
   pub first_fragment_yes : first_fragment_of known ≡ true → is_first_fragment packet ≡ Yes
   first_fragment_yes told = subst (λ b. IsFirst b packet) told (first_is known.header packet holds.0)
@@ -108,36 +93,6 @@ module _ (known : Known) (packet : List ℕ) (a x : ℕ) (holds : Holds known pa
   -- what is known of X
   pub x_known : Knows (header_in_x_of known) packet x
   x_known = holds.1
-
-  pub header_known : header_in_x_of known ≡ true → (ihl : ℕ) × (ihl_of packet ≡ Some ihl) × (x ≡ 4 * ihl)
-  header_known told = subst (λ b. Knows b packet x) told holds.1
-
-  -- what is known of A
-  pub a_known : IsInA (in_a_of known) packet a
-  a_known = holds.2
-
--- ---- loads that were made
-
-loaded_settled : (check : ℕ → Bool) (field : Option ℕ) (b : Bool) → Settles (Some b) (tested check field) → (value : ℕ) × (field ≡ Some value)
-loaded_settled check None true is = cc
-loaded_settled check None false is = cc
-loaded_settled check (Some value) b is = (value, refl)
-
-module _ (known : Known) (packet : List ℕ) (a x : ℕ) (holds : Holds known packet a x) where
-  pub version_loaded : (b : Bool) → ip_of known ≡ Some b → (version : ℕ) × (field_of field_is.Version packet ≡ Some version)
-  version_loaded b told = loaded_settled (λ version. version == 4) (field_of field_is.Version packet) b (subst (λ o. Settles o (is_ip packet)) told (ip_settled known packet a x holds))
-
-  pub protocol_loaded : (n : ℕ) (b : Bool) → protocol_of known n ≡ Some b → (number : ℕ) × (field_of field_is.Protocol packet ≡ Some number)
-  protocol_loaded n b told =
-      loaded_settled (λ number. number == n) (field_of field_is.Protocol packet) b (subst (λ o. Settles o (is_protocol n packet)) told (protocol_settled known packet a x holds n))
-
-  pub transport_loaded : (transport : Transport) (b : Bool) → transport_of known transport ≡ Some b → (number : ℕ) × (field_of field_is.Protocol packet ≡ Some number)
-  transport_loaded transport b told =
-      loaded_settled (has_ports transport) (field_of field_is.Protocol packet) b
-      (subst (λ o. Settles o (tested (has_ports transport) (field_of field_is.Protocol packet))) told (transport_settled known packet a x holds transport))
-
-  pub fragment_loaded : first_fragment_of known ≡ true → (offset : ℕ) × (field_of field_is.FragmentOffset packet ≡ Some offset)
-  fragment_loaded told = loaded_settled (λ offset. offset == 0) (field_of field_is.FragmentOffset packet) true (first_fragment_yes known packet a x holds told)
 
 -- ---- protocol and fragment are told of packets of IPv4 alone
 

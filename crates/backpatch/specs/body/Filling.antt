@@ -5,9 +5,9 @@ use Rattle.bpf_insn.specs.declared.instruction.Insn.{Insn}
 use Rattle.bpf_insn.specs.declared.instruction.Insn.TheVariants.{Jump, JumpIf}
 use Rattle.bpf_insn.specs.Table.{offsets}
 use Rattle.bpf_verify.specs.Path.{IsAt}
-use Rattle.backpatch.specs.declared.hole.Hole.{Hole}
-use Rattle.backpatch.specs.declared.hole.Side.{Side}
-use Rattle.backpatch.specs.declared.hole.Side.TheVariants.{Always, WhenFalse, WhenTrue}
+use Rattle.backpatch.specs.declared.fixup.Fixup.{Fixup}
+use Rattle.backpatch.specs.declared.fixup.Side.{Side}
+use Rattle.backpatch.specs.declared.fixup.Side.TheVariants.{Always, WhenFalse, WhenTrue}
 
 -- the instruction with one of its jumps this long
 abbrev pub with_offset : Side → ℕ → Insn → Insn
@@ -39,7 +39,7 @@ abbrev pub SkipFits : Side → ℕ → Type 0
 SkipFits Always k = k < 2 ^ 32
 SkipFits _ k = k < 2 ^ 8
 
--- the jump of a hole is filled
-abbrev pub IsFilledIn : Hole → ℕ → List ℕ → List ℕ → Type 0
-IsFilledIn hole to before after =
-    (insn : Insn) × (word : ℕ) × IsAt before hole.place insn × (instruction_of word ≡ Ok (with_offset hole.side (to - hole.place - 1) insn)) × (after ≡ slice_set before hole.place word)
+-- the jump of a fixup is filled
+abbrev pub IsFilledIn : Fixup → ℕ → List ℕ → List ℕ → Type 0
+IsFilledIn fixup to before after =
+    (insn : Insn) × (word : ℕ) × IsAt before fixup.place insn × (instruction_of word ≡ Ok (with_offset fixup.side (to - fixup.place - 1) insn)) × (after ≡ slice_set before fixup.place word)

@@ -3,7 +3,7 @@ use Rattle.std.specs.Prelude.{◌≡◌, [], List, None, length, ℕ}
 use Rattle.bpf_insn.specs.declared.instruction.Insn.{Insn}
 use Rattle.bpf_verify.specs.Accepted.{instruction_fault}
 use Rattle.backpatch.specs.Guards.{IsGuard}
-use Rattle.backpatch.specs.Holes.{IsLonger}
+use Rattle.backpatch.specs.Fixups.{IsLonger}
 use Rattle.backpatch.specs.Pieces.{AreInstructions, IsJump}
 
 -- the meaning of straight code: what the words behind it and those at its beginning have to do with each other

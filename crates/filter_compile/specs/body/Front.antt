@@ -14,7 +14,7 @@ use Rattle.packet_facts.specs.declared.known.Known.{Known}
 use Rattle.packet_facts.specs.Told.{ip_of, transport_of}
 use Rattle.filter_compile.specs.declared.front.Guard.{Guard}
 use Rattle.filter_compile.specs.declared.front.Guard.TheVariants.{Ports, Version}
-use Rattle.filter_compile.specs.body.Elsewhere.{begins_with_ip}
+use Rattle.filter_compile.specs.body.NonIpv4.{begins_with_ip}
 use Rattle.filter_compile.specs.body.Weight.{leads_to_ports, ports_weight_under}
 
 abbrev pub is_same : Transport → Transport → Bool

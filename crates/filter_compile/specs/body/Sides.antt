@@ -1,6 +1,6 @@
 -- What is known behind a guard, and behind a test that is known.
 use Rattle.std.specs.Prelude.{◌≡◌, List, None, Option, Some, ℕ}
-use Rattle.backpatch.specs.Holes.{Open}
+use Rattle.backpatch.specs.Fixups.{LabelValue}
 use Rattle.backpatch.specs.Pieces.{Writes}
 use Rattle.backpatch.specs.Runs.{GoesToYes}
 use Rattle.backpatch.specs.Guards.{Guards}
@@ -24,12 +24,12 @@ pub record IsSameButA (known other : Known) : Type 0 where
 
 -- a guard adds its test to those that were passed: behind it the new facts hold, and where it goes to no, or one before it does,
 -- the new ones there
-pub record Adds (truth : List ℕ → Truth) (weight : ℕ) (before after : List ℕ) (old new : Passed) (no_old no_new : Open) : Type 0 where
+pub record Adds (truth : List ℕ → Truth) (weight : ℕ) (before after : List ℕ) (old new : Passed) (no_old no_new : LabelValue) : Type 0 where
   pub guards : Guards (Tests (Holds old.on) (Holds new.on) (HoldsWhere new.no) truth) weight before after no_old no_new
   pub missed : (packet : List ℕ) (a x : ℕ) → HoldsWhere old.no packet a x → HoldsWhere new.no packet a x
 
--- a word that goes to the exit always, and the same is known on both sides
-pub record Leaves (known : Known) (sides : Sides) (before after : List ℕ) (old new : Open) : Type 0 where
-  pub writes : (other : Open) → Writes GoesToYes 1 before after old new other other
+-- a word that goes to the label always, and the same is known on both sides
+pub record BranchesAlways (known : Known) (sides : Sides) (before after : List ℕ) (old new : LabelValue) : Type 0 where
+  pub writes : (other : LabelValue) → Writes GoesToYes 1 before after old new other other
   pub yes : sides.yes ≡ known
   pub no : sides.no ≡ known

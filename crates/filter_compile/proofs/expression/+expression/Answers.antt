@@ -1,13 +1,13 @@
 use Rattle.std.proofs.Common.{◌∙◌, ◌+◌, ◌≤◌, Some, ap, arith, false, rules, true}
-use Rattle.backpatch.proofs.GuardLemmas.{Guards-landed, Guards-landed_no, Guards-writes}
-use Rattle.backpatch.proofs.WritesLemmas.{Writes-not, Writes-weight, landable, landable_no}
+use Rattle.backpatch.proofs.GuardLemmas.{Guards-bound, Guards-bound_no, Guards-writes}
+use Rattle.backpatch.proofs.WritesLemmas.{Writes-not, Writes-weight, bindable, bindable_no}
 use Rattle.filter_tree.specs.Measure.{weight_of}
 use Rattle.filter_tree.specs.Truth.{truth_of}
 use Rattle.filter_tree.specs.View.{tree_of}
 use Rattle.packet_facts.specs.Known.{Holds}
 use Rattle.filter_compile.specs.body.Front.{guard_weight}
 use Rattle.filter_compile.specs.body.Weight.{weight_under}
-use Rattle.filter_compile.proofs.ElsewhereLemmas.{Writes-no_elsewhere, Writes-yes_elsewhere, settled}
+use Rattle.filter_compile.proofs.NonIpv4Lemmas.{Writes-no_non_ipv4, Writes-yes_non_ipv4, settled}
 use Rattle.filter_compile.proofs.GuardLemmas.{Guards-writes_no}
 use Rattle.filter_compile.proofs.TestLemmas.{Tests-and, Tests-not, Tests-or}
 use Rattle.filter_compile.proofs.WeightLemmas.{weight_under-within}
@@ -42,14 +42,14 @@ behind_guard-parts-requires-2 g height c κs within =
 pub behind_guard-returns-then-front : goal.behind_guard-returns-then-front
 behind_guard-returns-then-front g height c =
     let guard = c.args.front.guard in let tree = tree_of c.args.expr.now in let passed = c.in_ok-passed.passed in let sides = c.in_ok-sides.sides in record {
-      writes = Writes-yes_elsewhere guard tree c.args.known passed.on passed.no (c.in_ok-passed.ensures.learned c.requires.may_ask) sides.yes c.or_no.result sides.no
+      writes = Writes-yes_non_ipv4 guard tree c.args.known passed.on passed.no (c.in_ok-passed.ensures.learned c.requires.may_ask) sides.yes c.or_no.result sides.no
           (settled guard c.args.known tree true c.requires.may_ask c.requires.begins (c.requires.settled ∙ ap Some c.if-front.true)) c.or_no.ensures.of_self c.or_no.ensures.of_no c.in_ok-passed.ensures.guards c.in_ok-sides.ensures.writes;
     }
 
 pub behind_guard-returns : goal.behind_guard-returns
 behind_guard-returns g height c =
     let guard = c.args.front.guard in let tree = tree_of c.args.expr.now in let passed = c.in_ok-passed-2.passed in let sides = c.in_ok-sides-2.sides in record {
-      writes = Writes-no_elsewhere guard tree c.args.known passed.on passed.no (c.in_ok-passed-2.ensures.learned c.requires.may_ask) sides.yes sides.no c.or_no-2.result
+      writes = Writes-no_non_ipv4 guard tree c.args.known passed.on passed.no (c.in_ok-passed-2.ensures.learned c.requires.may_ask) sides.yes sides.no c.or_no-2.result
           (settled guard c.args.known tree false c.requires.may_ask c.requires.begins (c.requires.settled ∙ ap Some c.if-front.false)) c.or_no-2.ensures.of_self c.or_no-2.ensures.of_no c.in_ok-passed-2.ensures.guards c.in_ok-sides-2.ensures.writes;
     }
 
@@ -105,20 +105,20 @@ disjunction-returns g height c =
           c.in_ok-first.ensures.guards (Writes-weight (weight_of right) (weight_under-within first.no right) c.in_ok-second.ensures.writes);
     }
 
-pub left_of_and-land-requires-clause-open : goal.left_of_and-land-requires-clause-open
-left_of_and-land-requires-clause-open g height c = landable c.exit-on.ensures.empty c.in_ok-sides.ensures.writes
+pub left_of_and-bind-requires-clause-open : goal.left_of_and-bind-requires-clause-open
+left_of_and-bind-requires-clause-open g height c = bindable c.label-on.ensures.empty c.in_ok-sides.ensures.writes
 
 pub left_of_and-returns : goal.left_of_and-returns
 left_of_and-returns g height c =
-    let by = c.exit-on.ensures.by in let behind = c.requires.behind in record {
-      guards = Guards-landed c.exit-on.ensures.empty (omega arith) c.in_ok-sides.ensures.writes c.land.ensures.landed;
+    let by = c.label-on.ensures.by in let behind = c.requires.behind in record {
+      guards = Guards-bound c.label-on.ensures.empty (omega arith) c.in_ok-sides.ensures.writes c.bind.ensures.bound;
     }
 
-pub left_of_or-land-requires-clause-open : goal.left_of_or-land-requires-clause-open
-left_of_or-land-requires-clause-open g height c = landable_no c.exit-on.ensures.empty c.in_ok-sides.ensures.writes
+pub left_of_or-bind-requires-clause-open : goal.left_of_or-bind-requires-clause-open
+left_of_or-bind-requires-clause-open g height c = bindable_no c.label-on.ensures.empty c.in_ok-sides.ensures.writes
 
 pub left_of_or-returns : goal.left_of_or-returns
 left_of_or-returns g height c =
-    let by = c.exit-on.ensures.by in let behind = c.requires.behind in record {
-      guards = Guards-landed_no c.exit-on.ensures.empty (omega arith) (λ at_no at_yes words h. h) c.in_ok-sides.ensures.writes c.land.ensures.landed;
+    let by = c.label-on.ensures.by in let behind = c.requires.behind in record {
+      guards = Guards-bound_no c.label-on.ensures.empty (omega arith) (λ at_no at_yes words h. h) c.in_ok-sides.ensures.writes c.bind.ensures.bound;
     }

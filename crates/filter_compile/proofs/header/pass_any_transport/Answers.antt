@@ -1,11 +1,11 @@
 use Rattle.std.proofs.Common.{arith}
-use Rattle.backpatch.proofs.GuardLemmas.{Guards-landed}
-use Rattle.backpatch.proofs.WritesLemmas.{landable}
+use Rattle.backpatch.proofs.GuardLemmas.{Guards-bound}
+use Rattle.backpatch.proofs.WritesLemmas.{bindable}
 use Rattle.filter_compile.proofs.header.pass_any_transport.Goals as goal
 
-pub land-requires-clause-open : goal.land-requires-clause-open
-land-requires-clause-open g c = landable c.exit-on.ensures.empty c.in_ok-is_any_transport.ensures.writes
+pub bind-requires-clause-open : goal.bind-requires-clause-open
+bind-requires-clause-open g c = bindable c.label-on.ensures.empty c.in_ok-is_any_transport.ensures.writes
 
 pub returns : goal.returns
 returns g c =
-    let by = c.exit-on.ensures.by in let long = c.len.ensures.length in let room = c.requires.behind in record { guards = Guards-landed c.exit-on.ensures.empty (omega arith) c.in_ok-is_any_transport.ensures.writes c.land.ensures.landed }
+    let by = c.label-on.ensures.by in let long = c.len.ensures.length in let room = c.requires.behind in record { guards = Guards-bound c.label-on.ensures.empty (omega arith) c.in_ok-is_any_transport.ensures.writes c.bind.ensures.bound }

@@ -7,8 +7,8 @@ use Rattle.filter_compile.proofs.header.pass_protocol.Goals as goal
 
 pub returns : goal.returns
 returns g c = record {
-  guards = on_ok_weaker c.pass.result
+  guards = on_ok_weaker c.branch_unless.result
       (λ w. Guards-weight 4 (omega arith) (Extends-guards (λ at_yes at_no mid words brings checks. Decides-protocol at_yes at_no mid words c.args.in_a (λ a. a == c.args.n) brings (Asks-checks true (λ a. a == c.args.n) (λ a x fits. refl) (λ a kept. refl) checks))
       c.in_ok-load.ensures.extends w))
-      c.pass.ensures.guards;
+      c.branch_unless.ensures.guards;
 }

@@ -18,7 +18,7 @@ use Rattle.filter_compile.proofs.primitive.primitive.Goals as goal
 pub returns-then-excludes : goal.returns-then-excludes
 returns-then-excludes g c = record {
   writes = IfOk-weaker c.settled.result _ _
-      (λ sides leaves. Writes-no c.args.known sides (truth_of_primitive c.args.primitive) (weight_of_primitive_under c.args.known c.args.primitive) c.args.yes.now (primitive_weight c.args.known c.args.primitive) (c.if-excludes.ensures.excluded refl) leaves) c.settled.ensures.leaves;
+      (λ sides branches_always. Writes-no c.args.known sides (truth_of_primitive c.args.primitive) (weight_of_primitive_under c.args.known c.args.primitive) c.args.yes.now (primitive_weight c.args.known c.args.primitive) (c.if-excludes.ensures.excluded refl) branches_always) c.settled.ensures.branches_always;
 }
 
 pub returns-in-Ip : goal.returns-in-Ip

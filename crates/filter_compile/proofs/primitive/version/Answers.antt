@@ -7,7 +7,7 @@ use Rattle.filter_compile.proofs.primitive.version.Goals as goal
 pub returns-then-not-must_ask : goal.returns-then-not-must_ask
 returns-then-not-must_ask g c = record {
   writes = IfOk-weaker c.settled.result _ _
-      (λ sides leaves. Writes-yes c.args.known sides is_ip 5 c.args.no.now (omega arith) (λ packet a x h. c.must_ask.ensures.left_out c.if-not-must_ask.true (is_ip packet) (c.ip.ensures.known packet a x h)) leaves) c.settled.ensures.leaves;
+      (λ sides branches_always. Writes-yes c.args.known sides is_ip 5 c.args.no.now (omega arith) (λ packet a x h. c.must_ask.ensures.left_out c.if-not-must_ask.true (is_ip packet) (c.ip.ensures.known packet a x h)) branches_always) c.settled.ensures.branches_always;
 }
 
 pub returns : goal.returns

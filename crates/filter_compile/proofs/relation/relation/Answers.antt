@@ -16,8 +16,8 @@ returns-then-excludes_guards g c =
     let left = arith_tree_of c.args.left.now in let right = arith_tree_of c.args.right.now in let tree = relation left c.args.relation right in let used = c.of_both-used.result in let told = c.of_both-used.ensures in
     let same = guards-used_by used (accesses_of_both left right) told.ip told.tcp told.udp told.icmp in let known = c.args.known in let weight = guards_weight-used_by known used (accesses_of_both left right) told.ip told.tcp told.udp told.icmp in record {
       writes = IfOk-weaker c.settled.result _ _
-          (λ sides leaves. Writes-no c.args.known sides (truth_of tree) (weight_under known tree) c.args.yes.now (relation_weight c.args.relation left right used same known weight)
-          (λ packet a x h. excluded_relation c.args.relation left right used same known weight packet (c.if-excludes_guards.ensures.excluded refl packet a x h)) leaves) c.settled.ensures.leaves;
+          (λ sides branches_always. Writes-no c.args.known sides (truth_of tree) (weight_under known tree) c.args.yes.now (relation_weight c.args.relation left right used same known weight)
+          (λ packet a x h. excluded_relation c.args.relation left right used same known weight packet (c.if-excludes_guards.ensures.excluded refl packet a x h)) branches_always) c.settled.ensures.branches_always;
     }
 
 pub returns : goal.returns

@@ -15,9 +15,9 @@ returns g c =
     let yes_told : Tells place yes.by far_yes = subst (λ by. Tells place by far_yes) c.by.ensures.by (record { if_far = c.is_far-far_yes.ensures.far; if_near = c.is_far-far_yes.ensures.near }) in
     let no_told : Tells place no.by far_no = subst (λ by. Tells place by far_no) c.by-2.ensures.by (record { if_far = c.is_far-far_no.ensures.far; if_near = c.is_far-far_no.ensures.near }) in
     record {
-      writes = branch_writes c.args.self.now c.push.new.self c.note.new.self c.note-2.new.self place c.if-far_yes.jf c.args.test c.args.operand yes c.note.new.exit no c.note-2.new.exit
+      writes = branch_writes c.args.self.now c.push.new.self c.note.new.self c.note-2.new.self place c.if-far_yes.jf c.args.test c.args.operand yes c.note.new.label no c.note-2.new.label
           begins c.in_ok-push.ensures.appended c.in_ok-note.ensures.by c.in_ok-note-2.ensures.by far_yes far_no yes_told no_told skip c.in_ok-note.ensures.noted c.in_ok-note-2.ensures.noted;
       words = rw (← begins)
-          (branch_words far_yes far_no place (JumpIf c.args.test c.args.operand (offsets 0 c.if-far_yes.jf)) c.args.self.now c.push.new.self c.note.new.self c.note-2.new.self yes c.note.new.exit no c.note-2.new.exit
+          (branch_words far_yes far_no place (JumpIf c.args.test c.args.operand (offsets 0 c.if-far_yes.jf)) c.args.self.now c.push.new.self c.note.new.self c.note-2.new.self yes c.note.new.label no c.note-2.new.label
           begins c.in_ok-push.ensures.appended yes_told no_told c.in_ok-note.ensures.noted c.in_ok-note-2.ensures.noted);
     }

@@ -2,7 +2,7 @@
 -- guard is known to hold, and its code behind the guard.
 use Rattle.std.proofs.Common.{◌≡◌, ◌∙◌, ◌+◌, ◌≤◌, Bool, List, None, Option, Some, ap, arith, false, inl, inr, refl, sym, true, ℕ, ⊎_elim}
 use Rattle.std.specs.Prelude.{◌⊎◌, ◌&&◌, if◌then◌else◌, not}
-use Rattle.backpatch.specs.Holes.{Open}
+use Rattle.backpatch.specs.Fixups.{LabelValue}
 use Rattle.backpatch.specs.Pieces.{Writes}
 use Rattle.backpatch.specs.Guards.{Guards}
 use Rattle.backpatch.proofs.WritesLemmas.{Writes-means, Writes-weight}
@@ -27,7 +27,7 @@ use Rattle.packet_facts.specs.Told.{transport_of}
 use Rattle.packet_facts.proofs.FactLemmas.{first_fragment_unknown}
 use Rattle.filter_compile.specs.declared.front.Guard.{Guard}
 use Rattle.filter_compile.specs.declared.front.Guard.TheVariants.{Ports, Version}
-use Rattle.filter_compile.specs.body.Elsewhere.{accesses_elsewhere, and_elsewhere, begins_with_ip, elsewhere, is_ip_primitive, not_elsewhere, or_elsewhere, primitive_elsewhere}
+use Rattle.filter_compile.specs.body.NonIpv4.{accesses_non_ipv4, and_non_ipv4, begins_with_ip, is_ip_primitive, non_ipv4, not_non_ipv4, or_non_ipv4, primitive_non_ipv4}
 use Rattle.filter_compile.specs.body.Front.{BeginsWith, IsLearned, MayAsk, guard_truth, guard_weight, has_only_ports, is_ports, is_same}
 use Rattle.filter_compile.specs.body.Header.{weight_of_transport}
 use Rattle.filter_compile.specs.body.Piece.{Tests}
@@ -39,17 +39,17 @@ use Rattle.filter_compile.proofs.WeightLemmas.{ports_few, ports_weight-asked, po
 
 -- ---- the parts that settle it
 
-not_told : (told : Option Bool) (b : Bool) → not_elsewhere told ≡ Some b → (c : Bool) × (told ≡ Some c) × (not c ≡ b)
+not_told : (told : Option Bool) (b : Bool) → not_non_ipv4 told ≡ Some b → (c : Bool) × (told ≡ Some c) × (not c ≡ b)
 not_told None b is = cc
 not_told (Some c) b is = (c, refl, cc)
 
 -- the left part leads past the right one, or to it
-and_told : (left right : Option Bool) (b : Bool) → and_elsewhere left right ≡ Some b → ((left ≡ Some false) × (false ≡ b)) ⊎ ((left ≡ Some true) × (right ≡ Some b))
+and_told : (left right : Option Bool) (b : Bool) → and_non_ipv4 left right ≡ Some b → ((left ≡ Some false) × (false ≡ b)) ⊎ ((left ≡ Some true) × (right ≡ Some b))
 and_told None right b is = cc
 and_told (Some false) right b is = inl (refl, cc)
 and_told (Some true) right b is = inr (refl, is)
 
-or_told : (left right : Option Bool) (b : Bool) → or_elsewhere left right ≡ Some b → ((left ≡ Some true) × (true ≡ b)) ⊎ ((left ≡ Some false) × (right ≡ Some b))
+or_told : (left right : Option Bool) (b : Bool) → or_non_ipv4 left right ≡ Some b → ((left ≡ Some true) × (true ≡ b)) ⊎ ((left ≡ Some false) × (right ≡ Some b))
 or_told None right b is = cc
 or_told (Some true) right b is = inl (refl, cc)
 or_told (Some false) right b is = inr (refl, is)
@@ -79,14 +79,14 @@ both_true : (one other : Bool) → (one && other) ≡ true → (one ≡ true) ×
 both_true true other is = (refl, is)
 both_true false other is = cc
 
--- ---- what is said elsewhere
+-- ---- what is said of packets that are not IPv4
 
 -- the truth of a tree on packets that fail a guard, and that it fails where the guard does
 pub record IsSaid (guard : Guard) (tree : Tree) (b : Bool) : Type 0 where
   pub no : (packet : List ℕ) → guard_truth guard packet ≡ No → truth_of tree packet ≡ answer b
   pub fails : (packet : List ℕ) → guard_truth guard packet ≡ Fails → truth_of tree packet ≡ Fails
 
-said_version : (p : Primitive) (b : Bool) → primitive_elsewhere p ≡ Some b → IsSaid Version (primitive p) b
+said_version : (p : Primitive) (b : Bool) → primitive_non_ipv4 p ≡ Some b → IsSaid Version (primitive p) b
 said_version Ip b is = let e : false ≡ b = cc in record { no = λ packet none. rw none (ap answer e); fails = λ packet none. none }
 said_version (Proto n) b is = let e : false ≡ b = cc in record { no = λ packet none. rw none (ap answer e); fails = λ packet none. rw none refl }
 said_version (Host direction address) b is = let e : false ≡ b = cc in record { no = λ packet none. rw none (ap answer e); fails = λ packet none. rw none refl }
@@ -99,7 +99,7 @@ said_version (AtLeast n) b is = cc
 other_ports : (transport other : Transport) (t : Truth) (packet : List ℕ) → transport ≡ other → guard_truth (Ports transport) packet ≡ t → guard_truth (Ports other) packet ≡ t
 other_ports transport other t packet same is = ap (λ k. guard_truth (Ports k) packet) (sym same) ∙ is
 
-said_ports : (transport : Transport) (p : Primitive) (b : Bool) → is_ports transport p ≡ true → primitive_elsewhere p ≡ Some b → IsSaid (Ports transport) (primitive p) b
+said_ports : (transport : Transport) (p : Primitive) (b : Bool) → is_ports transport p ≡ true → primitive_non_ipv4 p ≡ Some b → IsSaid (Ports transport) (primitive p) b
 said_ports transport Ip b only is = cc
 said_ports transport (Proto n) b only is = cc
 said_ports transport (Host direction address) b only is = cc
@@ -132,7 +132,7 @@ only_inner : (guard : Guard) (tree : Tree) → HasOnly guard (negation tree) →
 only_inner Version tree only = tt
 only_inner (Ports transport) tree only = only
 
-said_primitive : (guard : Guard) (p : Primitive) (b : Bool) → HasOnly guard (primitive p) → primitive_elsewhere p ≡ Some b → IsSaid guard (primitive p) b
+said_primitive : (guard : Guard) (p : Primitive) (b : Bool) → HasOnly guard (primitive p) → primitive_non_ipv4 p ≡ Some b → IsSaid guard (primitive p) b
 said_primitive Version p b only is = said_version p b is
 said_primitive (Ports transport) p b only is = said_ports transport p b only is
 
@@ -141,7 +141,7 @@ begins : (any : Bool) (first t u v w other : Truth) → any ≡ true → first �
 begins true first t u v w other is same = ap (λ s. s and_then t and_then u and_then v and_then w) same
 begins false first t u v w other is same = absurd cc
 
-said_relation : (guard : Guard) (left : ArithTree) (relator : Relation) (right : ArithTree) (b : Bool) → HasOnly guard (relation left relator right) → accesses_elsewhere (accesses_of_both left right) ≡ Some b → IsSaid guard (relation left relator right) b
+said_relation : (guard : Guard) (left : ArithTree) (relator : Relation) (right : ArithTree) (b : Bool) → HasOnly guard (relation left relator right) → accesses_non_ipv4 (accesses_of_both left right) ≡ Some b → IsSaid guard (relation left relator right) b
 said_relation Version left relator right b only is =
     let used = accesses_of_both left right in let told = any_told (any_accessor used) b is in record {
       no = λ packet none. ap (λ t. t and_then compared relator (value_of_arith left packet) (value_of_arith right packet)) (begins (any_accessor used) (is_ip packet) _ _ _ _ No told.0 none) ∙ ap answer told.1;
@@ -149,42 +149,42 @@ said_relation Version left relator right b only is =
     }
 said_relation (Ports transport) left relator right b only is = absurd cc
 
-said : (guard : Guard) (tree : Tree) (b : Bool) → HasOnly guard tree → elsewhere tree ≡ Some b → IsSaid guard tree b
+said : (guard : Guard) (tree : Tree) (b : Bool) → HasOnly guard tree → non_ipv4 tree ≡ Some b → IsSaid guard tree b
 said guard (primitive p) b only is = said_primitive guard p b only is
 said guard (relation left relator right) b only is = said_relation guard left relator right b only is
 said guard (negation tree) b only is =
-    let told = not_told (elsewhere tree) b is in let part = said guard tree told.0 (only_inner guard tree only) told.1 in record {
+    let told = not_told (non_ipv4 tree) b is in let part = said guard tree told.0 (only_inner guard tree only) told.1 in record {
       no = λ packet none. ap opposite (part.no packet none) ∙ (opposite_answer told.0 ∙ ap answer told.2);
       fails = λ packet none. ap opposite (part.fails packet none);
     }
 said guard (conjunction left right) b only is =
     let parts = only_both guard left right only in
     ⊎_elim
-    (λ (past : (elsewhere left ≡ Some false) × (false ≡ b)). let part = said guard left false parts.0 past.0 in record {
+    (λ (past : (non_ipv4 left ≡ Some false) × (false ≡ b)). let part = said guard left false parts.0 past.0 in record {
       no = λ packet none. ap (λ t. t and_then truth_of right packet) (part.no packet none) ∙ ap answer past.1;
       fails = λ packet none. ap (λ t. t and_then truth_of right packet) (part.fails packet none);
     })
-    (λ (on : (elsewhere left ≡ Some true) × (elsewhere right ≡ Some b)). let part = said guard left true parts.0 on.0 in record {
+    (λ (on : (non_ipv4 left ≡ Some true) × (non_ipv4 right ≡ Some b)). let part = said guard left true parts.0 on.0 in record {
       no = λ packet none. ap (λ t. t and_then truth_of right packet) (part.no packet none) ∙ (said guard right b parts.1 on.1).no packet none;
       fails = λ packet none. ap (λ t. t and_then truth_of right packet) (part.fails packet none);
     })
-    (and_told (elsewhere left) (elsewhere right) b is)
+    (and_told (non_ipv4 left) (non_ipv4 right) b is)
 said guard (disjunction left right) b only is =
     let parts = only_either guard left right only in
     ⊎_elim
-    (λ (past : (elsewhere left ≡ Some true) × (true ≡ b)). let part = said guard left true parts.0 past.0 in record {
+    (λ (past : (non_ipv4 left ≡ Some true) × (true ≡ b)). let part = said guard left true parts.0 past.0 in record {
       no = λ packet none. ap (λ t. t or_else truth_of right packet) (part.no packet none) ∙ ap answer past.1;
       fails = λ packet none. ap (λ t. t or_else truth_of right packet) (part.fails packet none);
     })
-    (λ (on : (elsewhere left ≡ Some false) × (elsewhere right ≡ Some b)). let part = said guard left false parts.0 on.0 in record {
+    (λ (on : (non_ipv4 left ≡ Some false) × (non_ipv4 right ≡ Some b)). let part = said guard left false parts.0 on.0 in record {
       no = λ packet none. ap (λ t. t or_else truth_of right packet) (part.no packet none) ∙ (said guard right b parts.1 on.1).no packet none;
       fails = λ packet none. ap (λ t. t or_else truth_of right packet) (part.fails packet none);
     })
-    (or_told (elsewhere left) (elsewhere right) b is)
+    (or_told (non_ipv4 left) (non_ipv4 right) b is)
 
 -- ---- what is saved where the guard is known to hold
 
-left_told : (left right : Option Bool) (b : Bool) → and_elsewhere left right ≡ Some b ⊎ or_elsewhere left right ≡ Some b → (c : Bool) × (left ≡ Some c)
+left_told : (left right : Option Bool) (b : Bool) → and_non_ipv4 left right ≡ Some b ⊎ or_non_ipv4 left right ≡ Some b → (c : Bool) × (left ≡ Some c)
 left_told None right b is = ⊎_elim (λ (h : None ≡ Some b). cc) (λ (h : None ≡ Some b). cc) is
 left_told (Some c) right b is = (c, refl)
 
@@ -213,7 +213,7 @@ module _ (known : Known) (may_ask : MayAsk Version known) where
   known_ports : (on : Known) → IsLearned Version on → (transport : Transport) → ports_weight_under on transport ≤ weight_of_transport transport + 4
   known_ports on learned transport = let few = ports_few on transport in let v = known_version on learned in omega arith
 
-  room_of_version : (p : Primitive) (b : Bool) → primitive_elsewhere p ≡ Some b → is_ip_primitive p ≡ false → HasRoom Version known (primitive p)
+  room_of_version : (p : Primitive) (b : Bool) → primitive_non_ipv4 p ≡ Some b → is_ip_primitive p ≡ false → HasRoom Version known (primitive p)
   room_of_version Ip b is other = cc
   room_of_version (Proto n) b is other = let v = unknown_version in record { test = omega arith; rest = λ on learned. let w = known_version on learned in omega arith }
   room_of_version (Host direction address) b is other = let v = unknown_version in record { test = omega arith; rest = λ on learned. let w = known_version on learned in omega arith }
@@ -227,18 +227,18 @@ module _ (known : Known) (may_ask : MayAsk Version known) where
   guards_of_version true is v = refl
   guards_of_version false is v = absurd cc
 
-  room_for_version : (tree : Tree) (b : Bool) → elsewhere tree ≡ Some b → begins_with_ip tree ≡ false → HasRoom Version known tree
+  room_for_version : (tree : Tree) (b : Bool) → non_ipv4 tree ≡ Some b → begins_with_ip tree ≡ false → HasRoom Version known tree
   room_for_version (primitive p) b is other = room_of_version p b is other
   room_for_version (relation left relator right) b is other =
       let any = any_accessor (accesses_of_both left right) in let told = (any_told any b is).0 in let v = unknown_version in let whole = guards_of_version any told (version_weight_under known) in record {
         test = omega arith;
         rest = λ on learned. let w = known_version on learned in let none = guards_of_version any told (version_weight_under on) in omega arith;
       }
-  room_for_version (negation tree) b is other = let told = not_told (elsewhere tree) b is in HasRoom-more Version known tree (negation tree) 0 (λ k. omega arith) (room_for_version tree told.0 told.1 other)
+  room_for_version (negation tree) b is other = let told = not_told (non_ipv4 tree) b is in HasRoom-more Version known tree (negation tree) 0 (λ k. omega arith) (room_for_version tree told.0 told.1 other)
   room_for_version (conjunction left right) b is other =
-      let told = left_told (elsewhere left) (elsewhere right) b (inl is) in HasRoom-more Version known left (conjunction left right) (weight_of right) (λ k. refl) (room_for_version left told.0 told.1 other)
+      let told = left_told (non_ipv4 left) (non_ipv4 right) b (inl is) in HasRoom-more Version known left (conjunction left right) (weight_of right) (λ k. refl) (room_for_version left told.0 told.1 other)
   room_for_version (disjunction left right) b is other =
-      let told = left_told (elsewhere left) (elsewhere right) b (inr is) in HasRoom-more Version known left (disjunction left right) (weight_of right) (λ k. refl) (room_for_version left told.0 told.1 other)
+      let told = left_told (non_ipv4 left) (non_ipv4 right) b (inr is) in HasRoom-more Version known left (disjunction left right) (weight_of right) (λ k. refl) (room_for_version left told.0 told.1 other)
 
 module _ (transport : Transport) (known : Known) where
   known_same : (other : Transport) → transport ≡ other → (on : Known) → IsLearned (Ports transport) on → ports_weight_under on other ≡ 0
@@ -273,7 +273,7 @@ pub record IsSettled (guard : Guard) (known : Known) (tree : Tree) (b : Bool) : 
   pub said : IsSaid guard tree b
   pub room : HasRoom guard known tree
 
-pub settled : (guard : Guard) (known : Known) (tree : Tree) (b : Bool) → MayAsk guard known → BeginsWith guard tree → elsewhere tree ≡ Some b → IsSettled guard known tree b
+pub settled : (guard : Guard) (known : Known) (tree : Tree) (b : Bool) → MayAsk guard known → BeginsWith guard tree → non_ipv4 tree ≡ Some b → IsSettled guard known tree b
 settled Version known tree b may_ask begins is = record { said = said Version tree b tt is; room = room_for_version known may_ask tree b is begins }
 settled (Ports transport) known tree b may_ask begins is = record { said = said (Ports transport) tree b begins is; room = room_for_ports transport known tree begins }
 
@@ -291,18 +291,18 @@ yes_first guard tree is Fails packet first = sym (is.fails packet first)
 
 module _ (guard : Guard) (tree : Tree) (known on : Known) (missed : Option Known) (learned : IsLearned guard on) {c0 c1 c2 : List ℕ} where
   -- packets that fail it go to no
-  pub Writes-no_elsewhere : (if_yes second_no if_no : Known) {y y' n n' n'' : Open} → IsSettled guard known tree false → ((packet : List ℕ) (a x : ℕ) → HoldsWhere missed packet a x → Holds if_no packet a x) → ((packet : List ℕ) (a x : ℕ) → Holds second_no packet a x → Holds if_no packet a x)
+  pub Writes-no_non_ipv4 : (if_yes second_no if_no : Known) {y y' n n' n'' : LabelValue} → IsSettled guard known tree false → ((packet : List ℕ) (a x : ℕ) → HoldsWhere missed packet a x → Holds if_no packet a x) → ((packet : List ℕ) (a x : ℕ) → Holds second_no packet a x → Holds if_no packet a x)
       → Guards (Tests (Holds known) (Holds on) (HoldsWhere missed) (guard_truth guard)) (guard_weight guard known) c0 c1 n n' → Writes (Tests (Holds on) (Holds if_yes) (Holds second_no) (truth_of tree)) (weight_under on tree) c1 c2 y y' n' n''
       → Writes (Tests (Holds known) (Holds if_yes) (Holds if_no) (truth_of tree)) (weight_under known tree) c0 c2 y y' n n''
-  Writes-no_elsewhere if_yes second_no if_no is of_self of_no guards writes = Writes-means
+  Writes-no_non_ipv4 if_yes second_no if_no is of_self of_no guards writes = Writes-means
       (λ at_yes at_no words h. Tests-same (Holds known) (Holds if_yes) (Holds if_no) (λ packet. guard_truth guard packet and_then truth_of tree packet) (truth_of tree) at_yes at_no words (λ packet a x ok g. no_first guard tree is.said (guard_truth guard packet) packet refl) h)
       (Writes-guarded known on if_yes second_no if_no missed (guard_truth guard) (truth_of tree) (weight_under known tree) (is.room.rest on learned) of_self of_no guards writes)
 
   -- they go to yes
-  pub Writes-yes_elsewhere : (second_yes if_yes if_no : Known) {y y' y'' n n' : Open} → IsSettled guard known tree true → ((packet : List ℕ) (a x : ℕ) → HoldsWhere missed packet a x → Holds if_yes packet a x) → ((packet : List ℕ) (a x : ℕ) → Holds second_yes packet a x → Holds if_yes packet a x)
+  pub Writes-yes_non_ipv4 : (second_yes if_yes if_no : Known) {y y' y'' n n' : LabelValue} → IsSettled guard known tree true → ((packet : List ℕ) (a x : ℕ) → HoldsWhere missed packet a x → Holds if_yes packet a x) → ((packet : List ℕ) (a x : ℕ) → Holds second_yes packet a x → Holds if_yes packet a x)
       → Guards (Tests (Holds known) (Holds on) (HoldsWhere missed) (guard_truth guard)) (guard_weight guard known) c0 c1 y y' → Writes (Tests (Holds on) (Holds second_yes) (Holds if_no) (truth_of tree)) (weight_under on tree) c1 c2 y' y'' n n'
       → Writes (Tests (Holds known) (Holds if_yes) (Holds if_no) (truth_of tree)) (weight_under known tree) c0 c2 y y'' n n'
-  Writes-yes_elsewhere second_yes if_yes if_no is of_self of_yes guards writes = Writes-weight (weight_under known tree) (is.room.rest on learned)
+  Writes-yes_non_ipv4 second_yes if_yes if_no is of_self of_yes guards writes = Writes-weight (weight_under known tree) (is.room.rest on learned)
       (Guards-writes_no {one = λ at_yes at_no words. Tests (Holds known) (Holds on) (HoldsWhere missed) (guard_truth guard) at_no at_yes words} {both = Tests (Holds known) (Holds if_yes) (Holds if_no) (truth_of tree)}
       (λ at_yes at_no mid words h k. Tests-same (Holds known) (Holds if_yes) (Holds if_no) (λ packet. opposite (guard_truth guard packet) or_else truth_of tree packet) (truth_of tree) at_yes at_no words (λ packet a x ok g. yes_first guard tree is.said (guard_truth guard packet) packet refl)
       (Tests-or (Holds known) (Holds on) (Holds if_no) (HoldsWhere missed) (Holds second_yes) (Holds if_yes) (λ packet. opposite (guard_truth guard packet)) (truth_of tree) of_self of_yes at_yes at_no mid words k

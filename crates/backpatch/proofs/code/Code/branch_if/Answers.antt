@@ -2,11 +2,11 @@ use Rattle.std.proofs.Common.{subst, ◌≡◌}
 use Rattle.std.specs.Prelude.{if◌then◌else◌}
 use Rattle.bpf_insn.specs.declared.instruction.Insn.TheVariants.{JumpIf}
 use Rattle.bpf_insn.specs.Table.{offsets}
-use Rattle.backpatch.specs.declared.hole.Side.TheVariants.{WhenTrue}
-use Rattle.backpatch.proofs.BranchLemmas.{Tells, pass_words}
-use Rattle.backpatch.proofs.PassLemmas.{divert_guards, skip_none, skip_over}
-use Rattle.backpatch.proofs.code.Code.divert.Goals as goal
-use Rattle.backpatch.proofs.code.Code.divert.Goals.{else-far, then-far}
+use Rattle.backpatch.specs.declared.fixup.Side.TheVariants.{WhenTrue}
+use Rattle.backpatch.proofs.BranchLemmas.{Tells, fall_through_words}
+use Rattle.backpatch.proofs.FallThroughLemmas.{branch_if_guards, skip_none, skip_over}
+use Rattle.backpatch.proofs.code.Code.branch_if.Goals as goal
+use Rattle.backpatch.proofs.code.Code.branch_if.Goals.{else-far, then-far}
 
 pub returns : goal.returns
 returns g c =
@@ -16,8 +16,8 @@ returns g c =
       | else-far w ↦ skip_none c.if-far.jf far w.if-far.false w.jf-is
     ] in
     let told : Tells place yes.by far = subst (λ by. Tells place by far) c.by.ensures.by (record { if_far = c.is_far-far.ensures.far; if_near = c.is_far-far.ensures.near }) in record {
-      guards = divert_guards c.args.self.now c.push.new.self c.note.new.self place c.if-far.jf c.args.test c.args.operand yes c.note.new.exit
+      guards = branch_if_guards c.args.self.now c.push.new.self c.note.new.self place c.if-far.jf c.args.test c.args.operand yes c.note.new.label
           c.len-place.ensures.length c.in_ok-note.ensures.by far told skip c.in_ok-push.ensures.appended c.in_ok-note.ensures.noted;
       words = rw (← c.len-place.ensures.length)
-          (pass_words far place WhenTrue (JumpIf c.args.test c.args.operand (offsets 0 c.if-far.jf)) c.args.self.now c.push.new.self c.note.new.self yes c.note.new.exit c.len-place.ensures.length c.in_ok-push.ensures.appended told c.in_ok-note.ensures.noted);
+          (fall_through_words far place WhenTrue (JumpIf c.args.test c.args.operand (offsets 0 c.if-far.jf)) c.args.self.now c.push.new.self c.note.new.self yes c.note.new.label c.len-place.ensures.length c.in_ok-push.ensures.appended told c.in_ok-note.ensures.noted);
     }

@@ -4,13 +4,13 @@
 ghost use Rattle.std.specs.Prelude.{◌≡◌};
 ghost use Rattle.filter_tree.specs.Truth.{used_by};
 ghost use Rattle.filter_tree.specs.View.{tree_of};
-ghost use Rattle.filter_compile.specs.body.Elsewhere.{accesses_elsewhere, begins_with_ip, elsewhere, not_elsewhere, primitive_elsewhere};
+ghost use Rattle.filter_compile.specs.body.NonIpv4.{accesses_non_ipv4, begins_with_ip, non_ipv4, not_non_ipv4, primitive_non_ipv4};
 
 use filter_tree::{Accesses, Expr, Primitive};
 use std::alloc::Allocator;
 
-fn primitive_elsewhere(primitive: Primitive) -> Option<bool>
-    ensures { result ≡ primitive_elsewhere primitive }
+fn primitive_non_ipv4(primitive: Primitive) -> Option<bool>
+    ensures { result ≡ primitive_non_ipv4 primitive }
 {
     match primitive {
         Primitive::AtMost(_) => None,
@@ -19,14 +19,14 @@ fn primitive_elsewhere(primitive: Primitive) -> Option<bool>
     }
 }
 
-fn accesses_elsewhere(used: Accesses) -> Option<bool>
-    ensures { result ≡ accesses_elsewhere (used_by used) }
+fn accesses_non_ipv4(used: Accesses) -> Option<bool>
+    ensures { result ≡ accesses_non_ipv4 (used_by used) }
 {
     if used.any() { Some(false) } else { None }
 }
 
 fn opposite(told: Option<bool>) -> Option<bool>
-    ensures { result ≡ not_elsewhere told }
+    ensures { result ≡ not_non_ipv4 told }
 {
     match told {
         Some(truth) => Some(!truth),
@@ -35,19 +35,19 @@ fn opposite(told: Option<bool>) -> Option<bool>
 }
 
 /// The right part counts where the left one leads on to it.
-pub(crate) fn elsewhere<B: Allocator>(expr: &Expr<B>) -> Option<bool>
-    ensures { result ≡ elsewhere (tree_of expr.now) }
+pub(crate) fn non_ipv4<B: Allocator>(expr: &Expr<B>) -> Option<bool>
+    ensures { result ≡ non_ipv4 (tree_of expr.now) }
 {
     match expr {
-        Expr::Primitive(primitive) => primitive_elsewhere(*primitive),
-        Expr::Relation(left, _, right) => accesses_elsewhere(Accesses::of_both(left, right)),
-        Expr::Not(inner) => opposite(elsewhere(inner)),
-        Expr::And(left, right) => match elsewhere(left) {
-            Some(true) => elsewhere(right),
+        Expr::Primitive(primitive) => primitive_non_ipv4(*primitive),
+        Expr::Relation(left, _, right) => accesses_non_ipv4(Accesses::of_both(left, right)),
+        Expr::Not(inner) => opposite(non_ipv4(inner)),
+        Expr::And(left, right) => match non_ipv4(left) {
+            Some(true) => non_ipv4(right),
             told => told,
         },
-        Expr::Or(left, right) => match elsewhere(left) {
-            Some(false) => elsewhere(right),
+        Expr::Or(left, right) => match non_ipv4(left) {
+            Some(false) => non_ipv4(right),
             told => told,
         },
     }

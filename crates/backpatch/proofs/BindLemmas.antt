@@ -1,14 +1,14 @@
--- What stands behind a landing, and behind words that were written.
+-- What stands behind a binding, and behind words that were written.
 use Rattle.std.proofs.Common.{◌≡◌, ◌+◌, ◌++◌, ◌∷◌, ◌<◌, ◌≤◌, List, Some, [], ap, arith, length, length-append, refl, subst, suc, sym, zero, ℕ, ⊎_elim}
 use Rattle.std.specs.Prelude.{Contains, slice_get}
 use Rattle.std.proofs.lemmas.Bool.{cases_lt}
 use Rattle.std.proofs.lemmas.Option.{slice_get_within}
 use Rattle.bpf_insn.specs.declared.instruction.Insn.{Insn}
 use Rattle.bpf_verify.specs.Path.{IsAt}
-use Rattle.backpatch.specs.declared.hole.Hole.{Hole}
-use Rattle.backpatch.specs.declared.hole.Side.{Side}
-use Rattle.backpatch.specs.declared.hole.Side.TheVariants.{Always, WhenFalse, WhenTrue}
-use Rattle.backpatch.specs.Holes.{AreOpen, CanReach, HasJump, IsAppended, IsHole, IsLanded, IsLonger, shape_of}
+use Rattle.backpatch.specs.declared.fixup.Fixup.{Fixup}
+use Rattle.backpatch.specs.declared.fixup.Side.{Side}
+use Rattle.backpatch.specs.declared.fixup.Side.TheVariants.{Always, WhenFalse, WhenTrue}
+use Rattle.backpatch.specs.Fixups.{AreOpen, CanReach, HasJump, IsAppended, IsBound, IsFixup, IsLonger, shape_of}
 use Rattle.backpatch.specs.Pieces.{AreInstructions, HasFarJumpsOnly, IsFarFrom, IsJump}
 use Rattle.backpatch.proofs.ShapeLemmas.{has_as, jump_as, same_insn}
 
@@ -49,38 +49,38 @@ appended_long insn before after does = omega (arith, ap length does.2, length-ap
 pub longer_both : (c0 c1 c2 : List ℕ) → IsLonger c0 c1 → IsLonger c1 c2 → IsLonger c0 c2
 longer_both c0 c1 c2 one two pc insn at = two pc insn (one pc insn at)
 
--- ---- what a landing keeps
+-- ---- what a binding keeps
 
-module _ (holes : List Hole) (code landed : List ℕ) (lands : IsLanded holes code landed) where
+module _ (fixups : List Fixup) (code bound : List ℕ) (binds : IsBound fixups code bound) where
   -- the instruction at a place has the same shape
-  pub landed_at : (pc : ℕ) (insn : Insn) → IsAt code pc insn → (later : Insn) × IsAt landed pc later × (shape_of later ≡ shape_of insn)
-  landed_at pc insn at = let s = lands.stands pc (omega arith) (at_within code pc insn at) insn at in (s.0, s.1, s.2)
+  pub bound_at : (pc : ℕ) (insn : Insn) → IsAt code pc insn → (later : Insn) × IsAt bound pc later × (shape_of later ≡ shape_of insn)
+  bound_at pc insn at = let s = binds.stands pc (omega arith) (at_within code pc insn at) insn at in (s.0, s.1, s.2)
 
-  -- an instruction that has no hole is kept
-  pub kept_at : (pc : ℕ) (insn : Insn) → ((side : Side) → ¬ IsHole holes pc side) → IsAt code pc insn → IsAt landed pc insn
+  -- an instruction that has no fixup is kept
+  pub kept_at : (pc : ℕ) (insn : Insn) → ((side : Side) → ¬ IsFixup fixups pc side) → IsAt code pc insn → IsAt bound pc insn
   kept_at pc insn none at =
-      let s = lands.stands pc (omega arith) (at_within code pc insn at) insn at in
-      subst (IsAt landed pc) (same_insn s.0 insn s.2 (λ side. ⊎_elim (λ waits. absurd (none side waits)) (λ same. same) (s.3 side))) s.1
+      let s = binds.stands pc (omega arith) (at_within code pc insn at) insn at in
+      subst (IsAt bound pc) (same_insn s.0 insn s.2 (λ side. ⊎_elim (λ waits. absurd (none side waits)) (λ same. same) (s.3 side))) s.1
 
-  -- words in front of the holes are kept
-  pub longer_landed : (front : List ℕ) → ((hole : Hole) → Contains holes hole → length front ≤ hole.place) → IsLonger front code → IsLonger front landed
-  longer_landed front behind grows pc insn at =
+  -- words in front of the fixups are kept
+  pub longer_bound : (front : List ℕ) → ((fixup : Fixup) → Contains fixups fixup → length front ≤ fixup.place) → IsLonger front code → IsLonger front bound
+  longer_bound front behind grows pc insn at =
       let low = at_within front pc insn at in kept_at pc insn (λ side waits. let up = behind _ waits in absurd (omega arith)) (grows pc insn at)
 
-  pub jump_landed : (place : ℕ) (side : Side) → HasJump code place side → HasJump landed place side
-  jump_landed place side h = let s = landed_at place h.0 h.2 in let j = has_as side h.1 h.0 s.0 s.2 h.3 in (s.0, j.0, s.1, j.1)
+  pub jump_bound : (place : ℕ) (side : Side) → HasJump code place side → HasJump bound place side
+  jump_bound place side h = let s = bound_at place h.0 h.2 in let j = has_as side h.1 h.0 s.0 s.2 h.3 in (s.0, j.0, s.1, j.1)
 
-  pub open_landed : (others : List Hole) (by : ℕ) → AreOpen others by code → AreOpen others by landed
-  open_landed others by h hole is = let o = h hole is in (jump_landed hole.place hole.side o.0, o.1)
+  pub open_bound : (others : List Fixup) (by : ℕ) → AreOpen others by code → AreOpen others by bound
+  open_bound others by h fixup is = let o = h fixup is in (jump_bound fixup.place fixup.side o.0, o.1)
 
-  pub far_landed : (last from until : ℕ) → HasFarJumpsOnly last from until code → HasFarJumpsOnly last from until landed
-  far_landed last from until h pc low high =
-      let i = h pc low high in let s = landed_at pc i.0 i.1 in (s.0, s.1, λ is. i.2 (jump_as i.0 s.0 s.2 is))
+  pub far_bound : (last from until : ℕ) → HasFarJumpsOnly last from until code → HasFarJumpsOnly last from until bound
+  far_bound last from until h pc low high =
+      let i = h pc low high in let s = bound_at pc i.0 i.1 in (s.0, s.1, λ is. i.2 (jump_as i.0 s.0 s.2 is))
 
 -- ---- what words that are written behind keep
 
-pub open_longer : (code longer : List ℕ) → IsLonger code longer → (holes : List Hole) (by : ℕ) → AreOpen holes by code → AreOpen holes by longer
-open_longer code longer grows holes by h hole is = let o = h hole is in let j = o.0 in ((j.0, j.1, grows hole.place j.0 j.2, j.3), o.1)
+pub open_longer : (code longer : List ℕ) → IsLonger code longer → (fixups : List Fixup) (by : ℕ) → AreOpen fixups by code → AreOpen fixups by longer
+open_longer code longer grows fixups by h fixup is = let o = h fixup is in let j = o.0 in ((j.0, j.1, grows fixup.place j.0 j.2, j.3), o.1)
 
 pub each_longer : (so : ℕ → Insn → Type 0) (code longer : List ℕ) → IsLonger code longer → (from until : ℕ) → AreInstructions so from until code → AreInstructions so from until longer
 each_longer so code longer grows from until h pc low high = let i = h pc low high in (i.0, grows pc i.0 i.1, i.2)

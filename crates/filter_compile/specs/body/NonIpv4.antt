@@ -7,40 +7,40 @@ use Rattle.filter_tree.specs.declared.primitive.Primitive.TheVariants.{AtLeast, 
 use Rattle.filter_tree.specs.Tree.{Tree, conjunction, disjunction, negation, primitive, relation}
 use Rattle.filter_tree.specs.Truth.{accesses_of_both, any_accessor}
 
-abbrev pub primitive_elsewhere : Primitive → Option Bool
-primitive_elsewhere Ip = Some false
-primitive_elsewhere (Proto n) = Some false
-primitive_elsewhere (Host direction address) = Some false
-primitive_elsewhere (Net direction prefix) = Some false
-primitive_elsewhere (Port transport direction n) = Some false
-primitive_elsewhere (PortRange transport direction n m) = Some false
-primitive_elsewhere (AtMost n) = None
-primitive_elsewhere (AtLeast n) = None
+abbrev pub primitive_non_ipv4 : Primitive → Option Bool
+primitive_non_ipv4 Ip = Some false
+primitive_non_ipv4 (Proto n) = Some false
+primitive_non_ipv4 (Host direction address) = Some false
+primitive_non_ipv4 (Net direction prefix) = Some false
+primitive_non_ipv4 (Port transport direction n) = Some false
+primitive_non_ipv4 (PortRange transport direction n m) = Some false
+primitive_non_ipv4 (AtMost n) = None
+primitive_non_ipv4 (AtLeast n) = None
 
 -- a relation whose accessors read these protocols' data
-abbrev pub accesses_elsewhere : (Protocol → Bool) → Option Bool
-accesses_elsewhere used = if any_accessor used then Some false else None
+abbrev pub accesses_non_ipv4 : (Protocol → Bool) → Option Bool
+accesses_non_ipv4 used = if any_accessor used then Some false else None
 
-abbrev pub not_elsewhere : Option Bool → Option Bool
-not_elsewhere told = option_map not told
+abbrev pub not_non_ipv4 : Option Bool → Option Bool
+not_non_ipv4 told = option_map not told
 
 -- the right part counts where the left one leads there
-abbrev pub and_elsewhere : Option Bool → Option Bool → Option Bool
-and_elsewhere None second = None
-and_elsewhere (Some false) second = Some false
-and_elsewhere (Some true) second = second
+abbrev pub and_non_ipv4 : Option Bool → Option Bool → Option Bool
+and_non_ipv4 None second = None
+and_non_ipv4 (Some false) second = Some false
+and_non_ipv4 (Some true) second = second
 
-abbrev pub or_elsewhere : Option Bool → Option Bool → Option Bool
-or_elsewhere None second = None
-or_elsewhere (Some false) second = second
-or_elsewhere (Some true) second = Some true
+abbrev pub or_non_ipv4 : Option Bool → Option Bool → Option Bool
+or_non_ipv4 None second = None
+or_non_ipv4 (Some false) second = second
+or_non_ipv4 (Some true) second = Some true
 
-abbrev pub elsewhere : Tree → Option Bool
-elsewhere (primitive p) = primitive_elsewhere p
-elsewhere (relation left relator right) = accesses_elsewhere (accesses_of_both left right)
-elsewhere (negation tree) = not_elsewhere (elsewhere tree)
-elsewhere (conjunction left right) = and_elsewhere (elsewhere left) (elsewhere right)
-elsewhere (disjunction left right) = or_elsewhere (elsewhere left) (elsewhere right)
+abbrev pub non_ipv4 : Tree → Option Bool
+non_ipv4 (primitive p) = primitive_non_ipv4 p
+non_ipv4 (relation left relator right) = accesses_non_ipv4 (accesses_of_both left right)
+non_ipv4 (negation tree) = not_non_ipv4 (non_ipv4 tree)
+non_ipv4 (conjunction left right) = and_non_ipv4 (non_ipv4 left) (non_ipv4 right)
+non_ipv4 (disjunction left right) = or_non_ipv4 (non_ipv4 left) (non_ipv4 right)
 
 abbrev pub is_ip_primitive : Primitive → Bool
 is_ip_primitive Ip = true

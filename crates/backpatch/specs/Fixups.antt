@@ -1,17 +1,17 @@
--- Code with holes: words of which some jumps are filled in later.
+-- Code with fixups: words of which some jumps are filled in later.
 use Rattle.std.specs.Prelude.{◌≡◌, ◌+◌, ◌++◌, ◌<◌, ◌≤◌, ◌⊎◌, ◌∷◌, [], Contains, List, None, Ok, Option, Some, length, ℕ}
 use Rattle.bpf_insn.specs.Word.{instruction_of}
 use Rattle.bpf_insn.specs.declared.instruction.Insn.{Insn}
 use Rattle.bpf_insn.specs.declared.instruction.Insn.TheVariants.{Jump, JumpIf}
 use Rattle.bpf_insn.specs.Table.{offsets}
 use Rattle.bpf_verify.specs.Path.{IsAt}
-use Rattle.backpatch.specs.declared.hole.Hole.{Hole}
-use Rattle.backpatch.specs.declared.hole.Side.{Side}
-use Rattle.backpatch.specs.declared.hole.Side.TheVariants.{Always, WhenFalse, WhenTrue}
+use Rattle.backpatch.specs.declared.fixup.Fixup.{Fixup}
+use Rattle.backpatch.specs.declared.fixup.Side.{Side}
+use Rattle.backpatch.specs.declared.fixup.Side.TheVariants.{Always, WhenFalse, WhenTrue}
 
--- what a contract sees of an exit: the jumps that are to lead there, and the last place that it can be
-pub record Open : Type 0 where
-  pub holes : List Hole
+-- what a contract sees of a label: the jumps that are to lead there, and the last place that it can be
+pub record LabelValue : Type 0 where
+  pub fixups : List Fixup
   pub by : ℕ
 
 -- how many words a jump of an instruction skips
@@ -31,9 +31,9 @@ shape_of insn = insn
 abbrev pub LeadsTo : List ℕ → ℕ → Side → ℕ → Type 0
 LeadsTo program place side to = (insn : Insn) × (k : ℕ) × IsAt program place insn × (offset_of side insn ≡ Some k) × (to ≡ place + 1 + k)
 
--- each of the holes leads to the place
-abbrev pub AllLeadTo : List Hole → ℕ → List ℕ → Type 0
-AllLeadTo holes to program = (hole : Hole) → Contains holes hole → LeadsTo program hole.place hole.side to
+-- each of the fixups leads to the place
+abbrev pub AllLeadTo : List Fixup → ℕ → List ℕ → Type 0
+AllLeadTo fixups to program = (fixup : Fixup) → Contains fixups fixup → LeadsTo program fixup.place fixup.side to
 
 -- the instruction of the code at pc stands in the program, but for its open jumps
 abbrev pub StandsAt : (ℕ → Side → Type 0) → List ℕ → List ℕ → ℕ → Type 0
@@ -43,23 +43,23 @@ StandsAt waits code program pc = (insn : Insn) → IsAt code pc insn
 abbrev pub Stands : (ℕ → Side → Type 0) → ℕ → ℕ → List ℕ → List ℕ → Type 0
 Stands waits from until code program = (pc : ℕ) → from ≤ pc → pc < until → StandsAt waits code program pc
 
--- one of the holes is this jump
-abbrev pub IsHole : List Hole → ℕ → Side → Type 0
-IsHole holes place side = Contains holes (record { place = place; side = side })
+-- one of the fixups is this jump
+abbrev pub IsFixup : List Fixup → ℕ → Side → Type 0
+IsFixup fixups place side = Contains fixups (record { place = place; side = side })
 
--- the program has the code of these places with its holes filled
-pub record IsFilled (from until : ℕ) (code : List ℕ) (ys ns : List Hole) (on_yes on_no : ℕ) (program : List ℕ) : Type 0 where
-  pub stands : Stands (λ place side. IsHole ys place side ⊎ IsHole ns place side) from until code program
+-- the program has the code of these places with its fixups filled
+pub record IsFilled (from until : ℕ) (code : List ℕ) (ys ns : List Fixup) (on_yes on_no : ℕ) (program : List ℕ) : Type 0 where
+  pub stands : Stands (λ place side. IsFixup ys place side ⊎ IsFixup ns place side) from until code program
   pub yes_filled : AllLeadTo ys on_yes program
   pub no_filled : AllLeadTo ns on_no program
 
--- the holes' places are from one place on and below another
-abbrev pub AreWithin : ℕ → ℕ → List Hole → Type 0
-AreWithin from until holes = (hole : Hole) → Contains holes hole → (from ≤ hole.place) × (hole.place < until)
+-- the fixups' places are from one place on and below another
+abbrev pub AreWithin : ℕ → ℕ → List Fixup → Type 0
+AreWithin from until fixups = (fixup : Fixup) → Contains fixups fixup → (from ≤ fixup.place) × (fixup.place < until)
 
--- no hole is in both lists
-abbrev pub AreApart : List Hole → List Hole → Type 0
-AreApart ys ns = (hole : Hole) → Contains ys hole → Contains ns hole → ⊥
+-- no fixup is in both lists
+abbrev pub AreApart : List Fixup → List Fixup → Type 0
+AreApart ys ns = (fixup : Fixup) → Contains ys fixup → Contains ns fixup → ⊥
 
 -- the instruction at the place has such a jump
 abbrev pub HasJump : List ℕ → ℕ → Side → Type 0
@@ -70,15 +70,15 @@ abbrev pub CanReach : ℕ → Side → ℕ → Type 0
 CanReach place Always to = Unit {0}
 CanReach place _ to = to ≤ place + 256
 
--- each of the holes is a jump of the code, which can lead to each place up to this one
-abbrev pub AreOpen : List Hole → ℕ → List ℕ → Type 0
-AreOpen holes by code = (hole : Hole) → Contains holes hole → HasJump code hole.place hole.side × CanReach hole.place hole.side by
+-- each of the fixups is a jump of the code, which can lead to each place up to this one
+abbrev pub AreOpen : List Fixup → ℕ → List ℕ → Type 0
+AreOpen fixups by code = (fixup : Fixup) → Contains fixups fixup → HasJump code fixup.place fixup.side × CanReach fixup.place fixup.side by
 
--- the holes of the code are filled with its end, and all else stands
-pub record IsLanded (holes : List Hole) (code landed : List ℕ) : Type 0 where
-  pub same_length : length landed ≡ length code
-  pub stands : Stands (λ place side. IsHole holes place side) 0 (length code) code landed
-  pub filled : AllLeadTo holes (length code) landed
+-- the fixups of the code are filled with its end, and all else stands
+pub record IsBound (fixups : List Fixup) (code bound : List ℕ) : Type 0 where
+  pub same_length : length bound ≡ length code
+  pub stands : Stands (λ place side. IsFixup fixups place side) 0 (length code) code bound
+  pub filled : AllLeadTo fixups (length code) bound
 
 -- words were written behind
 abbrev pub IsLonger : List ℕ → List ℕ → Type 0
@@ -88,5 +88,5 @@ IsLonger code longer = (pc : ℕ) (insn : Insn) → IsAt code pc insn → IsAt l
 abbrev pub IsAppended : Insn → List ℕ → List ℕ → Type 0
 IsAppended insn before after = (word : ℕ) × (instruction_of word ≡ Ok insn) × (after ≡ before ++ word ∷ [])
 
-abbrev pub hole_at : ℕ → Side → Hole
-hole_at place side = record { place = place; side = side }
+abbrev pub fixup_at : ℕ → Side → Fixup
+fixup_at place side = record { place = place; side = side }

@@ -14,7 +14,7 @@ pub enum Side {
 
 /// A jump of the instruction at a place, which is to be filled in.
 #[derive(Clone, Copy, Debug, Default, PartialEq, Eq)]
-pub struct Hole {
+pub struct Fixup {
     /// The place of the instruction, counted from the program's first.
     pub place: u32,
     /// Which of its jumps.

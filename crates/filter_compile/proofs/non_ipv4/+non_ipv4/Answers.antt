@@ -1,5 +1,5 @@
 use Rattle.std.proofs.Common.{rules}
-use Rattle.filter_compile.proofs.elsewhere.+elsewhere.Goals as goal
+use Rattle.filter_compile.proofs.non_ipv4.+non_ipv4.Goals as goal
 
 pub returns-in-Not : goal.returns-in-Not
 returns-in-Not g height c = search rules

@@ -1,5 +1,5 @@
 use Rattle.std.proofs.Common.{rules}
-use Rattle.backpatch.proofs.code.Code.exit.Goals as goal
+use Rattle.backpatch.proofs.code.Code.label.Goals as goal
 
 pub returns-clause-empty : goal.returns-clause-empty
 returns-clause-empty g c = search rules

@@ -2,11 +2,11 @@ use Rattle.std.proofs.Common.{subst, ◌≡◌}
 use Rattle.std.specs.Prelude.{if◌then◌else◌}
 use Rattle.bpf_insn.specs.declared.instruction.Insn.TheVariants.{JumpIf}
 use Rattle.bpf_insn.specs.Table.{offsets}
-use Rattle.backpatch.specs.declared.hole.Side.TheVariants.{WhenFalse}
-use Rattle.backpatch.proofs.BranchLemmas.{Tells, pass_words}
-use Rattle.backpatch.proofs.PassLemmas.{pass_guards, skip_none, skip_over}
-use Rattle.backpatch.proofs.code.Code.pass.Goals as goal
-use Rattle.backpatch.proofs.code.Code.pass.Goals.{else-far, then-far}
+use Rattle.backpatch.specs.declared.fixup.Side.TheVariants.{WhenFalse}
+use Rattle.backpatch.proofs.BranchLemmas.{Tells, fall_through_words}
+use Rattle.backpatch.proofs.FallThroughLemmas.{branch_unless_guards, skip_none, skip_over}
+use Rattle.backpatch.proofs.code.Code.branch_unless.Goals as goal
+use Rattle.backpatch.proofs.code.Code.branch_unless.Goals.{else-far, then-far}
 
 pub returns : goal.returns
 returns g c =
@@ -16,8 +16,8 @@ returns g c =
       | else-far w ↦ skip_none c.if-far.jt far w.if-far.false w.jt-is
     ] in
     let told : Tells place no.by far = subst (λ by. Tells place by far) c.by.ensures.by (record { if_far = c.is_far-far.ensures.far; if_near = c.is_far-far.ensures.near }) in record {
-      guards = pass_guards c.args.self.now c.push.new.self c.note.new.self place c.if-far.jt c.args.test c.args.operand no c.note.new.exit
+      guards = branch_unless_guards c.args.self.now c.push.new.self c.note.new.self place c.if-far.jt c.args.test c.args.operand no c.note.new.label
           c.len-place.ensures.length c.in_ok-note.ensures.by far told skip c.in_ok-push.ensures.appended c.in_ok-note.ensures.noted;
       words = rw (← c.len-place.ensures.length)
-          (pass_words far place WhenFalse (JumpIf c.args.test c.args.operand (offsets c.if-far.jt 0)) c.args.self.now c.push.new.self c.note.new.self no c.note.new.exit c.len-place.ensures.length c.in_ok-push.ensures.appended told c.in_ok-note.ensures.noted);
+          (fall_through_words far place WhenFalse (JumpIf c.args.test c.args.operand (offsets c.if-far.jt 0)) c.args.self.now c.push.new.self c.note.new.self no c.note.new.label c.len-place.ensures.length c.in_ok-push.ensures.appended told c.in_ok-note.ensures.noted);
     }
