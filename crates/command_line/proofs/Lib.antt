@@ -3,3 +3,4 @@ pub mod EndingLemmas
 mod StandardFacts
 mod BuilderLemmas
 mod ValueLemmas
+pub mod AcceptedLemmas

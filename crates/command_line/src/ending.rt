@@ -20,7 +20,7 @@ pub enum Status {
 }
 
 /// Why a command failed. Neither its words nor its input are to blame.
-#[derive(Clone, Copy, Debug)]
+#[derive(Clone, Copy, Debug, PartialEq, Eq)]
 pub enum Failure {
     /// The input could not be read.
     ReadFailed,

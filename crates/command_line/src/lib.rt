@@ -1,6 +1,7 @@
 //! The program's command line: which command its words name, and how its run ends (docs/COMMANDS.md, "Statuses").
 //!
 //! `read_words` reads the words by `clap`. `Status` is the exit status, and `Failure` why a command failed, with the line that tells it.
+//! `SAMPLE_PACKET` is the packet of `first` and `flood`.
 #![tactic(auto)]
 
 ghost use Rattle.std.specs.Prelude.{◌≡◌};
@@ -12,11 +13,13 @@ mod ending;
 mod found;
 mod help;
 mod input;
+mod sample;
 
 pub use command::{MAX_DATAGRAMS, MAX_TIMEOUT, Query, Returning, Subcommand, Waiting, Workers};
 pub use ending::{Failure, Status, refuse_arguments, reported, write_what_fits};
 pub use found::read_words;
 pub use input::read_whole;
+pub use sample::{SAMPLE_GROUP, SAMPLE_PACKET, applied, program};
 
 /// Law: the limits, as numbers. It runs nothing.
 pub fn limits_as_numbers()

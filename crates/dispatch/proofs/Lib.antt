@@ -7,3 +7,4 @@ pub mod MemoryLemmas
 pub mod SumLemmas
 pub mod TallyLemmas
 pub mod WorkerLemmas
+pub mod CountedLemmas

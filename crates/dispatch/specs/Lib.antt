@@ -1,4 +1,5 @@
 pub mod Batch
+pub mod Counted
 pub mod Device
 pub mod Job
 pub mod Memory

@@ -1,5 +1,6 @@
 -- The line that tells totals (docs/SWITCH.md, "Tallies").
-use Rattle.std.specs.Prelude.{◌++◌, List, codes, decimal, ℕ}
+use Rattle.std.specs.Prelude.{◌++◌, List, Option, codes, decimal, ℕ}
+use Rattle.std.specs.Io.KnownBytes.{Appends}
 use Rattle.packet_verdict.specs.declared.kind.Kind.{Kind}
 use Rattle.packet_verdict.specs.declared.kind.Kind.TheVariants.{Delivered, Dropped, Malformed, NoGroup, NoMembers, ReceiveFailed, SendFailed}
 use Rattle.dispatch.specs.declared.kind.Totals.{Totals}
@@ -12,3 +13,7 @@ totals_text totals =
     codes "malformed " ++ count Malformed ++ codes " nogroup " ++ count NoGroup ++ codes " nomembers " ++ count NoMembers
     ++ codes " dropped " ++ count Dropped ++ codes " delivered " ++ count Delivered ++ codes " sendfailed " ++ count SendFailed
     ++ codes " receivefailed " ++ count ReceiveFailed
+
+-- that line was written, and nothing else
+abbrev pub WritesTotals : Totals → Option (List ℕ) → Option (List ℕ) → Type 0
+WritesTotals totals before after = Appends before after (totals_text totals ++ codes "\n")

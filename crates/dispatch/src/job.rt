@@ -17,6 +17,15 @@ pub trait Gate {
     fn done(&self, batch: u64);
 }
 
+/// Lets each batch begin at once.
+pub struct OpenGate;
+
+impl Gate for OpenGate {
+    fn start(&self, _batch: u64) {}
+
+    fn done(&self, _batch: u64) {}
+}
+
 // Whether a job goes on after a batch that ended so.
 fn goes_on(answer: &Result<BatchDone, BatchFault>) -> bool
     ensures goes_on { result ≡ true → GoesOn answer.now }

@@ -1,11 +1,12 @@
 //! Where a tally counts each kind, and the totals of all of them (docs/SWITCH.md, "Tallies").
 
-ghost use Rattle.std.specs.Prelude.{◌≡◌, Some};
+ghost use Rattle.std.specs.Prelude.{◌≡◌, OnOk, Some};
 ghost use Rattle.dispatch.specs.Tally.{place_of, total_of};
-ghost use Rattle.dispatch.specs.Totals.{totals_text};
+ghost use Rattle.dispatch.specs.Totals.{WritesTotals, totals_text};
 
 use packet_verdict::Kind;
 use std::fmt;
+use std::io::{self, Write};
 
 /// How many kinds there are.
 pub const KINDS: usize = 7;
@@ -54,4 +55,12 @@ impl fmt::Display for Totals {
              delivered {delivered} sendfailed {send_failed} receivefailed {receive_failed}"
         )
     }
+}
+
+/// Writes the line of the totals, and flushes it.
+pub fn write_totals<W: Write>(totals: &Totals, out: &mut W) -> io::Result<()>
+    ensures written { OnOk result (WritesTotals totals.now (W.contents out.old) (W.contents out.new)) }
+{
+    writeln!(out, "{totals}")?;
+    out.flush()
 }

@@ -1,8 +1,8 @@
 -- What `flood` is given (docs/COMMANDS.md, "flood").
 use Rattle.std.proofs.Common.{◌≡◌, ◌≤◌, ◌∷◌, [], arith, length, refl, slice_index}
+use Rattle.command_line.specs.declared.sample.TheConstants.{SAMPLE_PACKET}
 use Rattle.memory_flood.specs.declared.flood_jobs.TheConstants.{BUFFER, LIMIT}
 use Rattle.memory_flood.specs.declared.flood_versions.TheConstants.{PUBLICATIONS}
-use Rattle.sample_group.specs.declared.TheConstants.{SAMPLE_PACKET}
 use Rattle.memory_flood.specs.declared.TheConstants.{DATAGRAMS}
 use Rattle.memory_flood.specs.FloodVersions.{at_port, selector_at}
 use Rattle.memory_flood.specs.Traffic.{datagram_at}

@@ -1,8 +1,12 @@
 -- How the command `flood` fails (docs/COMMANDS.md, "flood").
-use Rattle.std.specs.Prelude.{◌≡◌, ◌≢◌, List, Option, ℕ}
+use Rattle.std.specs.Prelude.{◌≡◌, ◌≢◌, ◌⊎◌, List, Option, ℕ}
 use Rattle.command_line.specs.declared.ending.Failure.{Failure}
-use Rattle.command_line.specs.declared.ending.Failure.TheVariants.{BindFailed, NoAnswer, PollFailed, ReadFailed, WriteFailed}
+use Rattle.command_line.specs.declared.ending.Failure.TheVariants.{BindFailed, NoAnswer, OutOfMemory, PollFailed, ReadFailed, SpawnFailed, WriteFailed}
 use Rattle.command_line.specs.Ending.{AppendsBeginning, line_of}
+
+-- jobs have no results: a thread could not be started, or memory was refused
+abbrev pub IsRunFailure : Failure → Type 0
+IsRunFailure failure = (failure ≡ SpawnFailed) ⊎ (failure ≡ OutOfMemory)
 
 -- a write failed, memory was refused, or a thread could not be started; where no write failed nothing was written, and a beginning
 -- of the failure's line was told

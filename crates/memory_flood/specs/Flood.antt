@@ -10,8 +10,8 @@ use Rattle.read_section.specs.Worker.{WorkerValue}
 use Rattle.memory_flood.specs.declared.flood_jobs.TheConstants.{BUFFER, LIMIT}
 use Rattle.memory_flood.specs.FloodVersions.{opening_version}
 use Rattle.memory_flood.specs.Traffic.{numbers_below, share_of}
-use Rattle.worker_threads.specs.Counted.{IsCounted}
-use Rattle.worker_threads.specs.TotalsLine.{WritesTotals}
+use Rattle.dispatch.specs.Counted.{IsCounted}
+use Rattle.dispatch.specs.Totals.{WritesTotals}
 
 -- the parts of a job over memory
 abbrev pub parts_of : WorkerValue → CounterValue → List (List ℕ) → SendsValue → Parts

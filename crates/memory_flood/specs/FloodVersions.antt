@@ -6,8 +6,8 @@ use Rattle.ipv4_fields.specs.declared.endpoint.Endpoint.{Endpoint}
 use Rattle.member_group.specs.declared.command.Command.{Command}
 use Rattle.member_group.specs.declared.command.Command.TheVariants.{Join}
 use Rattle.member_group.specs.declared.member.Member.{Member}
+use Rattle.command_line.specs.declared.sample.TheConstants.{SAMPLE_GROUP}
 use Rattle.memory_flood.specs.declared.flood_versions.TheConstants.{MEMBERS_ADDRESS, SELECT_FIRST, SELECT_SECOND}
-use Rattle.sample_group.specs.declared.TheConstants.{SAMPLE_GROUP}
 
 -- a port of the members' address
 abbrev pub at_port : ℕ → Endpoint

@@ -1,7 +1,7 @@
 -- The datagrams of `flood`, and which worker each goes to (docs/COMMANDS.md, "flood").
 use Rattle.std.specs.Prelude.{◌==◌, ◌%◌, ◌++◌, ◌∷◌, if◌then◌else◌, List, [], map, slice_set, suc, take, zero, ℕ}
 use Rattle.std.specs.List.{filter}
-use Rattle.sample_group.specs.declared.TheConstants.{SAMPLE_PACKET}
+use Rattle.command_line.specs.declared.sample.TheConstants.{SAMPLE_PACKET}
 use Rattle.memory_flood.specs.declared.traffic.TheConstants.{CUT_LENGTH, OTHER_PORT, PORT_BYTE}
 
 -- of each four: the sample packet twice, then with another destination port, then cut

@@ -4,15 +4,15 @@ ghost use Rattle.std.specs.Prelude.{◌≡◌, ◌+◌, ◌<◌, ◌≤◌, IfOk
 ghost use Rattle.std.specs.List.{All};
 ghost use Rattle.atomic_table.specs.Seated.{TableId};
 ghost use Rattle.dispatch.specs.Memory.{outbox_of};
+ghost use Rattle.dispatch.specs.Counted.{IsNew, IsNewWorker};
 ghost use Rattle.memory_flood.specs.Flood.{AreStarts, HasRoom, empty_outbox, parts_of};
 ghost use Rattle.memory_flood.specs.FloodVersions.{opening_version};
 ghost use Rattle.memory_flood.specs.Traffic.{share_of};
-ghost use Rattle.worker_threads.specs.Counted.{IsNew, IsNewWorker};
 
 use crate::traffic::share;
+use command_line::SAMPLE_PACKET;
 use dispatch::{Counter, Datagrams, Job, Sends};
 use read_section::Worker;
-use sample_group::SAMPLE_PACKET;
 use std::alloc::{AllocError, Global};
 
 // No datagram is longer.

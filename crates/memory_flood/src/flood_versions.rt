@@ -7,9 +7,9 @@ ghost use Rattle.member_group.specs.Refusal.{first_refusal};
 ghost use Rattle.memory_flood.specs.FloodVersions.{join_of, opening_version, selecting, selector_at, successor_at};
 ghost use Rattle.memory_flood.specs.Traffic.{numbers_below};
 
+use command_line::{SAMPLE_GROUP, applied, program};
 use ipv4_fields::Endpoint;
 use member_group::{Command, Config};
-use sample_group::{SAMPLE_GROUP, applied, program};
 use std::alloc::{AllocError, Global};
 
 /// How many publications `flood` tries.

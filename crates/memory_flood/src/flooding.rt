@@ -1,19 +1,20 @@
 //! The command `flood`: datagrams over worker threads, while versions are replaced (docs/COMMANDS.md, "flood").
 
-ghost use Rattle.std.specs.Prelude.{◌≡◌, ◌≢◌, ◌≤◌, IfErr, IfOk, OnOk, map, vec_len};
+ghost use Rattle.std.specs.Prelude.{◌≡◌, ◌≢◌, ◌↔◌, ◌≤◌, IfErr, IfOk, OnOk, map, vec_len};
 ghost use Rattle.std.specs.List.{All};
 ghost use Rattle.versions.specs.declared.layout.TheConstants.{WORKERS};
+ghost use Rattle.dispatch.specs.Counted.{IsNewWorker};
+ghost use Rattle.memory_flood.specs.Failing.{IsRunFailure};
 ghost use Rattle.memory_flood.specs.Flood.{IsFlooded, WritesFlood};
 ghost use Rattle.memory_flood.specs.FloodVersions.{opening_version, successor_at};
 ghost use Rattle.memory_flood.specs.Publications.{AreTried};
 ghost use Rattle.memory_flood.specs.Traffic.{numbers_below};
 ghost use Rattle.memory_flood.specs.declared.flood_versions.TheConstants.{PUBLICATIONS};
-ghost use Rattle.worker_threads.specs.Counted.{IsNewWorker};
-ghost use Rattle.worker_threads.specs.ServeFault.{IsRunFault};
 
 use crate::flood_jobs::jobs;
 use crate::flood_versions::{opening, successors};
-use dispatch::{Gate, Tally, Totals, gather};
+use command_line::Failure;
+use dispatch::{Gate, RunFault, Tally, Totals, gather, run_counted, write_totals};
 use member_group::Config;
 use read_section::{Operator, WORKERS, Worker, open_within, spread};
 use retire::Retire;
@@ -21,7 +22,6 @@ use std::alloc::{AllocError, Global};
 use std::io::Write;
 use std::sync::Wait;
 use std::thread::Threads;
-use worker_threads::{ServeFault, run_counted, write_totals};
 
 // The table at its opening version, and the versions that are to follow.
 fn open_versions(alloc: Global) -> Result<(Operator, Vec<Worker>, Vec<Config>), AllocError>
@@ -44,17 +44,27 @@ fn publish_each(operator: &mut Operator, successors: Vec<Config>)
     }
 }
 
+fn failed(fault: RunFault) -> Failure
+    ensures spawn_failed { result ≡ Failure.SpawnFailed ↔ fault ≡ RunFault.SpawnFailed }
+    ensures run_fault { IsRunFailure result }
+{
+    match fault {
+        RunFault::SpawnFailed => Failure::SpawnFailed,
+        RunFault::OutOfMemory => Failure::OutOfMemory,
+    }
+}
+
 fn count_all<R: Threads + Wait + Sync, G: Gate + Sync>(
     rt: &R,
     alloc: Global,
     workers: usize,
     datagrams: usize,
     gate: &G,
-) -> Result<Totals, ServeFault>
+) -> Result<Totals, Failure>
     requires at_least_one { 1 ≤ workers }
     requires at_most { workers ≤ WORKERS }
     ensures totals { IfOk result (IsFlooded workers datagrams) }
-    ensures run_fault { IfErr result IsRunFault }
+    ensures run_fault { IfErr result IsRunFailure }
 {
     let (mut operator, mut seats, successors) = open_versions(alloc)?;
     let (tally, mut spare) = Tally::open(alloc)?;
@@ -62,7 +72,8 @@ fn count_all<R: Threads + Wait + Sync, G: Gate + Sync>(
     let jobs = jobs(alloc, &mut seats, &mut spare, workers, datagrams)?;
     let counters = run_counted(rt, alloc, jobs, spare, gate, move || {
         publish_each(&mut operator, successors);
-    })?;
+    })
+    .map_err(failed)?;
     Ok(gather(tally, counters))
 }
 
@@ -77,13 +88,14 @@ pub fn flood<R: Threads + Wait + Sync, G: Gate + Sync, W: Write>(
     datagrams: usize,
     gate: &G,
     out: &mut W,
-) -> Result<(), ServeFault>
+) -> Result<(), Failure>
     requires at_least_one { 1 ≤ workers }
     requires at_most { workers ≤ WORKERS }
     ensures totals_line { OnOk result (WritesFlood workers datagrams (W.contents out.old) (W.contents out.new)) }
-    ensures nothing_written { IfErr result (λ fault. fault ≢ ServeFault.WriteFailed → out.new ≡ out.old) }
-    ensures no_socket { IfErr result (λ fault. (fault ≢ ServeFault.BindFailed) × (fault ≢ ServeFault.PollFailed)) }
+    ensures nothing_written { IfErr result (λ failure. failure ≢ Failure.WriteFailed → out.new ≡ out.old) }
+    ensures no_input { IfErr result (λ failure. (failure ≢ Failure.ReadFailed) × (failure ≢ Failure.NoAnswer)) }
+    ensures no_socket { IfErr result (λ failure. (failure ≢ Failure.BindFailed) × (failure ≢ Failure.PollFailed)) }
 {
     let totals = count_all(rt, alloc, workers, datagrams, gate)?;
-    write_totals(&totals, out)
+    write_totals(&totals, out).map_err(|_| Failure::WriteFailed)
 }

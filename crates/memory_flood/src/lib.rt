@@ -1,6 +1,6 @@
 //! The command `flood`: datagrams from memory are judged by worker threads while versions are replaced (docs/COMMANDS.md, "flood").
 //!
-//! `run_flood` runs it; `flood` does for any number of datagrams and any gate.
+//! `run_flood` runs the command and returns its exit status. `flood` takes any gate, and returns why it failed.
 #![tactic(auto)]
 
 ghost use Rattle.std.specs.Prelude.{◌≡◌, ◌⊎◌, [], Some};
@@ -15,15 +15,15 @@ mod flood_versions;
 mod flooding;
 mod traffic;
 
-use command_line::{Failure, Status, Workers};
+use command_line::{Status, Workers};
+use dispatch::OpenGate;
 pub use flooding::flood;
 use std::alloc::Global;
 use std::io::Write;
 use std::sync::Wait;
 use std::thread::Threads;
-use worker_threads::OpenGate;
 
-/// How many datagrams the command `flood` judges where its words give no number.
+/// How many datagrams the command `flood` judges if its words give no number.
 pub const DATAGRAMS: usize = 4096;
 
 /// Law: the numbers of `flood`, written out, as numbers. It runs nothing.
@@ -34,7 +34,7 @@ pub fn limits_as_numbers()
     ensures batch { LIMIT ≡ 64 }
 {}
 
-/// Runs the command, and answers the exit status.
+/// Runs the command, and returns the exit status.
 pub fn run_flood<R: Threads + Wait + Sync, W: Write, E: Write>(
     rt: &R,
     alloc: Global,
@@ -51,6 +51,6 @@ pub fn run_flood<R: Threads + Wait + Sync, W: Write, E: Write>(
 {
     match flood(rt, alloc, workers.count, datagrams, &OpenGate, out) {
         Ok(()) => Status::Done,
-        Err(fault) => Failure::from(fault).report(errs),
+        Err(failure) => failure.report(errs),
     }
 }

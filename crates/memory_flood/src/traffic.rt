@@ -3,8 +3,8 @@
 ghost use Rattle.std.specs.Prelude.{◌≡◌, ◌<◌, IfOk, length};
 ghost use Rattle.memory_flood.specs.Traffic.{datagram_at, share_of};
 
+use command_line::SAMPLE_PACKET;
 use dispatch::Datagrams;
-use sample_group::SAMPLE_PACKET;
 use std::alloc::{AllocError, Global};
 
 // The low byte of the destination port.

@@ -1,11 +1,11 @@
 -- How the two programs of `first` end, as its lines say.
 use Rattle.std.proofs.Common.{◌≡◌, ◌∙◌, ◌∷◌, List, [], ap, refl, sym, ℕ}
 use Rattle.std.specs.Prelude.{min}
+use Rattle.command_line.proofs.AcceptedLemmas.{first_program, second_program}
 use Rattle.query_commands.specs.declared.first_path.Line.{Line}
 use Rattle.bpf_insn.specs.Table.{table, uses_of}
 use Rattle.bpf_insn.specs.Word.{instruction_of}
 use Rattle.bpf_machine.specs.Meaning.{Ret, cost_of, ending_of, run_after}
-use Rattle.sample_group.proofs.AcceptedLemmas.{first_program, second_program}
 
 abbrev pub sample_packet : List ℕ
 sample_packet =

@@ -20,8 +20,8 @@ use Rattle.read_section.specs.Worker.{WorkerValue}
 use Rattle.versions.specs.View.{BeginsWith}
 use Rattle.versions.specs.Free.{number_after}
 use Rattle.versions.specs.Table.{the_shape}
-use Rattle.sample_group.specs.declared.TheConstants.{SAMPLE_GROUP}
 use Rattle.bpf_machine.specs.declared.Outcome.{Outcome}
+use Rattle.command_line.specs.declared.sample.TheConstants.{SAMPLE_GROUP}
 use Rattle.query_commands.specs.body.FirstTable.{IsRunOf, PublishesNothing, RunsInSection, Selects, SelectsNow}
 
 -- a program that was found in words that begin with an image is accepted where it stands

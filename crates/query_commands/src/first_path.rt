@@ -12,11 +12,11 @@ ghost use Rattle.versions.specs.declared.layout.TheConstants.{LAST_NUMBER};
 
 use bpf_insn::Words;
 use bpf_machine::{Outcome, run};
+use command_line::{SAMPLE_GROUP, SAMPLE_PACKET, applied, program};
 use config_image::{find_group, selector_of};
 use member_group::{Command, Config};
 use read_section::{Operator, Worker, open_within};
 use retire::Retire;
-use sample_group::{SAMPLE_GROUP, SAMPLE_PACKET, applied, program};
 use std::alloc::{AllocError, Global};
 use std::fmt;
 

@@ -4,7 +4,7 @@
 //! the end, and how often it was refused before. It gives up after `TRIES` times.
 #![tactic(auto)]
 
-use dispatch::{Counter, Datagrams, Done, Gate, Job, RunFault, Sends, Tally, run_workers};
+use dispatch::{Counter, Datagrams, Done, Job, OpenGate, RunFault, Sends, Tally, run_workers};
 use member_group::Config;
 use read_section::{OpenFault, Worker, open};
 use std::alloc::{AllocError, Global};
@@ -57,15 +57,6 @@ fn tally_outcome(alloc: Global) -> Outcome {
     }
 }
 
-// Is told of each batch, and does nothing.
-struct Idle;
-
-impl Gate for Idle {
-    fn start(&self, _batch: u64) {}
-
-    fn done(&self, _batch: u64) {}
-}
-
 fn job_of(
     alloc: Global,
     worker: Worker,
@@ -112,7 +103,7 @@ fn outcome_of(ran: Result<Vec<Done<Datagrams, Sends>>, RunFault>) -> Outcome {
 
 fn run_outcome<R: Threads + Wait + Sync>(rt: &R, alloc: Global) -> Outcome {
     match two_jobs(alloc) {
-        Some(jobs) => outcome_of(run_workers(rt, alloc, jobs, &Idle, || {})),
+        Some(jobs) => outcome_of(run_workers(rt, alloc, jobs, &OpenGate, || {})),
         None => Outcome::NoArguments,
     }
 }

@@ -7,9 +7,9 @@ use Rattle.dispatch.specs.Tally.{CounterValue}
 use Rattle.dispatch.specs.declared.device.Outbox as Outbox
 use Rattle.dispatch.specs.declared.device.Source as Source
 use Rattle.dispatch.specs.declared.worker_job.Job.{Job}
+use Rattle.dispatch.specs.Counted.{IsNew, IsNewWorker}
 use Rattle.read_section.specs.Worker.{WorkerValue}
 use Rattle.worker_devices.specs.Devices.{ChannelSourceValue}
-use Rattle.worker_threads.specs.Counted.{IsNew, IsNewWorker}
 use Rattle.udp_service.specs.Service.{HasNewDevices, HasRoom}
 use Rattle.udp_service.specs.body.Jobs.{AreMade}
 

@@ -1,15 +1,17 @@
 -- What `serve` writes, and of which jobs its totals tell (docs/COMMANDS.md, "serve").
-use Rattle.std.specs.Prelude.{◌≡◌, ◌++◌, ◌⊎◌, List, None, Option, [], codes, length, ℕ}
+use Rattle.std.specs.Prelude.{◌≡◌, ◌≢◌, ◌++◌, ◌⊎◌, List, None, Option, [], codes, length, ℕ}
 use Rattle.std.specs.Io.KnownBytes.{Appends}
 use Rattle.std.specs.List.{All}
+use Rattle.command_line.specs.declared.ending.Failure.{Failure}
+use Rattle.command_line.specs.declared.ending.Failure.TheVariants.{NoAnswer, ReadFailed}
 use Rattle.dispatch.specs.Batch.{Parts}
 use Rattle.dispatch.specs.Device.{OutboxValue}
 use Rattle.dispatch.specs.declared.kind.Totals.{Totals}
 use Rattle.ipv4_fields.specs.Endpoint.{endpoint_text}
 use Rattle.ipv4_fields.specs.declared.endpoint.Endpoint.{Endpoint}
 use Rattle.worker_devices.specs.Devices.{ChannelSourceValue, new_source, silent_outbox}
-use Rattle.worker_threads.specs.Counted.{IsCounted}
-use Rattle.worker_threads.specs.TotalsLine.{WritesTotals}
+use Rattle.dispatch.specs.Counted.{IsCounted}
+use Rattle.dispatch.specs.Totals.{WritesTotals}
 use Rattle.udp_service.specs.declared.jobs.TheConstants.{LIMIT}
 use Rattle.udp_service.specs.declared.sockets.TheConstants.{LONGEST_DATAGRAM}
 
@@ -33,6 +35,10 @@ AreServiceStarts workers starts = (length starts ≡ workers) × All HasSilentDe
 -- the totals are what such jobs counted in all; their table opened without groups
 abbrev pub IsServed : ℕ → Totals → Type 0
 IsServed workers totals = IsCounted [] LONGEST_DATAGRAM LIMIT (AreServiceStarts workers) totals
+
+-- `serve` reads no input, and waits for no reply
+abbrev pub IsServeFailure : Failure → Type 0
+IsServeFailure failure = (failure ≢ ReadFailed) × (failure ≢ NoAnswer)
 
 -- the line that tells that the service is ready
 abbrev pub ready_text : Endpoint → Endpoint → List ℕ

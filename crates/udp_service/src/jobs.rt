@@ -1,13 +1,14 @@
 //! The jobs of the service: a worker, a counter, the end of a queue and a socket of its own each (docs/COMMANDS.md, "serve").
 
-ghost use Rattle.std.specs.Prelude.{◌+◌, ◌<◌, ◌≤◌, IfOk, List, length, vec_capacity, vec_len, ℕ};
+ghost use Rattle.std.specs.Prelude.{◌+◌, ◌<◌, ◌≤◌, IfErr, IfOk, List, length, vec_capacity, vec_len, ℕ};
 ghost use Rattle.dispatch.specs.Tally.{CounterValue};
 ghost use Rattle.read_section.specs.Worker.{WorkerValue};
-ghost use Rattle.udp_service.specs.Service.{HasNewDevices, HasRoom};
+ghost use Rattle.udp_service.specs.Service.{HasNewDevices, HasRoom, IsServeFailure};
 ghost use Rattle.udp_service.specs.body.Jobs.{AreMade};
 ghost use Rattle.udp_service.specs.declared.jobs.TheConstants.{LIMIT};
 
 use crate::sockets::LONGEST_DATAGRAM;
+use command_line::Failure;
 use dispatch::{Counter, Job};
 use ipv4_fields::Endpoint;
 use read_section::Worker;
@@ -15,7 +16,6 @@ use std::alloc::Global;
 use std::net::Net;
 use std::sync::Wait;
 use worker_devices::{ChannelSource, SocketOutbox, WorkerQueue, open_queue, socket_address};
-use worker_threads::ServeFault;
 
 // How many datagrams a batch judges at most.
 const LIMIT: u64 = 64;
@@ -36,19 +36,20 @@ fn open_devices<'a, R: Wait + Net>(
     rt: &'a R,
     alloc: Global,
     address: u32,
-) -> Result<Devices<'a, R>, ServeFault>
+) -> Result<Devices<'a, R>, Failure>
     ensures new { IfOk result (λ devices. HasNewDevices devices.source devices.outbox) }
     ensures room { IfOk result (λ devices. HasRoom (length devices.buffer.items) LIMIT) }
+    ensures no_input { IfErr result IsServeFailure }
 {
     let Ok((source, queue)) = open_queue(rt, alloc) else {
-        return Err(ServeFault::OutOfMemory);
+        return Err(Failure::OutOfMemory);
     };
     let Ok(buffer) = vec![in alloc; 0; LONGEST_DATAGRAM] else {
-        return Err(ServeFault::OutOfMemory);
+        return Err(Failure::OutOfMemory);
     };
     let any_port = Endpoint { address, port: 0 };
     let Ok(socket) = rt.bind_udp(socket_address(any_port)) else {
-        return Err(ServeFault::BindFailed);
+        return Err(Failure::BindFailed);
     };
     Ok(Devices {
         source,
@@ -114,17 +115,18 @@ pub fn jobs<'a, R: Wait + Net>(
     counters: &mut Vec<Counter>,
     address: u32,
     workers: usize,
-) -> Result<(Vec<ServiceJob<'a, R>>, Vec<WorkerQueue>), ServeFault>
+) -> Result<(Vec<ServiceJob<'a, R>>, Vec<WorkerQueue>), Failure>
     requires seats { workers ≤ vec_len seats.old }
     requires counters { workers ≤ vec_len counters.old }
-    ensures { IfOk result (λ parts. AreMade workers seats.old.items seats.new.items counters.old.items counters.new.items
+    ensures made { IfOk result (λ parts. AreMade workers seats.old.items seats.new.items counters.old.items counters.new.items
         parts.0.items (vec_len parts.1)) }
+    ensures no_input { IfErr result IsServeFailure }
 {
     let Ok(mut jobs) = Vec::with_capacity(alloc, workers) else {
-        return Err(ServeFault::OutOfMemory);
+        return Err(Failure::OutOfMemory);
     };
     let Ok(mut queues) = Vec::with_capacity(alloc, workers) else {
-        return Err(ServeFault::OutOfMemory);
+        return Err(Failure::OutOfMemory);
     };
     for _job in 0..workers {
         let devices = open_devices(rt, alloc, address)?;

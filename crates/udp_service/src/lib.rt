@@ -5,10 +5,10 @@
 //! itself, by `control_datagram`.
 #![tactic(auto)]
 
-ghost use Rattle.std.specs.Prelude.{◌≡◌, ◌≢◌, ◌≤◌, Err, IfErr, IfOk, OnOk, vec_len};
+ghost use Rattle.std.specs.Prelude.{◌≡◌, ◌≢◌, ◌⊎◌, ◌↔◌, ◌≤◌, Err, IfErr, IfOk, OnOk, vec_len};
 ghost use Rattle.versions.specs.declared.layout.TheConstants.{WORKERS};
 ghost use Rattle.udp_service.specs.declared.jobs.TheConstants.{LIMIT};
-ghost use Rattle.udp_service.specs.Service.{IsServed, WritesReadyOrNothing, WritesServed};
+ghost use Rattle.udp_service.specs.Service.{IsServeFailure, IsServed, WritesReadyOrNothing, WritesServed};
 ghost use Rattle.udp_service.specs.body.Jobs.{AreOpened};
 
 mod jobs;
@@ -17,7 +17,8 @@ mod ready;
 mod receiving;
 mod sockets;
 
-use dispatch::{Gate, Totals, gather};
+use command_line::Failure;
+use dispatch::{Gate, NamedTally, RunFault, TallyName, Totals, gather, run_counted, write_totals};
 use ipv4_fields::Endpoint;
 use jobs::ServiceJob;
 use opening::{Service, open_service};
@@ -31,14 +32,22 @@ use std::marker::Brand;
 use std::net::Net;
 use std::sync::Wait;
 use std::thread::Threads;
-pub use worker_threads::ServeFault;
-use worker_threads::{NamedTally, TallyName, run_counted, write_totals};
 
 /// Law: the limits, as numbers. It runs nothing.
 pub fn limits_as_numbers()
     ensures datagram { LONGEST_DATAGRAM ≡ 65535 }
     ensures batch { LIMIT ≡ 64 }
 {}
+
+fn failed(fault: RunFault) -> Failure
+    ensures spawn_failed { result ≡ Failure.SpawnFailed ↔ fault ≡ RunFault.SpawnFailed }
+    ensures run_fault { (result ≡ Failure.SpawnFailed) ⊎ (result ≡ Failure.OutOfMemory) }
+{
+    match fault {
+        RunFault::SpawnFailed => Failure::SpawnFailed,
+        RunFault::OutOfMemory => Failure::OutOfMemory,
+    }
+}
 
 // Receives beside the jobs until it is asked to stop, and then counts what they judged.
 fn count_served<N: TallyName, R: Threads + Wait + Sync, G: Gate + Sync>(
@@ -47,11 +56,12 @@ fn count_served<N: TallyName, R: Threads + Wait + Sync, G: Gate + Sync>(
     jobs: Vec<ServiceJob<'_, R>>,
     service: Service,
     gate: &G,
-) -> Result<Totals, ServeFault>
+) -> Result<Totals, Failure>
     requires named { service.tally.table ≡ N.table }
     requires opened { AreOpened service.tally.table service.receiver.operator.table service.spare.items jobs.items }
     ensures totals { IfOk result (IsServed (vec_len jobs.entry)) }
-    ensures bound { IfErr result (λ fault. fault ≢ ServeFault.BindFailed) }
+    ensures bound { IfErr result (λ failure. failure ≢ Failure.BindFailed) }
+    ensures no_input { IfErr result IsServeFailure }
 {
     let mut named = NamedTally::<N>::new(service.tally);
     let mut ended = Ended::PollFailed;
@@ -60,10 +70,11 @@ fn count_served<N: TallyName, R: Threads + Wait + Sync, G: Gate + Sync>(
     let mut receiver = service.receiver;
     let counters = run_counted(rt, alloc, jobs, service.spare, gate, move || {
         *told = receiver.receive(rt, alloc, &mut lent.tally);
-    })?;
+    })
+    .map_err(failed)?;
     match ended {
         Ended::Stopped => Ok(gather(named.tally, counters)),
-        Ended::PollFailed => Err(ServeFault::PollFailed),
+        Ended::PollFailed => Err(Failure::PollFailed),
     }
 }
 
@@ -83,15 +94,16 @@ pub fn serve<R: Threads + Wait + Net + Sync, G: Gate + Sync, W: Write>(
     workers: usize,
     gate: &G,
     out: &mut W,
-) -> Result<(), ServeFault>
+) -> Result<(), Failure>
     requires at_least_one { 1 ≤ workers }
     requires at_most { workers ≤ WORKERS }
     ensures served { OnOk result (WritesServed workers (W.contents out.old) (W.contents out.new)) }
-    ensures not_bound { result ≡ Err ServeFault.BindFailed → out.new ≡ out.old }
-    ensures ready_or_nothing { IfErr result (λ fault. fault ≢ ServeFault.WriteFailed → WritesReadyOrNothing (W.contents out.old) (W.contents out.new)) }
+    ensures no_input { IfErr result IsServeFailure }
+    ensures not_bound { result ≡ Err Failure.BindFailed → out.new ≡ out.old }
+    ensures ready_or_nothing { IfErr result (λ failure. failure ≢ Failure.WriteFailed → WritesReadyOrNothing (W.contents out.old) (W.contents out.new)) }
 {
     let (jobs, service) = open_service(rt, alloc, front, control, workers)?;
     write_ready(service.front, service.control, out)?;
     let totals = count_served::<Brand, R, G>(rt, alloc, jobs, service, gate)?;
-    write_totals(&totals, out)
+    write_totals(&totals, out).map_err(|_| Failure::WriteFailed)
 }

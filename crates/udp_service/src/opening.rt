@@ -1,14 +1,16 @@
 //! The service before it receives: its sockets are bound, and its jobs are made.
 
-ghost use Rattle.std.specs.Prelude.{◌≡◌, ◌<◌, ◌≤◌, IfOk, [], vec_len};
+ghost use Rattle.std.specs.Prelude.{◌≡◌, ◌<◌, ◌≤◌, IfErr, IfOk, [], vec_len};
 ghost use Rattle.std.specs.List.{All};
 ghost use Rattle.versions.specs.declared.layout.TheConstants.{WORKERS};
-ghost use Rattle.worker_threads.specs.Counted.{IsNewWorker};
+ghost use Rattle.dispatch.specs.Counted.{IsNewWorker};
+ghost use Rattle.udp_service.specs.Service.{IsServeFailure};
 ghost use Rattle.udp_service.specs.body.Jobs.{AreMade, AreOpened};
 
 use crate::jobs::{ServiceJob, jobs};
 use crate::receiving::Receiver;
 use crate::sockets::{BoundSockets, Room, Sockets};
+use command_line::Failure;
 use control_datagram::BoundAddresses;
 use dispatch::{Counter, Tally};
 use ipv4_fields::Endpoint;
@@ -18,7 +20,6 @@ use std::alloc::{AllocError, Global};
 use std::net::Net;
 use std::sync::Wait;
 use worker_devices::{WorkerQueue, WorkerQueues};
-use worker_threads::ServeFault;
 
 /// What the service has beside its jobs.
 #[derive(Drop)]
@@ -52,24 +53,25 @@ fn connect<'a, R: Wait + Net>(
     seats: &mut Vec<Worker>,
     counters: &mut Vec<Counter>,
     workers: usize,
-) -> Result<(Vec<ServiceJob<'a, R>>, Vec<WorkerQueue>, Sockets), ServeFault>
+) -> Result<(Vec<ServiceJob<'a, R>>, Vec<WorkerQueue>, Sockets), Failure>
     requires seats { workers ≤ vec_len seats.old }
     requires counters { workers ≤ vec_len counters.old }
     ensures made { IfOk result (λ parts. AreMade workers seats.old.items seats.new.items counters.old.items counters.new.items
         parts.0.items (vec_len parts.1)) }
+    ensures no_input { IfErr result IsServeFailure }
 {
     let Ok(room) = Room::new(alloc) else {
-        return Err(ServeFault::OutOfMemory);
+        return Err(Failure::OutOfMemory);
     };
     let Some(sockets) = BoundSockets::bind(rt, front, control) else {
-        return Err(ServeFault::BindFailed);
+        return Err(Failure::BindFailed);
     };
     let Some(bound) = sockets.addresses() else {
-        return Err(ServeFault::BindFailed);
+        return Err(Failure::BindFailed);
     };
     let (jobs, queues) = jobs(rt, alloc, seats, counters, bound.front.address, workers)?;
     let Ok(sockets) = Sockets::open(rt, sockets, bound, room) else {
-        return Err(ServeFault::PollFailed);
+        return Err(Failure::PollFailed);
     };
     Ok((jobs, queues, sockets))
 }
@@ -110,18 +112,19 @@ pub fn open_service<'a, R: Wait + Net>(
     front: Endpoint,
     control: Endpoint,
     workers: usize,
-) -> Result<(Vec<ServiceJob<'a, R>>, Service), ServeFault>
+) -> Result<(Vec<ServiceJob<'a, R>>, Service), Failure>
     requires at_least_one { 1 ≤ workers }
     requires at_most { workers ≤ WORKERS }
     ensures one_a_worker { IfOk result (λ opened. vec_len opened.0 ≡ workers) }
     ensures opened { IfOk result (λ opened. AreOpened opened.1.tally.table opened.1.receiver.operator.table opened.1.spare.items
         opened.0.items) }
+    ensures no_input { IfErr result IsServeFailure }
 {
     let Ok((operator, mut seats)) = open_table(alloc) else {
-        return Err(ServeFault::OutOfMemory);
+        return Err(Failure::OutOfMemory);
     };
     let Ok((tally, mut spare)) = Tally::open(alloc) else {
-        return Err(ServeFault::OutOfMemory);
+        return Err(Failure::OutOfMemory);
     };
     let (jobs, queues, sockets) = connect(
         rt, alloc, front, control, &mut seats, &mut spare, workers,

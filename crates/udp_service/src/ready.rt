@@ -3,10 +3,10 @@
 ghost use Rattle.std.specs.Prelude.{◌≡◌, IfErr, OnOk};
 ghost use Rattle.udp_service.specs.Service.{WritesReady, ready_text};
 
+use command_line::Failure;
 use control_line::Reply;
 use ipv4_fields::Endpoint;
 use std::io::Write;
-use worker_threads::ServeFault;
 
 fn ready_line(front: Endpoint, control: Endpoint) -> Reply
     ensures { result ≡ ready_text front control }
@@ -21,20 +21,16 @@ fn ready_line(front: Endpoint, control: Endpoint) -> Reply
 }
 
 /// Writes the line with the addresses of both sockets, and flushes it.
-pub fn write_ready<W: Write>(
-    front: Endpoint,
-    control: Endpoint,
-    out: &mut W,
-) -> Result<(), ServeFault>
-    ensures failed { IfErr result (λ fault. fault ≡ ServeFault.WriteFailed) }
+pub fn write_ready<W: Write>(front: Endpoint, control: Endpoint, out: &mut W) -> Result<(), Failure>
+    ensures failed { IfErr result (λ failure. failure ≡ Failure.WriteFailed) }
     ensures written { OnOk result (WritesReady front control (W.contents out.old) (W.contents out.new)) }
 {
     let line = ready_line(front, control);
     let Ok(()) = out.write_all(line.bytes()) else {
-        return Err(ServeFault::WriteFailed);
+        return Err(Failure::WriteFailed);
     };
     let Ok(()) = out.flush() else {
-        return Err(ServeFault::WriteFailed);
+        return Err(Failure::WriteFailed);
     };
     Ok(())
 }

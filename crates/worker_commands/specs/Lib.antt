@@ -4,10 +4,9 @@ pub use Rattle.control_client.specs.Exchange
 pub use Rattle.control_client.specs.Lines
 pub use Rattle.control_client.specs.Tell
 pub use Rattle.control_client.specs.Wire
+pub use Rattle.dispatch.specs.Counted
+pub use Rattle.dispatch.specs.Totals
 pub use Rattle.memory_flood.specs.Failing
 pub use Rattle.memory_flood.specs.Flood
 pub use Rattle.memory_flood.specs.FloodVersions
 pub use Rattle.memory_flood.specs.Traffic
-pub use Rattle.worker_threads.specs.Counted
-pub use Rattle.worker_threads.specs.ServeFault
-pub use Rattle.worker_threads.specs.TotalsLine

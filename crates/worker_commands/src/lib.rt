@@ -14,6 +14,7 @@ ghost use Rattle.worker_commands.specs.Waiting.{EndsInServeFailure, EndsInWaitin
 mod telling;
 
 use command_line::{Failure, Status, Waiting, Workers};
+use dispatch::OpenGate;
 use ipv4_fields::Endpoint;
 use memory_flood::run_flood;
 pub use memory_flood::{DATAGRAMS, flood};
@@ -26,8 +27,6 @@ use std::thread::Threads;
 use std::time::Clock;
 use telling::run_tell;
 pub use udp_service::serve;
-use worker_threads::OpenGate;
-pub use worker_threads::ServeFault;
 
 fn write_refusal<W: Write>(out: &mut W) -> io::Result<()>
     ensures { OnOk result (Appends (W.contents out.old) (W.contents out.new) (codes "refused C1\n")) }
@@ -77,7 +76,7 @@ fn run_serve<R: Threads + Wait + Net + Sync, W: Write, E: Write>(
     };
     match serve(rt, alloc, front, control, workers.count, &OpenGate, out) {
         Ok(()) => Status::Done,
-        Err(failed) => Failure::from(failed).report(errs),
+        Err(failure) => failure.report(errs),
     }
 }
 

@@ -2,7 +2,8 @@
 
 use super::streams::{Sink, Source};
 use super::{assert_wrote, run_as_main};
-use dispatch::Gate;
+use command_line::Failure;
+use dispatch::{Gate, OpenGate};
 use std::alloc::Global;
 use std::process::Abort;
 use std::sync::Wait;
@@ -10,7 +11,7 @@ use std::sync::atomic::{AtomicU64, Ordering};
 use std::test::Fail;
 use std::thread;
 use std::thread::Threads;
-use worker_commands::{ServeFault, flood};
+use worker_commands::flood;
 
 const TOTALS: &str =
     "malformed 1024 nogroup 1024 nomembers 0 dropped 0 delivered 2048 sendfailed 0 receivefailed 0\n";
@@ -24,19 +25,11 @@ const EIGHT: &str =
 const NONE: &str =
     "malformed 0 nogroup 0 nomembers 0 dropped 0 delivered 0 sendfailed 0 receivefailed 0\n";
 
-struct Open;
-
-impl Gate for Open {
-    fn start(&self, _batch: u64) {}
-
-    fn done(&self, _batch: u64) {}
-}
-
 // No line of words asks for no datagram.
 #[test]
 fn flood_of_few_datagrams(rt: HostRuntime) {
     let mut out = Sink::open(rt.alloc());
-    let result = flood(&rt, rt.alloc(), 3, 0, &Open, &mut out);
+    let result = flood(&rt, rt.alloc(), 3, 0, &OpenGate, &mut out);
     assert_eq!(rt; (result, out.text()), (Ok(()), Some(NONE)));
 }
 
@@ -100,18 +93,14 @@ fn assert_unwritten<R: Threads + Wait + Sync + Abort>(
     flushes: bool,
 ) {
     let mut out = Sink::new(alloc, limit, flushes);
-    let result = flood(rt, alloc, 1, 5, &Open, &mut out);
-    assert_eq!(rt;
-        result,
-        Err(ServeFault::WriteFailed),
-        "after {limit} writes"
-    );
+    let result = flood(rt, alloc, 1, 5, &OpenGate, &mut out);
+    assert_eq!(rt; result, Err(Failure::WriteFailed), "after {limit} writes");
 }
 
 #[test]
 fn flood_that_is_not_written_is_e2(rt: HostRuntime) {
     let mut whole = Sink::open(rt.alloc());
-    assert_eq!(rt; flood(&rt, rt.alloc(), 1, 5, &Open, &mut whole), Ok(()));
+    assert_eq!(rt; flood(&rt, rt.alloc(), 1, 5, &OpenGate, &mut whole), Ok(()));
     assert!(rt; whole.writes > 0);
     for limit in 0..whole.writes {
         assert_unwritten(&rt, rt.alloc(), limit, true);

@@ -9,8 +9,8 @@ use Rattle.versions.specs.Free.{number_after}
 use Rattle.read_section.specs.Operator.{IsCurrent, OperatorValue, opened_operator}
 use Rattle.read_section.specs.Section.{HoldsLastSeen, IsWholeSection, held_version}
 use Rattle.read_section.specs.Worker.{WorkerValue}
+use Rattle.command_line.specs.declared.sample.TheConstants.{SAMPLE_GROUP, SAMPLE_PACKET}
 use Rattle.query_commands.specs.declared.first_path.Line.{Line}
-use Rattle.sample_group.specs.declared.TheConstants.{SAMPLE_GROUP, SAMPLE_PACKET}
 
 -- the sample group alone, without members, with a selector of these words, each charged once
 pub record Selects (selector : List ℕ) (config : List Group) : Type 0 where

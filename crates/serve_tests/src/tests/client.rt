@@ -1,6 +1,5 @@
 //! A client of the switch over the loopback, and what the switch writes.
 
-use dispatch::Gate;
 use ipv4_fields::Endpoint;
 use std::alloc::Global;
 use std::io::{ErrorKind, Write};
@@ -25,15 +24,6 @@ pub fn at(port: u16) -> Endpoint {
         address: LOOPBACK,
         port,
     }
-}
-
-/// Lets each batch begin at once.
-pub struct Open;
-
-impl Gate for Open {
-    fn start(&self, _batch: u64) {}
-
-    fn done(&self, _batch: u64) {}
 }
 
 /// How often a test looks at most whether something has come.

@@ -1,8 +1,9 @@
 //! Queues of workers, their sources and their outboxes.
 
+use super::client::PACKET;
 use dispatch::{
-    BatchDone, BatchFault, Counter, Done, Failed, Gate, Job, KINDS, Outbox, Sends, Source, Tally,
-    Totals, batch, run_workers,
+    BatchDone, BatchFault, Counter, Done, Failed, Job, KINDS, OpenGate, Outbox, Sends, Source,
+    Tally, Totals, batch, run_workers,
 };
 use ipv4_fields::Endpoint;
 use member_group::{Command, Config};
@@ -18,12 +19,6 @@ use worker_devices::{
     ChannelReceiver, ChannelSender, ChannelSource, QUEUE_PLACES, Received, SocketOutbox,
     WorkerQueue, WorkerQueues, open_channel, open_queue,
 };
-
-// 29 bytes of UDP over IPv4 from 10.0.0.1:5000 to 10.0.0.2:53, with the payload `a`.
-const PACKET: [u8; 29] = [
-    0x45, 0x00, 0x00, 0x1d, 0x00, 0x00, 0x00, 0x00, 0x40, 0x11, 0x00, 0x00, 0x0a, 0x00, 0x00, 0x01,
-    0x0a, 0x00, 0x00, 0x02, 0x13, 0x88, 0x00, 0x35, 0x00, 0x09, 0x00, 0x00, 0x61,
-];
 
 // 10.0.0.2:53
 const KEY: Endpoint = Endpoint {
@@ -235,14 +230,6 @@ fn worker_that_ended_is_not_waited_for(rt: HostRuntime) {
     other_is_served(&rt, &mut queues, &mut source);
 }
 
-struct Open;
-
-impl Gate for Open {
-    fn start(&self, _batch: u64) {}
-
-    fn done(&self, _batch: u64) {}
-}
-
 // The sample packet with this payload.
 fn packet(payload: u8) -> [u8; 29] {
     let mut packet = PACKET;
@@ -326,7 +313,7 @@ fn two_workers_take_turns(rt: HostRuntime) {
     let (mut tally, mut counters) = Tally::open(rt.alloc()).expect(&rt, "a tally");
     let (jobs, queues) = two_jobs(&rt, rt.alloc(), &mut counters);
     let runtime = &rt;
-    let dones = run_workers(&rt, rt.alloc(), jobs, &Open, move || {
+    let dones = run_workers(&rt, rt.alloc(), jobs, &OpenGate, move || {
         receive_all(runtime, queues)
     })
     .expect(&rt, "both jobs run");

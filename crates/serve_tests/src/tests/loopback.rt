@@ -1,7 +1,8 @@
 //! The switch over the loopback: datagrams to two workers, control lines meanwhile, and its end.
 
-use super::client::{Case, Client, Open, PACKET, Ports, TURNS, at, new_client, new_output};
-use dispatch::Gate;
+use super::client::{Case, Client, PACKET, Ports, TURNS, at, new_client, new_output};
+use command_line::Failure;
+use dispatch::{Gate, OpenGate};
 use std::alloc::Global;
 use std::net::{Net, SocketAddr, UdpSocket};
 use std::process::Abort;
@@ -9,7 +10,6 @@ use std::sync::atomic::{AtomicU64, Ordering};
 use std::time::Duration;
 use std::{io, thread};
 use udp_service::serve;
-use worker_threads::ServeFault;
 
 // Two first batches and a client that wait for each other, each for `TURNS` turns at most.
 #[derive(Drop)]
@@ -142,8 +142,16 @@ fn serve_over_loopback(rt: HostRuntime) {
 #[test]
 fn serve_on_one_address(rt: HostRuntime) {
     let mut out = Vec::new(rt.alloc());
-    let served = serve(&rt, rt.alloc(), at(47003), at(47003), 1, &Open, &mut out);
-    assert_eq!(rt; served, Err(ServeFault::BindFailed));
+    let served = serve(
+        &rt,
+        rt.alloc(),
+        at(47003),
+        at(47003),
+        1,
+        &OpenGate,
+        &mut out,
+    );
+    assert_eq!(rt; served, Err(Failure::BindFailed));
     assert!(rt; out.is_empty());
 }
 
@@ -189,7 +197,7 @@ fn replies_are_not_answered(rt: HostRuntime) {
     let (mut out, ports) = new_output(&rt, rt.alloc());
     let (served, found) = thread::join(
         &rt,
-        || serve(&rt, rt.alloc(), at(0), at(0), 1, &Open, &mut out),
+        || serve(&rt, rt.alloc(), at(0), at(0), 1, &OpenGate, &mut out),
         || answered(&rt, &ports),
     );
     assert!(rt; served == Ok(()), "{served:?}");
@@ -304,7 +312,7 @@ fn unusual_datagrams(rt: HostRuntime) {
     let (mut out, ports) = new_output(&rt, rt.alloc());
     let (served, found) = thread::join(
         &rt,
-        || serve(&rt, rt.alloc(), at(0), at(0), 64, &Open, &mut out),
+        || serve(&rt, rt.alloc(), at(0), at(0), 64, &OpenGate, &mut out),
         || unusual(&rt, rt.alloc(), &ports, &member, &mut longest),
     );
     assert!(rt; served == Ok(()), "{served:?}");

@@ -3,12 +3,12 @@ use Rattle.std.proofs.lemmas.List.{length-map}
 use Rattle.std.proofs.lemmas.List.Elements.{All-map, All-weaker}
 use Rattle.dispatch.specs.Tally.{AreCountersOf}
 use Rattle.dispatch.specs.Workers.{parts_of_job}
+use Rattle.dispatch.proofs.CountedLemmas.{all_counters, counted}
 use Rattle.worker_devices.specs.Devices.{source_of}
 use Rattle.udp_service.specs.Service.{AreServiceStarts, HasNewDevices, HasSilentDevices}
 use Rattle.udp_service.specs.declared.jobs.TheConstants.{LIMIT}
 use Rattle.udp_service.specs.declared.sockets.TheConstants.{LONGEST_DATAGRAM}
 use Rattle.udp_service.proofs.count_served.Goals as goal
-use Rattle.worker_threads.proofs.CountedLemmas.{all_counters, counted}
 
 pub gather-requires : goal.gather-requires
 gather-requires g c =

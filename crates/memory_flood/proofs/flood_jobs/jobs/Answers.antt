@@ -2,11 +2,11 @@ use Rattle.std.proofs.Common.{◌∙◌, ◌+◌, ◌++◌, ◌∷◌, List, Som
 use Rattle.std.proofs.lemmas.List.{map-append}
 use Rattle.std.proofs.lemmas.List.Elements.{All-pop, All-push, All-same}
 use Rattle.dispatch.specs.Device.{SourceValue}
+use Rattle.dispatch.specs.Counted.{IsNew, IsNewWorker}
 use Rattle.memory_flood.specs.Flood.{AreStartsOf, HasRoom}
 use Rattle.memory_flood.specs.FloodVersions.{opening_version}
 use Rattle.memory_flood.proofs.FloodLemmas.{FloodJob, start_of, starts_more}
 use Rattle.memory_flood.proofs.flood_jobs.jobs.Goals as goal
-use Rattle.worker_threads.specs.Counted.{IsNew, IsNewWorker}
 
 pub loop-place-preserved : goal.loop-place-preserved
 loop-place-preserved c =

@@ -1,10 +1,10 @@
 use Rattle.std.proofs.Common.{◌≡◌, ◌+◌, length, map, vec_len}
 use Rattle.std.specs.List.{All}
 use Rattle.atomic_table.specs.Seated.{TableId}
+use Rattle.dispatch.specs.Counted.{IsNew, IsNewWorker}
 use Rattle.memory_flood.specs.Flood.{AreStartsOf, HasRoom, parts_of}
 use Rattle.memory_flood.specs.FloodVersions.{opening_version}
 use Rattle.memory_flood.proofs.flood_jobs.jobs.Given as goal
-use Rattle.worker_threads.specs.Counted.{IsNew, IsNewWorker}
 
 abbrev pub invariant-loop-place : goal.invariant-loop-place
 invariant-loop-place l =

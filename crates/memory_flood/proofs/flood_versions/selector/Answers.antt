@@ -1,5 +1,5 @@
 use Rattle.std.proofs.Common.{rules}
-use Rattle.sample_group.proofs.AcceptedLemmas.{second_accepted, third_accepted}
+use Rattle.command_line.proofs.AcceptedLemmas.{second_accepted, third_accepted}
 use Rattle.memory_flood.proofs.flood_versions.selector.Goals as goal
 
 pub returns-then-i-eq0-clause-accepted : goal.returns-then-i-eq0-clause-accepted

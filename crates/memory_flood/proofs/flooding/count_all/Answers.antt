@@ -6,8 +6,8 @@ use Rattle.memory_flood.specs.declared.flood_jobs.TheConstants.{BUFFER, LIMIT}
 use Rattle.memory_flood.specs.Flood.{AreStarts}
 use Rattle.memory_flood.specs.FloodVersions.{opening_version}
 use Rattle.memory_flood.proofs.flooding.count_all.Goals as goal
-use Rattle.worker_threads.specs.Counted.{IsNewWorker}
-use Rattle.worker_threads.proofs.CountedLemmas.{all_counters, counted}
+use Rattle.dispatch.specs.Counted.{IsNewWorker}
+use Rattle.dispatch.proofs.CountedLemmas.{all_counters, counted}
 
 pub gather-requires : goal.gather-requires
 gather-requires g c =

@@ -1,8 +1,8 @@
 use Rattle.std.proofs.Common.{subst, rules}
 use Rattle.read_section.specs.Operator.{AreOpenedWorkers}
+use Rattle.dispatch.proofs.CountedLemmas.{opened_workers}
 use Rattle.memory_flood.specs.FloodVersions.{opening_version}
 use Rattle.memory_flood.proofs.flooding.open_versions.Goals as goal
-use Rattle.worker_threads.proofs.CountedLemmas.{opened_workers}
 
 pub returns-clause-opening : goal.returns-clause-opening
 returns-clause-opening c =

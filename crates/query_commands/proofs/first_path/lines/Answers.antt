@@ -1,6 +1,6 @@
 use Rattle.std.proofs.Common.{[], ap, arith, length, refl, ◌++◌, ◌∙◌, ◌∷◌}
 use Rattle.read_section.specs.Operator.{OperatorValue}
-use Rattle.sample_group.proofs.AcceptedLemmas.{first_program, second_program}
+use Rattle.command_line.proofs.AcceptedLemmas.{first_program, second_program}
 use Rattle.query_commands.proofs.FirstLemmas.{first_line, second_line}
 use Rattle.query_commands.proofs.TableLemmas.{second_row_free}
 use Rattle.query_commands.proofs.first_path.lines.Goals as goal

@@ -3,7 +3,7 @@ use Rattle.std.specs.Prelude.{vec_len}
 use Rattle.versions.specs.declared.layout.TheConstants.{WORKERS}
 use Rattle.std.proofs.lemmas.Option.{get_or_from_slice_get, same_Some}
 use Rattle.read_section.specs.Worker.{WorkerValue}
-use Rattle.sample_group.proofs.AcceptedLemmas.{first_accepted}
+use Rattle.command_line.proofs.AcceptedLemmas.{first_accepted}
 use Rattle.query_commands.proofs.first_path.open_first.Goals as goal
 
 pub configuration-requires : goal.configuration-requires

@@ -1,4 +1,4 @@
-use Rattle.sample_group.proofs.AcceptedLemmas.{second_accepted}
+use Rattle.command_line.proofs.AcceptedLemmas.{second_accepted}
 use Rattle.query_commands.proofs.first_path.publish_second.Goals as goal
 
 pub configuration-requires : goal.configuration-requires

@@ -3,7 +3,7 @@ use Rattle.bpf_machine.specs.Meaning.{cost_of, ending_of}
 use Rattle.bpf_verify.specs.Path.{program_at}
 use Rattle.bpf_verify.specs.Accepted.{IsAccepted}
 use Rattle.config_image.specs.Lookup.{BeginsWithImage}
-use Rattle.sample_group.specs.declared.TheConstants.{SAMPLE_PACKET}
+use Rattle.command_line.specs.declared.sample.TheConstants.{SAMPLE_PACKET}
 use Rattle.query_commands.proofs.TableLemmas.{found_selector, group_not_missing, selector_not_missing, selector_stands}
 use Rattle.query_commands.proofs.first_path.run_selector.Goals as goal
 

@@ -17,7 +17,7 @@ loop-job-preserved g c = (
   c.add_job.ensures.added _ _ _ c.loop-job.invariant.2,
 )
 
-pub returns : goal.returns
-returns g c =
+pub returns-clause-made : goal.returns-clause-made
+returns-clause-made g c =
     let all : c.loop-job._job ≡ c.args.workers = omega arith in
     subst (λ (n : ℕ). AreMade n c.args.seats.now.items c.loop-job.seats.items c.args.counters.now.items c.loop-job.counters.items c.loop-job.jobs.items (vec_len c.loop-job.queues)) all c.loop-job.invariant.2

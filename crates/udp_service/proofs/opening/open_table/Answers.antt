@@ -2,8 +2,8 @@ use Rattle.std.proofs.Common.{[], subst}
 use Rattle.std.proofs.lemmas.List.Sorted.{All-permutation}
 use Rattle.read_section.specs.Operator.{AreOpenedWorkers}
 use Rattle.udp_service.proofs.opening.open_table.Goals as goal
-use Rattle.worker_threads.proofs.CountedLemmas.{opened_workers}
-use Rattle.worker_threads.specs.Counted.{IsNewWorker}
+use Rattle.dispatch.proofs.CountedLemmas.{opened_workers}
+use Rattle.dispatch.specs.Counted.{IsNewWorker}
 
 pub returns-clause-opening : goal.returns-clause-opening
 returns-clause-opening c =

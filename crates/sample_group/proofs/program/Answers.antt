@@ -1,8 +1,0 @@
-use Rattle.std.proofs.Common.{rules}
-use Rattle.sample_group.proofs.program.Goals as goal
-
-pub returns-clause-charge : goal.returns-clause-charge
-returns-clause-charge c = search rules
-
-pub returns-clause-words : goal.returns-clause-words
-returns-clause-words c = search rules
