@@ -23,6 +23,7 @@ pub(crate) fn code_answer(code: Code) -> Answer
     Answer::refused(number, code.place.unwrap_or(0))
 }
 
+// Lack of memory is `TextFault::OutOfMemory` alone: no other variant has an `OutOfMemory` inside.
 pub(crate) fn text_answer(fault: TextFault) -> Answer
     ensures { result ≡ text_answer fault }
 {

@@ -1,5 +1,5 @@
 -- One record more: what was read of a file so far, and what is read of the next record.
-use Rattle.std.proofs.Common.{◌≡◌, ◌+◌, ◌-◌, ◌<◌, ◌≤◌, ◌∷◌, ◌++◌, ◌∙◌, List, None, Option, Some, [], ap, arith, drop, length, length-append, length-drop, refl, subst, sym, take, zero-add, ℕ}
+use Rattle.std.proofs.Common.{◌≡◌, ◌≢◌, ◌+◌, ◌-◌, ◌≤◌, ◌∷◌, ◌++◌, ◌∙◌, List, None, Option, Some, [], ap, arith, drop, length, length-append, length-drop, refl, subst, sym, take, zero-add, ℕ}
 use Rattle.std.proofs.Math.Seq.{take-length}
 use Rattle.capture_file.specs.declared.content.Content.{Content}
 use Rattle.capture_file.specs.declared.content.Content.TheVariants.{Cut, Other, Packet}
@@ -82,20 +82,13 @@ pub place_of-none : (file rest : List ℕ) → length rest ≡ 0 → place_of fi
 place_of-none file [] empty = refl
 place_of-none file (byte ∷ rest) empty = absurd (omega arith)
 
-pub place_of-some : (file rest : List ℕ) → 0 < length rest → place_of file rest ≡ Some (length file - length rest)
-place_of-some file [] more = absurd (omega arith)
+pub place_of-some : (file rest : List ℕ) → rest ≢ [] → place_of file rest ≡ Some (length file - length rest)
+place_of-some file [] more = absurd (more refl)
 place_of-some file (byte ∷ rest) more = refl
 
--- a slice from a place on has all that stands behind it
-pub take-behind : (place : ℕ) (file : List ℕ) → take (length file - place) (drop place file) ≡ drop place file
-take-behind place file = ap (λ (n : ℕ). take n (drop place file)) (sym (length-drop place file)) ∙ take-length (drop place file)
-
-pub IsCounted-behind :
-    (file rest : List ℕ) (header : FileHeader) (counts : Summary)
-    → IsCounted header (take (length file - 24) (drop 24 file)) counts rest
-    → IsCounted header (drop 24 file) counts rest
-IsCounted-behind file rest header counts counted =
-    subst (λ (bytes : List ℕ). IsCounted header bytes counts rest) (take-behind 24 file) counted
+-- a slice from the header on has all that stands behind it
+pub behind_header : (P : List ℕ → Type 0) (file : List ℕ) → P (take (length file - 24) (drop 24 file)) → P (drop 24 file)
+behind_header P file holds = subst P (ap (λ (n : ℕ). take n (drop 24 file)) (sym (length-drop 24 file)) ∙ take-length (drop 24 file)) holds
 
 pub summary_of :
     (file rest : List ℕ) (header : FileHeader) (counts : Summary) (cut_at : Option ℕ)

@@ -1,3 +1,4 @@
 pub mod StandardFacts
 pub mod CaptureLemmas
 pub mod ContentLemmas
+pub mod PacketLemmas

@@ -6,4 +6,5 @@ pub mod Packet
 pub mod Content
 pub mod Capture
 pub mod Fault
+pub mod Packets
 pub mod body

@@ -2,7 +2,8 @@
 //!
 //! A file is read record by record: `read_header` reads its header, `first_record` cuts a record off, and `content_of` tells what
 //! it holds. Both byte orders are read, times in microseconds and in nanoseconds, and the link types of `LinkType`. `summarize` counts
-//! the records of a file, and tells where it is cut. No call takes memory.
+//! the records of a file, and tells where it is cut. `print_packets` writes a line of a script for each packet, and the refusal of a file
+//! that is none or is cut. No other call takes memory.
 #![tactic(auto)]
 
 ghost use Rattle.std.specs.Prelude.{◌≡◌, ◌+◌, ◌<◌, ◌^◌, IfErr, IfOk, None};
@@ -12,17 +13,21 @@ ghost use Rattle.capture_file.specs.Record.{HasNoRecord};
 ghost use Rattle.capture_file.specs.body.Progress.{CountsOne, IsCounted};
 
 mod content;
+mod counts;
 mod fault;
 mod header;
 mod link_type;
 mod order;
+mod packet_lines;
 mod record;
+mod refusal;
 
 pub use content::{Content, content_of, one_content};
 pub use fault::HeaderFault;
 pub use header::{FILE_HEADER, FileHeader, one_header, read_header};
 pub use link_type::LinkType;
 pub use order::Order;
+pub use packet_lines::print_packets;
 pub use record::{RECORD_HEADER, first_record};
 
 /// What the header of a file tells, how many of its records hold what, and where it is cut.

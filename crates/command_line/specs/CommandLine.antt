@@ -196,7 +196,7 @@ value_in rows id = unwrap_or (first_of id rows) []
 abbrev pub values_in : List Row → Text → List Text
 values_in rows id = unwrap_or (all_of id rows) []
 
--- the number from 1 on that a text is in decimal digits; leading zeros and a plus sign in front may stand there
+-- the number of a text of decimal digits, if it is from 1 to `most`; leading zeros and one plus sign before them are allowed
 abbrev pub number_in : ℕ → Text → Option ℕ
 number_in most text = if accepts false (Unsigned 1 most) text then Some (digits_value 10 (without_leading_plus text)) else None
 

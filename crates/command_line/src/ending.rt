@@ -1,6 +1,7 @@
 //! How a run of the program ends: its exit status, and why a command failed (docs/COMMANDS.md, "Statuses").
 
 ghost use Rattle.std.specs.Prelude.{◌≡◌, ◌≢◌, IfErr, IfOk, OnErr, OnOk};
+ghost use Rattle.std.specs.Io.KnownBytes.{Appends};
 ghost use Rattle.std.specs.IoError.{error_kind};
 ghost use Rattle.command_line.specs.Ending.{AppendsBeginning, line_of};
 ghost use Rattle.command_line.specs.declared.ending.Failure.TheVariants.{OutOfMemory};
@@ -57,13 +58,13 @@ impl Failure {
         ensures failed { result ≡ Status.Failed }
         ensures told { AppendsBeginning (E.contents errs.old) (E.contents errs.new) (line_of self) }
     {
-        write_what_fits(self.line().as_bytes(), errs);
+        let _ = write_whole(self.line().as_bytes(), errs);
         let _ = errs.flush();
         Status::Failed
     }
 }
 
-/// The status of a command that ended so. A failure is reported.
+/// Returns the status that a command ended with. A failure is reported.
 pub fn reported<E: Write>(ended: Result<Status, Failure>, errs: &mut E) -> Status
     ensures status { IfOk ended (λ status. result ≡ status) }
     ensures untold { OnOk ended (errs.new ≡ errs.old) }
@@ -76,19 +77,25 @@ pub fn reported<E: Write>(ended: Result<Status, Failure>, errs: &mut E) -> Statu
     }
 }
 
-/// Writes a text as far as the writer takes it. An error of the writer changes nothing.
-pub fn write_what_fits<W: Write>(bytes: &[u8], out: &mut W)
-    ensures { AppendsBeginning (W.contents out.old) (W.contents out.new) bytes.now }
+/// Writes a whole text, or a beginning of it if a write fails. A write that was interrupted is tried again.
+pub fn write_whole<W: Write>(bytes: &[u8], out: &mut W) -> Result<(), Failure>
+    ensures written { OnOk result (Appends (W.contents out.old) (W.contents out.new) bytes.now) }
+    ensures beginning { AppendsBeginning (W.contents out.old) (W.contents out.new) bytes.now }
+    ensures failed { IfErr result (λ failure. failure ≡ Failure.WriteFailed) }
 {
     let mut rest = bytes;
-    'writing: for _ in 0..u64::MAX {
+    for _turn in 0..u64::MAX {
+        if rest.is_empty() {
+            return Ok(());
+        }
         match out.write(rest) {
-            Ok(0) => break,
+            Ok(0) => return Err(Failure::WriteFailed),
             Ok(count) => rest = rest.split_at(count).1,
             Err(error) if error.kind() == ErrorKind::Interrupted => {}
-            Err(_) => break,
+            Err(_) => return Err(Failure::WriteFailed),
         }
     }
+    Err(Failure::WriteFailed)
 }
 
 impl From<AllocError> for Failure {

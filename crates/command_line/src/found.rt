@@ -33,7 +33,7 @@ fn values_of<'a>(
     }
 }
 
-// The number from 1 to `most` that a text is.
+// Reads the number of a text, `None` if it is not one from 1 to `most`.
 fn number(most: u64, text: &str) -> Option<u64>
     ensures number { result ≡ number_in most text.now }
     ensures in_range { IfSome result (λ number. (1 ≤ number) × (number ≤ most)) }

@@ -16,7 +16,7 @@ mod input;
 mod sample;
 
 pub use command::{MAX_DATAGRAMS, MAX_TIMEOUT, Query, Returning, Subcommand, Waiting, Workers};
-pub use ending::{Failure, Status, refuse_arguments, reported, write_what_fits};
+pub use ending::{Failure, Status, refuse_arguments, reported, write_whole};
 pub use found::read_words;
 pub use input::read_whole;
 pub use sample::{SAMPLE_GROUP, SAMPLE_PACKET, applied, program};

@@ -1,7 +1,6 @@
 //! What is found again in words that begin with an image, read one at a time.
 
-ghost use Rattle.std.specs.Prelude.{◌≡◌, ◌+◌, ◌*◌, ◌<◌, ◌^◌, IfSome, IsNone, List, None, ℕ};
-ghost use Rattle.ipv4_fields.specs.Endpoint.{IsEndpoint, endpoint_number};
+ghost use Rattle.std.specs.Prelude.{◌≡◌, ◌+◌, ◌*◌, ◌<◌, IfSome, IsNone, List, None};
 ghost use Rattle.member_group.specs.declared.member.Member.{Member};
 ghost use Rattle.bpf_verify.specs.Program.{ProgramValue};
 ghost use Rattle.config_image.specs.Image.{Group};
@@ -36,18 +35,6 @@ pub struct ProgramPlace {
     pub from: usize,
     /// How many words it has, at least 1.
     pub len: usize,
-}
-
-// A word that holds an endpoint.
-fn endpoint(word: u64) -> Endpoint
-    requires { word < 2 ^ 48 }
-    ensures number { endpoint_number result ≡ word }
-    ensures fits { IsEndpoint result }
-{
-    Endpoint {
-        address: (word >> 16) as u32,
-        port: (word & 0xffff) as u16,
-    }
 }
 
 // What a reference names.
@@ -132,7 +119,7 @@ fn read_member<W: Words>(words: &mut W, entry: usize) -> MemberEntry
     ensures rest_kept { W.rest words.new ≡ W.rest words.old }
 {
     let id = words.word(entry) as u32;
-    let to = endpoint(words.word(entry + 1));
+    let to = Endpoint::from_number(words.word(entry + 1));
     MemberEntry { id, to }
 }
 

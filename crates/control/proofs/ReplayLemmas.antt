@@ -1,28 +1,18 @@
 -- A script that is replayed: the input gave its first bytes, and its lines so far are answered.
-use Rattle.std.proofs.Common.{◌≡◌, ◌∙◌, ◌≤◌, ◌++◌, Err, List, None, Ok, Option, Result, Some, [], ap, append_assoc, append-nil, inl, inr, length, refl, subst, suc, sym, take, ℕ}
+use Rattle.std.proofs.Common.{◌≡◌, ◌∙◌, ◌≤◌, ◌++◌, Err, List, None, Ok, Option, Result, Some, [], ap, append-nil, inl, inr, length, refl, subst, suc, sym, take, ℕ}
+use Rattle.std.proofs.KnownBytes.{Appends-nil, Consumes-nil, Consumes-trans}
 use Rattle.std.specs.Prelude.{OnOk}
 use Rattle.std.specs.Io.KnownBytes.{Consumes, IsAtEnd}
 use Rattle.control_line.specs.declared.TheConstants.{LINE_LIMIT}
 use Rattle.control.specs.declared.fault.ReplayFault.{ReplayFault}
-use Rattle.control.specs.declared.fault.ReplayFault.TheVariants.{OutOfMemory, ReadFailed, WriteFailed}
+use Rattle.control.specs.declared.fault.ReplayFault.TheVariants.{OutOfMemory, WriteFailed}
 use Rattle.control.specs.declared.script.Script.{Script}
 use Rattle.control.specs.body.Ready.{AreOutside}
-use Rattle.control.specs.Replay.{AnsweredAllLines, AnsweredFirstLines, FailedBy, IsReplayed, WasRead, WroteBeginning}
+use Rattle.control.specs.Replay.{AnsweredAllLines, AnsweredFirstLines, IsReplayed, WasRead, WroteBeginning}
 use Rattle.control.specs.Script.{at_start, no_line}
-use Rattle.control.specs.body.ScriptSoFar.{Advances, Ends, IsAt, OutputFailedBy}
+use Rattle.control.specs.body.ScriptSoFar.{Advances, Ends, IsAt}
 use Rattle.control.specs.Streams.{InputValue, KeepsOrForgets, OutputValue}
 use Rattle.control.proofs.WaitingLemmas.{told_all}
-use Rattle.control.proofs.WritingLemmas.{appends_nothing}
-
-pub consumes_nothing : (known : Option (List ℕ)) → Consumes known known []
-consumes_nothing None = tt
-consumes_nothing (Some bytes) = refl
-
-pub consumes_more : (before mid after : Option (List ℕ)) (first then : List ℕ) → Consumes before mid first → Consumes mid after then → Consumes before after (first ++ then)
-consumes_more None mid after first then one two = tt
-consumes_more (Some a) None after first then one two = absurd one
-consumes_more (Some a) (Some b) None first then one two = absurd two
-consumes_more (Some a) (Some b) (Some c) first then one two = one ∙ (ap (λ bytes. first ++ bytes) two ∙ sym (append_assoc first then c))
 
 read_before_failure : (failures : ℕ) (before mid after : Option (List ℕ)) (read : List ℕ) → Consumes before mid read → KeepsOrForgets failures mid after → WasRead failures before after read
 read_before_failure failures None mid after read one kept = tt
@@ -44,7 +34,7 @@ pub replaying_begins : (input : InputValue) (output : OutputValue) (script : Scr
     → AreOutside script.switch.operator.table script.switch.workers.items → length script.held.items ≤ suc LINE_LIMIT → IsReplaying input input output output script
 replaying_begins input output script at outside within = record {
   read = [];
-  was_read = consumes_nothing input.coming;
+  was_read = Consumes-nil input.coming;
   so_far = at;
   outside = outside;
   within = within;
@@ -59,9 +49,9 @@ nothing_answered input output = record {
   rest = [];
   text = [];
   last = at_start;
-  read = consumes_nothing input.coming;
+  read = Consumes-nil input.coming;
   answered = no_line;
-  written = appends_nothing output.taken;
+  written = Appends-nil output.taken;
 }
 
 module _ (input mid : InputValue) (output now : OutputValue) (script : Script) (before : IsReplaying input mid output now script) where
@@ -85,7 +75,7 @@ module _ (input mid : InputValue) (output now : OutputValue) (script : Script) (
         → IsReplaying input after output later script'
     replaying_on script' later advances outside within same = record {
       read = before.read ++ bytes;
-      was_read = consumes_more input.coming mid.coming after.coming before.read bytes before.was_read gave;
+      was_read = Consumes-trans input.coming mid.coming after.coming before.read bytes before.was_read gave;
       so_far = advances before.read output.taken before.so_far;
       outside = outside;
       within = within;
@@ -100,7 +90,7 @@ module _ (input mid : InputValue) (output now : OutputValue) (script : Script) (
       text = cut.text;
       told = cut.told;
       untold = cut.untold;
-      read = subst (Consumes input.coming after.coming) cut.read_is (consumes_more input.coming mid.coming after.coming before.read bytes before.was_read gave);
+      read = subst (Consumes input.coming after.coming) cut.read_is (Consumes-trans input.coming mid.coming after.coming before.read bytes before.was_read gave);
       is_text = inl (cut.last, cut.answered);
       beginning = cut.beginning;
       written = cut.written;
@@ -112,7 +102,7 @@ module _ (input mid : InputValue) (output now : OutputValue) (script : Script) (
       rest = stop.rest;
       text = stop.text;
       last = stop.last;
-      read = subst (Consumes input.coming after.coming) stop.read_is (consumes_more input.coming mid.coming after.coming before.read bytes before.was_read gave);
+      read = subst (Consumes input.coming after.coming) stop.read_is (Consumes-trans input.coming mid.coming after.coming before.read bytes before.was_read gave);
       answered = stop.answered;
       written = told_all output.taken later.taken stop.text stop.written;
     }
@@ -120,7 +110,7 @@ module _ (input mid : InputValue) (output now : OutputValue) (script : Script) (
   -- the input came to its end
   module _ (after : InputValue) (gave : Consumes mid.coming after.coming []) (at_end : IsAtEnd after.coming) where
     all_read : Consumes input.coming after.coming before.read
-    all_read = subst (Consumes input.coming after.coming) (append-nil before.read) (consumes_more input.coming mid.coming after.coming before.read [] before.was_read gave)
+    all_read = subst (Consumes input.coming after.coming) (append-nil before.read) (Consumes-trans input.coming mid.coming after.coming before.read [] before.was_read gave)
 
     pub replayed : (later : OutputValue) → Ends later.failures script now.taken later.taken (Ok tt) → IsReplayed input after output later
     replayed later ends = let whole = ends before.read output.taken before.so_far in record {
@@ -155,14 +145,6 @@ module _ (input mid : InputValue) (output now : OutputValue) (script : Script) (
       answered = stop.answered;
       written = told_all output.taken later.taken stop.text stop.written;
     }
-
--- which device failed, by the fault of the output's part
-pub failed_by : (result : Result (Unit {0}) ReplayFault) (input input' : InputValue) (output mid output' : OutputValue) → input'.failures ≡ input.failures → mid.failures ≡ output.failures
-    → OutputFailedBy result mid.failures output'.failures → FailedBy result input input' output output'
-failed_by (Ok done) input input' output mid output' healthy same failed = (healthy, failed ∙ same)
-failed_by (Err ReadFailed) input input' output mid output' healthy same failed = absurd failed
-failed_by (Err WriteFailed) input input' output mid output' healthy same failed = (healthy, failed ∙ ap suc same)
-failed_by (Err OutOfMemory) input input' output mid output' healthy same failed = (healthy, failed ∙ same)
 
 pub replayed_if : (input mid after : InputValue) (output now later : OutputValue) (script : Script) → IsReplaying input mid output now script → Consumes mid.coming after.coming [] → IsAtEnd after.coming
     → (result : Result (Unit {0}) ReplayFault) → Ends later.failures script now.taken later.taken result → OnOk result (IsReplayed input after output later)

@@ -1,12 +1,13 @@
 -- Replies that wait to be written together.
 use Rattle.std.proofs.Common.{◌≡◌, ◌∙◌, ◌++◌, List, Option, [], ap, append_assoc, append-nil, refl, subst, sym, ℕ}
+use Rattle.std.proofs.KnownBytes.{Appends-nil, Appends-trans}
 use Rattle.std.specs.Io.KnownBytes.{Appends}
 use Rattle.control.specs.Replay.{WasWritten}
 use Rattle.control.specs.body.Waiting.{WritesAllBut}
-use Rattle.control.proofs.WritingLemmas.{appends_more, appends_nothing, written_more}
+use Rattle.control.proofs.WritingLemmas.{written_more}
 
 pub waits_none : (known : Option (List ℕ)) → WritesAllBut [] known known []
-waits_none known = record { told = []; is = refl; written = appends_nothing known }
+waits_none known = record { told = []; is = refl; written = Appends-nil known }
 
 -- where nothing waits all is written
 pub told_all : (before after : Option (List ℕ)) (text : List ℕ) → WritesAllBut [] before after text → Appends before after text
@@ -18,7 +19,7 @@ pub waits_more : (start mid after : Option (List ℕ)) (text waiting waiting' mo
 waits_more start mid after text waiting waiting' more a b = record {
   told = a.told ++ b.told;
   is = ap (λ front. front ++ more) a.is ∙ (append_assoc a.told waiting more ∙ (ap (λ rest. a.told ++ rest) b.is ∙ sym (append_assoc a.told b.told waiting')));
-  written = appends_more start mid after a.told b.told a.written b.written;
+  written = Appends-trans start mid after a.told b.told a.written b.written;
 }
 
 -- what waits is written
@@ -26,7 +27,7 @@ pub waits_no_more : (start mid after : Option (List ℕ)) (text waiting : List �
 waits_no_more start mid after text waiting a all = record {
   told = a.told ++ waiting;
   is = a.is ∙ sym (append-nil (a.told ++ waiting));
-  written = appends_more start mid after a.told waiting a.written all;
+  written = Appends-trans start mid after a.told waiting a.written all;
 }
 
 -- of more behind what waits a beginning is

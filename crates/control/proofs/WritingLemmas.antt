@@ -1,21 +1,10 @@
 -- Texts that are written in parts.
-use Rattle.std.proofs.Common.{◌≡◌, ◌∙◌, ◌-◌, ◌++◌, Err, List, None, Ok, Option, Result, Some, [], ap, append_assoc, append-nil, arith, drop, length, refl, sym, take, ℕ}
+use Rattle.std.proofs.Common.{◌≡◌, ◌∙◌, ◌-◌, ◌++◌, Err, List, None, Ok, Option, Result, Some, ap, append_assoc, arith, drop, length, sym, take, ℕ}
 use Rattle.std.proofs.lemmas.List.{length-drop, take-append-drop, take_all}
 use Rattle.std.specs.Prelude.{IsErrAnd}
+use Rattle.std.proofs.KnownBytes.{Appends-trans}
 use Rattle.std.specs.Io.KnownBytes.{Appends}
 use Rattle.control.specs.Replay.{WasWritten}
-use Rattle.control.specs.Streams.{KeepsOrForgets}
-use Rattle.control.specs.body.Writing.{IsWrittenInPart}
-
-pub appends_nothing : (known : Option (List ℕ)) → Appends known known []
-appends_nothing None = tt
-appends_nothing (Some bytes) = sym (append-nil bytes)
-
-pub appends_more : (before mid after : Option (List ℕ)) (first then : List ℕ) → Appends before mid first → Appends mid after then → Appends before after (first ++ then)
-appends_more None mid after first then one two = tt
-appends_more (Some a) None after first then one two = absurd one
-appends_more (Some a) (Some b) None first then one two = absurd two
-appends_more (Some a) (Some b) (Some c) first then one two = two ∙ (ap (λ bytes. bytes ++ then) one ∙ append_assoc a first then)
 
 pub written_more : (failures : ℕ) (before mid after : Option (List ℕ)) (first then : List ℕ) → Appends before mid first → WasWritten failures mid after then → WasWritten failures before after (first ++ then)
 written_more failures None mid after first then one two = tt
@@ -38,7 +27,7 @@ written_further before mid after bytes left size so_far more = record {
   told = so_far.told ++ take size left;
   is = so_far.is ∙ (ap (λ rest. so_far.told ++ rest) (sym (take-append-drop size left))
       ∙ (sym (append_assoc so_far.told (take size left) (drop size left)) ∙ ap (λ rest. (so_far.told ++ take size left) ++ rest) (sym (behind_size size left))));
-  written = appends_more before mid after so_far.told (take size left) so_far.written more;
+  written = Appends-trans before mid after so_far.told (take size left) so_far.written more;
 }
 
 -- an error that is told by its fault

@@ -10,7 +10,8 @@ use Rattle.control_client.specs.declared.device.Came.{Came}
 use Rattle.control_client.specs.declared.device.WireFailed.{WireFailed}
 use Rattle.control_client.specs.declared.fault.TellFault.{TellFault}
 use Rattle.control_client.specs.declared.fault.TellFault.TheVariants.{NoAnswer, WriteFailed}
-use Rattle.control_client.specs.Exchange.{IsExchange, IsForeign, LineEndsBy, LineTold, LineUnprinted, WritesBeginning, answered, is_refusal, not_sent, outnumbered, reply_line, timed_out}
+use Rattle.command_line.specs.Ending.{AppendsBeginning}
+use Rattle.control_client.specs.Exchange.{IsExchange, IsForeign, LineEndsBy, LineTold, LineUnprinted, answered, is_refusal, not_sent, outnumbered, reply_line, timed_out}
 use Rattle.control_client.specs.Wire.{Event, Logs, came, came_by, none_came, sent, sent_by}
 use Rattle.control_client.specs.body.Asking.{Hears, HearsNone, Passes, broken, out_of_time, too_many}
 use Rattle.control_client.proofs.WireLemmas.{logs_more, logs_nothing}
@@ -78,7 +79,7 @@ module _ (switch : Endpoint) (line reply : List ℕ) (events : List Event) (log 
   line_told (Ok refused) printed is = record { reply = reply; events = events; is_exchange = exchange; logged = logged; printed = printed; refused_is = is }
   line_told (Err fault) printed is = tt
 
-  pub line_unprinted : (result : Result Bool TellFault) → OnErr result (WritesBeginning out out' (reply_line reply)) → IfErr result (λ (fault : TellFault). fault ≡ WriteFailed)
+  pub line_unprinted : (result : Result Bool TellFault) → OnErr result (AppendsBeginning out out' (reply_line reply)) → IfErr result (λ (fault : TellFault). fault ≡ WriteFailed)
       → IfErr result (λ (fault : TellFault). LineEndsBy fault switch line log log' out out')
   line_unprinted (Ok refused) begun is = tt
   line_unprinted (Err fault) begun is =

@@ -3,6 +3,7 @@ use Rattle.std.specs.Prelude.{◌≡◌, ◌≢◌, ◌<◌, ◌≤◌, ◌++◌
 use Rattle.std.specs.List.{All, list_any, starts_with}
 use Rattle.std.specs.Io.KnownBytes.{Appends}
 use Rattle.ipv4_fields.specs.declared.endpoint.Endpoint.{Endpoint}
+use Rattle.command_line.specs.Ending.{AppendsBeginning}
 use Rattle.control_client.specs.declared.asking.TheConstants.{FOREIGN_LIMIT, LONGEST_LINE}
 use Rattle.control_client.specs.declared.fault.TellFault.{TellFault}
 use Rattle.control_client.specs.declared.fault.TellFault.TheVariants.{BindFailed, NoAnswer, OutOfMemory, ReadFailed, WaitFailed, WriteFailed}
@@ -72,10 +73,6 @@ is_refusal reply = starts_with nat_eq reply (codes "refused ") || starts_with na
 abbrev pub has_refusal : List Exchange → Bool
 has_refusal told = list_any (λ (one : Exchange). is_refusal one.reply) told
 
--- a beginning of the text was written, possibly none of it or the whole
-abbrev pub WritesBeginning : Option (List ℕ) → Option (List ℕ) → List ℕ → Type 0
-WritesBeginning before after text = (told left : List ℕ) × Appends before after told × (text ≡ told ++ left)
-
 -- ---- one line
 
 -- the line was exchanged and its reply printed
@@ -100,7 +97,7 @@ pub record LineUnprinted (switch : Endpoint) (line : List ℕ) (log log' : Optio
   pub events : List Event
   pub is_exchange : IsExchange switch line reply events
   pub logged : Logs log log' events
-  pub printed : WritesBeginning out out' (reply_line reply)
+  pub printed : AppendsBeginning out out' (reply_line reply)
 
 -- how a line ends by a fault
 abbrev pub LineEndsBy : TellFault → Endpoint → List ℕ → Option (List Event) → Option (List Event) → Option (List ℕ) → Option (List ℕ) → Type 0

@@ -2,31 +2,12 @@
 
 ghost use Rattle.std.specs.Prelude.{◌≡◌, IfErr, IfOk, OnErr, OnOk};
 ghost use Rattle.std.specs.Io.KnownBytes.{Appends};
-ghost use Rattle.control_client.specs.Exchange.{WritesBeginning, is_refusal, reply_line};
+ghost use Rattle.command_line.specs.Ending.{AppendsBeginning};
+ghost use Rattle.control_client.specs.Exchange.{is_refusal, reply_line};
 
 use crate::fault::TellFault;
-use std::io::{ErrorKind, Write};
-
-// A write that was interrupted is tried again.
-fn write_whole<W: Write>(bytes: &[u8], out: &mut W) -> Result<(), TellFault>
-    ensures written { OnOk result (Appends (W.contents out.old) (W.contents out.new) bytes.now) }
-    ensures beginning { OnErr result (WritesBeginning (W.contents out.old) (W.contents out.new) bytes.now) }
-    ensures fault { IfErr result (λ fault. fault ≡ TellFault.WriteFailed) }
-{
-    let mut rest = bytes;
-    for _turn in 0..u64::MAX {
-        if rest.is_empty() {
-            return Ok(());
-        }
-        match out.write(rest) {
-            Ok(0) => return Err(TellFault::WriteFailed),
-            Ok(count) => rest = rest.split_at(count).1,
-            Err(error) if error.kind() == ErrorKind::Interrupted => {}
-            Err(_) => return Err(TellFault::WriteFailed),
-        }
-    }
-    Err(TellFault::WriteFailed)
-}
+use command_line::write_whole;
+use std::io::Write;
 
 // The reply tells that its line was not done.
 fn is_refusal(reply: &[u8]) -> bool
@@ -39,11 +20,11 @@ fn is_refusal(reply: &[u8]) -> bool
 pub(crate) fn print_reply<W: Write>(reply: &[u8], out: &mut W) -> Result<bool, TellFault>
     ensures printed { OnOk result (Appends (W.contents out.old) (W.contents out.new) (reply_line reply.now)) }
     ensures refused { IfOk result (λ refused. refused ≡ is_refusal reply.now) }
-    ensures beginning { OnErr result (WritesBeginning (W.contents out.old) (W.contents out.new) (reply_line reply.now)) }
+    ensures beginning { OnErr result (AppendsBeginning (W.contents out.old) (W.contents out.new) (reply_line reply.now)) }
     ensures fault { IfErr result (λ fault. fault ≡ TellFault.WriteFailed) }
 {
-    write_whole(reply, out)?;
-    write_whole(b"\n".as_slice(), out)?;
+    write_whole(reply, out).map_err(|_| TellFault::WriteFailed)?;
+    write_whole(b"\n".as_slice(), out).map_err(|_| TellFault::WriteFailed)?;
     match out.flush() {
         Ok(()) => Ok(is_refusal(reply)),
         Err(_) => Err(TellFault::WriteFailed),

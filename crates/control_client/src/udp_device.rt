@@ -10,7 +10,7 @@ use mio::net::UdpSocket;
 use mio::{Events, Interest, Poll, Token};
 use std::alloc::Global;
 use std::io::ErrorKind;
-use std::net::{IpAddr, Ipv4Addr, Net, SocketAddr};
+use std::net::Net;
 use std::time::{Clock, Duration, Instant};
 
 // A socket at any address of the system, at a port that it picks.
@@ -18,10 +18,6 @@ const ANY_PORT: Endpoint = Endpoint {
     address: 0,
     port: 0,
 };
-
-fn socket_address(of: Endpoint) -> SocketAddr {
-    SocketAddr::new(IpAddr::V4(Ipv4Addr::from(of.address)), of.port)
-}
 
 /// A wire over a socket of its own. Of what happens on it contracts see nothing.
 #[derive(Drop)]
@@ -41,7 +37,7 @@ impl<'a, R: Clock + Net> UdpWire<'a, R> {
         ensures faults { IfErr result IsMakingFault }
     {
         let events = Events::with_capacity(alloc, 1)?;
-        let Ok(mut socket) = UdpSocket::bind(rt, socket_address(ANY_PORT)) else {
+        let Ok(mut socket) = UdpSocket::bind(rt, ANY_PORT.socket_address()) else {
             return Err(TellFault::BindFailed);
         };
         let Ok(poll) = Poll::new(rt) else {
@@ -99,7 +95,7 @@ impl<R: Clock> Wire for UdpWire<'_, R> {
             return Err(WireFailed);
         };
         self.deadline = now.checked_add(self.timeout);
-        match self.socket.send_to(bytes, socket_address(to)) {
+        match self.socket.send_to(bytes, to.socket_address()) {
             Ok(size) if size == bytes.len() => Ok(()),
             _ => Err(WireFailed),
         }
@@ -108,12 +104,10 @@ impl<R: Clock> Wire for UdpWire<'_, R> {
     fn receive(&mut self, buf: &mut [u8]) -> Result<Option<Came>, WireFailed> {
         for _turn in 0..u64::MAX {
             match self.socket.recv_from(buf) {
-                Ok((len, SocketAddr::V4(from))) => {
-                    let from = Endpoint {
-                        address: u32::from(*from.ip()),
-                        port: from.port(),
-                    };
-                    return Ok(Some(Came { from, len }));
+                Ok((len, from)) => {
+                    if let Some(from) = Endpoint::from_socket_address(from) {
+                        return Ok(Some(Came { from, len }));
+                    }
                 }
                 Err(error) if error.kind() == ErrorKind::WouldBlock => {
                     if self.wait()? {

@@ -1,11 +1,10 @@
 -- Which texts look like replies: what begins so, and every answer.
-use Rattle.std.proofs.Common.{◌≡◌, ◌==◌, ◌||◌, ◌∙◌, ◌∷◌, ◌++◌, Bool, List, [], arith, codes, false, not, refl, subst, sym, true, ℕ}
-use Rattle.std.proofs.lemmas.Bool.{and_parts, eq-eqb, false≢true}
+use Rattle.std.proofs.Common.{◌≡◌, ◌||◌, ◌∙◌, ◌++◌, Bool, List, codes, false, refl, subst, sym, true, ℕ}
+use Rattle.std.proofs.lemmas.Bool.{false≢true}
 use Rattle.std.proofs.lemmas.Slice.Eq.{bytes_eq-Decides}
-use Rattle.std.specs.List.{list_all}
 use Rattle.std.specs.Prelude.{bytes_eq}
 use Rattle.ipv4_fields.specs.Cut.{IsSplitAt, Lacks}
-use Rattle.ipv4_fields.proofs.TextLemmas.{has_separator, lacks-cons, one_cut}
+use Rattle.ipv4_fields.proofs.TextLemmas.{has_separator, lacks-test, one_cut}
 use Rattle.control_line.specs.Reply.{reply_text}
 use Rattle.control_line.specs.declared.reply.LineAnswer.{LineAnswer}
 use Rattle.control_line.specs.declared.reply.LineAnswer.TheVariants.{Published, Refused, Shown, Swept}
@@ -16,12 +15,6 @@ use Rattle.control_datagram.specs.Ignored.{BeginsReplies, IsAlwaysIgnored, Looks
 use Rattle.control_datagram.specs.declared.ControlAnswer.{ControlAnswer}
 
 -- ---- the first word
-
-lacks-test : (s : ℕ) (text : List ℕ) → list_all (λ b. not (b == s)) text ≡ true → Lacks s text
-lacks-test s [] all = λ k inside. absurd (omega arith)
-lacks-test s (x ∷ text) all =
-    let both = and_parts (not (x == s)) (list_all (λ b. not (b == s)) text) all in
-    lacks-cons s x text (λ same. false≢true (rw (eq-eqb x s same) at both.0)) (lacks-test s text both.1)
 
 lacks-space : (word : List ℕ) → BeginsReplies word → Lacks 32 word
 lacks-space word ok = lacks-test 32 (codes "ok") refl

@@ -1,13 +1,12 @@
 -- The lines that ask for a change, by their words: no two rows of the table have one word, and what stands behind each.
-use Rattle.std.proofs.Common.{◌≡◌, ◌∙◌, ◌==◌, false, ◌%◌, ◌/◌, ◌^◌, ◌<◌, ◌∷◌, ◌++◌, List, None, Option, Some, [], ap, arith, codes, decimal, find, get_or, inl, not, refl, subst, sym, true, ℕ}
+use Rattle.std.proofs.Common.{◌≡◌, ◌∙◌, ◌==◌, false, ◌^◌, ◌<◌, ◌∷◌, ◌++◌, List, None, Option, Some, [], ap, codes, decimal, find, get_or, refl, subst, sym, ℕ}
 use Rattle.std.specs.Prelude.{bytes_eq}
-use Rattle.std.specs.List.{list_all}
 use Rattle.std.proofs.lemmas.Slice.Eq.{bytes_eq-Decides}
-use Rattle.std.proofs.lemmas.Bool.{and_parts, eq-eqb, false≢true}
+use Rattle.std.proofs.lemmas.Bool.{eq-eqb, false≢true}
 use Rattle.ipv4_fields.specs.declared.endpoint.Endpoint.{Endpoint}
 use Rattle.ipv4_fields.specs.Cut.{Lacks}
 use Rattle.ipv4_fields.specs.Endpoint.{IsEndpoint, endpoint_text}
-use Rattle.ipv4_fields.proofs.TextLemmas.{lacks-append, lacks-cons, lacks-decimal}
+use Rattle.ipv4_fields.proofs.TextLemmas.{lacks-test}
 use Rattle.member_group.specs.Map.{key_of}
 use Rattle.member_group.specs.declared.command.Command.{Command}
 use Rattle.member_group.specs.declared.command.Command.TheVariants.{AddGroup, ClearFilter, ClearSelector, Join, Leave, LockFilter, RemoveGroup, SetFilter, SetSelector}
@@ -15,7 +14,7 @@ use Rattle.control_line.specs.Request.{Spells, change, spaced}
 use Rattle.control_line.specs.body.Reading.{program_fields}
 use Rattle.program_text.specs.Program.{Source, assembly, expression}
 
--- ---- no space in a word or an endpoint
+-- ---- texts that differ
 
 -- texts that differ in a byte
 pub differ : (k : ℕ) {xs ys : List ℕ} → xs ≡ ys → (get_or xs k 0 == get_or ys k 0) ≡ false → ⊥
@@ -23,23 +22,6 @@ differ k {xs} {ys} same apart = false≢true (sym apart ∙ eq-eqb (get_or xs k 
 
 pub differs : (xs ys : List ℕ) → bytes_eq xs ys ≡ false → xs ≡ ys → ⊥
 differs xs ys apart same = false≢true (sym apart ∙ (bytes_eq-Decides xs ys).1 same)
-
-pub lacks-test : (s : ℕ) (text : List ℕ) → list_all (λ b. not (b == s)) text ≡ true → Lacks s text
-lacks-test s [] all = λ k inside. absurd (omega arith)
-lacks-test s (x ∷ text) all =
-    let both = and_parts (not (x == s)) (list_all (λ b. not (b == s)) text) all in
-    lacks-cons s x text (λ same. false≢true (rw (eq-eqb x s same) at both.0)) (lacks-test s text both.1)
-
-pub lacks-endpoint : (e : Endpoint) → IsEndpoint e → Lacks 32 (endpoint_text e)
-lacks-endpoint e range =
-    lacks-append 32 (decimal (e.address / 2 ^ 24)) _ (number (e.address / 2 ^ 24) (omega (arith, range.address)))
-    (lacks-cons 32 46 _ (λ e. absurd (omega arith)) (lacks-append 32 (decimal (e.address / 2 ^ 16 % 256)) _ (number (e.address / 2 ^ 16 % 256) (omega arith))
-    (lacks-cons 32 46 _ (λ e. absurd (omega arith)) (lacks-append 32 (decimal (e.address / 2 ^ 8 % 256)) _ (number (e.address / 2 ^ 8 % 256) (omega arith))
-    (lacks-cons 32 46 _ (λ e. absurd (omega arith)) (lacks-append 32 (decimal (e.address % 256)) _ (number (e.address % 256) (omega arith))
-    (lacks-cons 32 58 _ (λ e. absurd (omega arith)) (number e.port (omega (arith, range.port))))))))))
-  where
-    number : (n : ℕ) → n < 2 ^ 64 → Lacks 32 (decimal n)
-    number n small = lacks-decimal 32 n (inl (omega arith)) small
 
 -- ---- the table of words
 

@@ -12,8 +12,8 @@ use Rattle.ipv4_fields.specs.Endpoint.{endpoint_text}
 use Rattle.control_line.specs.Request.{AsksForOneThing, Spells, change, show, spaced, sweep}
 use Rattle.program_text.specs.Program.{Source, assembly, expression}
 use Rattle.control_line.specs.body.Reading.{program_fields}
-use Rattle.ipv4_fields.proofs.TextLemmas.{has_separator, number_parts, one_cut, one_endpoint}
-use Rattle.control_line.proofs.FormLemmas.{IsOfEndpoint, IsOfFilter, IsOfKey, IsOfNumber, IsOfSelector, Row, add_row, args_at, args_of, differ, differs, filter_command, filter_row, form_at, join_row, key_range, lacks-endpoint, lacks-row, lacks-test, leave_row, lock_row, one_row, parts, remove_row, rest_of, row_of, selector_command, selector_row, word_at, word_of}
+use Rattle.ipv4_fields.proofs.TextLemmas.{has_separator, lacks-endpoint, lacks-test, number_parts, one_cut, one_endpoint}
+use Rattle.control_line.proofs.FormLemmas.{IsOfEndpoint, IsOfFilter, IsOfKey, IsOfNumber, IsOfSelector, Row, add_row, args_at, args_of, differ, differs, filter_command, filter_row, form_at, join_row, key_range, lacks-row, leave_row, lock_row, one_row, parts, remove_row, rest_of, row_of, selector_command, selector_row, word_at, word_of}
 use Rattle.control_line.proofs.RequestLemmas.{at_word, keyed}
 
 -- ---- fields
@@ -41,7 +41,7 @@ module _ (line : List ℕ) (one other : Command Source) (spells : Spells line (c
   -- the same key, and the same behind it
   same_args : word_of one ≢ codes "add" → word_of one ≢ codes "remove" → (key_of one ≡ key_of other) × (rest_of one ≡ rest_of other)
   same_args not_add not_remove =
-      let cut = one_cut 32 (endpoint_text (key_of one)) (endpoint_text (key_of other)) (rest_of one) (rest_of other) (lacks-endpoint (key_of one) (key_range line one spells)) (lacks-endpoint (key_of other) (key_range line other also))
+      let cut = one_cut 32 (endpoint_text (key_of one)) (endpoint_text (key_of other)) (rest_of one) (rest_of other) (lacks-endpoint 32 (key_of one) (omega arith)) (lacks-endpoint 32 (key_of other) (omega arith))
       (sym (keyed one not_add not_remove) ∙ (at_one.1 ∙ keyed other (λ e. not_add (at_one.0 ∙ e)) (λ e. not_remove (at_one.0 ∙ e)))) in
       (same_keys cut.0, cut.1)
 

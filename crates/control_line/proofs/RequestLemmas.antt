@@ -3,14 +3,14 @@ use Rattle.std.proofs.Common.{◌≡◌, ◌≢◌, ◌∙◌, ◌^◌, ◌<◌,
 use Rattle.ipv4_fields.specs.declared.endpoint.Endpoint.{Endpoint}
 use Rattle.ipv4_fields.specs.Cut.{IsSplitAt, Lacks}
 use Rattle.ipv4_fields.specs.Endpoint.{IsEndpoint, endpoint_text}
-use Rattle.ipv4_fields.proofs.TextLemmas.{has_separator, lacks-decimal, one_cut, one_part}
+use Rattle.ipv4_fields.proofs.TextLemmas.{has_separator, lacks-decimal, lacks-endpoint, lacks-test, one_cut, one_part}
 use Rattle.member_group.specs.Map.{key_of}
 use Rattle.member_group.specs.declared.command.Command.{Command}
 use Rattle.member_group.specs.declared.command.Command.TheVariants.{Leave, LockFilter, SetFilter, SetSelector}
 use Rattle.control_line.specs.Request.{Request, Spells, change, show, spaced, sweep}
 use Rattle.control_line.specs.body.Reading.{IsMemberWord, program_fields}
 use Rattle.program_text.specs.Program.{Source, assembly, expression}
-use Rattle.control_line.proofs.FormLemmas.{HasForm, IsOfNumber, IsSelector, Row, add_row, args_at, args_of, differ, filter_row, form_at, join_row, key_range, lacks-endpoint, lacks-row, lacks-test, leave_row, lock_row, parts, remove_row, rest_of, row_of, selector_row, tail_of, unwritten, word_at, word_of, written}
+use Rattle.control_line.proofs.FormLemmas.{HasForm, IsOfNumber, IsSelector, Row, add_row, args_at, args_of, differ, filter_row, form_at, join_row, key_range, lacks-row, leave_row, lock_row, parts, remove_row, rest_of, row_of, selector_row, tail_of, unwritten, word_at, word_of, written}
 
 -- ---- the word and the key
 
@@ -42,7 +42,7 @@ module _ (word args : List ℕ) (command : Command Source) (lacks : Lacks 32 wor
   -- the key and what stands behind it
   pub at_key : (key rest : List ℕ) → Lacks 32 key → args ≡ key ++ 32 ∷ rest → (key ≡ endpoint_text (key_of command)) × (rest ≡ rest_of command)
   at_key key rest none is =
-      one_cut 32 key (endpoint_text (key_of command)) rest (rest_of command) none (lacks-endpoint (key_of command) (key_range _ command spells)) (sym is ∙ args_keyed)
+      one_cut 32 key (endpoint_text (key_of command)) rest (rest_of command) none (lacks-endpoint 32 (key_of command) (omega arith)) (sym is ∙ args_keyed)
 
   pub no_key : (key : List ℕ) (rest : List ℕ) → Lacks 32 key → args ≡ key ++ 32 ∷ rest → ((endpoint : Endpoint) → IsEndpoint endpoint → key ≢ endpoint_text endpoint) → ⊥
   no_key key rest none is misspelt = misspelt (key_of command) (key_range _ command spells) (at_key key rest none is).0
@@ -50,7 +50,7 @@ module _ (word args : List ℕ) (command : Command Source) (lacks : Lacks 32 wor
 -- a line whose key was read
 module _ (word : List ℕ) (key : Endpoint) (fields : List ℕ) (command : Command Source) (lacks : Lacks 32 word) (range : IsEndpoint key) (spells : Spells (word ++ 32 ∷ (endpoint_text key ++ 32 ∷ fields)) (change command)) (not_add : word ≢ codes "add") (not_remove : word ≢ codes "remove") where
   pub behind_key : fields ≡ rest_of command
-  behind_key = (at_key word _ command lacks spells not_add not_remove (endpoint_text key) fields (lacks-endpoint key range) refl).1
+  behind_key = (at_key word _ command lacks spells not_add not_remove (endpoint_text key) fields (lacks-endpoint 32 key (omega arith)) refl).1
 
 -- ---- lines that are none of the table
 
@@ -71,7 +71,7 @@ module _ (command : Command Source) where
   ends_there filter_row is form last = absurd (has_separator 32 (decimal form.0) (tail_of command) (subst (Lacks 32) form.3 last))
 
   not_split : (make : Endpoint → ℕ → Command Source) → IsOfNumber make command → (id rest : List ℕ) → rest_of command ≡ id ++ 32 ∷ rest → ⊥
-  not_split make form id rest split = has_separator 32 id rest (subst (Lacks 32) (sym form.2 ∙ split) (lacks-decimal 32 form.0 (inl (omega arith)) (omega (arith, form.1))))
+  not_split make form id rest split = has_separator 32 id rest (subst (Lacks 32) (sym form.2 ∙ split) (lacks-decimal 32 form.0 (inl (omega arith))))
 
   goes_on : (row : Row) → IsMemberWord (word_at row) → HasForm row command → (id rest : List ℕ) → rest_of command ≡ id ++ 32 ∷ rest → (n : ℕ) × (n < 2 ^ 32) × (rest_of command ≡ decimal n ++ 32 ∷ tail_of command)
   goes_on add_row is form id rest split = absurd (is.not_add refl)
@@ -135,7 +135,7 @@ module _ (word : List ℕ) (key : Endpoint) (fields : List ℕ) (is : IsMemberWo
     at_number command spells =
         let rest_there = rest_is command spells in
         let stands = goes_on command (row_of command) (member_row command spells) (form command spells) id rest (sym rest_there ∙ cut.whole) in
-        let part = one_part 32 stands.0 fields id rest (tail_of command) (inl (omega arith)) (omega (arith, stands.1)) cut (rest_there ∙ stands.2) in
+        let part = one_part 32 stands.0 fields id rest (tail_of command) (inl (omega arith)) cut (rest_there ∙ stands.2) in
         (stands.0, stands.1, part.0, part.1)
 
     pub none_numbered : ((n : ℕ) → n ≤ 4294967295 → id ≢ decimal n) → IsNone keyed_line
@@ -160,7 +160,7 @@ filter-word = record { lacks = lacks-filter; not_add = λ e. differ 0 e refl; no
 
 pub none_filters : (key : Endpoint) (id : ℕ) (fields : List ℕ) → IsEndpoint key → id < 2 ^ 32 → ((program : Option Source) → fields ≢ spaced (program_fields program)) → IsNone (codes "filter " ++ (endpoint_text key ++ 32 ∷ (decimal id ++ 32 ∷ fields)))
 none_filters key id fields range small misspelt command spells =
-    let cut : IsSplitAt 32 (decimal id ++ 32 ∷ fields) (decimal id) fields = record { lacks = lacks-decimal 32 id (inl (omega arith)) (omega arith); whole = refl } in
+    let cut : IsSplitAt 32 (decimal id ++ 32 ∷ fields) (decimal id) fields = record { lacks = lacks-decimal 32 id (inl (omega arith)); whole = refl } in
     let at = at_number (codes "filter") key (decimal id ++ 32 ∷ fields) filter-word range (decimal id) fields cut command spells in
     let filter = form_at filter_row _ command spells (sym (at_word (codes "filter") _ command lacks-filter spells).0) in
     misspelt filter.2 (at.3 ∙ filter.4)

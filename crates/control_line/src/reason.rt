@@ -9,7 +9,7 @@ use program_text::TextFault;
 use retire::PublishFault;
 use std::fmt;
 
-/// Why a control line or a command is refused. It is never want of memory.
+/// Why a control line or a command is refused. `line` and the commands never refuse for lack of memory (A6, P6, F3, G8).
 #[derive(Clone, Copy, Debug, PartialEq, Eq)]
 pub enum Reason {
     /// C1: the text is none that was asked for. A control line is none of the table, or digits write no bytes.

@@ -1,10 +1,11 @@
 -- Pieces of texts: a text is cut at a separator in one way, and a number is spelled in one way.
-use Rattle.std.proofs.Common.{◌≡◌, ◌≢◌, ◌∙◌, ◌/◌, ◌%◌, ◌^◌, ◌<◌, ◌≤◌, ◌⊎◌, ◌∷◌, ◌++◌, List, [], ap, arith, decimal, get_or, inl, inr, length, refl, suc, sym, zero, ℕ}
-use Rattle.std.specs.Int.{IsInRange}
+use Rattle.std.proofs.Common.{◌≡◌, ◌≢◌, ◌∙◌, ◌==◌, ◌+◌, ◌/◌, ◌%◌, ◌^◌, ◌<◌, ◌≤◌, ◌⊎◌, ◌∷◌, ◌++◌, if◌then◌else◌, Bool, List, [], ap, arith, decimal, false, get_or, inl, inr, length, nat_lt, not, refl, suc, sym, true, zero, ℕ}
+use Rattle.std.specs.Fmt.{digit_glyph, digits, digits_onto}
+use Rattle.std.specs.List.{list_all}
 use Rattle.std.specs.Str.Parse.{AllDigits, digits_value}
-use Rattle.std.proofs.lemmas.Bool.{cases_lt}
+use Rattle.std.proofs.lemmas.Bool.{and_parts, cases_lt, eq-eqb, false≢true, lt-ltb}
 use Rattle.std.proofs.lemmas.Fmt.{decimal-digits_value, decimal_digit, decimal_injective, decimal_nonempty, digits_decimal, digits_value-decimal, first_decimal, length-decimal-le}
-use Rattle.std.proofs.lemmas.Str.Parse.{IsNumeralModel, digits_value_short, not_in_digits, numerals_by_value, tells_digits}
+use Rattle.std.proofs.lemmas.Str.Parse.{IsNumeralModel, digits_value_short, numerals_by_value, tells_digits}
 use Rattle.ipv4_fields.specs.declared.endpoint.Endpoint.{Endpoint}
 use Rattle.ipv4_fields.specs.Endpoint.{IsEndpoint, endpoint_text}
 use Rattle.ipv4_fields.specs.Cut.{IsSplitAt, Lacks}
@@ -41,18 +42,41 @@ pub lacks-append : (s : ℕ) (a b : List ℕ) → Lacks s a → Lacks s b → La
 lacks-append s [] b la lb = lb
 lacks-append s (x ∷ a) b la lb = lacks-cons s x (a ++ b) (lacks-first s x a la) (lacks-append s a b (lacks-tail s x a la) lb)
 
+-- a text of which each byte is another
+pub lacks-test : (s : ℕ) (text : List ℕ) → list_all (λ b. not (b == s)) text ≡ true → Lacks s text
+lacks-test s [] all = λ k inside. absurd (omega arith)
+lacks-test s (x ∷ text) all =
+    let both = and_parts (not (x == s)) (list_all (λ b. not (b == s)) text) all in
+    lacks-cons s x text (λ same. false≢true (rw (eq-eqb x s same) at both.0)) (lacks-test s text both.1)
+
 -- ---- numbers
 
 decimals : IsNumeralModel (AllDigits 10) (digits_value 10)
 decimals = numerals_by_value (AllDigits 10) tells_digits
 
-pub lacks-decimal : (s n : ℕ) → IsNoDigit s → n < 2 ^ 64 → Lacks s (decimal n)
-lacks-decimal s n none small k inside =
-    not_in_digits decimals (decimal n) s (digits_decimal decimals n small) (λ range. outside none range) k inside
+-- a digit is another byte
+lacks-glyph : (s d : ℕ) → IsNoDigit s → d < 10 → digit_glyph false d ≢ s
+lacks-glyph s d none small = by_size (nat_lt d 10) (lt-ltb d 10 small) none
   where
-    outside : IsNoDigit s → IsInRange 48 57 s → ⊥
-    outside (inl below) range = omega arith
-    outside (inr above) range = omega arith
+    by_size : (is_digit : Bool) → is_digit ≡ true → IsNoDigit s → (if is_digit then 48 + d else 87 + d) ≢ s
+    by_size true is (inl below) same = absurd (omega (arith, same))
+    by_size true is (inr above) same = absurd (omega (arith, same))
+    by_size false is other same = absurd (false≢true is)
+
+-- a digit more in front
+onto_if : (s : ℕ) (last : Bool) (digit n k : ℕ) (acc : List ℕ) → digit ≢ s → Lacks s acc → (Lacks s (digit ∷ acc) → Lacks s (digits_onto k 10 false n (digit ∷ acc)))
+    → Lacks s (if last then digit ∷ acc else digits_onto k 10 false n (digit ∷ acc))
+onto_if s true digit n k acc apart lacks more = lacks-cons s digit acc apart lacks
+onto_if s false digit n k acc apart lacks more = more (lacks-cons s digit acc apart lacks)
+
+lacks-onto : (s k n : ℕ) (acc : List ℕ) → IsNoDigit s → Lacks s acc → Lacks s (digits_onto k 10 false n acc)
+lacks-onto s zero n acc none lacks = lacks
+lacks-onto s (suc k) n acc none lacks =
+    onto_if s (n / 10 == 0) (digit_glyph false (n % 10)) (n / 10) k acc (lacks-glyph s (n % 10) none (omega arith)) lacks (lacks-onto s k (n / 10) (digit_glyph false (n % 10) ∷ acc) none)
+
+pub lacks-decimal : (s n : ℕ) → IsNoDigit s → Lacks s (decimal n)
+unfolding digits
+lacks-decimal s n none = lacks-onto s 64 n [] none (λ k inside. absurd (omega arith))
 
 pub plain-decimal : (n : ℕ) → n < 2 ^ 32 → IsPlain (decimal n)
 plain-decimal n small = record {
@@ -78,14 +102,14 @@ pub value_small : (field : List ℕ) (k : ℕ) → AllDigits 10 field → length
 value_small field k digits few = digits_value_short decimals field k digits few
 
 -- a part in front of a separator is the number that it spells
-pub one_part : (s n : ℕ) (text part left rest : List ℕ) → IsNoDigit s → n < 2 ^ 64 → IsSplitAt s text part left → text ≡ decimal n ++ s ∷ rest → (part ≡ decimal n) × (left ≡ rest)
-one_part s n text part left rest none small cut is =
-    one_cut s part (decimal n) left rest cut.lacks (lacks-decimal s n none small) (sym cut.whole ∙ is)
+pub one_part : (s n : ℕ) (text part left rest : List ℕ) → IsNoDigit s → IsSplitAt s text part left → text ≡ decimal n ++ s ∷ rest → (part ≡ decimal n) × (left ≡ rest)
+one_part s n text part left rest none cut is =
+    one_cut s part (decimal n) left rest cut.lacks (lacks-decimal s n none) (sym cut.whole ∙ is)
 
 -- a number before a separator and what stands behind it
 pub number_parts : (s n m : ℕ) (left rest : List ℕ) → IsNoDigit s → n < 2 ^ 64 → m < 2 ^ 64 → decimal n ++ s ∷ left ≡ decimal m ++ s ∷ rest → (n ≡ m) × (left ≡ rest)
 number_parts s n m left rest none n_small m_small same =
-    let cut = one_cut s (decimal n) (decimal m) left rest (lacks-decimal s n none n_small) (lacks-decimal s m none m_small) same in
+    let cut = one_cut s (decimal n) (decimal m) left rest (lacks-decimal s n none) (lacks-decimal s m none) same in
     (decimal_injective n m n_small m_small cut.0, cut.1)
 
 -- ---- endpoints
@@ -99,6 +123,18 @@ from_third e = decimal (e.address / 2 ^ 8 % 256) ++ 46 ∷ from_fourth e
 
 abbrev pub from_second : Endpoint → List ℕ
 from_second e = decimal (e.address / 2 ^ 16 % 256) ++ 46 ∷ from_third e
+
+-- a byte below the dot, the digits and the colon
+pub lacks-endpoint : (s : ℕ) (e : Endpoint) → s < 46 → Lacks s (endpoint_text e)
+lacks-endpoint s e low =
+    lacks-append s (decimal (e.address / 2 ^ 24)) _ (number (e.address / 2 ^ 24))
+    (lacks-cons s 46 _ (λ same. absurd (omega (arith, same))) (lacks-append s (decimal (e.address / 2 ^ 16 % 256)) _ (number (e.address / 2 ^ 16 % 256))
+    (lacks-cons s 46 _ (λ same. absurd (omega (arith, same))) (lacks-append s (decimal (e.address / 2 ^ 8 % 256)) _ (number (e.address / 2 ^ 8 % 256))
+    (lacks-cons s 46 _ (λ same. absurd (omega (arith, same))) (lacks-append s (decimal (e.address % 256)) _ (number (e.address % 256))
+    (lacks-cons s 58 _ (λ same. absurd (omega (arith, same))) (number e.port))))))))
+  where
+    number : (n : ℕ) → Lacks s (decimal n)
+    number n = lacks-decimal s n (inl (omega arith))
 
 -- no text is that of two endpoints
 pub one_endpoint : (e f : Endpoint) → IsEndpoint e → IsEndpoint f → endpoint_text e ≡ endpoint_text f → e ≡ f

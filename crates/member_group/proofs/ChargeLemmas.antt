@@ -1,16 +1,15 @@
 -- The charge of a configuration, one group more, and of a group, one member more.
-use Rattle.std.proofs.Common.{◌++◌, ◌+◌, ◌<◌, ◌∙◌, ◌∷◌, ◌≡◌, ◌≤◌, List, None, Some, [], ap, append-nil, append_assoc, arith, get_or, length, refl, sym, take, ℕ}
+use Rattle.std.proofs.Common.{◌++◌, ◌+◌, ◌<◌, ◌∙◌, ◌∷◌, ◌≡◌, ◌≤◌, List, None, Some, [], ap, append_assoc, arith, get_or, length, refl, sym, take, ℕ}
 use Rattle.std.specs.Prelude.{Option}
 use Rattle.std.specs.List.{cons_option, filter_map, sum_by}
 use Rattle.std.specs.Option.{option_to_list}
-use Rattle.std.proofs.lemmas.Grind.{flat_map-append}
 use Rattle.std.proofs.lemmas.List.{length-take-le, take_all, take_more}
 use Rattle.std.proofs.lemmas.List.Elements.{filter_map-append}
 use Rattle.std.proofs.lemmas.List.Sums.{sum_by-append, sum_by_more}
 use Rattle.bpf_verify.specs.Program.{ProgramValue}
 use Rattle.member_group.specs.declared.TheConstants.{MEMBER_WORDS}
 use Rattle.member_group.specs.declared.member.Member.{Member}
-use Rattle.member_group.specs.Charge.{charge_of, charge_of_group, members_of, programs_of, programs_of_group}
+use Rattle.member_group.specs.Charge.{charge_of_group, members_of, programs_of_group}
 use Rattle.member_group.specs.Group.{GroupOf}
 
 one_or_none : {X : Type 0} (o : Option X) → cons_option o [] ≡ option_to_list o
@@ -53,16 +52,3 @@ charge_of_group-all group i all =
 
 pub members_of-more : (config : List (GroupOf ProgramValue)) (i : ℕ) (d : GroupOf ProgramValue) → i < length config → members_of (take (i + 1) config) ≡ members_of (take i config) + length (get_or config i d).members
 members_of-more config i d inside = sum_by_more (λ (group : GroupOf ProgramValue). length group.members) config i d inside
-
-pub charge_of-more : (config : List (GroupOf ProgramValue)) (i : ℕ) (d : GroupOf ProgramValue) → i < length config → charge_of (take (i + 1) config) ≡ charge_of (take i config) + charge_of_group (get_or config i d)
-charge_of-more config i d inside =
-    let group = get_or config i d in
-    let before = length-take-le i config (omega arith) in
-    let behind = length-take-le (i + 1) config (omega arith) in
-    let members = members_of-more config i d inside in
-    let programs : programs_of (take (i + 1) config) ≡ programs_of (take i config) ++ programs_of_group group =
-    ap programs_of (take_more config i d inside)
-    ∙ flat_map-append programs_of_group (take i config) (group ∷ [])
-    ∙ ap (λ last. programs_of (take i config) ++ last) (append-nil (programs_of_group group)) in
-    let charges = ap (sum_by (λ (program : ProgramValue). program.charge)) programs ∙ sum_by-append (λ (program : ProgramValue). program.charge) (programs_of (take i config)) (programs_of_group group) in
-    omega arith

@@ -28,7 +28,7 @@ pub enum TextFault {
 }
 
 impl TextFault {
-    /// The code (docs/COMMANDS.md, "Refusals").
+    /// The code (docs/COMMANDS.md, "Refusals"). Lack of memory has A6, whichever step it stopped.
     pub fn code(self) -> Code
         ensures { result ≡ text_code self }
     {

@@ -12,7 +12,6 @@ use Rattle.config_image.specs.declared.lookup.FoundGroup.{FoundGroup}
 use Rattle.config_image.specs.declared.lookup.ProgramPlace.{ProgramPlace}
 use Rattle.config_image.specs.Lookup.{BeginsWithImage, HasGroup, IsGroupFound, IsProgramFound, StandsAt}
 use Rattle.config_image.proofs.LookupLemmas.{item_at}
-use Rattle.member_group.specs.Charge.{charge_of}
 use Rattle.member_group.specs.Group.{IsGroup, group_of}
 use Rattle.read_section.specs.Operator.{Meets, OperatorValue}
 use Rattle.read_section.specs.Operator.{HasFreeRow}
@@ -43,9 +42,6 @@ module _ (selector : List ℕ) (config : List Group) (selects : Selects selector
 
   pub sample_found : group_of SAMPLE_GROUP config ≡ Some sample
   sample_found = ap (group_of SAMPLE_GROUP) selects.one_group
-
-  pub charge_small : length selector ≤ 4 → charge_of config ≤ 8192
-  charge_small short = let charge = selects.charge in let is : charge_of config ≡ 6 + (0 + selects.program.charge) = ap charge_of selects.one_group in omega arith
 
   -- the sample group is found, with its selector
   pub group_not_missing : IsGroupFound SAMPLE_GROUP config None → ⊥

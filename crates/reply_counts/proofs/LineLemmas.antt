@@ -111,11 +111,6 @@ pub record IsTakenUpTo (bytes left held : List ℕ) (rows : List RowValue) (held
   pub is : bytes ≡ front ++ left
   pub so_far : (text : List ℕ) → IsAt text held rows → IsAt (text ++ front) held' rows'
 
-pub taken_none : (bytes held : List ℕ) (rows : List RowValue) → IsTakenUpTo bytes bytes held rows held rows
-taken_none bytes held rows = record {
-  front = [];
-  is = refl;
-  so_far = λ text at. subst (λ (t : List ℕ). IsAt t held rows) (sym (append-nil text)) at;
 }
 
 module _ (bytes left held : List ℕ) (rows : List RowValue) (mid : List ℕ) (mid_rows : List RowValue) (before : IsTakenUpTo bytes left held rows mid mid_rows) where

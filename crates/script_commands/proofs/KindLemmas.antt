@@ -1,13 +1,12 @@
 -- The kinds of the replies of a script.
-use Rattle.std.proofs.Common.{◌≡◌, ◌∙◌, ◌==◌, ◌/◌, ◌%◌, ◌^◌, ◌<◌, ◌∷◌, ◌++◌, Bool, List, None, Option, Some, [], ap, append-nil, append_assoc, arith, codes, decimal, inl, nat_lt, not, refl, true, ℕ}
-use Rattle.std.proofs.lemmas.Bool.{and_parts, eq-eqb, false≢true, ltb-true}
+use Rattle.std.proofs.Common.{◌≡◌, ◌∙◌, ◌<◌, ◌∷◌, ◌++◌, Bool, List, None, Option, Some, [], ap, append-nil, append_assoc, arith, codes, decimal, inl, nat_lt, refl, true, ℕ}
+use Rattle.std.proofs.lemmas.Bool.{and_parts, ltb-true}
 use Rattle.std.specs.Char.{encode_utf8}
 use Rattle.std.specs.Fmt.{digits}
 use Rattle.std.specs.List.{list_all}
 use Rattle.std.specs.Option.{option_or}
 use Rattle.ipv4_fields.specs.Cut.{Lacks}
-use Rattle.ipv4_fields.proofs.TextLemmas.{lacks-append, lacks-cons, lacks-decimal}
-use Rattle.ipv4_fields.specs.declared.endpoint.Endpoint.{Endpoint}
+use Rattle.ipv4_fields.proofs.TextLemmas.{lacks-cons, lacks-decimal, lacks-endpoint, lacks-test}
 use Rattle.bpf_asm.specs.declared.fault.AsmFault.{AsmFault}
 use Rattle.bpf_asm.specs.declared.fault.AsmFault.TheVariants as asm
 use Rattle.bpf_verify.specs.declared.fault.Fault.{Fault}
@@ -20,7 +19,7 @@ use Rattle.member_group.specs.declared.refusal.Refusal.{Refusal}
 use Rattle.member_group.specs.declared.refusal.Refusal.TheVariants as refusal
 use Rattle.retire.specs.declared.fault.PublishFault.{PublishFault}
 use Rattle.retire.specs.declared.fault.PublishFault.TheVariants as publish
-use Rattle.control.specs.Endpoint.{IsEndpoint, endpoint_text}
+use Rattle.control.specs.Endpoint.{endpoint_text}
 use Rattle.bpf_asm.specs.Code.{asm_code}
 use Rattle.bpf_verify.specs.Code.{verify_code}
 use Rattle.fault_code.specs.Code.{name_text, place_text}
@@ -40,14 +39,6 @@ use Rattle.reply_counts.specs.Verdict.{verdict_at, verdict_in, words_of}
 use Rattle.reply_counts.proofs.WordLemmas.{cut_words, one_word}
 use Rattle.script_commands.specs.Counted.{ChangesAreNotCounted, RefusalsAreCounted, ShowsAreNotCounted, SweepsAreNotCounted, VerdictsAreCounted}
 
--- ---- no space in a word
-
-lacks-test : (text : List ℕ) → list_all (λ b. not (b == 32)) text ≡ true → Lacks 32 text
-lacks-test [] all = λ k inside. absurd (omega arith)
-lacks-test (x ∷ text) all =
-    let both = and_parts (not (x == 32)) (list_all (λ b. not (b == 32)) text) all in
-    lacks-cons 32 x text (λ same. false≢true (rw (eq-eqb x 32 same) at both.0)) (lacks-test text both.1)
-
 -- each byte is above the space
 abbrev pub is_above_space : List ℕ → Bool
 is_above_space text = list_all (λ b. nat_lt 32 b) text
@@ -59,16 +50,8 @@ lacks-above s (x ∷ text) low all =
     let above = ltb-true 32 x both.0 in
     lacks-cons s x text (λ same. absurd (omega (arith, above, same))) (lacks-above s text low both.1)
 
-lacks-number : (n : ℕ) → n < 2 ^ 64 → Lacks 32 (decimal n)
-lacks-number n small = lacks-decimal 32 n (inl (omega arith)) small
-
-lacks-endpoint : (e : Endpoint) → IsEndpoint e → Lacks 32 (endpoint_text e)
-lacks-endpoint e range =
-    lacks-append 32 (decimal (e.address / 2 ^ 24)) _ (lacks-number (e.address / 2 ^ 24) (omega (arith, range.address)))
-    (lacks-cons 32 46 _ (λ e. absurd (omega arith)) (lacks-append 32 (decimal (e.address / 2 ^ 16 % 256)) _ (lacks-number (e.address / 2 ^ 16 % 256) (omega arith))
-    (lacks-cons 32 46 _ (λ e. absurd (omega arith)) (lacks-append 32 (decimal (e.address / 2 ^ 8 % 256)) _ (lacks-number (e.address / 2 ^ 8 % 256) (omega arith))
-    (lacks-cons 32 46 _ (λ e. absurd (omega arith)) (lacks-append 32 (decimal (e.address % 256)) _ (lacks-number (e.address % 256) (omega arith))
-    (lacks-cons 32 58 _ (λ e. absurd (omega arith)) (lacks-number e.port (omega (arith, range.port))))))))))
+lacks-number : (n : ℕ) → Lacks 32 (decimal n)
+lacks-number n = lacks-decimal 32 n (inl (omega arith))
 
 -- ---- the words of a text whose first ones are known
 
@@ -86,30 +69,30 @@ kind_by_words text words are = ap (λ (ws : List (List ℕ)). option_or (verdict
 
 -- ---- verdicts
 
-judged_words : (version : ℕ) (told : List ℕ) → version < 2 ^ 64 → words_of (codes "version " ++ decimal version ++ codes " " ++ told) ≡ codes "version" ∷ (decimal version ∷ words_of told)
-judged_words version told small =
+judged_words : (version : ℕ) (told : List ℕ) → words_of (codes "version " ++ decimal version ++ codes " " ++ told) ≡ codes "version" ∷ (decimal version ∷ words_of told)
+judged_words version told =
     let regrouped : codes "version " ++ decimal version ++ codes " " ++ told ≡ codes "version" ++ 32 ∷ (decimal version ++ 32 ∷ told) = simp append_assoc in
-    ap words_of regrouped ∙ (cut (codes "version") (decimal version ++ 32 ∷ told) (lacks-test (codes "version") refl)
-    ∙ more (codes "version") _ _ (cut (decimal version) told (lacks-number version small)))
+    ap words_of regrouped ∙ (cut (codes "version") (decimal version ++ 32 ∷ told) (lacks-test 32 (codes "version") refl)
+    ∙ more (codes "version") _ _ (cut (decimal version) told (lacks-number version)))
 
-judged_kind : (version : ℕ) (told : List ℕ) (words : List (List ℕ)) (kind : List ℕ) → version < 2 ^ 64 → words_of told ≡ words → verdict_at words ≡ Some kind
+judged_kind : (version : ℕ) (told : List ℕ) (words : List (List ℕ)) (kind : List ℕ) → words_of told ≡ words → verdict_at words ≡ Some kind
     → reply_kind (codes "version " ++ decimal version ++ codes " " ++ told) ≡ Some kind
 unfolding verdict_in
-judged_kind version told words kind small are is =
+judged_kind version told words kind are is =
     kind_by_words (codes "version " ++ decimal version ++ codes " " ++ told) (codes "version" ∷ (decimal version ∷ words))
-    (judged_words version told small ∙ more (codes "version") _ _ (more (decimal version) _ _ are))
+    (judged_words version told ∙ more (codes "version") _ _ (more (decimal version) _ _ are))
     ∙ ap (λ (v : Option (List ℕ)). option_or v (refusal_in (codes "version" ∷ (decimal version ∷ words)))) is
 
 -- a name, and behind it the group's key and the member's number
-module _ (name key : List ℕ) (lacks : Lacks 32 name) (lacks' : Lacks 32 key) (id : ℕ) (small : id < 2 ^ 64) where
+module _ (name key : List ℕ) (lacks : Lacks 32 name) (lacks' : Lacks 32 key) (id : ℕ) where
   words_with_member : words_of (name ++ 32 ∷ (key ++ 32 ∷ decimal id)) ≡ name ∷ (key ∷ (decimal id ∷ []))
   words_with_member =
-      cut name (key ++ 32 ∷ decimal id) lacks ∙ more name _ _ (cut key (decimal id) lacks' ∙ more key _ _ (one (decimal id) (lacks-number id small)))
+      cut name (key ++ 32 ∷ decimal id) lacks ∙ more name _ _ (cut key (decimal id) lacks' ∙ more key _ _ (one (decimal id) (lacks-number id)))
 
   words_with_receiver : (rest : List ℕ) → words_of (name ++ 32 ∷ (key ++ 32 ∷ (decimal id ++ 32 ∷ rest))) ≡ name ∷ (key ∷ (decimal id ∷ words_of rest))
   words_with_receiver rest =
       cut name (key ++ 32 ∷ (decimal id ++ 32 ∷ rest)) lacks
-      ∙ more name _ _ (cut key (decimal id ++ 32 ∷ rest) lacks' ∙ more key _ _ (cut (decimal id) rest (lacks-number id small)))
+      ∙ more name _ _ (cut key (decimal id ++ 32 ∷ rest) lacks' ∙ more key _ _ (cut (decimal id) rest (lacks-number id)))
 
 dropped_at : (key id : List ℕ) → verdict_at (codes "dropped" ∷ (key ∷ (id ∷ []))) ≡ Some (codes "dropped " ++ key ++ codes " " ++ id)
 unfolding verdict_at
@@ -125,30 +108,28 @@ alone_at = (refl, refl, refl)
 
 pub verdicts_are_counted : VerdictsAreCounted
 verdicts_are_counted version Malformed small member =
-    judged_kind version (codes "malformed") (codes "malformed" ∷ []) (codes "malformed") small (one (codes "malformed") (lacks-test (codes "malformed") refl)) alone_at.0
+    judged_kind version (codes "malformed") (codes "malformed" ∷ []) (codes "malformed") (one (codes "malformed") (lacks-test 32 (codes "malformed") refl)) alone_at.0
 verdicts_are_counted version NoGroup small member =
-    judged_kind version (codes "nogroup") (codes "nogroup" ∷ []) (codes "nogroup") small (one (codes "nogroup") (lacks-test (codes "nogroup") refl)) alone_at.1
+    judged_kind version (codes "nogroup") (codes "nogroup" ∷ []) (codes "nogroup") (one (codes "nogroup") (lacks-test 32 (codes "nogroup") refl)) alone_at.1
 verdicts_are_counted version NoMembers small member =
-    judged_kind version (codes "nomembers") (codes "nomembers" ∷ []) (codes "nomembers") small (one (codes "nomembers") (lacks-test (codes "nomembers") refl)) alone_at.2
-verdicts_are_counted version (Dropped group id) small member = dropped (endpoint_text group) (lacks-endpoint group member.0)
+    judged_kind version (codes "nomembers") (codes "nomembers" ∷ []) (codes "nomembers") (one (codes "nomembers") (lacks-test 32 (codes "nomembers") refl)) alone_at.2
+verdicts_are_counted version (Dropped group id) small member = dropped (endpoint_text group) (lacks-endpoint 32 group (omega arith))
   where
     dropped : (key : List ℕ) → Lacks 32 key → reply_kind (codes "version " ++ decimal version ++ codes " " ++ (codes "dropped " ++ key ++ codes " " ++ decimal id)) ≡ Some (codes "dropped " ++ key ++ codes " " ++ decimal id)
     dropped key lacks =
         let told : List ℕ = codes "dropped " ++ key ++ codes " " ++ decimal id in
         let regrouped : told ≡ codes "dropped" ++ 32 ∷ (key ++ 32 ∷ decimal id) = simp append_assoc in
-        let bound = member.1 in
-        judged_kind version told (codes "dropped" ∷ (key ∷ (decimal id ∷ []))) told small
-        (ap words_of regrouped ∙ words_with_member (codes "dropped") key (lacks-test (codes "dropped") refl) lacks id (omega (arith, bound))) (dropped_at key (decimal id))
-verdicts_are_counted version (Deliver group id to bytes) small member = delivered (endpoint_text group) (endpoint_text to) (lacks-endpoint group member.0)
+        judged_kind version told (codes "dropped" ∷ (key ∷ (decimal id ∷ []))) told
+        (ap words_of regrouped ∙ words_with_member (codes "dropped") key (lacks-test 32 (codes "dropped") refl) lacks id) (dropped_at key (decimal id))
+verdicts_are_counted version (Deliver group id to bytes) small member = delivered (endpoint_text group) (endpoint_text to) (lacks-endpoint 32 group (omega arith))
   where
     delivered : (key receiver : List ℕ) → Lacks 32 key → reply_kind (codes "version " ++ decimal version ++ codes " " ++ (codes "deliver " ++ key ++ codes " " ++ decimal id ++ codes " " ++ receiver ++ codes " " ++ decimal bytes)) ≡ Some (codes "deliver " ++ key ++ codes " " ++ decimal id)
     delivered key receiver lacks =
         let told : List ℕ = codes "deliver " ++ key ++ codes " " ++ decimal id ++ codes " " ++ receiver ++ codes " " ++ decimal bytes in
         let rest : List ℕ = receiver ++ 32 ∷ decimal bytes in
         let regrouped : told ≡ codes "deliver" ++ 32 ∷ (key ++ 32 ∷ (decimal id ++ 32 ∷ (receiver ++ 32 ∷ decimal bytes))) = simp append_assoc in
-        let bound = member.1 in
-        judged_kind version told (codes "deliver" ∷ (key ∷ (decimal id ∷ words_of rest))) (codes "deliver " ++ key ++ codes " " ++ decimal id) small
-        (ap words_of regrouped ∙ words_with_receiver (codes "deliver") key (lacks-test (codes "deliver") refl) lacks id (omega (arith, bound)) rest) (delivered_at key (decimal id) (words_of rest))
+        judged_kind version told (codes "deliver" ∷ (key ∷ (decimal id ∷ words_of rest))) (codes "deliver " ++ key ++ codes " " ++ decimal id)
+        (ap words_of regrouped ∙ words_with_receiver (codes "deliver") key (lacks-test 32 (codes "deliver") refl) lacks id rest) (delivered_at key (decimal id) (words_of rest))
 
 -- ---- refusals
 
@@ -230,13 +211,13 @@ refused_kind : (name : List ℕ) (number : Option ℕ) → Lacks 32 name → rep
 refused_kind name None lacks =
     let regrouped : codes "refused " ++ name ++ [] ≡ codes "refused" ++ 32 ∷ name = simp (append_assoc, append-nil) in
     kind_by_words (codes "refused " ++ name ++ []) (codes "refused" ∷ (name ∷ []))
-    (ap words_of regrouped ∙ (cut (codes "refused") name (lacks-test (codes "refused") refl) ∙ more (codes "refused") _ _ (one name lacks)))
+    (ap words_of regrouped ∙ (cut (codes "refused") name (lacks-test 32 (codes "refused") refl) ∙ more (codes "refused") _ _ (one name lacks)))
     ∙ refused_at name []
 refused_kind name (Some number) lacks =
     let regrouped : codes "refused " ++ name ++ (codes " " ++ decimal number) ≡ codes "refused" ++ 32 ∷ (name ++ 32 ∷ decimal number) = simp append_assoc in
     kind_by_words (codes "refused " ++ name ++ (codes " " ++ decimal number)) (codes "refused" ∷ (name ∷ words_of (decimal number)))
     (ap words_of regrouped
-    ∙ (cut (codes "refused") (name ++ 32 ∷ decimal number) (lacks-test (codes "refused") refl) ∙ more (codes "refused") _ _ (cut name (decimal number) lacks)))
+    ∙ (cut (codes "refused") (name ++ 32 ∷ decimal number) (lacks-test 32 (codes "refused") refl) ∙ more (codes "refused") _ _ (cut name (decimal number) lacks)))
     ∙ refused_at name (words_of (decimal number))
 
 pub refusals_are_counted : RefusalsAreCounted
@@ -251,8 +232,8 @@ ok_at behind = refl
 pub changes_are_not_counted : ChangesAreNotCounted
 changes_are_not_counted version =
     kind_by_words (codes "ok version " ++ decimal version) (codes "ok" ∷ (codes "version" ∷ words_of (decimal version)))
-    (cut (codes "ok") (codes "version" ++ 32 ∷ decimal version) (lacks-test (codes "ok") refl)
-    ∙ more (codes "ok") _ _ (cut (codes "version") (decimal version) (lacks-test (codes "version") refl)))
+    (cut (codes "ok") (codes "version" ++ 32 ∷ decimal version) (lacks-test 32 (codes "ok") refl)
+    ∙ more (codes "ok") _ _ (cut (codes "version") (decimal version) (lacks-test 32 (codes "version") refl)))
     ∙ ok_at (words_of (decimal version))
 
 shown_at : (number : List ℕ) (behind : List (List ℕ)) → option_or (verdict_in (codes "version" ∷ (number ∷ (codes "groups" ∷ behind)))) (refusal_in (codes "version" ∷ (number ∷ (codes "groups" ∷ behind)))) ≡ None
@@ -269,9 +250,9 @@ shows_are_not_counted version groups members charge small =
     let rest : List ℕ = decimal groups ++ (codes " members " ++ (decimal members ++ (codes " charge " ++ decimal charge))) in
     kind_by_words (reply_text (Shown version groups members charge)) (codes "version" ∷ (decimal version ∷ (codes "groups" ∷ words_of rest)))
     (ap words_of (shown_regrouped (decimal version) (decimal groups) (decimal members) (decimal charge))
-    ∙ (cut (codes "version") (decimal version ++ 32 ∷ (codes "groups" ++ 32 ∷ rest)) (lacks-test (codes "version") refl)
-    ∙ more (codes "version") _ _ (cut (decimal version) (codes "groups" ++ 32 ∷ rest) (lacks-number version small)
-    ∙ more (decimal version) _ _ (cut (codes "groups") rest (lacks-test (codes "groups") refl)))))
+    ∙ (cut (codes "version") (decimal version ++ 32 ∷ (codes "groups" ++ 32 ∷ rest)) (lacks-test 32 (codes "version") refl)
+    ∙ more (codes "version") _ _ (cut (decimal version) (codes "groups" ++ 32 ∷ rest) (lacks-number version)
+    ∙ more (decimal version) _ _ (cut (codes "groups") rest (lacks-test 32 (codes "groups") refl)))))
     ∙ shown_at (decimal version) (words_of rest)
 
 swept_at : (behind : List (List ℕ)) → option_or (verdict_in (codes "reclaimed" ∷ behind)) (refusal_in (codes "reclaimed" ∷ behind)) ≡ None
@@ -284,5 +265,5 @@ sweeps_are_not_counted reclaimed =
     let rest : List ℕ = decimal reclaimed.first ++ codes " " ++ decimal reclaimed.count in
     let regrouped : reply_text (Swept reclaimed) ≡ codes "reclaimed" ++ 32 ∷ (decimal reclaimed.first ++ codes " " ++ decimal reclaimed.count) = simp append_assoc in
     kind_by_words (reply_text (Swept reclaimed)) (codes "reclaimed" ∷ words_of rest)
-    (ap words_of regrouped ∙ cut (codes "reclaimed") rest (lacks-test (codes "reclaimed") refl))
+    (ap words_of regrouped ∙ cut (codes "reclaimed") rest (lacks-test 32 (codes "reclaimed") refl))
     ∙ swept_at (words_of rest)

@@ -1,12 +1,9 @@
 -- The lines of a script's text are the replies to the script's lines: no reply has an LF.
-use Rattle.std.proofs.Common.{◌+◌, ◌≡◌, ◌≢◌, ◌∙◌, ◌==◌, ◌/◌, ◌%◌, ◌^◌, ◌∷◌, ◌++◌, All, Bool, List, None, Option, Some, [], ap, append-nil, append_assoc, arith, codes, decimal, false, if◌then◌else◌, nat_lt, refl, subst, suc, sym, true, zero, ℕ}
-use Rattle.std.proofs.lemmas.Bool.{and_parts, ltb-true}
+use Rattle.std.proofs.Common.{◌+◌, ◌≡◌, ◌∙◌, ◌∷◌, ◌++◌, All, List, None, Option, Some, [], ap, append-nil, append_assoc, arith, codes, decimal, refl, subst, suc, sym, zero, ℕ}
 use Rattle.std.proofs.lemmas.List.Concat.{flat_map-append}
-use Rattle.std.specs.List.{list_all}
-use Rattle.std.specs.Fmt.{digit_glyph, digits, digits_onto}
+use Rattle.std.specs.Fmt.{digits}
 use Rattle.ipv4_fields.specs.Cut.{Lacks}
-use Rattle.ipv4_fields.specs.declared.endpoint.Endpoint.{Endpoint}
-use Rattle.ipv4_fields.proofs.TextLemmas.{lacks-append, lacks-cons}
+use Rattle.ipv4_fields.proofs.TextLemmas.{lacks-append, lacks-decimal, lacks-endpoint, lacks-test}
 use Rattle.control.specs.Endpoint.{endpoint_text}
 use Rattle.fault_code.specs.Code.{name_text, place_text}
 use Rattle.control.specs.Reason.{reason_code, refusal_text}
@@ -24,59 +21,22 @@ use Rattle.reply_counts.proofs.LineLemmas.{first_line, no_lines}
 use Rattle.script_commands.specs.Lines.{AreLinesOf, AreRepliesInTurn, LinesAreReplies, each_ended, ended, last_open, no_reply, one_reply_more}
 use Rattle.script_commands.proofs.KindLemmas.{above-reason, lacks-above}
 
--- ---- no LF in a number
-
-lacks-glyph : (d : ℕ) → digit_glyph false d ≢ 10
-lacks-glyph d = by_size (nat_lt d 10)
-  where
-    by_size : (small : Bool) → (if small then 48 + d else 87 + d) ≢ 10
-    by_size true is = absurd (omega (arith, is))
-    by_size false is = absurd (omega (arith, is))
-
--- a digit more in front
-onto_if : (last : Bool) (digit n k : ℕ) (acc : List ℕ) → digit ≢ 10 → Lacks 10 acc → (Lacks 10 (digit ∷ acc) → Lacks 10 (digits_onto k 10 false n (digit ∷ acc)))
-    → Lacks 10 (if last then digit ∷ acc else digits_onto k 10 false n (digit ∷ acc))
-onto_if true digit n k acc apart lacks more = lacks-cons 10 digit acc apart lacks
-onto_if false digit n k acc apart lacks more = more (lacks-cons 10 digit acc apart lacks)
-
-lacks-onto : (k n : ℕ) (acc : List ℕ) → Lacks 10 acc → Lacks 10 (digits_onto k 10 false n acc)
-lacks-onto zero n acc lacks = lacks
-lacks-onto (suc k) n acc lacks =
-    onto_if (n / 10 == 0) (digit_glyph false (n % 10)) (n / 10) k acc (lacks-glyph (n % 10)) lacks (lacks-onto k (n / 10) (digit_glyph false (n % 10) ∷ acc))
-
-lacks-decimal : (n : ℕ) → Lacks 10 (decimal n)
-unfolding digits
-lacks-decimal n = lacks-onto 64 n [] (λ k inside. absurd (omega arith))
-
 -- ---- no LF in a reply
 
-lacks-endpoint : (e : Endpoint) → Lacks 10 (endpoint_text e)
-lacks-endpoint e =
-    lacks-append 10 (decimal (e.address / 2 ^ 24)) _ (lacks-decimal (e.address / 2 ^ 24))
-    (lacks-cons 10 46 _ (λ e. absurd (omega arith)) (lacks-append 10 (decimal (e.address / 2 ^ 16 % 256)) _ (lacks-decimal (e.address / 2 ^ 16 % 256))
-    (lacks-cons 10 46 _ (λ e. absurd (omega arith)) (lacks-append 10 (decimal (e.address / 2 ^ 8 % 256)) _ (lacks-decimal (e.address / 2 ^ 8 % 256))
-    (lacks-cons 10 46 _ (λ e. absurd (omega arith)) (lacks-append 10 (decimal (e.address % 256)) _ (lacks-decimal (e.address % 256))
-    (lacks-cons 10 58 _ (λ e. absurd (omega arith)) (lacks-decimal e.port))))))))
-
--- words that are written out
-lacks-words : (text : List ℕ) → list_all (λ b. nat_lt 10 b) text ≡ true → Lacks 10 text
-lacks-words [] all = λ k inside. absurd (omega arith)
-lacks-words (x ∷ text) all =
-    let both = and_parts (nat_lt 10 x) (list_all (λ b. nat_lt 10 b) text) all in
-    let above = ltb-true 10 x both.0 in
-    lacks-cons 10 x text (λ same. absurd (omega (arith, above, same))) (lacks-words text both.1)
+lacks-number : (n : ℕ) → Lacks 10 (decimal n)
+lacks-number n = lacks-decimal 10 n (inl (omega arith))
 
 both : (one other : List ℕ) → Lacks 10 one → Lacks 10 other → Lacks 10 (one ++ other)
 both one other = lacks-append 10 one other
 
 named : (word : List ℕ) (n : ℕ) → Lacks 10 word → Lacks 10 (word ++ decimal n)
-named word n lacks = both word (decimal n) lacks (lacks-decimal n)
+named word n lacks = both word (decimal n) lacks (lacks-number n)
 
 blank : Lacks 10 (codes " ")
-blank = lacks-words (codes " ") refl
+blank = lacks-test 10 (codes " ") refl
 
 refused : (name number : List ℕ) → Lacks 10 name → Lacks 10 number → Lacks 10 (codes "refused " ++ name ++ number)
-refused name number first last = both (codes "refused ") (name ++ number) (lacks-words (codes "refused ") refl) (both name number first last)
+refused name number first last = both (codes "refused ") (name ++ number) (lacks-test 10 (codes "refused ") refl) (both name number first last)
 
 lacks-refusal : (reason : Reason) → Lacks 10 (refusal_text reason)
 lacks-refusal reason =
@@ -97,22 +57,22 @@ spaced text word first last = labelled text (codes " ") word first blank last
 shown : (version groups members charge : List ℕ) → Lacks 10 version → Lacks 10 groups → Lacks 10 members → Lacks 10 charge
     → Lacks 10 (codes "version " ++ version ++ codes " groups " ++ groups ++ codes " members " ++ members ++ codes " charge " ++ charge)
 shown version groups members charge first second third last =
-    let begun = both (codes "version ") version (lacks-words (codes "version ") refl) first in
-    let with_groups = labelled (codes "version " ++ version) (codes " groups ") groups begun (lacks-words (codes " groups ") refl) second in
+    let begun = both (codes "version ") version (lacks-test 10 (codes "version ") refl) first in
+    let with_groups = labelled (codes "version " ++ version) (codes " groups ") groups begun (lacks-test 10 (codes " groups ") refl) second in
     let text : List ℕ = codes "version " ++ version ++ codes " groups " ++ groups in
-    let with_members = labelled text (codes " members ") members with_groups (lacks-words (codes " members ") refl) third in
-    labelled (text ++ codes " members " ++ members) (codes " charge ") charge with_members (lacks-words (codes " charge ") refl) last
+    let with_members = labelled text (codes " members ") members with_groups (lacks-test 10 (codes " members ") refl) third in
+    labelled (text ++ codes " members " ++ members) (codes " charge ") charge with_members (lacks-test 10 (codes " charge ") refl) last
 
 swept : (first count : List ℕ) → Lacks 10 first → Lacks 10 count → Lacks 10 (codes "reclaimed " ++ first ++ codes " " ++ count)
-swept first count one other = spaced (codes "reclaimed " ++ first) count (both (codes "reclaimed ") first (lacks-words (codes "reclaimed ") refl) one) other
+swept first count one other = spaced (codes "reclaimed " ++ first) count (both (codes "reclaimed ") first (lacks-test 10 (codes "reclaimed ") refl) one) other
 
 lacks-answer : (answer : LineAnswer) → Lacks 10 (reply_text answer)
 lacks-answer (Refused reason) = lacks-refusal reason
-lacks-answer (Published version) = named (codes "ok version ") version (lacks-words (codes "ok version ") refl)
+lacks-answer (Published version) = named (codes "ok version ") version (lacks-test 10 (codes "ok version ") refl)
 lacks-answer (Shown version groups members charge) =
-    shown (decimal version) (decimal groups) (decimal members) (decimal charge) (lacks-decimal version) (lacks-decimal groups) (lacks-decimal members) (lacks-decimal charge)
+    shown (decimal version) (decimal groups) (decimal members) (decimal charge) (lacks-number version) (lacks-number groups) (lacks-number members) (lacks-number charge)
 lacks-answer (Swept reclaimed) =
-    swept (decimal reclaimed.first) (decimal reclaimed.count) (lacks-decimal reclaimed.first) (lacks-decimal reclaimed.count)
+    swept (decimal reclaimed.first) (decimal reclaimed.count) (lacks-number reclaimed.first) (lacks-number reclaimed.count)
 
 -- a name, the group's key and the member's number
 with_member : (name key id : List ℕ) → Lacks 10 name → Lacks 10 key → Lacks 10 id → Lacks 10 (name ++ key ++ codes " " ++ id)
@@ -122,23 +82,23 @@ delivered : (key id receiver bytes : List ℕ) → Lacks 10 key → Lacks 10 id 
     → Lacks 10 (codes "deliver " ++ key ++ codes " " ++ id ++ codes " " ++ receiver ++ codes " " ++ bytes)
 delivered key id receiver bytes first second third last =
     let text : List ℕ = codes "deliver " ++ key ++ codes " " ++ id in
-    let member = with_member (codes "deliver ") key id (lacks-words (codes "deliver ") refl) first second in
+    let member = with_member (codes "deliver ") key id (lacks-test 10 (codes "deliver ") refl) first second in
     spaced (text ++ codes " " ++ receiver) bytes (spaced text receiver member third) last
 
 lacks-verdict : (judged : Verdict) → Lacks 10 (verdict_text judged)
-lacks-verdict Malformed = lacks-words (codes "malformed") refl
-lacks-verdict NoGroup = lacks-words (codes "nogroup") refl
-lacks-verdict NoMembers = lacks-words (codes "nomembers") refl
+lacks-verdict Malformed = lacks-test 10 (codes "malformed") refl
+lacks-verdict NoGroup = lacks-test 10 (codes "nogroup") refl
+lacks-verdict NoMembers = lacks-test 10 (codes "nomembers") refl
 lacks-verdict (Dropped key id) =
-    with_member (codes "dropped ") (endpoint_text key) (decimal id) (lacks-words (codes "dropped ") refl) (lacks-endpoint key) (lacks-decimal id)
+    with_member (codes "dropped ") (endpoint_text key) (decimal id) (lacks-test 10 (codes "dropped ") refl) (lacks-endpoint 10 key (omega arith)) (lacks-number id)
 lacks-verdict (Deliver key id to bytes) =
-    delivered (endpoint_text key) (decimal id) (endpoint_text to) (decimal bytes) (lacks-endpoint key) (lacks-decimal id) (lacks-endpoint to) (lacks-decimal bytes)
+    delivered (endpoint_text key) (decimal id) (endpoint_text to) (decimal bytes) (lacks-endpoint 10 key (omega arith)) (lacks-number id) (lacks-endpoint 10 to (omega arith)) (lacks-number bytes)
 
 judged : (version told : List ℕ) → Lacks 10 version → Lacks 10 told → Lacks 10 (codes "version " ++ version ++ codes " " ++ told)
-judged version told first last = spaced (codes "version " ++ version) told (both (codes "version ") version (lacks-words (codes "version ") refl) first) last
+judged version told first last = spaced (codes "version " ++ version) told (both (codes "version ") version (lacks-test 10 (codes "version ") refl) first) last
 
 lacks-judged : (version : ℕ) (told : Verdict) → Lacks 10 (judged_text version told)
-lacks-judged version told = judged (decimal version) (verdict_text told) (lacks-decimal version) (lacks-verdict told)
+lacks-judged version told = judged (decimal version) (verdict_text told) (lacks-number version) (lacks-verdict told)
 
 lacks-reply : (now : Standing) (line reply : List ℕ) (next : Standing) → RepliesTo now line reply next → Lacks 10 reply
 lacks-reply now line _ _ (to_control answer next no_packet answers comes) = lacks-answer answer

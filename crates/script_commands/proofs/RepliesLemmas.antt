@@ -13,7 +13,7 @@ use Rattle.command_line.specs.declared.ending.Failure.TheVariants.{WriteFailed}
 use Rattle.script_commands.specs.body.Failing.{failure_of_replay}
 use Rattle.command_line.specs.Input.{BeginsInput, IsInput}
 use Rattle.script_commands.specs.Replaying.{IsTextOfInput, RepliesBefore, RepliesToFirstLines}
-use Rattle.command_line.proofs.EndingLemmas.{appends_kept, appends_nothing}
+use Rattle.std.proofs.KnownBytes.{Appends-kept, Appends-nil}
 
 -- ---- what was read
 
@@ -48,7 +48,7 @@ written_if failures (Some bytes) (Some later) told few written = written
 module _ (input input' : InputValue) (output output' : OutputValue) (now after : Option (List ℕ)) (new_input : input.failures ≡ 0) (new_output : output.failures ≡ 0)
     (told : output'.failures < MOST_FAILURES → now ≡ output'.taken) (kept : Keeps now after) where
   appended : (text : List ℕ) → output'.failures < MOST_FAILURES → Appends output.taken output'.taken text → Appends output.taken after text
-  appended text few written = appends_kept output.taken now after text (subst (λ taken. Appends output.taken taken text) (sym (told few)) written) kept
+  appended text few written = Appends-kept output.taken now after text (subst (λ taken. Appends output.taken taken text) (sym (told few)) written) kept
 
   -- a fault ended it
   pub before_fault : (result : Result (Unit {0}) ReplayFault) (why : ReplayFault) → result ≡ Err why
@@ -136,7 +136,7 @@ begins_with_none known before = record {
   last = at_start;
   read = begins_nothing known;
   answered = no_line;
-  written = appends_nothing before;
+  written = Appends-nil before;
 }
   where
     begins_nothing : (known : Option (List ℕ)) → BeginsInput known []

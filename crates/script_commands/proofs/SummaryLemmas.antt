@@ -11,7 +11,7 @@ use Rattle.command_line.specs.declared.ending.Failure.{Failure}
 use Rattle.command_line.specs.declared.ending.Failure.TheVariants.{OutOfMemory, WriteFailed}
 use Rattle.command_line.specs.declared.ending.Status.{Status}
 use Rattle.command_line.specs.declared.ending.Status.TheVariants.{Done}
-use Rattle.command_line.proofs.EndingLemmas.{appends_more}
+use Rattle.std.proofs.KnownBytes.{Appends-trans}
 use Rattle.script_commands.specs.body.Failing.{failure_of_replay}
 use Rattle.script_commands.specs.body.Summarizing.{BeginsSummary, WritesSummary}
 use Rattle.script_commands.specs.Replaying.{AreRepliesTo, ReplayWritesBefore, RepliesBefore, WritesAllReplies, WritesBeginningFor, WritesScript}
@@ -154,7 +154,7 @@ module _ (known before mid : Option (List ℕ)) (counts : List ℕ) (replied : A
         begun = (
           counts ++ cut.0,
           cut.1,
-          appends_more before mid after counts cut.0 written cut.2,
+          Appends-trans before mid after counts cut.0 written cut.2,
           ap (λ (s : List ℕ). counts ++ s) cut.3 ∙ sym (append_assoc counts cut.0 cut.1),
         );
       }
@@ -169,7 +169,7 @@ module _ (known before mid : Option (List ℕ)) (counts : List ℕ) (replied : A
     text = counts ++ whole.0;
     answered = replied;
     asked_for = (whole.0, whole.1, refl);
-    written = appends_more before mid after counts whole.0 written whole.2;
+    written = Appends-trans before mid after counts whole.0 written whole.2;
   }
 
   -- what writing the summary has left

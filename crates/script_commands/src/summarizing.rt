@@ -1,19 +1,18 @@
 //! Replaying a script whose replies are counted (docs/COMMANDS.md, "replay").
 
-ghost use Rattle.std.specs.Prelude.{◌≡◌, ◌⊎◌, Err, IfErr, IfOk, OnErr, OnOk, false, true};
+ghost use Rattle.std.specs.Prelude.{◌≡◌, ◌⊎◌, Err, IfErr, IfOk, OnOk, false, true};
 ghost use Rattle.std.specs.Io.KnownBytes.{Appends};
-ghost use Rattle.command_line.specs.Ending.{AppendsBeginning};
 ghost use Rattle.script_commands.specs.Replaying.{AreRepliesTo, RepliesBefore, ReplayMayFail, ReplayWritesBefore, WritesScript};
 ghost use Rattle.script_commands.specs.body.Summarizing.{WritesSummary, BeginsSummary};
 
 use crate::counted_output::{CountedOutput, Opened};
 use crate::replaying::failure_of;
 use crate::unwritten::count_replies;
-use command_line::{Failure, Status};
+use command_line::{Failure, Status, write_whole};
 use control::{FromRead, replay};
 use reply_counts::ReplyCounts;
 use std::alloc::Global;
-use std::io::{ErrorKind, Read, Write};
+use std::io::{Read, Write};
 use std::marker::Brand;
 
 /// Answers each line of the input by one line, and writes the summary of the replies after them.
@@ -83,25 +82,4 @@ fn write_summary<W: Write>(counts: &ReplyCounts, out: &mut W) -> Result<Status, 
     write_whole(&summary, out)?;
     out.flush().map_err(|_| Failure::WriteFailed)?;
     Ok(Status::Done)
-}
-
-// A write that was interrupted is tried again.
-fn write_whole<W: Write>(bytes: &[u8], out: &mut W) -> Result<(), Failure>
-    ensures written { OnOk result (Appends (W.contents out.old) (W.contents out.new) bytes.now) }
-    ensures beginning { OnErr result (AppendsBeginning (W.contents out.old) (W.contents out.new) bytes.now) }
-    ensures failed { IfErr result (λ failure. failure ≡ Failure.WriteFailed) }
-{
-    let mut rest = bytes;
-    for _turn in 0..u64::MAX {
-        if rest.is_empty() {
-            return Ok(());
-        }
-        match out.write(rest) {
-            Ok(0) => return Err(Failure::WriteFailed),
-            Ok(count) => rest = rest.split_at(count).1,
-            Err(error) if error.kind() == ErrorKind::Interrupted => {}
-            Err(_) => return Err(Failure::WriteFailed),
-        }
-    }
-    Err(Failure::WriteFailed)
 }

@@ -5,8 +5,8 @@ ghost use Rattle.command_line.specs.CommandLine.{packets};
 ghost use Rattle.query_commands.specs.Query.{MayFail};
 ghost use Rattle.text_commands.specs.Request.{TellsCountsOf, WritesBefore, WritesPackets};
 
+use capture_file::print_packets;
 use command_line::{Failure, Status, read_whole};
-use packet_lines::print_packets;
 use std::alloc::Global;
 use std::io::{Read, Write};
 

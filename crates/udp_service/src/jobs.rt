@@ -15,7 +15,7 @@ use read_section::Worker;
 use std::alloc::Global;
 use std::net::Net;
 use std::sync::Wait;
-use worker_devices::{ChannelSource, SocketOutbox, WorkerQueue, open_queue, socket_address};
+use worker_devices::{ChannelSource, SocketOutbox, WorkerQueue, open_queue};
 
 // How many datagrams a batch judges at most.
 const LIMIT: u64 = 64;
@@ -48,7 +48,7 @@ fn open_devices<'a, R: Wait + Net>(
         return Err(Failure::OutOfMemory);
     };
     let any_port = Endpoint { address, port: 0 };
-    let Ok(socket) = rt.bind_udp(socket_address(any_port)) else {
+    let Ok(socket) = rt.bind_udp(any_port.socket_address()) else {
         return Err(Failure::BindFailed);
     };
     Ok(Devices {

@@ -1,8 +1,6 @@
 //! The two sockets of the service, and the turns that they get (docs/COMMANDS.md, "serve").
 
-ghost use Rattle.std.specs.Prelude.{◌≡◌, IfSome};
-ghost use Rattle.std.specs.Net.Addr.{IsV4And, ipv4_bits};
-ghost use Rattle.std.specs.Net.Socket.{socket_ip, socket_port};
+ghost use Rattle.std.specs.Prelude.{◌≡◌};
 
 use control_datagram::{BoundAddresses, ControlAnswer, answer};
 use dispatch::Tally;
@@ -16,7 +14,7 @@ use std::io::ErrorKind;
 use std::net::{Net, SocketAddr};
 use std::sync::Wait;
 use std::time::Duration;
-use worker_devices::{WorkerQueues, socket_address};
+use worker_devices::WorkerQueues;
 
 const FRONT: Token = Token(0);
 
@@ -62,23 +60,9 @@ pub struct BoundSockets {
     control: UdpSocket,
 }
 
-// The endpoint of a socket address. Both sockets are bound to IPv4 addresses, so no other comes.
-fn endpoint_of(address: SocketAddr) -> Option<Endpoint>
-    ensures address { IfSome result (λ of. IsV4And (socket_ip address) (λ ip. of.address ≡ ipv4_bits ip)) }
-    ensures port { IfSome result (λ of. of.port ≡ socket_port address) }
-{
-    match address {
-        SocketAddr::V4(address) => Some(Endpoint {
-            address: u32::from(*address.ip()),
-            port: address.port(),
-        }),
-        SocketAddr::V6(_) => None,
-    }
-}
-
-// The address that a socket is bound to.
+// The address that a socket is bound to. Both sockets are bound to IPv4 addresses.
 fn bound_address(socket: &UdpSocket) -> Option<Endpoint> {
-    endpoint_of(socket.local_addr().ok()?)
+    Endpoint::from_socket_address(socket.local_addr().ok()?)
 }
 
 // Answers a datagram of this text, unless it is ignored.
@@ -92,14 +76,15 @@ fn answer_from(
 ) -> Option<ControlAnswer>
     ensures { tally.new.table ≡ tally.old.table }
 {
-    answer(alloc, bound, endpoint_of(sender)?, text, operator, tally)
+    let sender = Endpoint::from_socket_address(sender)?;
+    answer(alloc, bound, sender, text, operator, tally)
 }
 
 impl BoundSockets {
     /// Binds the front, then control. A port 0 is the system's to pick. `None` where one could not be bound.
     pub fn bind<N: Net>(net: &N, front: Endpoint, control: Endpoint) -> Option<BoundSockets> {
-        let front = UdpSocket::bind(net, socket_address(front)).ok()?;
-        let control = UdpSocket::bind(net, socket_address(control)).ok()?;
+        let front = UdpSocket::bind(net, front.socket_address()).ok()?;
+        let control = UdpSocket::bind(net, control.socket_address()).ok()?;
         Some(BoundSockets { front, control })
     }
 

@@ -80,7 +80,7 @@ fn run_serve<R: Threads + Wait + Net + Sync, W: Write, E: Write>(
     }
 }
 
-/// Runs a command that may wait, and answers the exit status. `tell` without lines reads the input.
+/// Runs a command that may wait, and returns its exit status. `tell` without lines reads its lines from the input.
 pub fn run_waiting<R: Threads + Wait + Net + Clock + Sync, I: Read + Drop, W: Write, E: Write>(
     rt: &R,
     alloc: Global,

@@ -14,5 +14,5 @@ mod worker_queues;
 pub use channel::{ChannelReceiver, ChannelSender, open_channel};
 pub use channel_source::{ChannelSource, RECEIVE_LIMIT};
 pub use received::Received;
-pub use socket_outbox::{SocketOutbox, socket_address};
+pub use socket_outbox::SocketOutbox;
 pub use worker_queues::{QUEUE_PLACES, WorkerQueue, WorkerQueues, limits_as_numbers, open_queue};

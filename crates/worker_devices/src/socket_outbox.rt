@@ -1,22 +1,12 @@
 //! The outbox of a worker: a UDP socket of its own.
 
 ghost use Rattle.std.specs.Prelude.{◌≡◌};
-ghost use Rattle.std.specs.Net.Addr.{IsIpv4OfBits, IsV4And};
-ghost use Rattle.std.specs.Net.Socket.{socket_ip, socket_port};
 ghost use Rattle.worker_devices.specs.Devices.{silent_outbox};
 
 use dispatch::{Failed, Outbox};
 use ipv4_fields::Endpoint;
 use std::marker::Model;
-use std::net::{IpAddr, Ipv4Addr, SocketAddr, UdpSocket};
-
-/// The socket address of an endpoint.
-pub fn socket_address(of: Endpoint) -> SocketAddr
-    ensures address { IsV4And (socket_ip result) (λ ip. IsIpv4OfBits ip of.address) }
-    ensures port { socket_port result ≡ of.port }
-{
-    SocketAddr::new(IpAddr::V4(Ipv4Addr::from(of.address)), of.port)
-}
+use std::net::UdpSocket;
 
 /// An outbox over a socket. A send fails where the socket's does, also where that takes fewer bytes than there are; it may wait
 /// where the socket's may.
@@ -57,7 +47,7 @@ impl Outbox for SocketOutbox {
         if self.failures == u64::MAX {
             return Ok(());
         }
-        match self.socket.send_to(bytes, socket_address(to)) {
+        match self.socket.send_to(bytes, to.socket_address()) {
             Ok(size) if size == bytes.len() => Ok(()),
             _ => {
                 self.failures += 1;

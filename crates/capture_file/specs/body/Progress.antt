@@ -1,9 +1,11 @@
--- How far the records of a file were read.
-use Rattle.std.specs.Prelude.{◌≡◌, ◌+◌, ◌∷◌, List, [], length, ℕ}
+-- How far the records of a file were read, and its packets written.
+use Rattle.std.specs.Prelude.{◌≡◌, ◌+◌, ◌∷◌, List, Option, [], length, ℕ}
+use Rattle.std.specs.Io.KnownBytes.{Appends}
 use Rattle.capture_file.specs.declared.content.Content.{Content}
 use Rattle.capture_file.specs.declared.header.FileHeader.{FileHeader}
 use Rattle.capture_file.specs.declared.Summary.{Summary}
 use Rattle.capture_file.specs.Capture.{AreRecords, cuts_of, others_of, packets_of}
+use Rattle.capture_file.specs.Packets.{packet_lines}
 
 -- the records at the front of the bytes were counted, up to the rest
 pub record IsCounted (header : FileHeader) (bytes : List ℕ) (summary : Summary) (rest : List ℕ) : Type 0 where
@@ -20,3 +22,13 @@ pub record CountsOne (content : Content) (before after : Summary) : Type 0 where
   pub other : after.other ≡ before.other + others_of (content ∷ [])
   pub cut_at : after.cut_at ≡ before.cut_at
   pub header : after.header ≡ before.header
+
+-- of the records at the front of the bytes, up to the rest, the packets were written
+pub record WritesRecords (header : FileHeader) (bytes rest : List ℕ) (before after : Option (List ℕ)) : Type 0 where
+  pub contents : List Content
+  pub are_records : AreRecords header bytes contents rest
+  pub written : Appends before after (packet_lines contents)
+
+-- so were those of some first records
+abbrev pub WritesSome : FileHeader → List ℕ → Option (List ℕ) → Option (List ℕ) → Type 0
+WritesSome header bytes before after = (rest : List ℕ) × WritesRecords header bytes rest before after

@@ -26,8 +26,8 @@ word-requires g c =
     let r = c.requires.1 in
     rw (c.word-id.ensures.words_kept, r.place) (slice_get_within _ _ _ (to_word _ r.config r.begins r.group r.index c.requires.0 r.has))
 
-pub endpoint-to-requires : goal.endpoint-to-requires
-endpoint-to-requires g c =
+pub from_number-to-requires : goal.from_number-to-requires
+from_number-to-requires g c =
     let r = c.requires.1 in
     let read = rw (c.word-id.ensures.words_kept, r.place) at c.word.ensures.value in
     let is = to_word _ r.config r.begins r.group r.index c.requires.0 r.has in
@@ -37,5 +37,5 @@ endpoint-to-requires g c =
 pub returns-clause-member_found : goal.returns-clause-member_found
 returns-clause-member_found g c member r =
     let id = rw (r.place) at c.word-id.ensures.value in
-    let to = rw (c.word-id.ensures.words_kept, r.place, ← c.endpoint-to.ensures.number) at c.word.ensures.value in
-    found_member _ r.config r.begins r.group r.index member r.has c.word-id.result c.endpoint-to.result id to c.endpoint-to.ensures.fits
+    let to = rw (c.word-id.ensures.words_kept, r.place, ← c.from_number-to.ensures.number) at c.word.ensures.value in
+    found_member _ r.config r.begins r.group r.index member r.has c.word-id.result c.from_number-to.result id to c.from_number-to.ensures.fits

@@ -1,6 +1,7 @@
 use Rattle.std.proofs.Common.{arith, ◌∷◌, [], rules}
 use Rattle.std.proofs.lemmas.Grind.{common_steps}
-use Rattle.control_client.specs.Exchange.{WritesBeginning, reply_line}
+use Rattle.command_line.specs.Ending.{AppendsBeginning}
+use Rattle.control_client.specs.Exchange.{reply_line}
 use Rattle.std.proofs.KnownBytes.{Appends-kept, Appends-trans}
 use Rattle.control_client.proofs.PrintingLemmas.{begins_first, begins_then, begins_whole}
 use Rattle.control_client.proofs.ResultLemmas.{on_err}
@@ -9,12 +10,12 @@ use Rattle.control_client.proofs.printing.print_reply.Goals as goal
 pub returns-in_err-write_whole-clause-beginning : goal.returns-in_err-write_whole-clause-beginning
 returns-in_err-write_whole-clause-beginning g c =
     let start = g.W.Write.contents c.args.out.now in let end = g.W.Write.contents c.write_whole.new.out in let reply = c.args.reply.now in
-    on_err c.from_residual.result (WritesBeginning start end (reply_line reply)) (begins_first start end reply (10 ∷ []) c.in_err-write_whole.ensures.beginning)
+    on_err c.from_residual.result (AppendsBeginning start end (reply_line reply)) (begins_first start end reply (10 ∷ []) c.in_err-write_whole.ensures.beginning)
 
 pub returns-in_err-write_whole-2-clause-beginning : goal.returns-in_err-write_whole-2-clause-beginning
 returns-in_err-write_whole-2-clause-beginning g c =
     let start = g.W.Write.contents c.args.out.now in let mid = g.W.Write.contents c.write_whole.new.out in let end = g.W.Write.contents c.write_whole-2.new.out in let reply = c.args.reply.now in
-    on_err c.from_residual-in_err-write_whole-2.result (WritesBeginning start end (reply_line reply))
+    on_err c.from_residual-in_err-write_whole-2.result (AppendsBeginning start end (reply_line reply))
     (begins_then start mid end reply (10 ∷ []) c.in_ok-write_whole.ensures.written (rw c.as_slice.ensures at c.in_err-write_whole-2.ensures.beginning))
 
 pub returns-in-Err-clause-beginning : goal.returns-in-Err-clause-beginning

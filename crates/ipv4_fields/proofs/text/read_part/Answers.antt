@@ -11,4 +11,4 @@ returns-in_err-part c =
 pub returns-in_err-read_number : goal.returns-in_err-read_number
 returns-in_err-read_number c =
     rw c.from_residual-in_err-read_number.ensures
-    (λ n rest small is. c.in_err-read_number.ensures n (omega arith) (one_part c.args.separator n c.args.text.now c.in_ok-part.part.now c.in_ok-part.rest.now rest c.requires (omega arith) c.in_ok-part.ensures is).0)
+    (λ n rest small is. c.in_err-read_number.ensures n (omega arith) (one_part c.args.separator n c.args.text.now c.in_ok-part.part.now c.in_ok-part.rest.now rest c.requires c.in_ok-part.ensures is).0)

@@ -11,4 +11,4 @@ returns-in_err-field c =
 pub returns-in_err-read_number : goal.returns-in_err-read_number
 returns-in_err-read_number c =
     rw c.from_residual-in_err-read_number.ensures
-    (λ n rest small is. let range = c.ranges.limit in c.in_err-read_number.ensures n (omega arith) (one_part 32 n c.args.text.now c.in_ok-field.field.now c.in_ok-field.rest.now rest (inl (omega arith)) (omega arith) c.in_ok-field.ensures is).0)
+    (λ n rest small is. let range = c.ranges.limit in c.in_err-read_number.ensures n (omega arith) (one_part 32 n c.args.text.now c.in_ok-field.field.now c.in_ok-field.rest.now rest (inl (omega arith)) c.in_ok-field.ensures is).0)

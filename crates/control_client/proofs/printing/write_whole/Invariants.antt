@@ -1,5 +1,0 @@
-use Rattle.control_client.proofs.PrintingLemmas.{HasWritten}
-use Rattle.control_client.proofs.printing.write_whole.Given as goal
-
-abbrev pub invariant-loop-turn : goal.invariant-loop-turn
-invariant-loop-turn g l = HasWritten (g.W.Write.contents l.initial.out) (g.W.Write.contents l.out) l.bytes l.rest

@@ -1,2 +1,0 @@
--- Models of the code: what the contracts of private functions cite. No public clause stands on them.
-pub mod Progress
