@@ -6,7 +6,7 @@ use Rattle.std.proofs.Math.Seq.{take-append-add, take-length}
 use Rattle.control_line.specs.declared.TheConstants.{LINE_LIMIT}
 use Rattle.control_line.specs.declared.reply.LineAnswer.{LineAnswer}
 use Rattle.control_line.specs.Agrees.{TextConfig}
-use Rattle.control_line.specs.Answer.{Answers, bad_line, changed, shown, swept, too_long}
+use Rattle.control_line.specs.Answer.{Answers, bad_line, changed, shown, swept, too_long, was_read}
 use Rattle.control.specs.Script.{RepliesTo, Standing, to_control, to_long_packet, to_packet}
 
 -- ---- what is held
@@ -46,6 +46,7 @@ module _ (now : Standing) (line : List ℕ) (long : LINE_LIMIT < length line) wh
   answered_long _ _ (bad_line short none) = absurd (omega (arith, still_long))
   answered_long _ _ (changed command answer next short spells changes) = absurd (omega (arith, still_long))
   answered_long _ _ (shown short spells) = absurd (omega (arith, still_long))
+  answered_long _ _ (was_read reading short spells) = absurd (omega (arith, still_long))
   answered_long _ _ (swept reclaimed short spells) = absurd (omega (arith, still_long))
 
   replied_long : (reply : List ℕ) (next : Standing) → RepliesTo now (take (suc LINE_LIMIT) line) reply next → RepliesTo now line reply next

@@ -52,6 +52,6 @@ module _ {P Q : Type 0} (over : P → Q) (f : Q → List ℕ → ℕ) (g : P →
 pub same_verdict : (text : TextConfig) (config : List Group) (packet : List ℕ) → Agrees text config → IsPacket packet → verdict value_of config packet ≡ verdict text_value text packet
 same_verdict text config packet (pairs, text_is, config_is) bytes =
     ap (λ (c : List Group). verdict value_of c packet) config_is
-    ∙ verdict-over (λ both. both.program) value_of (λ both p. text_value both.text p) packet (λ both. ap returned (both.ending packet bytes)) pairs
-    ∙ sym (verdict-over (λ both. both.text) text_value (λ both p. text_value both.text p) packet (λ both. refl) pairs)
+    ∙ verdict-over (λ both. both.program) value_of (λ both p. text_value both.loaded p) packet (λ both. ap returned (both.ending packet bytes)) pairs
+    ∙ sym (verdict-over (λ both. both.loaded) text_value (λ both p. text_value both.loaded p) packet (λ both. refl) pairs)
     ∙ ap (λ (c : TextConfig). verdict text_value c packet) (sym text_is)

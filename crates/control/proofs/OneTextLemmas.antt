@@ -9,13 +9,14 @@ use Rattle.control_line.specs.declared.TheConstants.{LINE_LIMIT}
 use Rattle.control_line.specs.declared.reason.Reason.TheVariants.{Publishing}
 use Rattle.control_line.specs.declared.reply.LineAnswer.{LineAnswer}
 use Rattle.control_line.specs.declared.reply.LineAnswer.TheVariants.{Published, Refused, Swept}
-use Rattle.control_line.specs.Agrees.{TextConfig}
-use Rattle.control_line.specs.Answer.{AreOne, HasOneAnswer, IsOperatorsChoice}
+use Rattle.filter_tree.specs.Tree.{Tree}
+use Rattle.control_line.specs.Agrees.{Compiler, TextConfig}
+use Rattle.control_line.specs.Answer.{AreOne, HasOneAnswer, IsOperatorsChoice, by_function}
 use Rattle.ipv4_fields.specs.Cut.{Lacks}
 use Rattle.control.specs.PacketLine.{HasNoPacket, IsPacketLine}
 use Rattle.control_line.specs.Packet.{IsHex, SpellsPacket, SpellsTooMuch}
 use Rattle.control_line.specs.Reply.{reply_text}
-use Rattle.control.specs.Script.{AreAnswered, ComesInScript, HasOneText, IsScriptText, RepliesTo, Standing, all_ended, judged_text, last_unended, no_line, one_more, standing_after, text_value, to_control, to_long_packet, to_packet}
+use Rattle.control.specs.Script.{AreAnsweredBy, ComesInScript, HasOneText, IsScriptTextBy, RepliesToBy, Standing, all_ended, judged_text, last_unended, no_line, one_more, standing_after, text_value, to_control, to_long_packet, to_packet}
 use Rattle.ipv4_fields.proofs.TextLemmas.{has_separator}
 
 -- ---- lines that have a packet
@@ -62,23 +63,23 @@ module _ (now : Standing) where
   no_control : (line digits : List ℕ) → HasNoPacket line → length line ≤ LINE_LIMIT → IsPacketLine line digits → IsHex digits → ⊥
   no_control line digits none short is hex = let long = none digits is hex in omega arith
 
-  same_reply : HasOneAnswer → (line one other : List ℕ) (next also : Standing) → RepliesTo now line one next → RepliesTo now line other also → (one ≡ other) × (next ≡ also)
-  same_reply law line _ _ _ _ (to_control answer next none answers comes) (to_control answer' next' none' answers' comes') =
-      let same = by_answers answer answer' next next' (law now.version now.config line answer answer' next next' answers answers') comes comes' in
+  same_reply : HasOneAnswer → (compiled : Tree → List ℕ) (line one other : List ℕ) (next also : Standing) → RepliesToBy (by_function compiled) now line one next → RepliesToBy (by_function compiled) now line other also → (one ≡ other) × (next ≡ also)
+  same_reply law compiled line _ _ _ _ (to_control answer next none answers comes) (to_control answer' next' none' answers' comes') =
+      let same = by_answers answer answer' next next' (law compiled now.version now.config line answer answer' next next' answers answers') comes comes' in
       (ap reply_text same.0, ap (λ a. standing_after now a next) same.0 ∙ ap (standing_after now answer') same.1)
-  same_reply law line _ _ _ _ (to_control answer next none answers comes) (to_packet digits packet short is spells) = absurd (no_control line digits none short is (hex_of digits packet spells))
-  same_reply law line _ _ _ _ (to_control answer next none answers comes) (to_long_packet digits short is much) = absurd (no_control line digits none short is much.hex)
-  same_reply law line _ _ _ _ (to_packet digits packet short is spells) (to_control answer next none answers comes) = absurd (no_control line digits none short is (hex_of digits packet spells))
-  same_reply law line _ _ _ _ (to_packet digits packet short is spells) (to_packet digits' packet' short' is' spells') =
+  same_reply law compiled line _ _ _ _ (to_control answer next none answers comes) (to_packet digits packet short is spells) = absurd (no_control line digits none short is (hex_of digits packet spells))
+  same_reply law compiled line _ _ _ _ (to_control answer next none answers comes) (to_long_packet digits short is much) = absurd (no_control line digits none short is much.hex)
+  same_reply law compiled line _ _ _ _ (to_packet digits packet short is spells) (to_control answer next none answers comes) = absurd (no_control line digits none short is (hex_of digits packet spells))
+  same_reply law compiled line _ _ _ _ (to_packet digits packet short is spells) (to_packet digits' packet' short' is' spells') =
       let digit = same_digits line digits digits' is is' in
       let same = same_packet digits' packet packet' (subst (λ d. SpellsPacket d packet) digit spells) spells' in
       (ap (λ p. judged_text now.version (verdict text_value now.config p)) same, refl)
-  same_reply law line _ _ _ _ (to_packet digits packet short is spells) (to_long_packet digits' short' is' much) =
+  same_reply law compiled line _ _ _ _ (to_packet digits packet short is spells) (to_long_packet digits' short' is' much) =
       absurd (not_too_much digits packet spells (subst SpellsTooMuch (same_digits line digits' digits is' is) much))
-  same_reply law line _ _ _ _ (to_long_packet digits short is much) (to_control answer next none answers comes) = absurd (no_control line digits none short is much.hex)
-  same_reply law line _ _ _ _ (to_long_packet digits short is much) (to_packet digits' packet short' is' spells) =
+  same_reply law compiled line _ _ _ _ (to_long_packet digits short is much) (to_control answer next none answers comes) = absurd (no_control line digits none short is much.hex)
+  same_reply law compiled line _ _ _ _ (to_long_packet digits short is much) (to_packet digits' packet short' is' spells) =
       absurd (not_too_much digits' packet spells (subst SpellsTooMuch (same_digits line digits digits' is is') much))
-  same_reply law line _ _ _ _ (to_long_packet digits short is much) (to_long_packet digits' short' is' much') = (refl, refl)
+  same_reply law compiled line _ _ _ _ (to_long_packet digits short is much) (to_long_packet digits' short' is' much') = (refl, refl)
 
 -- ---- one cut behind the last LF
 
@@ -86,7 +87,7 @@ module _ (now : Standing) where
 abbrev IsEnded : List ℕ → Type 0
 IsEnded lines = (lines ≡ []) ⊎ ((front : List ℕ) × (lines ≡ front ++ 10 ∷ []))
 
-ended : (lines text : List ℕ) (last : Standing) → AreAnswered lines text last → IsEnded lines
+ended : {by : Compiler} (lines text : List ℕ) (last : Standing) → AreAnsweredBy by lines text last → IsEnded lines
 ended _ _ _ no_line = inl refl
 ended _ _ _ (one_more lines text line reply now next answered lacks replies) = inr (lines ++ line, sym (append_assoc lines line (10 ∷ [])))
 
@@ -125,17 +126,20 @@ same_lines lines line lines' line' e e' lacks lacks' is =
 
 -- ---- one text
 
-module _ (law : HasOneAnswer) where
+module _ (law : HasOneAnswer) (compiled : Tree → List ℕ) where
+  abbrev by : Compiler
+  by = by_function compiled
+
   same_line : (line line' : List ℕ) (now now' : Standing) → line ≡ line' → now ≡ now' → (one other : List ℕ) (next also : Standing)
-      → RepliesTo now line one next → RepliesTo now' line' other also → (one ≡ other) × (next ≡ also)
+      → RepliesToBy by now line one next → RepliesToBy by now' line' other also → (one ≡ other) × (next ≡ also)
   same_line line line' now now' same standing one other next also replies replies' =
-      same_reply now' law line' one other next also
-      (subst (λ s. RepliesTo s line' one next) standing (subst (λ l. RepliesTo now l one next) same replies)) replies'
+      same_reply now' law compiled line' one other next also
+      (subst (λ s. RepliesToBy by s line' one next) standing (subst (λ l. RepliesToBy by now l one next) same replies)) replies'
 
   with_reply : (text text' reply reply' : List ℕ) → text ≡ text' → reply ≡ reply' → text ++ (reply ++ 10 ∷ []) ≡ text' ++ (reply' ++ 10 ∷ [])
   with_reply text text' reply reply' same also = ap (λ t. t ++ (reply ++ 10 ∷ [])) same ∙ ap (λ r. text' ++ (r ++ 10 ∷ [])) also
 
-  same_answers : (lines lines' one other : List ℕ) (last last' : Standing) → lines ≡ lines' → AreAnswered lines one last → AreAnswered lines' other last' → (one ≡ other) × (last ≡ last')
+  same_answers : (lines lines' one other : List ℕ) (last last' : Standing) → lines ≡ lines' → AreAnsweredBy by lines one last → AreAnsweredBy by lines' other last' → (one ≡ other) × (last ≡ last')
   same_answers _ _ _ _ _ _ same no_line no_line = (refl, refl)
   same_answers _ _ _ _ _ _ same no_line (one_more lines text line reply now next answered lacks replies) = absurd (no_lines lines line same)
   same_answers _ _ _ _ _ _ same (one_more lines text line reply now next answered lacks replies) no_line = absurd (no_lines lines line (sym same))
@@ -151,7 +155,7 @@ module _ (law : HasOneAnswer) where
       let none : length part' ≡ 0 = sym (ap length cut.1) in
       omega arith
 
-  same_text : (script script' one other : List ℕ) → script ≡ script' → IsScriptText script one → IsScriptText script' other → one ≡ other
+  same_text : (script script' one other : List ℕ) → script ≡ script' → IsScriptTextBy by script one → IsScriptTextBy by script' other → one ≡ other
   same_text _ _ _ _ same (all_ended lines text last answered) (all_ended lines' text' last' answered') =
       (same_answers lines lines' text text' last last' same answered answered').0
   same_text _ _ _ _ same (all_ended lines text last answered) (last_unended lines' text' line' reply' now' last' answered' lacks' some' replies') =
@@ -164,5 +168,5 @@ module _ (law : HasOneAnswer) where
       let reply_is = same_line line line' now now' cut.1 before.1 reply reply' last last' replies replies' in
       with_reply text text' reply reply' before.0 reply_is.0
 
-  pub one_text : HasOneText
-  one_text script one other is also = same_text script script one other refl is also
+pub one_text : HasOneAnswer → HasOneText
+one_text law compiled script one other is also = same_text law compiled script script one other refl is also

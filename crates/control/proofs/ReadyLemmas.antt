@@ -26,9 +26,10 @@ use Rattle.control_line.specs.declared.reason.Reason.{Reason}
 use Rattle.control_line.specs.declared.reason.Reason.TheVariants.{Publishing}
 use Rattle.control_line.specs.declared.reason.Reason.TheVariants as reason
 use Rattle.control_line.specs.declared.reply.LineAnswer.{LineAnswer}
-use Rattle.control_line.specs.declared.reply.LineAnswer.TheVariants.{Published, Refused, Shown, Swept}
+use Rattle.control_line.specs.declared.reply.LineAnswer.TheVariants.{GroupRead, MemberRead, Published, Refused, Shown, Swept, WordsRead}
 use Rattle.control_line.specs.Agrees.{AgreesNow, TextConfig}
-use Rattle.control_line.specs.Answer.{Answers, Changes, Does, DoesRefused, bad_line, bad_text, busy, changed, exhausted, published, refused, shown, swept, too_big, too_long}
+use Rattle.control_line.specs.Answer.{Answers, Changes, Does, DoesRefused, bad_line, bad_text, busy, changed, exhausted, published, refused, shown, swept, too_big, too_long, was_read}
+use Rattle.control_line.proofs.ReadBackLemmas.{each_reading}
 use Rattle.control.specs.body.Ready.{AllFree, Stands}
 use Rattle.program_text.specs.Program.{Source}
 use Rattle.control.specs.Script.{ComesInScript, Standing, standing_after}
@@ -53,6 +54,8 @@ next_number version config next line answer (too_long long) = tt
 next_number version config next line answer (bad_line short none) = tt
 next_number version config next line answer (changed command other after short spells changes) = change_number version config next command answer changes
 next_number version config next line answer (shown short spells) = tt
+next_number version config next line answer (was_read reading short spells) =
+    each_reading (λ program. program.words) (IsNextNumber version) (λ refusal. tt) (λ version' index groups key members selector. tt) (λ version' index members id to filter locked. tt) (λ version' place count words. tt) version config reading
 next_number version config next line answer (swept reclaimed short spells) = tt
 
 -- ---- fills change no number
@@ -184,6 +187,9 @@ module _ (before : OperatorValue) (now : Standing) (stands : Stands before now) 
   comes_and_stands line (Refused why) next after answers does agrees = let (comes, same) = refusal_comes why after does in (comes, stands_same after next same agrees)
   comes_and_stands line (Published version) next after answers (config, publishes) agrees = (tt, stands_published after config publishes version next (next_number now.version now.config next line (Published version) answers) agrees)
   comes_and_stands line (Shown version groups members charge) next after answers does agrees = (tt, stands_same after next does agrees)
+  comes_and_stands line (GroupRead version index groups key members selector) next after answers does agrees = (tt, stands_same after next does agrees)
+  comes_and_stands line (MemberRead version index members id to filter locked) next after answers does agrees = (tt, stands_same after next does agrees)
+  comes_and_stands line (WordsRead version place count words) next after answers does agrees = (tt, stands_same after next does agrees)
   comes_and_stands line (Swept reclaimed) next after answers does agrees = (
     (from_reported after reclaimed.first reclaimed.count does, up_to_current after reclaimed.first reclaimed.count does),
     stands_swept after reclaimed.first reclaimed.count does next agrees,

@@ -19,7 +19,7 @@ use Rattle.retire.proofs.RowLemmas.{worker_inside}
 use Rattle.control_line.specs.declared.TheConstants.{LINE_LIMIT}
 use Rattle.control_line.specs.declared.reason.Reason.TheVariants.{PacketTooLong}
 use Rattle.control_line.specs.declared.reply.LineAnswer.{LineAnswer}
-use Rattle.control_line.specs.declared.reply.LineAnswer.TheVariants.{Published, Refused, Shown, Swept}
+use Rattle.control_line.specs.declared.reply.LineAnswer.TheVariants.{GroupRead, MemberRead, Published, Refused, Shown, Swept, WordsRead}
 use Rattle.control_line.specs.Answer.{Answers, Does}
 use Rattle.control_line.specs.Answer.{IsAnswered}
 use Rattle.control.specs.PacketLine.{HasNoPacket, IsPacketLine}
@@ -89,6 +89,9 @@ keeps_table : (answer : LineAnswer) (before after : OperatorValue) → Does answ
 keeps_table (Refused why) before after does = (nothing_keeps before after (refused_does_nothing why before after does)).table
 keeps_table (Published version) before after (config, publishes) = publishes.table
 keeps_table (Shown version groups members charge) before after same = ap (λ (o : OperatorValue). o.table) same
+keeps_table (GroupRead version index groups key members selector) before after same = ap (λ (o : OperatorValue). o.table) same
+keeps_table (MemberRead version index members id to filter locked) before after same = ap (λ (o : OperatorValue). o.table) same
+keeps_table (WordsRead version place count words) before after same = ap (λ (o : OperatorValue). o.table) same
 keeps_table (Swept reclaimed) before after sweeps =
     ap (λ (o : OperatorValue). o.table) (sweeps.reported)
     ∙ ap (λ (o : OperatorValue). o.table) sweeps.each.no_more

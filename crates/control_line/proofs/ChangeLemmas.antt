@@ -58,26 +58,26 @@ agrees_with config view real (older, is) (current, (others, also), agrees) =
 pub charged_alike : (config : TextConfig) (next : List Group) → Agrees config next → charge_of next ≡ charge_of_text config
 charged_alike config next (pairs, text_is, real_is) =
     ap charge_of real_is
-    ∙ charge_by-over (λ b. b.program) (λ program. program.charge) (λ b. text_charge b.text) (λ b. b.charge) pairs
-    ∙ sym (charge_by-over (λ b. b.text) text_charge (λ b. text_charge b.text) (λ b. refl) pairs)
+    ∙ charge_by-over (λ b. b.program) (λ program. program.charge) (λ b. text_charge b.loaded.text) (λ b. b.charge) pairs
+    ∙ sym (charge_by-over (λ b. b.loaded) (λ program. text_charge program.text) (λ b. text_charge b.loaded.text) (λ b. refl) pairs)
     ∙ ap charge_of_text (sym text_is)
 
 -- ---- changes
 
-module _ (before : OperatorValue) (command : Command Source) (real : List Group) (current : IsCurrent before.view real) (both : Command Agreeing) (means : Means command (command_over (λ b. b.text) both)) where
+module _ (before : OperatorValue) (command : Command Source) (real : List Group) (current : IsCurrent before.view real) (both : Command Agreeing) (means : Means command (command_over (λ b. b.loaded) both)) where
   -- the first refusal is the same on both sides
-  refuses_alike : (config : TextConfig) → Agrees config real → first_refusal (command_over (λ b. b.text) both) config ≡ first_refusal (command_over (λ b. b.program) both) real
+  refuses_alike : (config : TextConfig) → Agrees config real → first_refusal (command_over (λ b. b.loaded) both) config ≡ first_refusal (command_over (λ b. b.program) both) real
   refuses_alike config (pairs, text_is, real_is) =
-      ap (first_refusal (command_over (λ b. b.text) both)) text_is
-      ∙ first_refusal-over (λ b. b.text) both pairs
+      ap (first_refusal (command_over (λ b. b.loaded) both)) text_is
+      ∙ first_refusal-over (λ b. b.loaded) both pairs
       ∙ sym (first_refusal-over (λ b. b.program) both pairs)
       ∙ ap (first_refusal (command_over (λ b. b.program) both)) (sym real_is)
 
   -- and so are the next configurations
-  next_agrees : (config : TextConfig) → Agrees config real → Agrees (after_command (command_over (λ b. b.text) both) config) (after_command (command_over (λ b. b.program) both) real)
+  next_agrees : (config : TextConfig) → Agrees config real → Agrees (after_command (command_over (λ b. b.loaded) both) config) (after_command (command_over (λ b. b.program) both) real)
   next_agrees config (pairs, text_is, real_is) = (
     after_command both pairs,
-    ap (after_command (command_over (λ b. b.text) both)) text_is ∙ after-over (λ b. b.text) both pairs,
+    ap (after_command (command_over (λ b. b.loaded) both)) text_is ∙ after-over (λ b. b.loaded) both pairs,
     ap (after_command (command_over (λ b. b.program) both)) real_is ∙ after-over (λ b. b.program) both pairs,
   )
 
@@ -89,19 +89,19 @@ module _ (before : OperatorValue) (command : Command Source) (real : List Group)
 
   module _ (next : List Group) (made : IsNext (command_over (λ b. b.program) both) real next) where
     -- the text's next configuration, and what it agrees with
-    leads_to : (config : TextConfig) → Agrees config real → LeadsTo config command (after_command (command_over (λ b. b.text) both) config)
+    leads_to : (config : TextConfig) → Agrees config real → LeadsTo config command (after_command (command_over (λ b. b.loaded) both) config)
     leads_to config agrees = record { made = _; means = means; applied = refuses_alike config agrees ∙ made.applied; is = refl }
 
-    leads_to_agreeing : (config : TextConfig) → Agrees config real → Agrees (after_command (command_over (λ b. b.text) both) config) next
+    leads_to_agreeing : (config : TextConfig) → Agrees config real → Agrees (after_command (command_over (λ b. b.loaded) both) config) next
     leads_to_agreeing config agrees = subst (Agrees _) (sym made.is) (next_agrees config agrees)
 
-    charge_is : (config : TextConfig) → Agrees config real → charge_of next ≡ charge_of_text (after_command (command_over (λ b. b.text) both) config)
+    charge_is : (config : TextConfig) → Agrees config real → charge_of next ≡ charge_of_text (after_command (command_over (λ b. b.loaded) both) config)
     charge_is config agrees = charged_alike _ next (leads_to_agreeing config agrees)
 
     abbrev after_made : TextConfig → TextConfig
-    after_made config = after_command (command_over (λ b. b.text) both) config
+    after_made config = after_command (command_over (λ b. b.loaded) both) config
 
-    within : (config : TextConfig) → Agrees config real → charge_of next ≤ CHARGE_LIMIT → charge_of_text (after_command (command_over (λ b. b.text) both) config) ≤ CHARGE_LIMIT
+    within : (config : TextConfig) → Agrees config real → charge_of next ≤ CHARGE_LIMIT → charge_of_text (after_command (command_over (λ b. b.loaded) both) config) ≤ CHARGE_LIMIT
     within config agrees small = omega (arith, charge_is config agrees)
 
     pub too_big_change : CHARGE_LIMIT < charge_of next → IsChanged command before before (Refused (Publishing TooBig))

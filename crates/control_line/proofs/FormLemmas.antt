@@ -43,11 +43,11 @@ word_at lock_row = codes "lock"
 word_at join_row = codes "join"
 word_at filter_row = codes "filter"
 
-abbrev rows : List Row
+abbrev pub rows : List Row
 rows = add_row ∷ remove_row ∷ selector_row ∷ leave_row ∷ lock_row ∷ join_row ∷ filter_row ∷ []
 
 -- a row is found again by its word
-abbrev row_by : List ℕ → Option Row
+abbrev pub row_by : List ℕ → Option Row
 row_by word = find (λ row. bytes_eq (word_at row) word) rows
 
 found_again : (row : Row) → row_by (word_at row) ≡ Some row
@@ -63,6 +63,10 @@ found_again filter_row = refl
 pub one_row : (row other : Row) → word_at row ≡ word_at other → row ≡ other
 one_row row other same =
     let found : Some row ≡ Some other = sym (found_again row) ∙ ap row_by same ∙ found_again other in cc
+
+-- and a word by which none is found is no row's
+pub no_row : (word : List ℕ) → row_by word ≡ None → (row : Row) → word_at row ≡ word → ⊥
+no_row word none row same = let found : Some row ≡ None = sym (found_again row) ∙ ap row_by same ∙ none in absurd (cc)
 
 pub lacks-row : (row : Row) → Lacks 32 (word_at row)
 lacks-row add_row = lacks-test 32 (codes "add") refl

@@ -17,13 +17,15 @@ use Rattle.control_line.specs.declared.reason.Reason.{Reason}
 use Rattle.control_line.specs.declared.reason.Reason.TheVariants.{Publishing}
 use Rattle.control_line.specs.declared.reason.Reason.TheVariants as reason
 use Rattle.control_line.specs.declared.reply.LineAnswer.{LineAnswer}
-use Rattle.control_line.specs.declared.reply.LineAnswer.TheVariants.{Published, Refused, Shown, Swept}
+use Rattle.control_line.specs.declared.reply.LineAnswer.TheVariants.{GroupRead, MemberRead, Published, Refused, Shown, Swept, WordsRead}
 use Rattle.control_line.specs.Agrees.{Agrees, AgreesNow, TextConfig, group_over}
-use Rattle.control_line.specs.Answer.{Answers, Does, DoesNothing, DoesRefused, IsRefusedReply, IsReplyTo, LeavesConfig, PublishesNothing, bad_line, changed, charge_of_text, shown, swept, too_long}
+use Rattle.control_line.specs.Answer.{Answers, Does, DoesNothing, DoesRefused, IsRefusedReply, IsReplyTo, LeavesConfig, PublishesNothing, bad_line, changed, charge_of_text, shown, swept, too_long, was_read}
 use Rattle.control_line.specs.Answer.{IsAnswered}
-use Rattle.control_line.specs.body.Making.{IsChanged, IsOutcome, IsShown}
+use Rattle.control_line.specs.body.Making.{IsChanged, IsOutcome, IsReadBack, IsShown}
 use Rattle.control_line.specs.Reply.{reply_text}
-use Rattle.control_line.specs.Request.{Request, Spells, change, show, sweep}
+use Rattle.control_line.specs.Request.{Request, Spells, change, read, show, sweep}
+use Rattle.control_line.specs.Reading.{Reading, reading_answer}
+use Rattle.control_line.proofs.ReadBackLemmas.{does_nothing_read, read_alike}
 use Rattle.program_text.specs.Program.{Source}
 use Rattle.control_line.proofs.ChangeLemmas.{agrees_with, charged_alike, scanned_keeps, still_agrees}
 use Rattle.control_line.proofs.OverLemmas.{members_of-over}
@@ -52,8 +54,8 @@ module _ (line : List ℕ) (before : OperatorValue) where
 
     shown_alike : (config : TextConfig) (real : List Group) → Agrees config real → (version : ℕ) → Shown version (length real) (members_of real) (charge_of real) ≡ Shown version (length config) (members_of config) (charge_of_text config)
     shown_alike config real agrees version =
-        let groups : length real ≡ length config = ap length agrees.2 ∙ (length-map agrees.0 (group_over (λ both. both.program)) ∙ (sym (length-map agrees.0 (group_over (λ both. both.text))) ∙ ap length (sym agrees.1))) in
-        let members : members_of real ≡ members_of config = ap members_of agrees.2 ∙ (members_of-over (λ both. both.program) agrees.0 ∙ (sym (members_of-over (λ both. both.text) agrees.0) ∙ ap members_of (sym agrees.1))) in
+        let groups : length real ≡ length config = ap length agrees.2 ∙ (length-map agrees.0 (group_over (λ both. both.program)) ∙ (sym (length-map agrees.0 (group_over (λ both. both.loaded))) ∙ ap length (sym agrees.1))) in
+        let members : members_of real ≡ members_of config = ap members_of agrees.2 ∙ (members_of-over (λ both. both.program) agrees.0 ∙ (sym (members_of-over (λ both. both.loaded) agrees.0) ∙ ap members_of (sym agrees.1))) in
         ap (λ n. Shown version n (members_of real) (charge_of real)) groups
         ∙ ap (λ n. Shown version (length config) n (charge_of real)) members
         ∙ ap (λ n. Shown version (length config) (members_of config) n) (charged_alike config real agrees)
@@ -64,6 +66,16 @@ module _ (line : List ℕ) (before : OperatorValue) where
       text = λ config agrees. (
         config,
         subst (λ a. Answers (number_after before.view.log) config line a config) (sym (shown_alike config real (agrees_with config before.view real current agrees) (number_after before.view.log))) (shown short spells),
+        agrees,
+      );
+    })
+
+    pub is_read : (reading : Reading) → Spells line (read reading) → (answer : LineAnswer) → IsReadBack reading before.view answer → IsAnswered line before before answer
+    is_read reading spells answer (real, current, is) = subst (IsAnswered line before before) (sym is) (record {
+      steps = does_nothing_read (λ program. program.words) (number_after before.view.log) real reading before;
+      text = λ config agrees. (
+        config,
+        subst (λ a. Answers (number_after before.view.log) config line a config) (sym (read_alike config real (agrees_with config before.view real current agrees) (number_after before.view.log) reading)) (was_read reading short spells),
         agrees,
       );
     })
@@ -110,6 +122,9 @@ pub refusal_does_nothing : (answer : LineAnswer) (before after : OperatorValue) 
 refusal_does_nothing (Refused why) before after does reply is refusal = refused_does_nothing why before after does
 refusal_does_nothing (Published version) before after does reply is (rest, begins) = absurd (differ 0 (sym is ∙ begins) refl)
 refusal_does_nothing (Shown version groups members charge) before after does reply is (rest, begins) = absurd (differ 0 (sym is ∙ begins) refl)
+refusal_does_nothing (GroupRead version index groups key members selector) before after does reply is (rest, begins) = absurd (differ 0 (sym is ∙ begins) refl)
+refusal_does_nothing (MemberRead version index members id to filter locked) before after does reply is (rest, begins) = absurd (differ 0 (sym is ∙ begins) refl)
+refusal_does_nothing (WordsRead version place count words) before after does reply is (rest, begins) = absurd (differ 0 (sym is ∙ begins) refl)
 refusal_does_nothing (Swept reclaimed) before after does reply is (rest, begins) = absurd (differ 2 (sym is ∙ begins) refl)
 
 -- ---- the reply

@@ -9,7 +9,8 @@ use Rattle.member_group.specs.declared.command.Command.TheVariants.{AddGroup, Jo
 use Rattle.ipv4_fields.specs.declared.endpoint.Endpoint.{Endpoint}
 use Rattle.ipv4_fields.specs.Cut.{Lacks}
 use Rattle.ipv4_fields.specs.Endpoint.{endpoint_text}
-use Rattle.control_line.specs.Request.{AsksForOneThing, Spells, change, show, spaced, sweep}
+use Rattle.control_line.specs.Request.{AsksForOneThing, Spells, change, read, show, spaced, sweep}
+use Rattle.control_line.proofs.ReadingLemmas.{no_change, one_reading, reads_with_space}
 use Rattle.program_text.specs.Program.{Source, assembly, expression}
 use Rattle.control_line.specs.body.Reading.{program_fields}
 use Rattle.ipv4_fields.proofs.TextLemmas.{has_separator, lacks-endpoint, lacks-test, number_parts, one_cut, one_endpoint}
@@ -111,10 +112,17 @@ spaceless line command spells word lacks is = has_separator 32 (word_of command)
 pub one_thing : AsksForOneThing
 one_thing line (change one) (change other) spells also = ap change (one_command line one other spells also)
 one_thing line (change one) show spells also = absurd (spaceless line one spells (codes "show") (lacks-test 32 (codes "show") refl) also)
+one_thing line (change one) (read reading) spells also = absurd (no_change line one reading spells also)
 one_thing line (change one) sweep spells also = absurd (spaceless line one spells (codes "sweep") (lacks-test 32 (codes "sweep") refl) also)
 one_thing line show (change other) spells also = absurd (spaceless line other also (codes "show") (lacks-test 32 (codes "show") refl) spells)
 one_thing line show show spells also = refl
+one_thing line show (read reading) spells also = absurd (reads_with_space line reading also (subst (Lacks 32) (sym spells) (lacks-test 32 (codes "show") refl)))
 one_thing line show sweep spells also = absurd (differ 1 (sym spells ∙ also) refl)
+one_thing line (read reading) (change other) spells also = absurd (no_change line other reading also spells)
+one_thing line (read reading) show spells also = absurd (reads_with_space line reading spells (subst (Lacks 32) (sym also) (lacks-test 32 (codes "show") refl)))
+one_thing line (read reading) (read other) spells also = ap read (one_reading line reading other spells also)
+one_thing line (read reading) sweep spells also = absurd (reads_with_space line reading spells (subst (Lacks 32) (sym also) (lacks-test 32 (codes "sweep") refl)))
 one_thing line sweep (change other) spells also = absurd (spaceless line other also (codes "sweep") (lacks-test 32 (codes "sweep") refl) spells)
 one_thing line sweep show spells also = absurd (differ 1 (sym spells ∙ also) refl)
+one_thing line sweep (read reading) spells also = absurd (reads_with_space line reading also (subst (Lacks 32) (sym spells) (lacks-test 32 (codes "sweep") refl)))
 one_thing line sweep sweep spells also = refl

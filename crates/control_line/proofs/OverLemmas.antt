@@ -132,7 +132,7 @@ module _ {P Q : Type 0} (over : P → Q) where
   pub group-over : (key : Endpoint) (config : List (GroupOf P)) → group_of key (config_over over config) ≡ option_map (group_over over) (group_of key config)
   group-over key config = find-map (group_over over) (has_key key) (has_key key) (λ group. refl) config
 
-  member-over : (id : ℕ) (group : GroupOf P) → member_of id (group_over over group) ≡ option_map (member_over over) (member_of id group)
+  pub member-over : (id : ℕ) (group : GroupOf P) → member_of id (group_over over group) ≡ option_map (member_over over) (member_of id group)
   member-over id group = find-map (member_over over) (has_id id) (has_id id) (λ member. refl) group.members
 
   in_group-over : (f : GroupOf P → List (Bool × Refusal)) (g : GroupOf Q → List (Bool × Refusal)) → ((group : GroupOf P) → g (group_over over group) ≡ f group) → (key : Endpoint) (config : List (GroupOf P)) → in_group g (group_of key (config_over over config)) ≡ in_group f (group_of key config)

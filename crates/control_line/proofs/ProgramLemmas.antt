@@ -5,9 +5,27 @@ use Rattle.program_text.specs.Program.{IsProgramOfAssembly, IsProgramOfExpressio
 use Rattle.control_line.specs.body.Making.{IsMade}
 
 pub made_of_assembly : (text : List ℕ) (program : ProgramValue) → IsProgramOfAssembly text program → IsMade (assembly text) program
-made_of_assembly text program is =
-    (record { text = of_words program.words; program = program; charge = is.charge; ending = λ packet small. refl }, is.assembled, refl)
+made_of_assembly text program is = (
+  record {
+    loaded = record { text = of_words program.words; words = program.words };
+    program = program;
+    words = refl;
+    charge = is.charge;
+    ending = λ packet small. refl;
+  },
+  record { means = is.assembled; words = refl },
+  refl,
+)
 
 pub made_of_expression : (text : List ℕ) (program : ProgramValue) → IsProgramOfExpression text program → IsMade (expression text) program
-made_of_expression text program is =
-    (record { text = of_tree is.tree; program = program; charge = is.charge; ending = is.program_for.answers }, is.compilable, refl)
+made_of_expression text program is = (
+  record {
+    loaded = record { text = of_tree is.tree; words = program.words };
+    program = program;
+    words = refl;
+    charge = is.charge;
+    ending = is.program_for.answers;
+  },
+  record { means = is.compilable; words = is.program_for },
+  refl,
+)

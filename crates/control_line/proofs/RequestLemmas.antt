@@ -7,7 +7,8 @@ use Rattle.ipv4_fields.proofs.TextLemmas.{has_separator, lacks-decimal, lacks-en
 use Rattle.member_group.specs.Map.{key_of}
 use Rattle.member_group.specs.declared.command.Command.{Command}
 use Rattle.member_group.specs.declared.command.Command.TheVariants.{Leave, LockFilter, SetFilter, SetSelector}
-use Rattle.control_line.specs.Request.{Request, Spells, change, show, spaced, sweep}
+use Rattle.control_line.specs.Request.{Request, Spells, change, read, show, spaced, sweep}
+use Rattle.control_line.proofs.ReadingLemmas.{other_word, reads_with_space}
 use Rattle.control_line.specs.body.Reading.{IsMemberWord, program_fields}
 use Rattle.program_text.specs.Program.{Source, assembly, expression}
 use Rattle.control_line.proofs.FormLemmas.{HasForm, IsOfNumber, IsSelector, Row, add_row, args_at, args_of, differ, filter_row, form_at, join_row, key_range, lacks-row, leave_row, lock_row, parts, remove_row, rest_of, row_of, selector_row, tail_of, unwritten, word_at, word_of, written}
@@ -216,9 +217,12 @@ keyed_is word field rest fields key fields_are field_is = ap (λ more. word ++ 3
 pub no_word : (line : List ℕ) → Lacks 32 line → line ≢ codes "show" → line ≢ codes "sweep" → (request : Request) → Spells line request → ⊥
 no_word line lacks not_show not_sweep (change command) spells = has_separator 32 (word_of command) (args_of command) (subst (Lacks 32) (parts line command spells) lacks)
 no_word line lacks not_show not_sweep show spells = not_show spells
+no_word line lacks not_show not_sweep (read reading) spells = reads_with_space line reading spells lacks
 no_word line lacks not_show not_sweep sweep spells = not_sweep spells
 
-pub no_request : (line word fields : List ℕ) → IsSplitAt 32 line word fields → ((command : Command Source) → Spells (word ++ 32 ∷ fields) (change command) → ⊥) → (request : Request) → Spells line request → ⊥
-no_request line word fields cut no_command (change command) spells = no_command command (subst (λ text. Spells text (change command)) cut.whole spells)
-no_request line word fields cut no_command show spells = has_separator 32 word fields (subst (Lacks 32) (sym spells ∙ cut.whole) (lacks-test 32 (codes "show") refl))
-no_request line word fields cut no_command sweep spells = has_separator 32 word fields (subst (Lacks 32) (sym spells ∙ cut.whole) (lacks-test 32 (codes "sweep") refl))
+pub no_request : (word fields : List ℕ) → Lacks 32 word → word ≢ codes "group" → word ≢ codes "member" → word ≢ codes "words" → ((command : Command Source) → Spells (word ++ 32 ∷ fields) (change command) → ⊥)
+    → (request : Request) → Spells (word ++ 32 ∷ fields) request → ⊥
+no_request word fields lacks not_group not_member not_words no_command (change command) spells = no_command command spells
+no_request word fields lacks not_group not_member not_words no_command show spells = has_separator 32 word fields (subst (Lacks 32) (sym spells) (lacks-test 32 (codes "show") refl))
+no_request word fields lacks not_group not_member not_words no_command (read reading) spells = other_word word fields reading lacks not_group not_member not_words spells
+no_request word fields lacks not_group not_member not_words no_command sweep spells = has_separator 32 word fields (subst (Lacks 32) (sym spells) (lacks-test 32 (codes "sweep") refl))

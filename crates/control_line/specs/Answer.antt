@@ -14,17 +14,19 @@ use Rattle.read_section.specs.declared.operator.Reclaimed.{Reclaimed}
 use Rattle.retire.specs.Publish.{IsBusy, Publishes}
 use Rattle.retire.specs.Sweep.{Sweeps}
 use Rattle.retire.specs.declared.fault.PublishFault.TheVariants.{Busy, Exhausted, TooBig}
-use Rattle.program_text.specs.Program.{IsMeaningOf, Source, TextProgram, text_charge}
+use Rattle.filter_tree.specs.Tree.{Tree}
+use Rattle.program_text.specs.Program.{IsProgramFor, Source, text_charge}
 use Rattle.control_line.specs.declared.TheConstants.{LINE_LIMIT}
 use Rattle.control_line.specs.declared.reason.Reason.{Reason}
 use Rattle.control_line.specs.declared.reason.Reason.TheVariants.{BadForm, LineTooLong, Publishing}
 use Rattle.control_line.specs.declared.reason.Reason.TheVariants as reason
 use Rattle.control_line.specs.declared.reply.LineAnswer.{LineAnswer}
-use Rattle.control_line.specs.declared.reply.LineAnswer.TheVariants.{Published, Refused, Shown, Swept}
-use Rattle.control_line.specs.Agrees.{AgreesNow, TextConfig}
+use Rattle.control_line.specs.declared.reply.LineAnswer.TheVariants.{GroupRead, MemberRead, Published, Refused, Shown, Swept, WordsRead}
+use Rattle.control_line.specs.Agrees.{AgreesNow, Compiler, IsLoadedBy, LoadedProgram, TextConfig}
+use Rattle.control_line.specs.Reading.{Reading, reading_answer}
 use Rattle.control_line.specs.Reply.{reply_text}
 use Rattle.control_line.specs.Reason.{IsRefusalOfText}
-use Rattle.control_line.specs.Request.{Request, Spells, change, show, sweep}
+use Rattle.control_line.specs.Request.{Request, Spells, change, read, show, sweep}
 
 -- the program that a command has, or none
 abbrev pub program_in : {P : Type 0} → Command P → Option P
@@ -32,60 +34,75 @@ program_in (SetSelector key program) = Some program
 program_in (SetFilter key id program) = Some program
 program_in _ = None
 
--- the command that the texts of a line make
-abbrev pub Means : Command Source → Command TextProgram → Type 0
-Means (AddGroup key) made = made ≡ AddGroup key
-Means (RemoveGroup key) made = made ≡ RemoveGroup key
-Means (Join key id to) made = made ≡ Join key id to
-Means (Leave key id) made = made ≡ Leave key id
-Means (SetSelector key source) made = (program : TextProgram) × IsMeaningOf source program × (made ≡ SetSelector key program)
-Means (ClearSelector key) made = made ≡ ClearSelector key
-Means (SetFilter key id source) made = (program : TextProgram) × IsMeaningOf source program × (made ≡ SetFilter key id program)
-Means (ClearFilter key id) made = made ≡ ClearFilter key id
-Means (LockFilter key id) made = made ≡ LockFilter key id
+-- the command that the texts of a line make, with expressions compiled by this compiler
+abbrev pub MeansBy : Compiler → Command Source → Command LoadedProgram → Type 0
+MeansBy by (AddGroup key) made = made ≡ AddGroup key
+MeansBy by (RemoveGroup key) made = made ≡ RemoveGroup key
+MeansBy by (Join key id to) made = made ≡ Join key id to
+MeansBy by (Leave key id) made = made ≡ Leave key id
+MeansBy by (SetSelector key source) made = (program : LoadedProgram) × IsLoadedBy by source program × (made ≡ SetSelector key program)
+MeansBy by (ClearSelector key) made = made ≡ ClearSelector key
+MeansBy by (SetFilter key id source) made = (program : LoadedProgram) × IsLoadedBy by source program × (made ≡ SetFilter key id program)
+MeansBy by (ClearFilter key id) made = made ≡ ClearFilter key id
+MeansBy by (LockFilter key id) made = made ≡ LockFilter key id
 
 -- what is charged for a configuration
 abbrev pub charge_of_text : TextConfig → ℕ
-charge_of_text config = charge_by text_charge config
+charge_of_text config = charge_by (λ program. text_charge program.text) config
 
 -- the texts make a command that the configuration does not refuse, and this is the next configuration
-pub record LeadsTo (config : TextConfig) (command : Command Source) (next : TextConfig) : Type 0 where
-  pub made : Command TextProgram
-  pub means : Means command made
+pub record LeadsToBy (by : Compiler) (config : TextConfig) (command : Command Source) (next : TextConfig) : Type 0 where
+  pub made : Command LoadedProgram
+  pub means : MeansBy by command made
   pub applied : first_refusal made config ≡ None
   pub is : next ≡ after made config
 
 -- What a change is answered at a version and its configuration, and the configuration that it leaves. The refusals come in
 -- this order.
-pub data Changes (version : ℕ) (config : TextConfig) (command : Command Source) : LineAnswer → TextConfig → Type 0 where
+pub data ChangesBy (by : Compiler) (version : ℕ) (config : TextConfig) (command : Command Source) : LineAnswer → TextConfig → Type 0 where
   bad_text : (source : Source) (why : Reason) → program_in command ≡ Some source → IsRefusalOfText source why →
-      Changes version config command (Refused why) config
-  refused : (made : Command TextProgram) (refusal : Refusal) → Means command made →
+      ChangesBy by version config command (Refused why) config
+  refused : (made : Command LoadedProgram) (refusal : Refusal) → MeansBy by command made →
       first_refusal made config ≡ Some refusal →
-      Changes version config command (Refused (reason.Command refusal)) config
-  too_big : (next : TextConfig) → LeadsTo config command next → CHARGE_LIMIT < charge_of_text next →
-      Changes version config command (Refused (Publishing TooBig)) config
-  exhausted : (next : TextConfig) → LeadsTo config command next →
+      ChangesBy by version config command (Refused (reason.Command refusal)) config
+  too_big : (next : TextConfig) → LeadsToBy by config command next → CHARGE_LIMIT < charge_of_text next →
+      ChangesBy by version config command (Refused (Publishing TooBig)) config
+  exhausted : (next : TextConfig) → LeadsToBy by config command next →
       charge_of_text next ≤ CHARGE_LIMIT → version ≡ LAST_NUMBER →
-      Changes version config command (Refused (Publishing Exhausted)) config
-  busy : (next : TextConfig) → LeadsTo config command next →
+      ChangesBy by version config command (Refused (Publishing Exhausted)) config
+  busy : (next : TextConfig) → LeadsToBy by config command next →
       charge_of_text next ≤ CHARGE_LIMIT → ¬ (version ≡ LAST_NUMBER) →
-      Changes version config command (Refused (Publishing Busy)) config
-  published : (next : TextConfig) → LeadsTo config command next →
+      ChangesBy by version config command (Refused (Publishing Busy)) config
+  published : (next : TextConfig) → LeadsToBy by config command next →
       charge_of_text next ≤ CHARGE_LIMIT → ¬ (version ≡ LAST_NUMBER) →
-      Changes version config command (Published (version + 1)) next
+      ChangesBy by version config command (Published (version + 1)) next
 
 -- The same of a line. Whether a change is refused as busy, and what a sweep reclaims, is the operator's to say.
-pub data Answers (version : ℕ) (config : TextConfig) (line : List ℕ) : LineAnswer → TextConfig → Type 0 where
-  too_long : LINE_LIMIT < length line → Answers version config line (Refused LineTooLong) config
+pub data AnswersBy (by : Compiler) (version : ℕ) (config : TextConfig) (line : List ℕ) : LineAnswer → TextConfig → Type 0 where
+  too_long : LINE_LIMIT < length line → AnswersBy by version config line (Refused LineTooLong) config
   bad_line : length line ≤ LINE_LIMIT → ((request : Request) → ¬ Spells line request) →
-      Answers version config line (Refused BadForm) config
+      AnswersBy by version config line (Refused BadForm) config
   changed : (command : Command Source) (answer : LineAnswer) (next : TextConfig) → length line ≤ LINE_LIMIT →
-      Spells line (change command) → Changes version config command answer next → Answers version config line answer next
+      Spells line (change command) → ChangesBy by version config command answer next → AnswersBy by version config line answer next
   shown : length line ≤ LINE_LIMIT → Spells line show →
-      Answers version config line (Shown version (length config) (members_of config) (charge_of_text config)) config
+      AnswersBy by version config line (Shown version (length config) (members_of config) (charge_of_text config)) config
+  was_read : (reading : Reading) → length line ≤ LINE_LIMIT → Spells line (read reading) →
+      AnswersBy by version config line (reading_answer (λ program. program.words) version config reading) config
   swept : (reclaimed : Reclaimed) → length line ≤ LINE_LIMIT → Spells line sweep →
-      Answers version config line (Swept reclaimed) config
+      AnswersBy by version config line (Swept reclaimed) config
+
+-- the same with any compiler that makes programs for the trees that it is given
+abbrev pub Means : Command Source → Command LoadedProgram → Type 0
+Means = MeansBy IsProgramFor
+
+abbrev pub LeadsTo : TextConfig → Command Source → TextConfig → Type 0
+LeadsTo = LeadsToBy IsProgramFor
+
+abbrev pub Changes : ℕ → TextConfig → Command Source → LineAnswer → TextConfig → Type 0
+Changes = ChangesBy IsProgramFor
+
+abbrev pub Answers : ℕ → TextConfig → List ℕ → LineAnswer → TextConfig → Type 0
+Answers = AnswersBy IsProgramFor
 
 -- the operator decides between two answers: whether a publication is made or busy, and what a sweep reclaims
 abbrev pub IsOperatorsChoice : LineAnswer → TextConfig → LineAnswer → TextConfig → Type 0
@@ -98,11 +115,17 @@ IsOperatorsChoice one next other also = ⊥
 abbrev pub AreOne : LineAnswer → TextConfig → LineAnswer → TextConfig → Type 0
 AreOne one next other also = ((one ≡ other) × (next ≡ also)) ⊎ IsOperatorsChoice one next other also
 
--- a line has one answer at a version and its configuration, but for what the operator has to say
+-- a compiler that makes the same words of an expression each time
+abbrev pub by_function : (Tree → List ℕ) → Compiler
+by_function compiled tree words = words ≡ compiled tree
+
+-- With such a compiler a line has one answer at a version and its configuration, but for what the operator has to say.
 abbrev pub HasOneAnswer : Type 0
 HasOneAnswer =
+    (compiled : Tree → List ℕ)
     (version : ℕ) (config : TextConfig) (line : List ℕ) (one other : LineAnswer) (next also : TextConfig) →
-    Answers version config line one next → Answers version config line other also → AreOne one next other also
+    AnswersBy (by_function compiled) version config line one next →
+    AnswersBy (by_function compiled) version config line other also → AreOne one next other also
 
 -- what the operator does with a refusal: nothing, but for the scans of a publication that is busy
 abbrev pub DoesRefused : Reason → OperatorValue → OperatorValue → Type 0
@@ -114,6 +137,9 @@ abbrev pub Does : LineAnswer → OperatorValue → OperatorValue → Type 0
 Does (Refused why) before after = DoesRefused why before after
 Does (Published version) before after = (config : List Group) × Publishes before after config
 Does (Shown version groups members charge) before after = after ≡ before
+Does (GroupRead version index groups key members selector) before after = after ≡ before
+Does (MemberRead version index members id to filter locked) before after = after ≡ before
+Does (WordsRead version place count words) before after = after ≡ before
 Does (Swept reclaimed) before after = Sweeps before after reclaimed.first reclaimed.count
 
 -- a line is answered, for each configuration that agrees with the operator's

@@ -1,8 +1,20 @@
 -- The text of a reply (docs/COMMANDS.md, "Control lines").
-use Rattle.std.specs.Prelude.{◌++◌, List, codes, decimal, ℕ}
+use Rattle.std.specs.Prelude.{◌-◌, ◌++◌, ◌∷◌, Bool, List, codes, decimal, false, take, true, ℕ}
+use Rattle.std.specs.List.{flat_map}
+use Rattle.ipv4_fields.specs.Endpoint.{endpoint_text}
+use Rattle.program_formats.specs.Hex.{hex_digits}
 use Rattle.control_line.specs.declared.reply.LineAnswer.{LineAnswer}
-use Rattle.control_line.specs.declared.reply.LineAnswer.TheVariants.{Published, Refused, Shown, Swept}
+use Rattle.control_line.specs.declared.reply.LineAnswer.TheVariants.{GroupRead, MemberRead, Published, Refused, Shown, Swept, WordsRead}
 use Rattle.control_line.specs.Reason.{refusal_text}
+
+-- 1 for true
+abbrev pub flag : Bool → ℕ
+flag true = 1
+flag false = 0
+
+-- a word, after a space
+abbrev pub spaced_word : ℕ → List ℕ
+spaced_word word = codes " " ++ hex_digits 16 word
 
 -- the line of an answer, without LF
 abbrev pub reply_text : LineAnswer → List ℕ
@@ -12,3 +24,13 @@ reply_text (Shown version groups members charge) =
     codes "version " ++ decimal version ++ codes " groups " ++ decimal groups
     ++ codes " members " ++ decimal members ++ codes " charge " ++ decimal charge
 reply_text (Swept reclaimed) = codes "reclaimed " ++ decimal reclaimed.first ++ codes " " ++ decimal reclaimed.count
+reply_text (GroupRead version index groups key members selector) =
+    codes "version " ++ decimal version ++ codes " group " ++ decimal index ++ codes " of " ++ decimal groups
+    ++ codes " " ++ endpoint_text key ++ codes " members " ++ decimal members ++ codes " selector " ++ decimal selector
+reply_text (MemberRead version index members id to filter locked) =
+    codes "version " ++ decimal version ++ codes " member " ++ decimal index ++ codes " of " ++ decimal members
+    ++ codes " " ++ decimal id ++ codes " " ++ endpoint_text to ++ codes " filter " ++ decimal filter
+    ++ codes " locked " ++ decimal (flag locked)
+reply_text (WordsRead version place count words) =
+    codes "version " ++ decimal version ++ codes " words " ++ decimal place ++ codes " of " ++ decimal count
+    ++ flat_map spaced_word (take (count - place) words)

@@ -4,11 +4,13 @@ use Rattle.ipv4_fields.specs.Endpoint.{IsEndpoint, endpoint_text}
 use Rattle.member_group.specs.declared.command.Command.{Command}
 use Rattle.member_group.specs.declared.command.Command.TheVariants.{AddGroup, ClearFilter, ClearSelector, Join, Leave, LockFilter, RemoveGroup, SetFilter, SetSelector}
 use Rattle.program_text.specs.Program.{Source, assembly, expression}
+use Rattle.control_line.specs.Reading.{Reading, filter_words, group_at, member_at, selector_words}
 
--- a line asks for a change of the configuration, for its measures, or for a sweep
+-- a line asks for a change of the configuration, for its measures, for a part of it, or for a sweep
 pub data Request : Type 0 where
   change : Command Source → Request
   show : Request
+  read : Reading → Request
   sweep : Request
 
 -- fields with exactly one space between each two
@@ -39,10 +41,22 @@ HasFields fields (SetFilter key id (expression text)) =
 HasFields fields (ClearFilter key id) =
     IsEndpoint key × (id < 2 ^ 32) × (fields ≡ codes "filter" ∷ endpoint_text key ∷ decimal id ∷ codes "none" ∷ [])
 
+-- the fields of a line that reads a part
+abbrev pub HasReadingFields : List (List ℕ) → Reading → Type 0
+HasReadingFields fields (group_at index) = (index < 2 ^ 32) × (fields ≡ codes "group" ∷ decimal index ∷ [])
+HasReadingFields fields (member_at key index) =
+    IsEndpoint key × (index < 2 ^ 32) × (fields ≡ codes "member" ∷ endpoint_text key ∷ decimal index ∷ [])
+HasReadingFields fields (selector_words key place) =
+    IsEndpoint key × (place < 2 ^ 32) × (fields ≡ codes "words" ∷ endpoint_text key ∷ codes "selector" ∷ decimal place ∷ [])
+HasReadingFields fields (filter_words key id place) =
+    IsEndpoint key × (id < 2 ^ 32) × (place < 2 ^ 32)
+    × (fields ≡ codes "words" ∷ endpoint_text key ∷ decimal id ∷ decimal place ∷ [])
+
 -- a line of the table
 abbrev pub Spells : List ℕ → Request → Type 0
 Spells line (change command) = (fields : List (List ℕ)) × (line ≡ spaced fields) × HasFields fields command
 Spells line show = line ≡ codes "show"
+Spells line (read reading) = (fields : List (List ℕ)) × (line ≡ spaced fields) × HasReadingFields fields reading
 Spells line sweep = line ≡ codes "sweep"
 
 -- no line asks for two things

@@ -1,8 +1,8 @@
 //! Changes of the configuration that a control line asks for, made and published.
 
-ghost use Rattle.std.specs.Prelude.{MatchResult};
+ghost use Rattle.std.specs.Prelude.{IfOk, MatchResult};
 ghost use Rattle.member_group.specs.Refusal.{first_refusal};
-ghost use Rattle.control_line.specs.body.Making.{IsChanged, IsNext, IsOutcome, IsRefusedFor};
+ghost use Rattle.control_line.specs.body.Making.{IsChanged, IsNext, IsOutcome, IsRefusedFor, IsShort};
 ghost use Rattle.control_line.specs.body.Reading.{command_over, source_of};
 
 use crate::program::{LineFault, command_of};
@@ -30,7 +30,8 @@ pub(crate) fn publish_change(
     command: Command<ProgramText<'_>>,
     operator: &mut Operator,
 ) -> Result<LineAnswer, LineFault>
-    ensures { IsOutcome (IsChanged (command_over source_of command.entry)) operator.old operator.new result }
+    ensures changed { IsOutcome (IsChanged (command_over source_of command.entry)) operator.old operator.new result }
+    ensures short { IfOk result IsShort }
 {
     let command = command_of(alloc, command)?;
     let next = next_config(operator.config(), &command)?;

@@ -1,6 +1,6 @@
 //! Control lines, one reply each (docs/COMMANDS.md, "Control lines").
 //!
-//! A line changes the configuration and publishes the next version of it, or tells of the current one, or sweeps. Its text is
+//! A line changes the configuration and publishes the next version of it, or reads the current one, or sweeps. Its text is
 //! read, its programs are made and all memory is taken before the operator does anything.
 //!
 //! `Reason` is why a line is refused, or a command of the program (docs/COMMANDS.md, "Refusals").
@@ -10,13 +10,15 @@ ghost use Rattle.std.specs.Prelude.{◌≡◌, [], IfOk, OnErr};
 ghost use Rattle.control_line.specs.declared.reply.LineAnswer.{LineAnswer as LineAnswerValue};
 ghost use Rattle.control_line.specs.Agrees.{Agrees, AgreesNow, TextConfig};
 ghost use Rattle.control_line.specs.Answer.{DoesNothing, HasOneAnswer, IsAnswered, IsRefusedReply, IsReplyTo, LeavesConfig, PublishesNothing};
-ghost use Rattle.control_line.specs.body.Making.{IsOutcome, IsShown};
+ghost use Rattle.control_line.specs.body.Making.{IsOutcome, IsReadBack, IsShort, IsShown};
+ghost use Rattle.control_line.specs.body.Reading.{reading_of};
 ghost use Rattle.control_line.specs.Reply.{reply_text};
 ghost use Rattle.control_line.specs.Request.{AsksForOneThing};
 
 mod change;
 mod packet;
 mod program;
+mod reading;
 mod reason;
 mod reply;
 mod request;
@@ -24,9 +26,10 @@ mod request;
 use change::publish_change;
 pub use packet::{packet_of_hex, read_packet};
 use program::LineFault;
+use reading::{Reading, read_back};
 use read_section::Operator;
 pub use reason::Reason;
-pub use reply::{LineAnswer, NUMBER_LIMIT, REPLY_LIMIT, Reply};
+pub use reply::{LineAnswer, NUMBER_LIMIT, REPLY_LIMIT, Reply, WINDOW};
 pub use request::is_word;
 use request::{Request, read_request};
 use retire::Retire;
@@ -57,8 +60,16 @@ fn shown(operator: &Operator) -> LineAnswer
     }
 }
 
+fn part_read(operator: &Operator, reading: Reading) -> LineAnswer
+    ensures read { IsReadBack (reading_of reading) operator.now.view result }
+    ensures short { IsShort result }
+{
+    read_back(operator.number(), operator.config().groups(), reading)
+}
+
 fn answer(alloc: Global, text: &[u8], operator: &mut Operator) -> Result<LineAnswer, LineFault>
-    ensures { IsOutcome (IsAnswered text.now) operator.old operator.new result }
+    ensures answered { IsOutcome (IsAnswered text.now) operator.old operator.new result }
+    ensures short { IfOk result IsShort }
 {
     if text.len() > LINE_LIMIT {
         return Err(LineFault::Refused(Reason::LineTooLong));
@@ -67,6 +78,7 @@ fn answer(alloc: Global, text: &[u8], operator: &mut Operator) -> Result<LineAns
         None => Err(LineFault::Refused(Reason::BadForm)),
         Some(Request::Change(command)) => publish_change(alloc, command, operator),
         Some(Request::Show) => Ok(shown(operator)),
+        Some(Request::Read(reading)) => Ok(part_read(operator, reading)),
         Some(Request::Sweep) => Ok(LineAnswer::Swept(operator.sweep())),
     }
 }

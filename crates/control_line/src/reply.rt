@@ -1,14 +1,17 @@
 //! Replies: what a line is answered, and its text (docs/COMMANDS.md, "Control lines").
 
-ghost use Rattle.std.specs.Prelude.{◌≡◌, ◌≤◌, ◌<◌, ◌+◌, ◌^◌, ◌++◌, ◌∷◌, [], decimal, length};
+ghost use Rattle.std.specs.Prelude.{◌≡◌, ◌≤◌, ◌<◌, ◌+◌, ◌*◌, ◌^◌, ◌++◌, ◌∷◌, [], decimal, length};
 ghost use Rattle.fault_code.specs.Code.{code_text};
 ghost use Rattle.control_line.specs.Reason.{refusal_text};
-ghost use Rattle.control_line.specs.Reply.{reply_text};
+ghost use Rattle.std.specs.List.{flat_map};
+ghost use Rattle.program_formats.specs.Hex.{hex_digits};
+ghost use Rattle.control_line.specs.Reply.{reply_text, spaced_word};
+ghost use Rattle.control_line.specs.body.Making.{IsShort};
 ghost use Rattle.control_line.specs.declared.reply.LineAnswer.TheVariants as answer;
 
 use crate::reason::Reason;
 use fault_code::Code;
-use ipv4_fields::TextBuffer;
+use ipv4_fields::{Endpoint, TextBuffer};
 use itoa::write_digits;
 use read_section::Reclaimed;
 use std::marker::Model;
@@ -18,6 +21,9 @@ pub const REPLY_LIMIT: usize = 128;
 
 /// The most digits of a number of 64 bits.
 pub const NUMBER_LIMIT: usize = 20;
+
+/// How many words a line reads at most.
+pub const WINDOW: usize = 5;
 
 /// What a line is answered.
 #[derive(Clone, Copy, Debug, PartialEq, Eq)]
@@ -34,6 +40,33 @@ pub enum LineAnswer {
         groups: usize,
         members: usize,
         charge: u64,
+    },
+    /// A group: its place among the groups, its key, and how many members and instructions of a selector it has.
+    GroupRead {
+        version: u64,
+        index: u32,
+        groups: usize,
+        key: Endpoint,
+        members: usize,
+        selector: usize,
+    },
+    /// A member: its index in the group, its number, where its packets are sent, how many instructions its filter has, and whether
+    /// it is locked.
+    MemberRead {
+        version: u64,
+        index: u32,
+        members: usize,
+        id: u32,
+        to: Endpoint,
+        filter: usize,
+        locked: bool,
+    },
+    /// Words of a program of `count` instructions, from a place on. Those that are not there are 0, and are not written.
+    WordsRead {
+        version: u64,
+        place: u32,
+        count: usize,
+        words: [u64; WINDOW],
     },
     /// The versions that may be reused.
     Swept(Reclaimed),
@@ -118,6 +151,17 @@ impl Reply {
         requires room { length self.old + NUMBER_LIMIT ≤ REPLY_LIMIT }
         ensures appended { self.new ≡ self.old ++ decimal number }
         ensures len { length self.new ≤ length self.old + NUMBER_LIMIT }
+    {
+        self.push_digits(number);
+    }
+
+    // Appends a number that has at most so many digits. There must be room for them.
+    fn push_below<const DIGITS: usize>(&mut self, number: u64)
+        requires below { number < 10 ^ DIGITS }
+        requires digits { 0 < DIGITS }
+        requires room { length self.old + DIGITS ≤ REPLY_LIMIT }
+        ensures appended { self.new ≡ self.old ++ decimal number }
+        ensures len { length self.new ≤ length self.old + DIGITS }
     {
         self.push_digits(number);
     }
@@ -217,6 +261,113 @@ impl Reply {
         reply
     }
 
+    fn group_read(
+        version: u64,
+        index: u32,
+        groups: usize,
+        key: Endpoint,
+        members: usize,
+        selector: usize,
+    ) -> Reply
+        requires groups { groups < 10 ^ 4 }
+        requires members { members < 10 ^ 4 }
+        requires selector { selector < 10 ^ 4 }
+        ensures { result ≡ reply_text (answer.GroupRead version index groups key members selector) }
+    {
+        let mut reply = Reply::empty();
+        reply.push("version ");
+        reply.push_number(version);
+        reply.push(" group ");
+        reply.push_below::<10>(index as u64);
+        reply.push(" of ");
+        reply.push_below::<4>(groups as u64);
+        reply.push(" ");
+        key.append_to(&mut reply);
+        reply.push(" members ");
+        reply.push_below::<4>(members as u64);
+        reply.push(" selector ");
+        reply.push_below::<4>(selector as u64);
+        reply
+    }
+
+    fn member_read(
+        version: u64,
+        index: u32,
+        members: usize,
+        id: u32,
+        to: Endpoint,
+        filter: usize,
+        locked: bool,
+    ) -> Reply
+        requires members { members < 10 ^ 4 }
+        requires filter { filter < 10 ^ 4 }
+        ensures { result ≡ reply_text (answer.MemberRead version index members id to filter locked) }
+    {
+        let mut reply = Reply::empty();
+        reply.push("version ");
+        reply.push_number(version);
+        reply.push(" member ");
+        reply.push_below::<10>(index as u64);
+        reply.push(" of ");
+        reply.push_below::<4>(members as u64);
+        reply.push(" ");
+        reply.push_below::<10>(id as u64);
+        reply.push(" ");
+        to.append_to(&mut reply);
+        reply.push(" filter ");
+        reply.push_below::<4>(filter as u64);
+        reply.push(" locked ");
+        reply.push_below::<1>(if locked { 1 } else { 0 });
+        reply
+    }
+
+    // The last `count` hexadecimal digits.
+    fn push_hex(&mut self, count: usize, number: u64)
+        requires { length self.old + count ≤ REPLY_LIMIT }
+        ensures appended { self.new ≡ self.old ++ hex_digits count number }
+        ensures len { length self.new ≡ length self.old + count }
+    {
+        if count == 0 {
+            return;
+        }
+        self.push_hex(count - 1, number / 16);
+        let digit = (number % 16) as u8;
+        self.push_digit(if digit < 10 { b'0' + digit } else { b'a' + (digit - 10) });
+    }
+
+    fn push_words(&mut self, words: &[u64])
+        requires room { length self.old + 17 * length words.now ≤ REPLY_LIMIT }
+        ensures { self.new ≡ self.old ++ flat_map spaced_word words.now }
+    {
+        for word in words {
+            self.push(" ");
+            self.push_hex(16, *word);
+        }
+    }
+
+    fn words_read(version: u64, place: u32, count: usize, words: [u64; WINDOW]) -> Reply
+        requires version { version < 10 ^ 15 }
+        requires count { count < 10 ^ 4 }
+        ensures { result ≡ reply_text (answer.WordsRead version place count words) }
+    {
+        let mut reply = Reply::empty();
+        reply.push("version ");
+        reply.push_below::<15>(version);
+        reply.push(" words ");
+        let place = place as usize;
+        if place >= count {
+            reply.push_number(place as u64);
+            reply.push(" of ");
+            reply.push_below::<4>(count as u64);
+            return reply;
+        }
+        reply.push_below::<4>(place as u64);
+        reply.push(" of ");
+        reply.push_below::<4>(count as u64);
+        reply.push_words(&words[..(count - place).min(WINDOW)]);
+        reply
+    }
+
     fn swept(reclaimed: Reclaimed) -> Reply
         ensures { result ≡ reply_text (answer.Swept reclaimed) }
     {
@@ -229,6 +380,7 @@ impl Reply {
     }
 
     pub(crate) fn of(answer: LineAnswer) -> Reply
+        requires { IsShort answer }
         ensures { result ≡ reply_text answer }
     {
         match answer {
@@ -240,6 +392,29 @@ impl Reply {
                 members,
                 charge,
             } => Reply::shown(version, groups, members, charge),
+            LineAnswer::GroupRead {
+                version,
+                index,
+                groups,
+                key,
+                members,
+                selector,
+            } => Reply::group_read(version, index, groups, key, members, selector),
+            LineAnswer::MemberRead {
+                version,
+                index,
+                members,
+                id,
+                to,
+                filter,
+                locked,
+            } => Reply::member_read(version, index, members, id, to, filter, locked),
+            LineAnswer::WordsRead {
+                version,
+                place,
+                count,
+                words,
+            } => Reply::words_read(version, place, count, words),
             LineAnswer::Swept(reclaimed) => Reply::swept(reclaimed),
         }
     }

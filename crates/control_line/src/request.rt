@@ -5,8 +5,9 @@ ghost use Rattle.ipv4_fields.specs.Endpoint.{IsEndpoint, endpoint_text};
 ghost use Rattle.ipv4_fields.specs.Cut.{Lacks};
 ghost use Rattle.program_text.specs.Program.{Source};
 ghost use Rattle.control_line.specs.Request.{spaced};
-ghost use Rattle.control_line.specs.body.Reading.{IsCommandRead, IsMemberWord, IsRead, program_fields, source_of};
+ghost use Rattle.control_line.specs.body.Reading.{IsCommandRead, IsMemberWord, IsRead, IsReadingRead, program_fields, source_of};
 
+use crate::reading::Reading;
 use ipv4_fields::{Endpoint, read_number, split_at};
 use member_group::Command;
 
@@ -24,6 +25,8 @@ pub(crate) enum Request<'a> {
     Change(Command<ProgramText<'a>>),
     /// The version and the measures of the current configuration.
     Show,
+    /// A part of the current configuration.
+    Read(Reading),
     /// The versions that may be reused.
     Sweep,
 }
@@ -147,6 +150,52 @@ fn read_command<'a>(word: &'a [u8], fields: &'a [u8]) -> Option<Command<ProgramT
     read_member_line(word, key, fields)
 }
 
+fn read_group(fields: &[u8]) -> Option<Reading>
+    ensures { IsReadingRead (codes "group " ++ fields.now) result }
+{
+    let index = read_number(u32::MAX, fields)?;
+    Some(Reading::Group { index })
+}
+
+fn read_member(fields: &[u8]) -> Option<Reading>
+    ensures { IsReadingRead (codes "member " ++ fields.now) result }
+{
+    let (key, index) = split_at(b' ', fields)?;
+    let key = Endpoint::from_text(key)?;
+    let index = read_number(u32::MAX, index)?;
+    Some(Reading::Member { key, index })
+}
+
+fn read_words(fields: &[u8]) -> Option<Reading>
+    ensures { IsReadingRead (codes "words " ++ fields.now) result }
+{
+    let (key, fields) = split_at(b' ', fields)?;
+    let key = Endpoint::from_text(key)?;
+    let (program, place) = split_at(b' ', fields)?;
+    let place = read_number(u32::MAX, place)?;
+    if is_word(program, "selector") {
+        return Some(Reading::Selector { key, place });
+    }
+    let member = read_number(u32::MAX, program)?;
+    Some(Reading::Filter { key, member, place })
+}
+
+fn read_fields<'a>(word: &'a [u8], fields: &'a [u8]) -> Option<Request<'a>>
+    requires { Lacks 32 word.now }
+    ensures { IsRead (word.now ++ 32 ∷ fields.now) result }
+{
+    if is_word(word, "group") {
+        return Some(Request::Read(read_group(fields)?));
+    }
+    if is_word(word, "member") {
+        return Some(Request::Read(read_member(fields)?));
+    }
+    if is_word(word, "words") {
+        return Some(Request::Read(read_words(fields)?));
+    }
+    Some(Request::Change(read_command(word, fields)?))
+}
+
 fn read_word(line: &[u8]) -> Option<Request<'_>>
     requires { Lacks 32 line.now }
     ensures { IsRead line.now result }
@@ -166,6 +215,6 @@ pub(crate) fn read_request(line: &[u8]) -> Option<Request<'_>>
 {
     match split_at(b' ', line) {
         None => read_word(line),
-        Some((word, fields)) => Some(Request::Change(read_command(word, fields)?)),
+        Some((word, fields)) => read_fields(word, fields),
     }
 }

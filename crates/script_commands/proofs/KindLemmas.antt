@@ -1,9 +1,9 @@
 -- The kinds of the replies of a script.
-use Rattle.std.proofs.Common.{◌≡◌, ◌∙◌, ◌<◌, ◌∷◌, ◌++◌, Bool, List, None, Option, Some, [], ap, append-nil, append_assoc, arith, codes, decimal, inl, nat_lt, refl, true, ℕ}
+use Rattle.std.proofs.Common.{◌-◌, ◌≡◌, ◌∙◌, ◌<◌, ◌∷◌, ◌++◌, Bool, List, None, Option, Some, [], ap, append-nil, append_assoc, arith, codes, decimal, inl, nat_lt, refl, take, true, ℕ}
 use Rattle.std.proofs.lemmas.Bool.{and_parts, ltb-true}
 use Rattle.std.specs.Char.{encode_utf8}
 use Rattle.std.specs.Fmt.{digits}
-use Rattle.std.specs.List.{list_all}
+use Rattle.std.specs.List.{flat_map, list_all}
 use Rattle.std.specs.Option.{option_or}
 use Rattle.ipv4_fields.specs.Cut.{Lacks}
 use Rattle.ipv4_fields.proofs.TextLemmas.{lacks-cons, lacks-decimal, lacks-endpoint, lacks-test}
@@ -28,16 +28,16 @@ use Rattle.filter_parse.specs.Code.{parse_code}
 use Rattle.member_group.specs.Code.{command_code}
 use Rattle.retire.specs.Code.{publish_code}
 use Rattle.control.specs.Reason.{reason_code}
-use Rattle.control.specs.Reply.{reply_text}
+use Rattle.control.specs.Reply.{flag, reply_text, spaced_word}
 use Rattle.control_line.specs.declared.reason.Reason.{Reason}
 use Rattle.control_line.specs.declared.reason.Reason.TheVariants.{BadForm, Command, LineTooLong, PacketTooLong, Publishing, Text}
 use Rattle.program_text.specs.declared.fault.TextFault.TheVariants.{Assembly, Compiling, Expression, OutOfMemory, Words}
-use Rattle.control_line.specs.declared.reply.LineAnswer.TheVariants.{Shown, Swept}
+use Rattle.control_line.specs.declared.reply.LineAnswer.TheVariants.{GroupRead, MemberRead, Shown, Swept, WordsRead}
 use Rattle.packet_verdict.specs.declared.verdict.Verdict.TheVariants.{Deliver, Dropped, Malformed, NoGroup, NoMembers}
 use Rattle.reply_counts.specs.Kind.{refusal_in, reply_kind}
 use Rattle.reply_counts.specs.Verdict.{verdict_at, verdict_in, words_of}
 use Rattle.reply_counts.proofs.WordLemmas.{cut_words, one_word}
-use Rattle.script_commands.specs.Counted.{ChangesAreNotCounted, RefusalsAreCounted, ShowsAreNotCounted, SweepsAreNotCounted, VerdictsAreCounted}
+use Rattle.script_commands.specs.Counted.{ChangesAreNotCounted, ReadsAreNotCounted, RefusalsAreCounted, ShowsAreNotCounted, SweepsAreNotCounted, VerdictsAreCounted}
 
 -- each byte is above the space
 abbrev pub is_above_space : List ℕ → Bool
@@ -254,6 +254,37 @@ shows_are_not_counted version groups members charge small =
     ∙ more (codes "version") _ _ (cut (decimal version) (codes "groups" ++ 32 ∷ rest) (lacks-number version)
     ∙ more (decimal version) _ _ (cut (codes "groups") rest (lacks-test 32 (codes "groups") refl)))))
     ∙ shown_at (decimal version) (words_of rest)
+
+-- a reply that reads: `version N`, another word, and more
+read_at : (word : List ℕ) → ((number : List ℕ) (behind : List (List ℕ)) → option_or (verdict_in (codes "version" ∷ (number ∷ (word ∷ behind)))) (refusal_in (codes "version" ∷ (number ∷ (word ∷ behind)))) ≡ None)
+    → Lacks 32 word → (version : ℕ) (text rest : List ℕ) → text ≡ codes "version" ++ 32 ∷ (decimal version ++ 32 ∷ (word ++ 32 ∷ rest)) → reply_kind text ≡ None
+read_at word none lacks version text rest is =
+    kind_by_words text (codes "version" ∷ (decimal version ∷ (word ∷ words_of rest)))
+    (ap words_of is
+    ∙ (cut (codes "version") (decimal version ++ 32 ∷ (word ++ 32 ∷ rest)) (lacks-test 32 (codes "version") refl)
+    ∙ more (codes "version") _ _ (cut (decimal version) (word ++ 32 ∷ rest) (lacks-number version)
+    ∙ more (decimal version) _ _ (cut word rest lacks))))
+    ∙ none (decimal version) (words_of rest)
+
+none_read : (number : List ℕ) (behind : List (List ℕ))
+    → (option_or (verdict_in (codes "version" ∷ (number ∷ (codes "group" ∷ behind)))) (refusal_in (codes "version" ∷ (number ∷ (codes "group" ∷ behind)))) ≡ None)
+    × (option_or (verdict_in (codes "version" ∷ (number ∷ (codes "member" ∷ behind)))) (refusal_in (codes "version" ∷ (number ∷ (codes "member" ∷ behind)))) ≡ None)
+    × (option_or (verdict_in (codes "version" ∷ (number ∷ (codes "words" ∷ behind)))) (refusal_in (codes "version" ∷ (number ∷ (codes "words" ∷ behind)))) ≡ None)
+unfolding verdict_in verdict_at refusal_in
+none_read number behind = (refl, refl, refl)
+
+pub reads_are_not_counted : ReadsAreNotCounted
+reads_are_not_counted = (
+  λ version index groups key members selector.
+      read_at (codes "group") (λ number behind. (none_read number behind).0) (lacks-test 32 (codes "group") refl) version (reply_text (GroupRead version index groups key members selector))
+      (decimal index ++ (codes " of " ++ (decimal groups ++ (codes " " ++ (endpoint_text key ++ (codes " members " ++ (decimal members ++ (codes " selector " ++ decimal selector)))))))) (simp append_assoc),
+  λ version index members id to filter locked.
+      read_at (codes "member") (λ number behind. (none_read number behind).1) (lacks-test 32 (codes "member") refl) version (reply_text (MemberRead version index members id to filter locked))
+      (decimal index ++ (codes " of " ++ (decimal members ++ (codes " " ++ (decimal id ++ (codes " " ++ (endpoint_text to ++ (codes " filter " ++ (decimal filter ++ (codes " locked " ++ decimal (flag locked))))))))))) (simp append_assoc),
+  λ version place count words.
+      read_at (codes "words") (λ number behind. (none_read number behind).2) (lacks-test 32 (codes "words") refl) version (reply_text (WordsRead version place count words))
+      (decimal place ++ (codes " of " ++ (decimal count ++ flat_map spaced_word (take (count - place) words)))) (simp append_assoc),
+)
 
 swept_at : (behind : List (List ℕ)) → option_or (verdict_in (codes "reclaimed" ∷ behind)) (refusal_in (codes "reclaimed" ∷ behind)) ≡ None
 unfolding verdict_in refusal_in

@@ -1,19 +1,22 @@
 -- The lines of a script's text are the replies to the script's lines: no reply has an LF.
-use Rattle.std.proofs.Common.{◌+◌, ◌≡◌, ◌∙◌, ◌∷◌, ◌++◌, All, List, None, Option, Some, [], ap, append-nil, append_assoc, arith, codes, decimal, refl, subst, suc, sym, zero, ℕ}
+use Rattle.std.proofs.Common.{◌+◌, ◌-◌, ◌≡◌, ◌≢◌, ◌∙◌, ◌/◌, ◌%◌, ◌∷◌, ◌++◌, All, Bool, List, None, Option, Some, [], ap, append-nil, append_assoc, arith, codes, decimal, false, if◌then◌else◌, inl, nat_lt, refl, subst, suc, sym, take, true, zero, ℕ}
 use Rattle.std.proofs.lemmas.List.Concat.{flat_map-append}
+use Rattle.std.specs.Char.{digit_char}
 use Rattle.std.specs.Fmt.{digits}
+use Rattle.std.specs.List.{flat_map}
+use Rattle.program_formats.specs.Hex.{hex_digits}
 use Rattle.ipv4_fields.specs.Cut.{Lacks}
-use Rattle.ipv4_fields.proofs.TextLemmas.{lacks-append, lacks-decimal, lacks-endpoint, lacks-test}
+use Rattle.ipv4_fields.proofs.TextLemmas.{lacks-append, lacks-cons, lacks-decimal, lacks-endpoint, lacks-test}
 use Rattle.control.specs.Endpoint.{endpoint_text}
 use Rattle.fault_code.specs.Code.{name_text, place_text}
 use Rattle.control.specs.Reason.{reason_code, refusal_text}
-use Rattle.control.specs.Reply.{reply_text}
+use Rattle.control.specs.Reply.{flag, reply_text, spaced_word}
 use Rattle.control.specs.Script.{AreAnswered, RepliesTo, Standing, all_ended, at_start, judged_text, last_unended, no_line, one_more, text_value, to_control, to_long_packet, to_packet, verdict_text}
 use Rattle.dispatch.specs.Verdict.{verdict}
 use Rattle.control_line.specs.declared.reason.Reason.{Reason}
 use Rattle.control_line.specs.declared.reason.Reason.TheVariants.{PacketTooLong}
 use Rattle.control_line.specs.declared.reply.LineAnswer.{LineAnswer}
-use Rattle.control_line.specs.declared.reply.LineAnswer.TheVariants.{Published, Refused, Shown, Swept}
+use Rattle.control_line.specs.declared.reply.LineAnswer.TheVariants.{GroupRead, MemberRead, Published, Refused, Shown, Swept, WordsRead}
 use Rattle.packet_verdict.specs.declared.verdict.Verdict.{Verdict}
 use Rattle.packet_verdict.specs.declared.verdict.Verdict.TheVariants.{Deliver, Dropped, Malformed, NoGroup, NoMembers}
 use Rattle.reply_counts.specs.Summary.{lines_of}
@@ -66,11 +69,50 @@ shown version groups members charge first second third last =
 swept : (first count : List ℕ) → Lacks 10 first → Lacks 10 count → Lacks 10 (codes "reclaimed " ++ first ++ codes " " ++ count)
 swept first count one other = spaced (codes "reclaimed " ++ first) count (both (codes "reclaimed ") first (lacks-test 10 (codes "reclaimed ") refl) one) other
 
+-- a text with words behind a label
+with_number : (text label : List ℕ) (n : ℕ) → Lacks 10 text → Lacks 10 label → Lacks 10 (text ++ label ++ decimal n)
+with_number text label n first second = labelled text label (decimal n) first second (lacks-number n)
+
+lacks-hex : (count n : ℕ) → Lacks 10 (hex_digits count n)
+unfolding hex_digits
+lacks-hex zero n = λ k inside. absurd (omega arith)
+lacks-hex (suc count) n = both (hex_digits count (n / 16)) (digit_char (n % 16) ∷ []) (lacks-hex count (n / 16)) (lacks-cons 10 (digit_char (n % 16)) [] (apart (nat_lt (n % 16) 10)) (λ k inside. absurd (omega arith)))
+  where
+    apart : (small : Bool) → (if small then 48 + n % 16 else 87 + n % 16) ≢ 10
+    apart true is = absurd (omega (arith, is))
+    apart false is = absurd (omega (arith, is))
+
+lacks-program : (program : List ℕ) → Lacks 10 (flat_map spaced_word program)
+lacks-program [] = λ k inside. absurd (omega arith)
+lacks-program (word ∷ program) = both (spaced_word word) (flat_map spaced_word program) (both (codes " ") (hex_digits 16 word) blank (lacks-hex 16 word)) (lacks-program program)
+
 lacks-answer : (answer : LineAnswer) → Lacks 10 (reply_text answer)
 lacks-answer (Refused reason) = lacks-refusal reason
 lacks-answer (Published version) = named (codes "ok version ") version (lacks-test 10 (codes "ok version ") refl)
 lacks-answer (Shown version groups members charge) =
     shown (decimal version) (decimal groups) (decimal members) (decimal charge) (lacks-number version) (lacks-number groups) (lacks-number members) (lacks-number charge)
+lacks-answer (GroupRead version index groups key members selector) =
+    with_number _ (codes " selector ") selector
+    (with_number _ (codes " members ") members
+    (spaced _ (endpoint_text key)
+    (with_number _ (codes " of ") groups (with_number _ (codes " group ") index (named (codes "version ") version (lacks-test 10 (codes "version ") refl)) (lacks-test 10 (codes " group ") refl)) (lacks-test 10 (codes " of ") refl))
+    (lacks-endpoint 10 key (omega arith)))
+    (lacks-test 10 (codes " members ") refl))
+    (lacks-test 10 (codes " selector ") refl)
+lacks-answer (MemberRead version index members id to filter locked) =
+    with_number _ (codes " locked ") (flag locked)
+    (with_number _ (codes " filter ") filter
+    (spaced _ (endpoint_text to)
+    (with_number _ (codes " ") id
+    (with_number _ (codes " of ") members (with_number _ (codes " member ") index (named (codes "version ") version (lacks-test 10 (codes "version ") refl)) (lacks-test 10 (codes " member ") refl)) (lacks-test 10 (codes " of ") refl))
+    blank)
+    (lacks-endpoint 10 to (omega arith)))
+    (lacks-test 10 (codes " filter ") refl))
+    (lacks-test 10 (codes " locked ") refl)
+lacks-answer (WordsRead version place count words) =
+    both _ (flat_map spaced_word (take (count - place) words))
+    (with_number _ (codes " of ") count (with_number _ (codes " words ") place (named (codes "version ") version (lacks-test 10 (codes "version ") refl)) (lacks-test 10 (codes " words ") refl)) (lacks-test 10 (codes " of ") refl))
+    (lacks-program (take (count - place) words))
 lacks-answer (Swept reclaimed) =
     swept (decimal reclaimed.first) (decimal reclaimed.count) (lacks-number reclaimed.first) (lacks-number reclaimed.count)
 

@@ -1,12 +1,13 @@
 -- How the replies of a script are counted in its summary (docs/COMMANDS.md, "replay").
-use Rattle.std.specs.Prelude.{◌≡◌, ◌<◌, ◌^◌, ◌++◌, List, None, Some, codes, decimal, ℕ}
+use Rattle.std.specs.Prelude.{◌≡◌, ◌<◌, ◌^◌, ◌++◌, Bool, List, None, Some, codes, decimal, ℕ}
+use Rattle.ipv4_fields.specs.declared.endpoint.Endpoint.{Endpoint}
 use Rattle.control.specs.Endpoint.{IsEndpoint, endpoint_text}
 use Rattle.fault_code.specs.Code.{name_text}
 use Rattle.control.specs.Reason.{reason_code, refusal_text}
 use Rattle.control.specs.Reply.{reply_text}
 use Rattle.control.specs.Script.{judged_text}
 use Rattle.control_line.specs.declared.reason.Reason.{Reason}
-use Rattle.control_line.specs.declared.reply.LineAnswer.TheVariants.{Published, Shown, Swept}
+use Rattle.control_line.specs.declared.reply.LineAnswer.TheVariants.{GroupRead, MemberRead, Published, Shown, Swept, WordsRead}
 use Rattle.packet_verdict.specs.declared.verdict.Verdict.{Verdict}
 use Rattle.packet_verdict.specs.declared.verdict.Verdict.TheVariants.{Deliver, Dropped, Malformed, NoGroup, NoMembers}
 use Rattle.read_section.specs.declared.operator.Reclaimed.{Reclaimed}
@@ -44,6 +45,14 @@ ChangesAreNotCounted = (version : ℕ) → reply_kind (reply_text (Published ver
 
 abbrev pub ShowsAreNotCounted : Type 0
 ShowsAreNotCounted = (version groups members charge : ℕ) → version < 2 ^ 64 → reply_kind (reply_text (Shown version groups members charge)) ≡ None
+
+abbrev pub ReadsAreNotCounted : Type 0
+ReadsAreNotCounted =
+    ((version index groups : ℕ) (key : Endpoint) (members selector : ℕ) →
+        reply_kind (reply_text (GroupRead version index groups key members selector)) ≡ None)
+    × ((version index members id : ℕ) (to : Endpoint) (filter : ℕ) (locked : Bool) →
+        reply_kind (reply_text (MemberRead version index members id to filter locked)) ≡ None)
+    × ((version place count : ℕ) (words : List ℕ) → reply_kind (reply_text (WordsRead version place count words)) ≡ None)
 
 abbrev pub SweepsAreNotCounted : Type 0
 SweepsAreNotCounted = (reclaimed : Reclaimed) → reply_kind (reply_text (Swept reclaimed)) ≡ None

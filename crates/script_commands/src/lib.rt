@@ -3,7 +3,7 @@
 //! `run_replay` gives the script to `control::replay`, and counts the replies if a summary is asked for.
 #![tactic(auto)]
 
-ghost use Rattle.script_commands.specs.Counted.{ChangesAreNotCounted, RefusalsAreCounted, ShowsAreNotCounted, SweepsAreNotCounted, VerdictsAreCounted};
+ghost use Rattle.script_commands.specs.Counted.{ChangesAreNotCounted, ReadsAreNotCounted, RefusalsAreCounted, ShowsAreNotCounted, SweepsAreNotCounted, VerdictsAreCounted};
 ghost use Rattle.script_commands.specs.Lines.{LinesAreReplies};
 
 mod counted_output;
@@ -21,6 +21,7 @@ pub fn replies_are_counted()
     ensures refusals { RefusalsAreCounted }
     ensures changes { ChangesAreNotCounted }
     ensures shows { ShowsAreNotCounted }
+    ensures reads { ReadsAreNotCounted }
     ensures sweeps { SweepsAreNotCounted }
     ensures lines { LinesAreReplies }
 {}

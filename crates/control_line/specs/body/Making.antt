@@ -1,5 +1,5 @@
 -- What the steps of answering a line leave: a program, a command, the next configuration, an answer.
-use Rattle.std.specs.Prelude.{◌≡◌, Err, List, None, Ok, Option, Result, Some, length}
+use Rattle.std.specs.Prelude.{◌≡◌, ◌<◌, ◌^◌, Err, List, None, Ok, Option, Result, Some, length}
 use Rattle.bpf_verify.specs.Program.{ProgramValue}
 use Rattle.config_image.specs.Image.{Group}
 use Rattle.member_group.specs.Charge.{charge_of, members_of}
@@ -16,16 +16,17 @@ use Rattle.control_line.specs.declared.reason.Reason.{Reason}
 use Rattle.control_line.specs.declared.reason.Reason.TheVariants as reason
 use Rattle.control_line.specs.declared.reply.LineAnswer.{LineAnswer}
 use Rattle.control_line.specs.declared.reply.LineAnswer.TheVariants as answer
-use Rattle.control_line.specs.Agrees.{Agreeing, AgreesNow, TextConfig}
+use Rattle.control_line.specs.Agrees.{Agreeing, AgreesNow, IsLoadedBy, TextConfig}
 use Rattle.control_line.specs.Answer.{Changes, Does, Means, program_in}
 use Rattle.control_line.specs.Reason.{IsRefusalOfText, reason_of_text}
+use Rattle.control_line.specs.Reading.{Reading, reading_answer}
 use Rattle.control_line.specs.body.Reading.{command_over}
-use Rattle.program_text.specs.Program.{IsMeaningOf, Source}
+use Rattle.program_text.specs.Program.{IsProgramFor, Source}
 use Rattle.program_text.specs.declared.fault.TextFault.{TextFault}
 
 -- this program agrees with one that the text is
 abbrev pub IsMade : Source → ProgramValue → Type 0
-IsMade source program = (both : Agreeing) × IsMeaningOf source both.text × (program ≡ both.program)
+IsMade source program = (both : Agreeing) × IsLoadedBy IsProgramFor source both.loaded × (program ≡ both.program)
 
 -- a refusal of a text, or want of memory
 abbrev pub fault_of_line : Option Reason → LineFault
@@ -44,7 +45,7 @@ IsLineFaultOf source OutOfMemory = Unit {0}
 abbrev pub IsMadeCommand : Command Source → Command ProgramValue → Type 0
 IsMadeCommand command made =
     (both : Command Agreeing)
-    × Means command (command_over (λ program. program.text) both)
+    × Means command (command_over (λ program. program.loaded) both)
     × (made ≡ command_over (λ program. program.program) both)
 
 abbrev pub IsLineFaultOfCommand : Command Source → LineFault → Type 0
@@ -78,3 +79,17 @@ abbrev pub IsOutcome : (OperatorValue → OperatorValue → LineAnswer → Type 
 IsOutcome IsGiven before after (Ok given) = IsGiven before after given
 IsOutcome IsGiven before after (Err (Refused why)) = IsGiven before after (answer.Refused why)
 IsOutcome IsGiven before after (Err OutOfMemory) = after ≡ before
+
+-- what a reading line is answered, from the configuration that was published last
+abbrev pub IsReadBack : Reading → OperatorView (List Group) → LineAnswer → Type 0
+IsReadBack reading view given =
+    (config : List Group)
+    × IsCurrent view config
+    × (given ≡ reading_answer (λ program. program.words) (number_after view.log) config reading)
+
+-- its numbers are small enough for a reply
+abbrev pub IsShort : LineAnswer → Type 0
+IsShort (answer.GroupRead version index groups key members selector) = (groups < 10 ^ 4) × (members < 10 ^ 4) × (selector < 10 ^ 4)
+IsShort (answer.MemberRead version index members id to filter locked) = (members < 10 ^ 4) × (filter < 10 ^ 4)
+IsShort (answer.WordsRead version place count words) = (version < 10 ^ 15) × (count < 10 ^ 4)
+IsShort _ = Unit {0}

@@ -8,7 +8,10 @@ use Rattle.control_line.specs.declared.request.ProgramText.{ProgramText as LentT
 use Rattle.control_line.specs.declared.request.ProgramText.TheVariants as lent
 use Rattle.control_line.specs.declared.request.Request.{Request as LentRequest}
 use Rattle.control_line.specs.declared.request.Request.TheVariants as lent_request
-use Rattle.control_line.specs.Request.{Request, Spells, change, show, sweep}
+use Rattle.control_line.specs.declared.reading.Reading.{Reading as LentReading}
+use Rattle.control_line.specs.declared.reading.Reading.TheVariants as lent_reading
+use Rattle.control_line.specs.Reading.{Reading, filter_words, group_at, member_at, selector_words}
+use Rattle.control_line.specs.Request.{Request, Spells, change, read, show, sweep}
 
 -- the fields that a program ends a line with, or none
 abbrev pub program_fields : Option Source → List (List ℕ)
@@ -33,9 +36,16 @@ command_over over (SetFilter key id program) = SetFilter key id (over program)
 command_over over (ClearFilter key id) = ClearFilter key id
 command_over over (LockFilter key id) = LockFilter key id
 
+abbrev pub reading_of : LentReading → Reading
+reading_of (lent_reading.Group index) = group_at index
+reading_of (lent_reading.Member key index) = member_at key index
+reading_of (lent_reading.Selector key place) = selector_words key place
+reading_of (lent_reading.Filter key member place) = filter_words key member place
+
 abbrev pub request_of : LentRequest → Request
 request_of (lent_request.Change command) = change (command_over source_of command)
 request_of lent_request.Show = show
+request_of (lent_request.Read reading) = read (reading_of reading)
 request_of lent_request.Sweep = sweep
 
 -- a word of no line that names a group alone
@@ -56,3 +66,10 @@ IsCommandRead line result =
     MatchOption result
     ((command : Command Source) → Spells line (change command) → ⊥)
     (λ command. Spells line (change (command_over source_of command)))
+
+-- the same of a line that reads a part
+abbrev pub IsReadingRead : List ℕ → Option LentReading → Type 0
+IsReadingRead line result =
+    MatchOption result
+    ((reading : Reading) → Spells line (read reading) → ⊥)
+    (λ reading. Spells line (read (reading_of reading)))

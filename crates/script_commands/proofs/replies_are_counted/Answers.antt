@@ -1,5 +1,5 @@
 use Rattle.script_commands.proofs.LinesLemmas.{lines_are_replies}
-use Rattle.script_commands.proofs.KindLemmas.{changes_are_not_counted, refusals_are_counted, shows_are_not_counted, sweeps_are_not_counted, verdicts_are_counted}
+use Rattle.script_commands.proofs.KindLemmas.{changes_are_not_counted, reads_are_not_counted, refusals_are_counted, shows_are_not_counted, sweeps_are_not_counted, verdicts_are_counted}
 use Rattle.script_commands.proofs.replies_are_counted.Goals as goal
 
 pub returns-clause-verdicts : goal.returns-clause-verdicts
@@ -13,6 +13,9 @@ returns-clause-changes c = changes_are_not_counted
 
 pub returns-clause-shows : goal.returns-clause-shows
 returns-clause-shows c = shows_are_not_counted
+
+pub returns-clause-reads : goal.returns-clause-reads
+returns-clause-reads c = reads_are_not_counted
 
 pub returns-clause-sweeps : goal.returns-clause-sweeps
 returns-clause-sweeps c = sweeps_are_not_counted

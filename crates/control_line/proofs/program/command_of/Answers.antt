@@ -26,9 +26,9 @@ returns-in-LockFilter c = rw c.in-LockFilter.is (LockFilter c.in-LockFilter.key 
 pub returns-in_ok-program_of-in-SetSelector : goal.returns-in_ok-program_of-in-SetSelector
 returns-in_ok-program_of-in-SetSelector c =
     let made = c.in_ok-program_of-in-SetSelector.ensures in
-    rw c.in-SetSelector.is (SetSelector c.in-SetSelector.key made.0, (made.0.text, made.1, refl), ap (SetSelector c.in-SetSelector.key) made.2)
+    rw c.in-SetSelector.is (SetSelector c.in-SetSelector.key made.0, (made.0.loaded, made.1, refl), ap (SetSelector c.in-SetSelector.key) made.2)
 
 pub returns-in_ok-program_of-in-SetFilter : goal.returns-in_ok-program_of-in-SetFilter
 returns-in_ok-program_of-in-SetFilter c =
     let made = c.in_ok-program_of-in-SetFilter.ensures in
-    rw c.in-SetFilter.is (SetFilter c.in-SetFilter.key c.in-SetFilter.member made.0, (made.0.text, made.1, refl), ap (SetFilter c.in-SetFilter.key c.in-SetFilter.member) made.2)
+    rw c.in-SetFilter.is (SetFilter c.in-SetFilter.key c.in-SetFilter.member made.0, (made.0.loaded, made.1, refl), ap (SetFilter c.in-SetFilter.key c.in-SetFilter.member) made.2)

@@ -1,0 +1,58 @@
+-- Lines that read the configuration back, and what they are answered (docs/COMMANDS.md, "Control lines").
+use Rattle.std.specs.Prelude.{◌+◌, ◌∷◌, List, None, Option, Some, [], length, slice_get, slice_index_or, ℕ}
+use Rattle.ipv4_fields.specs.declared.endpoint.Endpoint.{Endpoint}
+use Rattle.member_group.specs.Group.{GroupOf, group_of, member_of}
+use Rattle.member_group.specs.declared.member.Member.{Member}
+use Rattle.member_group.specs.declared.refusal.Refusal.{Refusal}
+use Rattle.member_group.specs.declared.refusal.Refusal.TheVariants.{NoGroup, NoMember, NoProgram}
+use Rattle.control_line.specs.declared.reason.Reason.TheVariants.{Command}
+use Rattle.control_line.specs.declared.reply.LineAnswer.{LineAnswer}
+use Rattle.control_line.specs.declared.reply.LineAnswer.TheVariants.{GroupRead, MemberRead, Refused, WordsRead}
+
+-- a group by its place among the groups, a member by its index in a group, or words of a program from a place on
+pub data Reading : Type 0 where
+  group_at : ℕ → Reading
+  member_at : Endpoint → ℕ → Reading
+  selector_words : Endpoint → ℕ → Reading
+  filter_words : Endpoint → ℕ → ℕ → Reading
+
+-- the answer about what is there, or the refusal because it is not
+abbrev pub or_refused : {A : Type 0} → Refusal → (A → LineAnswer) → Option A → LineAnswer
+or_refused refusal answer None = Refused (Command refusal)
+or_refused refusal answer (Some found) = answer found
+
+-- five words from a place on, with 0 for each that is not there
+abbrev pub window : List ℕ → ℕ → List ℕ
+window words place =
+    slice_index_or words place 0 ∷ slice_index_or words (place + 1) 0 ∷ slice_index_or words (place + 2) 0
+    ∷ slice_index_or words (place + 3) 0 ∷ slice_index_or words (place + 4) 0 ∷ []
+
+-- how many instructions a program has; none has 0
+abbrev pub count_of : {P : Type 0} → (P → List ℕ) → Option P → ℕ
+count_of words_of None = 0
+count_of words_of (Some program) = length (words_of program)
+
+-- configurations over programs of any kind, with the words of each
+module _ {P : Type 0} (words_of : P → List ℕ) (version : ℕ) where
+  abbrev pub group_answer : ℕ → ℕ → GroupOf P → LineAnswer
+  group_answer index groups group = GroupRead version index groups group.key (length group.members) (count_of words_of group.selector)
+
+  abbrev pub member_answer : ℕ → ℕ → Member P → LineAnswer
+  member_answer index members member = MemberRead version index members member.id member.to (count_of words_of member.filter) member.locked
+
+  abbrev pub words_answer : ℕ → P → LineAnswer
+  words_answer place program = WordsRead version place (length (words_of program)) (window (words_of program) place)
+
+  -- what is read of a configuration
+  abbrev pub reading_answer : List (GroupOf P) → Reading → LineAnswer
+  reading_answer config (group_at index) = or_refused NoGroup (group_answer index (length config)) (slice_get config index)
+  reading_answer config (member_at key index) =
+      or_refused NoGroup
+      (λ group. or_refused NoMember (member_answer index (length group.members)) (slice_get group.members index))
+      (group_of key config)
+  reading_answer config (selector_words key place) =
+      or_refused NoGroup (λ group. or_refused NoProgram (words_answer place) group.selector) (group_of key config)
+  reading_answer config (filter_words key id place) =
+      or_refused NoGroup
+      (λ group. or_refused NoMember (λ member. or_refused NoProgram (words_answer place) member.filter) (member_of id group))
+      (group_of key config)
