@@ -4,7 +4,7 @@ use Rattle.std.specs.Char.{digit_char}
 use Rattle.std.specs.List.{flat_map}
 use Rattle.std.proofs.lemmas.Bool.Decides.{nat_tests}
 use Rattle.std.proofs.lemmas.Fmt.{decimal_digit, decimal_step}
-use Rattle.program_formats.specs.Hex.{hex_digits}
+use Rattle.bpf_formats.specs.Hex.{hex_digits}
 use Rattle.control_line.specs.Reply.{spaced_word}
 
 pub one_digit : (n : ℕ) → n < 10 → length (decimal n) ≡ 1

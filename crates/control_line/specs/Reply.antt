@@ -2,7 +2,7 @@
 use Rattle.std.specs.Prelude.{◌-◌, ◌++◌, ◌∷◌, Bool, List, codes, decimal, false, take, true, ℕ}
 use Rattle.std.specs.List.{flat_map}
 use Rattle.ipv4_fields.specs.Endpoint.{endpoint_text}
-use Rattle.program_formats.specs.Hex.{hex_digits}
+use Rattle.bpf_formats.specs.Hex.{hex_digits}
 use Rattle.control_line.specs.declared.reply.LineAnswer.{LineAnswer}
 use Rattle.control_line.specs.declared.reply.LineAnswer.TheVariants.{GroupRead, MemberRead, Published, Refused, Shown, Swept, WordsRead}
 use Rattle.control_line.specs.Reason.{refusal_text}

@@ -4,7 +4,7 @@ ghost use Rattle.std.specs.Prelude.{◌≡◌, ◌≤◌, ◌<◌, ◌+◌, ◌*
 ghost use Rattle.fault_code.specs.Code.{code_text};
 ghost use Rattle.control_line.specs.Reason.{refusal_text};
 ghost use Rattle.std.specs.List.{flat_map};
-ghost use Rattle.program_formats.specs.Hex.{hex_digits};
+ghost use Rattle.bpf_formats.specs.Hex.{hex_digits};
 ghost use Rattle.control_line.specs.Reply.{reply_text, spaced_word};
 ghost use Rattle.control_line.specs.body.Making.{IsShort};
 ghost use Rattle.control_line.specs.declared.reply.LineAnswer.TheVariants as answer;

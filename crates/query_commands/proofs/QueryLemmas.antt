@@ -19,8 +19,8 @@ use Rattle.command_line.specs.declared.ending.Status.{Status}
 use Rattle.command_line.specs.declared.ending.Status.TheVariants as status
 use Rattle.fault_code.specs.Code.{code_text}
 use Rattle.fault_code.specs.declared.Code.{Code}
-use Rattle.program_formats.specs.Code.{format_code}
-use Rattle.program_formats.specs.declared.fault.FormatFault.{FormatFault}
+use Rattle.bpf_formats.specs.Code.{format_code}
+use Rattle.bpf_formats.specs.declared.fault.FormatFault.{FormatFault}
 use Rattle.query_commands.specs.Format.{IsFormatFault, IsRefusalOfProgram, input_format_of, misformed_text}
 use Rattle.query_commands.specs.declared.format.InputFormat.{InputFormat}
 use Rattle.command_line.specs.CommandLine.{Request, check, compile, explain, first, judge, run}

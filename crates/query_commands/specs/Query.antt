@@ -16,7 +16,7 @@ use Rattle.query_commands.specs.declared.stop.Stop.{Stop}
 use Rattle.query_commands.specs.declared.stop.Stop.TheVariants as stop
 use Rattle.query_commands.specs.CommandResult.{IsCheckAnswer, IsCompileAnswer, IsExplainAnswer, IsJudgeAnswer, IsRunAnswer, answer_text}
 use Rattle.command_line.specs.CommandLine.{Request, check, compile, explain, first, judge, packets, replay, run}
-use Rattle.program_formats.specs.declared.fault.FormatFault.{FormatFault}
+use Rattle.bpf_formats.specs.declared.fault.FormatFault.{FormatFault}
 use Rattle.refusal_text.specs.Explanation.{codes_explained}
 use Rattle.query_commands.specs.Format.{IsFormatFault, IsRefusalOfProgram, input_format_of, misformed_text, output_format_of}
 use Rattle.query_commands.specs.FirstPath.{first_text}

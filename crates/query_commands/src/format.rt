@@ -5,7 +5,7 @@ ghost use Rattle.query_commands.specs.Format.{input_format_of, listing_text, out
 
 use bpf_asm::print;
 use bpf_verify::{OutOfMemory, Program};
-use program_formats::{print_dd, print_ddd, print_hex};
+use bpf_formats::{print_dd, print_ddd, print_hex};
 use std::alloc::Global;
 
 /// A format that programs are read in.

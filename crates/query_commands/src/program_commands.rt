@@ -13,7 +13,7 @@ use crate::stop::Stop;
 use bpf_machine::{Outcome, run};
 use bpf_verify::Program;
 use control_line::Reason;
-use program_formats::{read_ddd, read_hex};
+use bpf_formats::{read_ddd, read_hex};
 use program_text::{TextFault, assembled};
 use std::alloc::Global;
 

@@ -7,7 +7,7 @@ ghost use Rattle.query_commands.specs.declared.stop.Stop.TheVariants.{Failed};
 
 use command_line::Failure;
 use control_line::Reason;
-use program_formats::FormatFault;
+use bpf_formats::FormatFault;
 use program_text::TextFault;
 use std::alloc::AllocError;
 

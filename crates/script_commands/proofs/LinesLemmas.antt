@@ -4,7 +4,7 @@ use Rattle.std.proofs.lemmas.List.Concat.{flat_map-append}
 use Rattle.std.specs.Char.{digit_char}
 use Rattle.std.specs.Fmt.{digits}
 use Rattle.std.specs.List.{flat_map}
-use Rattle.program_formats.specs.Hex.{hex_digits}
+use Rattle.bpf_formats.specs.Hex.{hex_digits}
 use Rattle.ipv4_fields.specs.Cut.{Lacks}
 use Rattle.ipv4_fields.proofs.TextLemmas.{lacks-append, lacks-cons, lacks-decimal, lacks-endpoint, lacks-test}
 use Rattle.control.specs.Endpoint.{endpoint_text}

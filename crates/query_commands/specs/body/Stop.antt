@@ -2,8 +2,8 @@
 use Rattle.std.specs.Prelude.{◌≡◌, List, None, Option, Some, ℕ}
 use Rattle.control_line.specs.declared.reason.Reason.{Reason}
 use Rattle.control_line.specs.Reason.{reason_of_text}
-use Rattle.program_formats.specs.declared.fault.FormatFault.{FormatFault}
-use Rattle.program_formats.specs.declared.fault.FormatFault.TheVariants as format_fault
+use Rattle.bpf_formats.specs.declared.fault.FormatFault.{FormatFault}
+use Rattle.bpf_formats.specs.declared.fault.FormatFault.TheVariants as format_fault
 use Rattle.program_text.specs.declared.fault.TextFault.{TextFault}
 use Rattle.command_line.specs.declared.ending.Failure.TheVariants.{OutOfMemory}
 use Rattle.query_commands.specs.Format.{IsFormatFault, IsRefusalOfProgram}

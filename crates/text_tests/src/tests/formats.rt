@@ -2,7 +2,7 @@
 
 use bpf_verify::Program;
 use linked_list_allocator::LocalHeap;
-use program_formats::{FormatFault, print_dd, print_ddd, print_hex, read_ddd, read_hex};
+use bpf_formats::{FormatFault, print_dd, print_ddd, print_hex, read_ddd, read_hex};
 use std::alloc::Global;
 use std::process::Abort;
 use std::test::Fail;

@@ -1,7 +1,7 @@
 use Rattle.std.proofs.Common.{◌≡◌, ◌++◌, ◌∙◌, ◌∷◌, ◌%◌, ◌/◌, ◌-◌, [], ap, append-nil, append_assoc, arith, sym}
 use Rattle.std.specs.Char.{digit_char}
-use Rattle.program_formats.specs.Hex.{hex_digits}
-use Rattle.program_formats.proofs.DigitLemmas.{hex_digits_none}
+use Rattle.bpf_formats.specs.Hex.{hex_digits}
+use Rattle.bpf_formats.proofs.DigitLemmas.{hex_digits_none}
 use Rattle.control_line.proofs.DigitLemmas.{hex_more, high_char, low_char}
 use Rattle.control_line.proofs.reply.Reply.+push_hex.Goals as goal
 use Rattle.control_line.proofs.reply.Reply.+push_hex.Goals.{else-digit-lt10, then-digit-lt10}

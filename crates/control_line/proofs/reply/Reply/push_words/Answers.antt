@@ -1,6 +1,6 @@
 use Rattle.std.proofs.Common.{◌++◌, ◌∙◌, ap, append-nil, append_assoc, arith, codes, get_or, sym, take}
 use Rattle.std.specs.List.{flat_map}
-use Rattle.program_formats.specs.Hex.{hex_digits}
+use Rattle.bpf_formats.specs.Hex.{hex_digits}
 use Rattle.control_line.specs.Reply.{spaced_word}
 use Rattle.control_line.proofs.DigitLemmas.{words_more}
 use Rattle.control_line.proofs.reply.Reply.push_words.Goals as goal

@@ -1,5 +1,0 @@
-use Rattle.program_formats.proofs.CutLemmas.{with_fronts-nil}
-use Rattle.program_formats.proofs.item.first_item.Goals as goal
-
-pub loop-i-init : goal.loop-i-init
-loop-i-init c = with_fronts-nil c.args.text.now

@@ -1,4 +1,0 @@
-use Rattle.program_formats.proofs.printing.+push_digits.Given as goal
-
-abbrev pub decreases-push_digits : goal.decreases-push_digits
-decreases-push_digits g l = l.count
