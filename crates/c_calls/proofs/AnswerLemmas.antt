@@ -2,10 +2,10 @@
 use Rattle.std.proofs.Common.{◌≡◌, ◌≤◌, ◌⊎◌, ◌∙◌, Err, List, Ok, Result, ap, inl, inr, length, refl, ℕ}
 use Rattle.std.specs.Prelude.{IfErr, IfOk}
 use Rattle.bpf_verify.specs.Program.{ProgramValue}
-use Rattle.program_text.specs.Fault.{IsFaultOfText}
-use Rattle.program_text.specs.Program.{Source}
-use Rattle.program_text.specs.declared.fault.TextFault.{TextFault}
-use Rattle.program_text.specs.declared.fault.TextFault.TheVariants.{OutOfMemory}
+use Rattle.filter_program.specs.Fault.{IsFaultOfText}
+use Rattle.filter_program.specs.Program.{Source}
+use Rattle.filter_program.specs.declared.fault.TextFault.{TextFault}
+use Rattle.filter_program.specs.declared.fault.TextFault.TheVariants.{OutOfMemory}
 use Rattle.c_calls.specs.Answer.{AnswersText, AnswersVerifying, GivesProgram, IsProgramOf, gives, refuses, text_answer, wants}
 use Rattle.c_calls.specs.Outcome.{AnswersRun}
 use Rattle.c_calls.specs.Outcome as outcome

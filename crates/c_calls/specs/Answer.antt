@@ -7,11 +7,11 @@ use Rattle.bpf_verify.specs.Fault.{IsFirstFault}
 use Rattle.bpf_verify.specs.Program.{ProgramValue}
 use Rattle.bpf_verify.specs.declared.fault.Fault.{Fault}
 use Rattle.fault_code.specs.declared.Code.{Code}
-use Rattle.program_text.specs.Code.{text_code}
-use Rattle.program_text.specs.Fault.{IsFaultOfText}
-use Rattle.program_text.specs.Program.{IsProgramOfAssembly, IsProgramOfExpression, Source, assembly, expression}
-use Rattle.program_text.specs.declared.fault.TextFault.{TextFault}
-use Rattle.program_text.specs.declared.fault.TextFault.TheVariants.{OutOfMemory}
+use Rattle.filter_program.specs.Code.{text_code}
+use Rattle.filter_program.specs.Fault.{IsFaultOfText}
+use Rattle.filter_program.specs.Program.{IsProgramOfAssembly, IsProgramOfExpression, Source, assembly, expression}
+use Rattle.filter_program.specs.declared.fault.TextFault.{TextFault}
+use Rattle.filter_program.specs.declared.fault.TextFault.TheVariants.{OutOfMemory}
 use Rattle.c_calls.specs.declared.answer.Answer.{Answer}
 
 -- a program with this charge, and so many words or bytes

@@ -5,7 +5,7 @@ ghost use Rattle.c_calls.specs.Answer.{Gives, GivesProgram};
 use crate::answer::Answer;
 use crate::codes::text_answer;
 use bpf_verify::Program;
-use program_text::TextFault;
+use filter_program::TextFault;
 use std::alloc::Global;
 
 /// Copies a list to the front of a buffer where it has the room, and else leaves the buffer.

@@ -5,7 +5,7 @@ ghost use Rattle.c_calls.specs.Answer.{code_answer, text_answer};
 
 use crate::answer::Answer;
 use fault_code::Code;
-use program_text::TextFault;
+use filter_program::TextFault;
 
 /// Memory was refused.
 pub const NO_MEMORY: u32 = 1;

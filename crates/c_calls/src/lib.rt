@@ -7,9 +7,9 @@
 ghost use Rattle.std.specs.Prelude.{◌≡◌, ◌≤◌, ◌⊎◌, ◌↔◌, List, length, ℕ};
 ghost use Rattle.bpf_verify.specs.Accepted.{IsAccepted};
 ghost use Rattle.filter_tree.specs.Tree.{Tree};
-ghost use Rattle.program_text.specs.Fault.{IsAssemblyFault, IsExpressionFault};
-ghost use Rattle.program_text.specs.Program.{IsAssembledTo, IsCompilable, assembly, expression};
-ghost use Rattle.program_text.specs.declared.fault.TextFault.{TextFault};
+ghost use Rattle.filter_program.specs.Fault.{IsAssemblyFault, IsExpressionFault};
+ghost use Rattle.filter_program.specs.Program.{IsAssembledTo, IsCompilable, assembly, expression};
+ghost use Rattle.filter_program.specs.declared.fault.TextFault.{TextFault};
 ghost use Rattle.c_calls.specs.Answer.{AnswersPrinting, AnswersText, AnswersVerifying, HasProgram, no_memory, text_answer};
 ghost use Rattle.c_calls.specs.Outcome.{AnswersRun};
 
@@ -24,7 +24,7 @@ use buffer::{give, give_program};
 pub use codes::{NO_MEMORY, NO_ROOM, PACKET_TOO_LONG};
 use codes::{code_answer, text_answer};
 pub use outcome::{Outcome, run_words};
-use program_text::{TextFault, assembled, compiled};
+use filter_program::{TextFault, assembled, compiled};
 use std::alloc::Global;
 
 /// Law: the codes that name no fault of words or of a text, as numbers. It runs nothing.
@@ -64,7 +64,7 @@ pub fn run_checked(words: &[u64], packet: &[u8], outcome: &mut Outcome) -> Answe
     answer
 }
 
-/// Assembles a text to a program, in the caller's buffer (`program_text::assembled`).
+/// Assembles a text to a program, in the caller's buffer (`filter_program::assembled`).
 pub fn assemble_into(alloc: Global, text: &[u8], words: &mut [u64]) -> Answer
     ensures answer { AnswersText (assembly text.now) words.old words.new result }
     ensures every_program { (program : List ℕ) → IsAssembledTo text.now program → HasProgram result ⊎ (result ≡ no_memory) }
@@ -73,7 +73,7 @@ pub fn assemble_into(alloc: Global, text: &[u8], words: &mut [u64]) -> Answer
     give_program(assembled(alloc, text), words)
 }
 
-/// Compiles a filter expression to a program, in the caller's buffer (`program_text::compiled`).
+/// Compiles a filter expression to a program, in the caller's buffer (`filter_program::compiled`).
 pub fn compile_into(alloc: Global, text: &[u8], words: &mut [u64]) -> Answer
     ensures answer { AnswersText (expression text.now) words.old words.new result }
     ensures every_program { (tree : Tree) → IsCompilable text.now tree → HasProgram result ⊎ (result ≡ no_memory) }

@@ -31,7 +31,7 @@ use Rattle.control_line.specs.Agrees.{AgreesNow, TextConfig}
 use Rattle.control_line.specs.Answer.{Answers, Changes, Does, DoesRefused, bad_line, bad_text, busy, changed, exhausted, published, refused, shown, swept, too_big, too_long, was_read}
 use Rattle.control_line.proofs.ReadBackLemmas.{each_reading}
 use Rattle.control.specs.body.Ready.{AllFree, Stands}
-use Rattle.program_text.specs.Program.{Source}
+use Rattle.filter_program.specs.Program.{Source}
 use Rattle.control.specs.Script.{ComesInScript, Standing, standing_after}
 use Rattle.member_group.specs.declared.command.Command.{Command}
 

@@ -5,8 +5,8 @@ pub mod Replay
 pub mod body
 pub use Rattle.ipv4_fields.specs.Endpoint
 pub use Rattle.ipv4_fields.specs.Cut
-pub use Rattle.program_text.specs.Program
-pub use Rattle.program_text.specs.Fault
+pub use Rattle.filter_program.specs.Program
+pub use Rattle.filter_program.specs.Fault
 pub use Rattle.control_line.specs.Request
 pub use Rattle.control_line.specs.Reason
 pub use Rattle.control_line.specs.Reply

@@ -16,7 +16,7 @@ use Rattle.ipv4_fields.specs.Cut.{Lacks}
 use Rattle.ipv4_fields.specs.Endpoint.{endpoint_text}
 use Rattle.control.specs.PacketLine.{HasNoPacket, IsPacketLine}
 use Rattle.control_line.specs.Packet.{SpellsPacket, SpellsTooMuch}
-use Rattle.program_text.specs.Program.{IsProgramFor, text_ending}
+use Rattle.filter_program.specs.Program.{IsProgramFor, text_ending}
 use Rattle.control_line.specs.Reason.{refusal_text}
 use Rattle.control_line.specs.Reply.{reply_text}
 

@@ -27,11 +27,11 @@ use Rattle.control_line.specs.declared.program.LineFault.{LineFault}
 use Rattle.control_line.specs.declared.program.LineFault.TheVariants as failure_of
 use Rattle.control_line.specs.body.Making.{IsChanged, IsLineFaultOfCommand, IsMadeCommand, IsNext, IsOutcome, IsRefusedFor}
 use Rattle.control_line.specs.Agrees.{Agreeing}
-use Rattle.program_text.specs.declared.fault.TextFault.{TextFault}
-use Rattle.program_text.specs.declared.fault.TextFault.TheVariants as text_fault
+use Rattle.filter_program.specs.declared.fault.TextFault.{TextFault}
+use Rattle.filter_program.specs.declared.fault.TextFault.TheVariants as text_fault
 use Rattle.control_line.specs.Reason.{IsRefusalOfText, reason_of_text}
-use Rattle.program_text.specs.Program.{text_charge}
-use Rattle.program_text.specs.Program.{Source}
+use Rattle.filter_program.specs.Program.{text_charge}
+use Rattle.filter_program.specs.Program.{Source}
 use Rattle.control_line.specs.body.Reading.{command_over}
 use Rattle.control_line.proofs.OverLemmas.{after-over, charge_by-over, first_refusal-over}
 

@@ -12,7 +12,7 @@ use Rattle.member_group.specs.declared.command.Command.{Command}
 use Rattle.member_group.specs.declared.command.Command.TheVariants.{AddGroup, ClearFilter, ClearSelector, Join, Leave, LockFilter, RemoveGroup, SetFilter, SetSelector}
 use Rattle.control_line.specs.Request.{Spells, change, spaced}
 use Rattle.control_line.specs.body.Reading.{program_fields}
-use Rattle.program_text.specs.Program.{Source, assembly, expression}
+use Rattle.filter_program.specs.Program.{Source, assembly, expression}
 
 -- ---- texts that differ
 

@@ -26,7 +26,7 @@ use Rattle.control_line.specs.Reply.{reply_text}
 use Rattle.control_line.specs.Request.{Request, Spells, change, read, show, sweep}
 use Rattle.control_line.specs.Reading.{Reading, reading_answer}
 use Rattle.control_line.proofs.ReadBackLemmas.{does_nothing_read, read_alike}
-use Rattle.program_text.specs.Program.{Source}
+use Rattle.filter_program.specs.Program.{Source}
 use Rattle.control_line.proofs.ChangeLemmas.{agrees_with, charged_alike, scanned_keeps, still_agrees}
 use Rattle.control_line.proofs.OverLemmas.{members_of-over}
 use Rattle.control_line.proofs.FormLemmas.{differ}

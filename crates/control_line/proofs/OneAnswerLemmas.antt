@@ -14,10 +14,10 @@ use Rattle.control_line.specs.Agrees.{AreWordsOf, Compiler, IsLoadedBy, LoadedPr
 use Rattle.control_line.specs.Reading.{Reading, reading_answer}
 use Rattle.control_line.specs.Answer.{AreOne, ChangesBy, HasOneAnswer, LeadsToBy, MeansBy, bad_line, bad_text, busy, by_function, changed, charge_of_text, exhausted, program_in, published, refused, shown, swept, too_big, too_long, was_read}
 use Rattle.control_line.specs.Reason.{IsRefusalOfText, reason_of_text}
-use Rattle.program_text.specs.Program.{IsMeaningOf, TextProgram, of_tree, of_words}
-use Rattle.program_text.specs.Program.{Source}
+use Rattle.filter_program.specs.Program.{IsMeaningOf, TextProgram, of_tree, of_words}
+use Rattle.filter_program.specs.Program.{Source}
 use Rattle.control_line.specs.Request.{Request, Spells, change, read, show, sweep}
-use Rattle.program_text.specs.Fault.{HasNotBoth, HasOneFault, HasOneProgram}
+use Rattle.filter_program.specs.Fault.{HasNotBoth, HasOneFault, HasOneProgram}
 use Rattle.control_line.proofs.OneLineLemmas.{one_thing}
 
 -- ---- texts

@@ -11,7 +11,7 @@ use Rattle.ipv4_fields.specs.Cut.{Lacks}
 use Rattle.ipv4_fields.specs.Endpoint.{endpoint_text}
 use Rattle.control_line.specs.Request.{AsksForOneThing, Spells, change, read, show, spaced, sweep}
 use Rattle.control_line.proofs.ReadingLemmas.{no_change, one_reading, reads_with_space}
-use Rattle.program_text.specs.Program.{Source, assembly, expression}
+use Rattle.filter_program.specs.Program.{Source, assembly, expression}
 use Rattle.control_line.specs.body.Reading.{program_fields}
 use Rattle.ipv4_fields.proofs.TextLemmas.{has_separator, lacks-endpoint, lacks-test, number_parts, one_cut, one_endpoint}
 use Rattle.control_line.proofs.FormLemmas.{IsOfEndpoint, IsOfFilter, IsOfKey, IsOfNumber, IsOfSelector, Row, add_row, args_at, args_of, differ, differs, filter_command, filter_row, form_at, join_row, key_range, lacks-row, leave_row, lock_row, one_row, parts, remove_row, rest_of, row_of, selector_command, selector_row, word_at, word_of}

@@ -1,7 +1,7 @@
 -- The program that is made of a text agrees with the one that the text means.
 use Rattle.std.proofs.Common.{List, refl, ℕ}
 use Rattle.bpf_verify.specs.Program.{ProgramValue}
-use Rattle.program_text.specs.Program.{IsProgramOfAssembly, IsProgramOfExpression, assembly, expression, of_tree, of_words}
+use Rattle.filter_program.specs.Program.{IsProgramOfAssembly, IsProgramOfExpression, assembly, expression, of_tree, of_words}
 use Rattle.control_line.specs.body.Making.{IsMade}
 
 pub made_of_assembly : (text : List ℕ) (program : ProgramValue) → IsProgramOfAssembly text program → IsMade (assembly text) program

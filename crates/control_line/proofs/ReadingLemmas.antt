@@ -7,7 +7,7 @@ use Rattle.ipv4_fields.specs.Cut.{IsSplitAt, Lacks}
 use Rattle.ipv4_fields.specs.Endpoint.{IsEndpoint, endpoint_text}
 use Rattle.ipv4_fields.proofs.TextLemmas.{has_separator, lacks-decimal, lacks-endpoint, lacks-test, number_parts, one_cut, one_endpoint}
 use Rattle.member_group.specs.declared.command.Command.{Command}
-use Rattle.program_text.specs.Program.{Source}
+use Rattle.filter_program.specs.Program.{Source}
 use Rattle.control_line.specs.Reading.{Reading, filter_words, group_at, member_at, selector_words}
 use Rattle.control_line.specs.Request.{Request, Spells, change, read, show, spaced, sweep}
 use Rattle.control_line.proofs.FormLemmas.{differ, lacks-row, no_row, parts, row_by, row_of, word_of, args_of}

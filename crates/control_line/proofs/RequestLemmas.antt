@@ -10,7 +10,7 @@ use Rattle.member_group.specs.declared.command.Command.TheVariants.{Leave, LockF
 use Rattle.control_line.specs.Request.{Request, Spells, change, read, show, spaced, sweep}
 use Rattle.control_line.proofs.ReadingLemmas.{other_word, reads_with_space}
 use Rattle.control_line.specs.body.Reading.{IsMemberWord, program_fields}
-use Rattle.program_text.specs.Program.{Source, assembly, expression}
+use Rattle.filter_program.specs.Program.{Source, assembly, expression}
 use Rattle.control_line.proofs.FormLemmas.{HasForm, IsOfNumber, IsSelector, Row, add_row, args_at, args_of, differ, filter_row, form_at, join_row, key_range, lacks-row, leave_row, lock_row, parts, remove_row, rest_of, row_of, selector_row, tail_of, unwritten, word_at, word_of, written}
 
 -- ---- the word and the key

@@ -8,7 +8,7 @@ use Rattle.ipv4_fields.specs.declared.endpoint.Endpoint.{Endpoint}
 use Rattle.ipv4_fields.specs.Endpoint.{IsEndpoint}
 use Rattle.member_group.specs.declared.command.Command.TheVariants.{AddGroup, Join, SetFilter, SetSelector}
 use Rattle.member_group.specs.declared.refusal.Refusal.TheVariants.{GroupExists, NoMember}
-use Rattle.program_text.specs.declared.fault.TextFault.TheVariants.{Assembly, Words}
+use Rattle.filter_program.specs.declared.fault.TextFault.TheVariants.{Assembly, Words}
 use Rattle.retire.specs.declared.fault.PublishFault.TheVariants.{Busy}
 use Rattle.control_line.specs.declared.reason.Reason.TheVariants.{BadForm, Command, Publishing, Text}
 use Rattle.control_line.specs.declared.reply.LineAnswer.TheVariants.{Published, Refused, Shown, Swept}
@@ -16,7 +16,7 @@ use Rattle.control_line.specs.Agrees.{Agrees, TextConfig}
 use Rattle.control_line.specs.Answer.{Answers, changed, published, refused, shown}
 use Rattle.control_line.specs.Reply.{reply_text}
 use Rattle.control_line.specs.Request.{Spells, change, show}
-use Rattle.program_text.specs.Program.{assembly, expression}
+use Rattle.filter_program.specs.Program.{assembly, expression}
 
 -- 10.0.0.2:53 and 127.0.0.1:9001
 abbrev key : Endpoint

@@ -15,7 +15,7 @@ use Rattle.retire.specs.Publish.{IsBusy, Publishes}
 use Rattle.retire.specs.Sweep.{Sweeps}
 use Rattle.retire.specs.declared.fault.PublishFault.TheVariants.{Busy, Exhausted, TooBig}
 use Rattle.filter_tree.specs.Tree.{Tree}
-use Rattle.program_text.specs.Program.{IsProgramFor, Source, text_charge}
+use Rattle.filter_program.specs.Program.{IsProgramFor, Source, text_charge}
 use Rattle.control_line.specs.declared.TheConstants.{LINE_LIMIT}
 use Rattle.control_line.specs.declared.reason.Reason.{Reason}
 use Rattle.control_line.specs.declared.reason.Reason.TheVariants.{BadForm, LineTooLong, Publishing}

@@ -3,11 +3,11 @@ use Rattle.std.specs.Prelude.{◌≡◌, ◌++◌, List, None, Option, Some, cod
 use Rattle.fault_code.specs.Code.{code_text, plain}
 use Rattle.fault_code.specs.declared.Code.{Code}
 use Rattle.member_group.specs.Code.{command_code}
-use Rattle.program_text.specs.Code.{text_code}
-use Rattle.program_text.specs.Fault.{IsAssemblyFault, IsExpressionFault, IsFaultOfText}
-use Rattle.program_text.specs.Program.{Source}
-use Rattle.program_text.specs.declared.fault.TextFault.{TextFault}
-use Rattle.program_text.specs.declared.fault.TextFault.TheVariants.{OutOfMemory}
+use Rattle.filter_program.specs.Code.{text_code}
+use Rattle.filter_program.specs.Fault.{IsAssemblyFault, IsExpressionFault, IsFaultOfText}
+use Rattle.filter_program.specs.Program.{Source}
+use Rattle.filter_program.specs.declared.fault.TextFault.{TextFault}
+use Rattle.filter_program.specs.declared.fault.TextFault.TheVariants.{OutOfMemory}
 use Rattle.retire.specs.Code.{publish_code}
 use Rattle.control_line.specs.declared.reason.Reason.{Reason}
 use Rattle.control_line.specs.declared.reason.Reason.TheVariants.{BadForm, Command, LineTooLong, PacketTooLong, Publishing, Text}

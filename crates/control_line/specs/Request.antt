@@ -3,7 +3,7 @@ use Rattle.std.specs.Prelude.{◌≡◌, ◌<◌, ◌^◌, ◌∷◌, ◌++◌, 
 use Rattle.ipv4_fields.specs.Endpoint.{IsEndpoint, endpoint_text}
 use Rattle.member_group.specs.declared.command.Command.{Command}
 use Rattle.member_group.specs.declared.command.Command.TheVariants.{AddGroup, ClearFilter, ClearSelector, Join, Leave, LockFilter, RemoveGroup, SetFilter, SetSelector}
-use Rattle.program_text.specs.Program.{Source, assembly, expression}
+use Rattle.filter_program.specs.Program.{Source, assembly, expression}
 use Rattle.control_line.specs.Reading.{Reading, filter_words, group_at, member_at, selector_words}
 
 -- a line asks for a change of the configuration, for its measures, for a part of it, or for a sweep

@@ -119,7 +119,7 @@ pub fn one_request()
 pub fn one_reply()
     ensures { HasOneAnswer }
 {
-    program_text::one_meaning();
+    filter_program::one_meaning();
 }
 
 /// Law: the configurations without groups agree, one of texts and one that an operator may open with; `line` goes on from there. It

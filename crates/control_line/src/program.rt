@@ -9,7 +9,7 @@ use crate::reason::Reason;
 use crate::request::ProgramText;
 use bpf_verify::Program;
 use member_group::Command;
-use program_text::{TextFault, assembled, compiled};
+use filter_program::{TextFault, assembled, compiled};
 use std::alloc::Global;
 
 /// Why nothing came of a line.

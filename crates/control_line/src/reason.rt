@@ -5,7 +5,7 @@ ghost use Rattle.control_line.specs.Reason.{reason_code, reason_of_text, refusal
 
 use fault_code::Code;
 use member_group::Refusal;
-use program_text::TextFault;
+use filter_program::TextFault;
 use retire::PublishFault;
 use std::fmt;
 

@@ -3,7 +3,7 @@
 ghost use Rattle.std.specs.Prelude.{◌≡◌, ◌≢◌, ◌<◌, ◌^◌, ◌++◌, ◌∷◌, ◌↔◌, IsTrue, List, MatchOption, None, Option, codes, decimal, option_map, ℕ};
 ghost use Rattle.ipv4_fields.specs.Endpoint.{IsEndpoint, endpoint_text};
 ghost use Rattle.ipv4_fields.specs.Cut.{Lacks};
-ghost use Rattle.program_text.specs.Program.{Source};
+ghost use Rattle.filter_program.specs.Program.{Source};
 ghost use Rattle.control_line.specs.Request.{spaced};
 ghost use Rattle.control_line.specs.body.Reading.{IsCommandRead, IsMemberWord, IsRead, IsReadingRead, program_fields, source_of};
 

@@ -7,9 +7,9 @@
 ghost use Rattle.std.specs.Prelude.{◌≡◌, ◌≤◌, ◌⊎◌, ◌↔◌, List, length, ℕ};
 ghost use Rattle.bpf_verify.specs.Accepted.{IsAccepted};
 ghost use Rattle.filter_tree.specs.Tree.{Tree};
-ghost use Rattle.program_text.specs.Fault.{IsAssemblyFault, IsExpressionFault};
-ghost use Rattle.program_text.specs.Program.{IsAssembledTo, IsCompilable, assembly, expression};
-ghost use Rattle.program_text.specs.declared.fault.TextFault.{TextFault};
+ghost use Rattle.filter_program.specs.Fault.{IsAssemblyFault, IsExpressionFault};
+ghost use Rattle.filter_program.specs.Program.{IsAssembledTo, IsCompilable, assembly, expression};
+ghost use Rattle.filter_program.specs.declared.fault.TextFault.{TextFault};
 ghost use Rattle.c_calls.specs.Answer.{AnswersPrinting, AnswersText, AnswersVerifying, HasProgram, no_memory, text_answer};
 ghost use Rattle.c_calls.specs.Outcome.{AnswersRun, IsRun};
 
@@ -50,7 +50,7 @@ pub extern "C" fn dswitch_run_checked(words: &[u64], packet: &[u8], outcome: &mu
     run_checked(words, packet, outcome)
 }
 
-/// Assembles a text to a program, in the caller's buffer (`program_text::assembled`).
+/// Assembles a text to a program, in the caller's buffer (`filter_program::assembled`).
 #[unsafe(no_mangle)]
 pub extern "C" fn dswitch_assemble(alloc: Global, text: &[u8], words: &mut [u64]) -> Answer
     ensures answer { AnswersText (assembly text.now) words.old words.new result }
@@ -60,7 +60,7 @@ pub extern "C" fn dswitch_assemble(alloc: Global, text: &[u8], words: &mut [u64]
     assemble_into(alloc, text, words)
 }
 
-/// Compiles a filter expression to a program, in the caller's buffer (`program_text::compiled`).
+/// Compiles a filter expression to a program, in the caller's buffer (`filter_program::compiled`).
 #[unsafe(no_mangle)]
 pub extern "C" fn dswitch_compile(alloc: Global, text: &[u8], words: &mut [u64]) -> Answer
     ensures answer { AnswersText (expression text.now) words.old words.new result }

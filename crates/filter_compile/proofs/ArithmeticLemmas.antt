@@ -20,9 +20,9 @@ use Rattle.filter_tree.specs.declared.arithmetic.Size.{Size}
 use Rattle.filter_tree.specs.Arithmetic.{byte_count, combined, loaded}
 use Rattle.filter_compile.specs.Answer.{IsPacket}
 use Rattle.filter_compile.specs.body.Arithmetic.{DoesAs, IsDirect, ReadsAs, weight_of_access}
-use Rattle.backpatch.specs.Runs.{IsPushed, LoadsStored}
-use Rattle.backpatch.proofs.PushedLemmas.{after_effect, loads_next, mean_pushed}
-use Rattle.packet_facts.specs.Known.{Knows}
+use Rattle.filter_emit.specs.Runs.{IsPushed, LoadsStored}
+use Rattle.filter_emit.proofs.PushedLemmas.{after_effect, loads_next, mean_pushed}
+use Rattle.filter_facts.specs.Known.{Knows}
 use Rattle.filter_compile.specs.body.Piece.{ComesWith, Computes, IsPlain, KeepsBelow, Pairs, PairsWith, behind}
 use Rattle.filter_compile.proofs.PacketLemmas.{packet_number-number_at}
 use Rattle.filter_compile.proofs.ValueLemmas.{Computes-load, Computes-same, Computes-then, plain_loads, set_comes}

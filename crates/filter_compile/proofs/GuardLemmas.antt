@@ -1,11 +1,11 @@
 -- Guards: a test that is left out, and one that falls through where it is true.
 use Rattle.std.proofs.Common.{◌≡◌, ◌∙◌, ◌+◌, ◌≤◌, Bool, List, None, Option, Some, arith, false, refl, subst, sym, true, ℕ}
 use Rattle.std.specs.Prelude.{◌≢◌, ◌&&◌}
-use Rattle.backpatch.specs.Fixups.{LabelValue}
-use Rattle.backpatch.specs.Pieces.{Meaning, Writes}
-use Rattle.backpatch.specs.Guards.{Guards}
-use Rattle.backpatch.proofs.GuardLemmas.{Guards-guards, Guards-means, Guards-none, Guards-weight, Guards-writes}
-use Rattle.backpatch.proofs.WritesLemmas.{Writes-means, Writes-not, Writes-weight}
+use Rattle.filter_emit.specs.Fixups.{LabelValue}
+use Rattle.filter_emit.specs.Pieces.{Meaning, Writes}
+use Rattle.filter_emit.specs.Guards.{Guards}
+use Rattle.filter_emit.proofs.GuardLemmas.{Guards-guards, Guards-means, Guards-none, Guards-weight, Guards-writes}
+use Rattle.filter_emit.proofs.WritesLemmas.{Writes-means, Writes-not, Writes-weight}
 use Rattle.ipv4_fields.specs.declared.header.Field.TheVariants.{Protocol}
 use Rattle.ipv4_fields.specs.Field.{field_of}
 use Rattle.filter_tree.specs.declared.primitive.Transport.{Transport}
@@ -14,11 +14,11 @@ use Rattle.filter_tree.specs.declared.truth.Truth.TheVariants.{No, Yes}
 use Rattle.filter_tree.specs.Measure.{weight_where}
 use Rattle.filter_tree.specs.Outcome.{◌and_then◌, tested, where_so}
 use Rattle.filter_tree.specs.Primitive.{has_ports, is_first_fragment, is_ip}
-use Rattle.packet_facts.specs.declared.known.Known.{Known}
-use Rattle.packet_facts.specs.declared.load.Loaded.{Loaded}
-use Rattle.packet_facts.specs.Known.{Holds, IsInA}
-use Rattle.packet_facts.specs.Told.{first_fragment_of, transport_of}
-use Rattle.packet_facts.proofs.FactLemmas.{first_fragment_yes, ip_by_fragment, ip_yes, transport_yes}
+use Rattle.filter_facts.specs.declared.known.Known.{Known}
+use Rattle.filter_facts.specs.declared.load.Loaded.{Loaded}
+use Rattle.filter_facts.specs.Known.{Holds, IsInA}
+use Rattle.filter_facts.specs.Told.{first_fragment_of, transport_of}
+use Rattle.filter_facts.proofs.FactLemmas.{first_fragment_yes, ip_by_fragment, ip_yes, transport_yes}
 use Rattle.filter_compile.specs.body.Piece.{Decides, Tests}
 use Rattle.filter_compile.specs.declared.sides.Passed.{Passed}
 use Rattle.filter_compile.specs.declared.sides.Sides.{Sides}

@@ -11,9 +11,9 @@ use Rattle.bpf_insn.specs.declared.instruction.Size.TheVariants.{Byte, Half, Wor
 use Rattle.bpf_insn.specs.declared.instruction.Test.{Test}
 use Rattle.bpf_machine.specs.Meaning.{Cells, a_or_end, computed, holds, mean}
 use Rattle.bpf_machine.specs.Packet.{packet_number}
-use Rattle.backpatch.specs.Checks.{Checks, asks}
-use Rattle.backpatch.specs.Runs.{IsPushed}
-use Rattle.backpatch.proofs.PushedLemmas.{after_effect, mean_pushed}
+use Rattle.filter_emit.specs.Checks.{Checks, asks}
+use Rattle.filter_emit.specs.Runs.{IsPushed}
+use Rattle.filter_emit.proofs.PushedLemmas.{after_effect, mean_pushed}
 use Rattle.ipv4_fields.specs.declared.header.Field.TheVariants.{Protocol}
 use Rattle.ipv4_fields.specs.Field.{behind_header, bits_from, field_of, ihl_of, number_at}
 use Rattle.filter_tree.specs.declared.truth.Truth.{Truth}
@@ -23,12 +23,12 @@ use Rattle.filter_tree.specs.declared.primitive.Direction.TheVariants.{Both, Des
 use Rattle.filter_tree.specs.Outcome.{◌and_then◌, ◌or_else◌, answer, opposite, tested}
 use Rattle.filter_tree.specs.Prefix.{NetworkPrefix, covers}
 use Rattle.filter_tree.specs.Primitive.{at_ends, is_between, is_first_fragment, is_ip}
-use Rattle.packet_facts.specs.declared.known.Known.{Known}
-use Rattle.packet_facts.specs.declared.load.Loaded.{Loaded}
-use Rattle.packet_facts.specs.declared.load.Loaded.TheVariants as loaded_is
-use Rattle.packet_facts.specs.Known.{Holds, IsHeader, IsInA, Knows, loaded_of}
-use Rattle.packet_facts.specs.Told.{header_in_x_of, in_a_of}
-use Rattle.packet_facts.proofs.FactLemmas.{x_known}
+use Rattle.filter_facts.specs.declared.known.Known.{Known}
+use Rattle.filter_facts.specs.declared.load.Loaded.{Loaded}
+use Rattle.filter_facts.specs.declared.load.Loaded.TheVariants as loaded_is
+use Rattle.filter_facts.specs.Known.{Holds, IsHeader, IsInA, Knows, loaded_of}
+use Rattle.filter_facts.specs.Told.{header_in_x_of, in_a_of}
+use Rattle.filter_facts.proofs.FactLemmas.{x_known}
 use Rattle.filter_compile.specs.Answer.{IsPacket}
 use Rattle.filter_compile.specs.declared.check.Check.{Check}
 use Rattle.filter_compile.specs.declared.check.Check.TheVariants.{Between, Covered, Equal}

@@ -2,10 +2,10 @@
 -- guard is known to hold, and its code behind the guard.
 use Rattle.std.proofs.Common.{◌≡◌, ◌∙◌, ◌+◌, ◌≤◌, Bool, List, None, Option, Some, ap, arith, false, inl, inr, refl, sym, true, ℕ, ⊎_elim}
 use Rattle.std.specs.Prelude.{◌⊎◌, ◌&&◌, if◌then◌else◌, not}
-use Rattle.backpatch.specs.Fixups.{LabelValue}
-use Rattle.backpatch.specs.Pieces.{Writes}
-use Rattle.backpatch.specs.Guards.{Guards}
-use Rattle.backpatch.proofs.WritesLemmas.{Writes-means, Writes-weight}
+use Rattle.filter_emit.specs.Fixups.{LabelValue}
+use Rattle.filter_emit.specs.Pieces.{Writes}
+use Rattle.filter_emit.specs.Guards.{Guards}
+use Rattle.filter_emit.proofs.WritesLemmas.{Writes-means, Writes-weight}
 use Rattle.ipv4_fields.specs.declared.header.Field.TheVariants.{Protocol}
 use Rattle.ipv4_fields.specs.Field.{field_of}
 use Rattle.filter_tree.specs.declared.primitive.Primitive.{Primitive}
@@ -21,10 +21,10 @@ use Rattle.filter_tree.specs.Outcome.{◌and_then◌, ◌or_else◌, answer, opp
 use Rattle.filter_tree.specs.Primitive.{has_ports, is_first_fragment, is_ip}
 use Rattle.filter_tree.specs.Tree.{ArithTree, Tree, conjunction, disjunction, negation, primitive, relation}
 use Rattle.filter_tree.specs.Truth.{accesses_of_both, any_accessor, compared, truth_of}
-use Rattle.packet_facts.specs.declared.known.Known.{Known}
-use Rattle.packet_facts.specs.Known.{Holds}
-use Rattle.packet_facts.specs.Told.{transport_of}
-use Rattle.packet_facts.proofs.FactLemmas.{first_fragment_unknown}
+use Rattle.filter_facts.specs.declared.known.Known.{Known}
+use Rattle.filter_facts.specs.Known.{Holds}
+use Rattle.filter_facts.specs.Told.{transport_of}
+use Rattle.filter_facts.proofs.FactLemmas.{first_fragment_unknown}
 use Rattle.filter_compile.specs.declared.front.Guard.{Guard}
 use Rattle.filter_compile.specs.declared.front.Guard.TheVariants.{Ports, Version}
 use Rattle.filter_compile.specs.body.NonIpv4.{accesses_non_ipv4, and_non_ipv4, begins_with_ip, is_ip_primitive, non_ipv4, not_non_ipv4, or_non_ipv4, primitive_non_ipv4}

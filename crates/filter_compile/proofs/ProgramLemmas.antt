@@ -4,15 +4,15 @@ use Rattle.bpf_insn.specs.declared.instruction.Insn.TheVariants.{ReturnConstant}
 use Rattle.bpf_verify.specs.declared.TheConstants.{MAX_INSTRUCTIONS}
 use Rattle.bpf_verify.specs.Accepted.{IsAccepted}
 use Rattle.bpf_machine.specs.Meaning.{Ret, mean, no_cells}
-use Rattle.backpatch.proofs.FinishLemmas.{IsFinished}
-use Rattle.backpatch.proofs.PushedLemmas.{mean_pushed, return_loads}
+use Rattle.filter_emit.proofs.FinishLemmas.{IsFinished}
+use Rattle.filter_emit.proofs.PushedLemmas.{mean_pushed, return_loads}
 use Rattle.filter_tree.specs.declared.truth.Truth.{Truth}
 use Rattle.filter_tree.specs.declared.truth.Truth.TheVariants.{Fails, No, Yes}
 use Rattle.filter_tree.specs.Measure.{size_of, weight_of}
 use Rattle.filter_tree.specs.Tree.{Tree}
 use Rattle.filter_tree.specs.Truth.{truth_of}
-use Rattle.packet_facts.specs.declared.known.Known.{Known}
-use Rattle.packet_facts.specs.Known.{Holds}
+use Rattle.filter_facts.specs.declared.known.Known.{Known}
+use Rattle.filter_facts.specs.Known.{Holds}
 use Rattle.filter_compile.specs.declared.TheConstants.{ACCEPTED, SHORT}
 use Rattle.filter_compile.specs.Answer.{AnswersFor, HasFarJumpsOnly, HasNoFarJump, answer_of}
 use Rattle.filter_compile.specs.body.Piece.{GoesBy, Tests}

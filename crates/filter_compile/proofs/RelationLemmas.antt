@@ -1,13 +1,13 @@
 -- Relations: their guards, and the comparison of their sides.
 use Rattle.std.proofs.Common.{◌≡◌, ◌∙◌, ◌+◌, ◌≤◌, Bool, List, None, Option, Some, ap, arith, false, refl, subst, sym, ℕ}
 use Rattle.bpf_insn.specs.declared.instruction.Insn.TheVariants.{LoadXLength}
-use Rattle.backpatch.specs.Checks.{Checks}
-use Rattle.backpatch.specs.Fixups.{IsAppended, LabelValue}
-use Rattle.backpatch.specs.Pieces.{Writes}
-use Rattle.backpatch.specs.Guards.{Guards}
-use Rattle.backpatch.specs.body.Straight.{Extends}
-use Rattle.backpatch.proofs.GuardLemmas.{Extends-pushed, Extends-writes}
-use Rattle.backpatch.proofs.WritesLemmas.{Writes-means, Writes-weight}
+use Rattle.filter_emit.specs.Checks.{Checks}
+use Rattle.filter_emit.specs.Fixups.{IsAppended, LabelValue}
+use Rattle.filter_emit.specs.Pieces.{Writes}
+use Rattle.filter_emit.specs.Guards.{Guards}
+use Rattle.filter_emit.specs.body.Straight.{Extends}
+use Rattle.filter_emit.proofs.GuardLemmas.{Extends-pushed, Extends-writes}
+use Rattle.filter_emit.proofs.WritesLemmas.{Writes-means, Writes-weight}
 use Rattle.filter_tree.specs.declared.expression.Relation.{Relation}
 use Rattle.filter_tree.specs.declared.sides.Accesses.{Accesses}
 use Rattle.filter_tree.specs.declared.truth.Truth.{Truth}
@@ -18,8 +18,8 @@ use Rattle.filter_tree.specs.Outcome.{◌and_then◌, tested, where_so}
 use Rattle.filter_tree.specs.Primitive.{is_first_fragment, is_ip, is_protocol}
 use Rattle.filter_tree.specs.Tree.{ArithTree, relation}
 use Rattle.filter_tree.specs.Truth.{accesses_of_both, any_accessor, any_transport, compared, guards, holds, truth_of, used_by}
-use Rattle.packet_facts.specs.declared.known.Known.{Known}
-use Rattle.packet_facts.specs.Known.{Holds, Knows}
+use Rattle.filter_facts.specs.declared.known.Known.{Known}
+use Rattle.filter_facts.specs.Known.{Holds, Knows}
 use Rattle.filter_compile.specs.declared.arithmetic.Simple.TheVariants.{Length}
 use Rattle.filter_compile.specs.body.Arithmetic.{simple_value}
 use Rattle.filter_compile.specs.body.Piece.{Compares, Computes, Pairs, Tests, compared_with}

@@ -8,10 +8,10 @@ use Rattle.bpf_insn.specs.declared.instruction.Operation.{Operation}
 use Rattle.bpf_insn.specs.declared.instruction.Operation.TheVariants.{Add}
 use Rattle.bpf_verify.specs.declared.TheConstants.{CELLS}
 use Rattle.bpf_verify.specs.declared.fault.Fault.TheVariants.{BadCell}
-use Rattle.backpatch.specs.Fixups.{IsAppended}
-use Rattle.backpatch.specs.Runs.{IsPushed}
-use Rattle.backpatch.specs.body.Straight.{Extends}
-use Rattle.backpatch.proofs.GuardLemmas.{Extends-extends, Extends-means, Extends-pushed, Extends-weight}
+use Rattle.filter_emit.specs.Fixups.{IsAppended}
+use Rattle.filter_emit.specs.Runs.{IsPushed}
+use Rattle.filter_emit.specs.body.Straight.{Extends}
+use Rattle.filter_emit.proofs.GuardLemmas.{Extends-extends, Extends-means, Extends-pushed, Extends-weight}
 use Rattle.filter_tree.specs.declared.arithmetic.Operator.{Operator}
 use Rattle.filter_tree.specs.declared.arithmetic.Protocol.{Protocol}
 use Rattle.filter_tree.specs.declared.arithmetic.Protocol.TheVariants.{Icmp, Ip, Tcp, Udp}

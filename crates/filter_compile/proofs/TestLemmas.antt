@@ -6,11 +6,11 @@ use Rattle.filter_tree.specs.declared.truth.Truth.{Truth}
 use Rattle.filter_tree.specs.declared.truth.Truth.TheVariants.{Fails, No, Yes}
 use Rattle.filter_tree.specs.Outcome.{◌and_then◌, ◌or_else◌, answer, opposite, tested}
 use Rattle.filter_compile.specs.Answer.{IsPacket}
-use Rattle.backpatch.specs.Checks.{Checks}
-use Rattle.backpatch.specs.Runs.{ComesTo, IsPushed}
-use Rattle.backpatch.proofs.PushedLemmas.{after_effect, mean_pushed}
-use Rattle.packet_facts.specs.declared.load.Loaded.{Loaded}
-use Rattle.packet_facts.specs.Known.{IsInA, Knows, loaded_of}
+use Rattle.filter_emit.specs.Checks.{Checks}
+use Rattle.filter_emit.specs.Runs.{ComesTo, IsPushed}
+use Rattle.filter_emit.proofs.PushedLemmas.{after_effect, mean_pushed}
+use Rattle.filter_facts.specs.declared.load.Loaded.{Loaded}
+use Rattle.filter_facts.specs.Known.{IsInA, Knows, loaded_of}
 use Rattle.filter_compile.specs.body.Header.{by_header, where_kept}
 use Rattle.filter_compile.specs.body.Piece.{Asks, Brings, BringsTo, Compares, ComesWith, Computes, DecidedBy, Decides, Facts, GoesBy, IsInX, IsPlain, LoadsAs, Pairs, PairsWith, Tests}
 use Rattle.filter_compile.proofs.ValueLemmas.{plain_loads}

@@ -4,9 +4,9 @@ use Rattle.std.specs.Prelude.{option_and_then}
 use Rattle.bpf_insn.specs.declared.instruction.Insn.{Insn}
 use Rattle.bpf_machine.specs.Meaning.{Cells, a_or_end, mean}
 use Rattle.filter_compile.specs.Answer.{IsPacket}
-use Rattle.backpatch.specs.Runs.{IsPushed, LoadsStored}
-use Rattle.backpatch.proofs.PushedLemmas.{after_effect, loads_next, mean_pushed}
-use Rattle.packet_facts.specs.Known.{Knows}
+use Rattle.filter_emit.specs.Runs.{IsPushed, LoadsStored}
+use Rattle.filter_emit.proofs.PushedLemmas.{after_effect, loads_next, mean_pushed}
+use Rattle.filter_facts.specs.Known.{Knows}
 use Rattle.filter_compile.specs.body.Piece.{ComesWith, Computes, IsPlain, KeepsBelow, LoadsAs}
 
 -- ---- one instruction

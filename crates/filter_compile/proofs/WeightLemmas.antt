@@ -13,8 +13,8 @@ use Rattle.filter_tree.specs.declared.sides.Accesses.{Accesses}
 use Rattle.filter_tree.specs.Measure.{by_direction, weight_of, weight_of_primitive, weight_where}
 use Rattle.filter_tree.specs.Tree.{Tree, conjunction, disjunction, negation, primitive, relation}
 use Rattle.filter_tree.specs.Truth.{accesses_of_both, any_accessor, used_by}
-use Rattle.packet_facts.specs.declared.known.Known.{Known}
-use Rattle.packet_facts.specs.Told.{ip_of}
+use Rattle.filter_facts.specs.declared.known.Known.{Known}
+use Rattle.filter_facts.specs.Told.{ip_of}
 use Rattle.filter_compile.specs.declared.check.Check.TheVariants.{Between, Equal}
 use Rattle.filter_compile.specs.body.Header.{weight_of_ports, weight_of_transport}
 use Rattle.filter_compile.specs.body.Weight.{leads_to_ports, ports_weight_under, version_weight, version_weight_under, weight_of_guards_under, weight_of_primitive_under, weight_under}

@@ -2,7 +2,7 @@
 
 ghost use Rattle.std.specs.Prelude.{◌≡◌, ◌+◌, ◌<◌, ◌≤◌, IfOk, IfSome, IsTrue, List, OnOk, ℕ};
 ghost use Rattle.bpf_verify.specs.declared.TheConstants.{CELLS};
-ghost use Rattle.backpatch.specs.body.Straight.{Extends};
+ghost use Rattle.filter_emit.specs.body.Straight.{Extends};
 ghost use Rattle.filter_tree.specs.Arithmetic.{value_of_arith};
 ghost use Rattle.filter_tree.specs.Measure.{cells_of_arith, weight_of_arith};
 ghost use Rattle.filter_tree.specs.Tree.{accessor as accessor_tree, number};
@@ -11,7 +11,7 @@ ghost use Rattle.filter_compile.specs.body.Arithmetic.{Applies, DoesAs, IsDirect
 ghost use Rattle.filter_compile.specs.body.Piece.{Computes, Pairs};
 
 use crate::load::load_header;
-use backpatch::Code;
+use filter_emit::Code;
 use bpf_insn::{Insn, Operand, Operation};
 use filter_tree::{Arith, Operator, Protocol, Size};
 use std::alloc::{AllocError, Allocator};

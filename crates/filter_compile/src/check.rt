@@ -2,16 +2,16 @@
 
 ghost use Rattle.std.specs.Prelude.{◌≡◌, ◌+◌, ◌≤◌, OnOk, false, length, true};
 ghost use Rattle.bpf_verify.specs.declared.TheConstants.{MAX_INSTRUCTIONS};
-ghost use Rattle.backpatch.specs.Pieces.{Writes};
+ghost use Rattle.filter_emit.specs.Pieces.{Writes};
 ghost use Rattle.filter_tree.specs.Prefix.{covers};
 ghost use Rattle.filter_tree.specs.Primitive.{is_between};
 ghost use Rattle.filter_compile.specs.body.Header.{keeps_a, passes, weight_of_check, where_kept};
 ghost use Rattle.filter_compile.specs.body.Piece.{Asks};
 
-use backpatch::{Code, Label};
+use filter_emit::{Code, Label};
 use bpf_insn::{Insn, Operand, Operation, Test};
 use filter_tree::Prefix;
-use packet_facts::Loaded;
+use filter_facts::Loaded;
 use std::alloc::{AllocError, Allocator};
 
 /// A question to a number.

@@ -2,11 +2,11 @@
 
 ghost use Rattle.std.specs.Prelude.{◌≡◌, ◌+◌, ◌≤◌, IfOk, length, true};
 ghost use Rattle.bpf_verify.specs.declared.TheConstants.{MAX_INSTRUCTIONS};
-ghost use Rattle.backpatch.specs.Pieces.{Writes};
+ghost use Rattle.filter_emit.specs.Pieces.{Writes};
 ghost use Rattle.filter_tree.specs.Outcome.{tested};
 ghost use Rattle.filter_tree.specs.declared.primitive.Direction.TheVariants.{Both, Either};
-ghost use Rattle.packet_facts.specs.Known.{Holds, loaded_of};
-ghost use Rattle.packet_facts.specs.Told.{header_in_x_of};
+ghost use Rattle.filter_facts.specs.Known.{Holds, loaded_of};
+ghost use Rattle.filter_facts.specs.Told.{header_in_x_of};
 ghost use Rattle.filter_compile.specs.declared.ends.Part.TheVariants.{Port};
 ghost use Rattle.filter_compile.specs.body.Header.{by_header, destination_of, ends_pass, passes, source_of, weight_of_check, weight_of_ends};
 ghost use Rattle.filter_compile.specs.body.Piece.{Tests};
@@ -15,9 +15,9 @@ ghost use Rattle.filter_compile.specs.body.Sides.{IsSameButA};
 use crate::check::{Check, ask, left_in_a};
 use crate::load::load;
 use crate::sides::Sides;
-use backpatch::{Code, Label};
+use filter_emit::{Code, Label};
 use filter_tree::Direction;
-use packet_facts::{Known, Loaded};
+use filter_facts::{Known, Loaded};
 use std::alloc::{AllocError, Allocator};
 
 /// What is loaded of an end.

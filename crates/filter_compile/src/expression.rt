@@ -3,13 +3,13 @@
 
 ghost use Rattle.std.specs.Prelude.{◌≡◌, ◌+◌, ◌≤◌, IfOk, Some, length};
 ghost use Rattle.bpf_verify.specs.declared.TheConstants.{CELLS, MAX_INSTRUCTIONS};
-ghost use Rattle.backpatch.specs.Pieces.{Writes};
-ghost use Rattle.backpatch.specs.Guards.{Guards};
+ghost use Rattle.filter_emit.specs.Pieces.{Writes};
+ghost use Rattle.filter_emit.specs.Guards.{Guards};
 ghost use Rattle.filter_tree.specs.Measure.{cells_of, weight_of};
 ghost use Rattle.filter_tree.specs.Tree.{conjunction as conjunction_tree, disjunction as disjunction_tree};
 ghost use Rattle.filter_tree.specs.Truth.{truth_of};
 ghost use Rattle.filter_tree.specs.View.{tree_of};
-ghost use Rattle.packet_facts.specs.Known.{Holds};
+ghost use Rattle.filter_facts.specs.Known.{Holds};
 ghost use Rattle.filter_compile.specs.body.NonIpv4.{non_ipv4};
 ghost use Rattle.filter_compile.specs.body.Front.{BeginsWith, MayAsk};
 ghost use Rattle.filter_compile.specs.body.Piece.{Tests};
@@ -20,9 +20,9 @@ use crate::front::{Front, ask, in_front};
 use crate::primitive::primitive;
 use crate::relation::relation;
 use crate::sides::Sides;
-use backpatch::{Code, Label};
+use filter_emit::{Code, Label};
 use filter_tree::Expr;
-use packet_facts::Known;
+use filter_facts::Known;
 use std::alloc::{AllocError, Allocator};
 
 // A place where the first of two parts ends at last. Where no jump can be far, the end of both is near enough, and the second

@@ -3,10 +3,10 @@
 
 ghost use Rattle.std.specs.Prelude.{◌≡◌, ◌≢◌, ◌+◌, ◌≤◌, IfOk, IfSome, Some, false, length, true};
 ghost use Rattle.bpf_verify.specs.declared.TheConstants.{MAX_INSTRUCTIONS};
-ghost use Rattle.backpatch.specs.Guards.{Guards};
+ghost use Rattle.filter_emit.specs.Guards.{Guards};
 ghost use Rattle.filter_tree.specs.View.{tree_of};
-ghost use Rattle.packet_facts.specs.Known.{Holds};
-ghost use Rattle.packet_facts.specs.Told.{ip_of, transport_of};
+ghost use Rattle.filter_facts.specs.Known.{Holds};
+ghost use Rattle.filter_facts.specs.Told.{ip_of, transport_of};
 ghost use Rattle.filter_compile.specs.body.NonIpv4.{non_ipv4};
 ghost use Rattle.filter_compile.specs.body.Front.{BeginsWith, IsLearned, MayAsk, guard_truth, guard_weight, has_only_ports, is_ports, is_same};
 ghost use Rattle.filter_compile.specs.body.Piece.{Tests};
@@ -16,9 +16,9 @@ use crate::guard::ask_ip;
 use crate::non_ipv4::{begins_with_ip, non_ipv4};
 use crate::primitive::guard_ports;
 use crate::sides::Passed;
-use backpatch::{Code, Label};
+use filter_emit::{Code, Label};
 use filter_tree::{Expr, Primitive, Transport};
-use packet_facts::Known;
+use filter_facts::Known;
 use std::alloc::{AllocError, Allocator};
 
 /// What is tested in front.

@@ -10,17 +10,17 @@ ghost use Rattle.filter_tree.specs.declared.truth.Truth.TheVariants.{Yes};
 ghost use Rattle.filter_tree.specs.Measure.{weight_where};
 ghost use Rattle.filter_tree.specs.Outcome.{tested, where_so};
 ghost use Rattle.filter_tree.specs.Primitive.{has_ports, is_first_fragment, is_ip, is_protocol};
-ghost use Rattle.packet_facts.specs.Known.{Settles};
-ghost use Rattle.packet_facts.specs.Told.{first_fragment_of, ip_of, transport_of};
+ghost use Rattle.filter_facts.specs.Known.{Settles};
+ghost use Rattle.filter_facts.specs.Told.{first_fragment_of, ip_of, transport_of};
 ghost use Rattle.filter_compile.specs.body.Header.{weight_of_transport};
 ghost use Rattle.filter_compile.specs.body.Sides.{Adds};
 ghost use Rattle.filter_compile.specs.body.Weight.{leads_to_ports, version_weight_under};
 
 use crate::header::{pass_first_fragment, pass_ip, pass_ports, pass_protocol};
 use crate::sides::Passed;
-use backpatch::{Code, Label};
+use filter_emit::{Code, Label};
 use filter_tree::Transport;
-use packet_facts::{Known, Loaded};
+use filter_facts::{Known, Loaded};
 use std::alloc::{AllocError, Allocator};
 
 /// Tests whether a test has to be written: there is cause, and what is known does not tell that it is true.

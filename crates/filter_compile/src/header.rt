@@ -4,20 +4,20 @@ ghost use Rattle.std.specs.Prelude.{◌+◌, ◌≤◌, None, OnOk, Some, false,
 ghost use Rattle.ipv4_fields.specs.declared.header.Field.TheVariants.{Protocol};
 ghost use Rattle.ipv4_fields.specs.Field.{field_of};
 ghost use Rattle.bpf_verify.specs.declared.TheConstants.{MAX_INSTRUCTIONS};
-ghost use Rattle.backpatch.specs.Pieces.{Writes};
-ghost use Rattle.backpatch.specs.Guards.{Guards};
+ghost use Rattle.filter_emit.specs.Pieces.{Writes};
+ghost use Rattle.filter_emit.specs.Guards.{Guards};
 ghost use Rattle.filter_tree.specs.declared.primitive.Transport.TheVariants.{Unnamed};
 ghost use Rattle.filter_tree.specs.Outcome.{tested};
 ghost use Rattle.filter_tree.specs.Primitive.{has_ports, is_first_fragment, is_ip, is_protocol};
-ghost use Rattle.packet_facts.specs.declared.load.Loaded.TheVariants.{Protocol as LoadedProtocol};
+ghost use Rattle.filter_facts.specs.declared.load.Loaded.TheVariants.{Protocol as LoadedProtocol};
 ghost use Rattle.filter_compile.specs.body.Header.{weight_of_transport};
 ghost use Rattle.filter_compile.specs.body.Piece.{Decides};
 
 use crate::load::load;
-use backpatch::{Code, Label};
+use filter_emit::{Code, Label};
 use bpf_insn::{Insn, Operand, Operation, Size, Test};
 use filter_tree::Transport;
-use packet_facts::Loaded;
+use filter_facts::Loaded;
 use std::alloc::{AllocError, Allocator};
 
 /// Writes the test that the version is 4.

@@ -1,14 +1,14 @@
 //! Loads of the headers' numbers (RFC 791, section 3.1): each is left out where A holds the number already.
 
 ghost use Rattle.std.specs.Prelude.{OnOk};
-ghost use Rattle.backpatch.specs.body.Straight.{Extends, NeverFaults};
-ghost use Rattle.packet_facts.specs.Known.{loaded_of};
+ghost use Rattle.filter_emit.specs.body.Straight.{Extends, NeverFaults};
+ghost use Rattle.filter_facts.specs.Known.{loaded_of};
 ghost use Rattle.filter_compile.specs.body.Header.{by_header};
 ghost use Rattle.filter_compile.specs.body.Piece.{Brings, IsPlain, LoadsAs, LoadsHeader};
 
-use backpatch::Code;
+use filter_emit::Code;
 use bpf_insn::{Insn, Size};
-use packet_facts::Loaded;
+use filter_facts::Loaded;
 use std::alloc::{AllocError, Allocator};
 
 fn load_of(loaded: Loaded) -> Insn

@@ -5,11 +5,11 @@ ghost use Rattle.ipv4_fields.specs.declared.header.Field.TheVariants.{Protocol};
 ghost use Rattle.ipv4_fields.specs.Field.{field_of};
 ghost use Rattle.bpf_verify.specs.declared.TheConstants.{MAX_INSTRUCTIONS};
 ghost use Rattle.bpf_machine.specs.Meaning.{holds};
-ghost use Rattle.backpatch.specs.Pieces.{Writes};
+ghost use Rattle.filter_emit.specs.Pieces.{Writes};
 ghost use Rattle.filter_tree.specs.Outcome.{◌and_then◌, answer, tested};
 ghost use Rattle.filter_tree.specs.Primitive.{address_passes, has_ports, is_first_fragment, is_ip, is_protocol, port_passes, truth_of_primitive};
-ghost use Rattle.packet_facts.specs.Known.{Holds};
-ghost use Rattle.packet_facts.specs.Told.{ip_of, transport_of};
+ghost use Rattle.filter_facts.specs.Known.{Holds};
+ghost use Rattle.filter_facts.specs.Told.{ip_of, transport_of};
 ghost use Rattle.filter_compile.specs.body.Header.{passes, weight_of_addresses, weight_of_ports};
 ghost use Rattle.filter_compile.specs.body.Piece.{Decides, Tests};
 ghost use Rattle.filter_compile.specs.body.Sides.{Adds};
@@ -21,10 +21,10 @@ use crate::guard::{guard_first_fragment, guard_ip, guard_transport, leads_to_por
 use crate::header::{is_ip, is_protocol};
 use crate::load::load_header;
 use crate::sides::{Passed, Sides, settled};
-use backpatch::{Code, Label};
+use filter_emit::{Code, Label};
 use bpf_insn::{Insn, Operand, Test};
 use filter_tree::{Direction, Primitive, Transport};
-use packet_facts::{Known, Loaded};
+use filter_facts::{Known, Loaded};
 use std::alloc::{AllocError, Allocator};
 
 fn version<'a, A: Allocator>(

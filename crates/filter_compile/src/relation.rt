@@ -2,15 +2,15 @@
 
 ghost use Rattle.std.specs.Prelude.{◌≡◌, ◌+◌, ◌≤◌, IfOk, OnOk, Option, length, List, ℕ};
 ghost use Rattle.bpf_verify.specs.declared.TheConstants.{CELLS, MAX_INSTRUCTIONS};
-ghost use Rattle.backpatch.specs.Checks.{Checks};
-ghost use Rattle.backpatch.specs.Pieces.{Writes};
+ghost use Rattle.filter_emit.specs.Checks.{Checks};
+ghost use Rattle.filter_emit.specs.Pieces.{Writes};
 ghost use Rattle.bpf_machine.specs.Meaning.{operand_value};
 ghost use Rattle.filter_tree.specs.Arithmetic.{value_of_arith};
 ghost use Rattle.filter_tree.specs.Measure.{cells_of, cells_of_arith, weight_of_arith};
 ghost use Rattle.filter_tree.specs.Tree.{relation as relation_tree};
 ghost use Rattle.filter_tree.specs.Truth.{guards, holds, truth_of, used_by};
 ghost use Rattle.filter_tree.specs.View.{arith_tree_of};
-ghost use Rattle.packet_facts.specs.Known.{Holds};
+ghost use Rattle.filter_facts.specs.Known.{Holds};
 ghost use Rattle.filter_compile.specs.body.Piece.{Compares, Tests, compared_with};
 ghost use Rattle.filter_compile.specs.body.Sides.{Adds};
 ghost use Rattle.filter_compile.specs.body.Weight.{weight_of_guards_under, weight_under};
@@ -18,10 +18,10 @@ ghost use Rattle.filter_compile.specs.body.Weight.{weight_of_guards_under, weigh
 use crate::arithmetic::{Simple, arithmetic, pair, simple_of};
 use crate::guard::{guard_first_fragment, guard_ip, guard_protocol};
 use crate::sides::{Passed, Sides, settled};
-use backpatch::{Code, Label};
+use filter_emit::{Code, Label};
 use bpf_insn::{Insn, Operand, Test};
 use filter_tree::{Accesses, Arith, Relation};
-use packet_facts::Known;
+use filter_facts::Known;
 use std::alloc::{AllocError, Allocator};
 
 // What is tested before accessors of these protocols.

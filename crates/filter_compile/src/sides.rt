@@ -2,11 +2,11 @@
 
 ghost use Rattle.std.specs.Prelude.{◌≡◌, ◌+◌, ◌≤◌, IfOk, List, None, Option, length, ℕ};
 ghost use Rattle.bpf_verify.specs.declared.TheConstants.{MAX_INSTRUCTIONS};
-ghost use Rattle.packet_facts.specs.Known.{Holds};
+ghost use Rattle.filter_facts.specs.Known.{Holds};
 ghost use Rattle.filter_compile.specs.body.Sides.{BranchesAlways, HoldsWhere};
 
-use backpatch::{Code, Label};
-use packet_facts::Known;
+use filter_emit::{Code, Label};
+use filter_facts::Known;
 use std::alloc::{AllocError, Allocator};
 
 /// What is known where a test is true, and where it is false.

@@ -2,9 +2,9 @@
 use Rattle.std.proofs.Common.{◌≡◌, ◌⊎◌, Err, List, Ok, Result, inl, inr, refl, subst, sym, ℕ}
 use Rattle.std.specs.Prelude.{IfErr}
 use Rattle.std.specs.Result.{IsErrAnd}
-use Rattle.program_text.specs.Fault.{IsAssemblyFault}
-use Rattle.program_text.specs.declared.fault.TextFault.{TextFault}
-use Rattle.program_text.specs.declared.fault.TextFault.TheVariants.{Assembly, Compiling, Expression, OutOfMemory, Words}
+use Rattle.filter_program.specs.Fault.{IsAssemblyFault}
+use Rattle.filter_program.specs.declared.fault.TextFault.{TextFault}
+use Rattle.filter_program.specs.declared.fault.TextFault.TheVariants.{Assembly, Compiling, Expression, OutOfMemory, Words}
 use Rattle.query_commands.specs.body.Stop.{IsStopByProgram, stop_of_text}
 use Rattle.query_commands.specs.declared.format.InputFormat.TheVariants as input
 

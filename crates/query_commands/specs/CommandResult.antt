@@ -5,7 +5,7 @@ use Rattle.bpf_machine.specs.Meaning.{Ret, cost_of, ending_of}
 use Rattle.bpf_verify.specs.Program.{ProgramValue}
 use Rattle.filter_tree.specs.Tree.{Tree}
 use Rattle.filter_tree.specs.Truth.{accepts}
-use Rattle.program_text.specs.Program.{IsCompilable, IsProgramOfExpression}
+use Rattle.filter_program.specs.Program.{IsCompilable, IsProgramOfExpression}
 use Rattle.query_commands.specs.Format.{IsProgramIn, listing_text}
 use Rattle.query_commands.specs.declared.format.InputFormat.{InputFormat}
 use Rattle.query_commands.specs.declared.format.OutputFormat.{OutputFormat}

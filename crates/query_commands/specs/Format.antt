@@ -7,7 +7,7 @@ use Rattle.bpf_verify.specs.Fault.{IsFirstFault}
 use Rattle.control_line.specs.Reason.{IsRefusalOfAssembly}
 use Rattle.control_line.specs.declared.reason.Reason.{Reason}
 use Rattle.control_line.specs.declared.reason.Reason.TheVariants.{Text}
-use Rattle.program_text.specs.declared.fault.TextFault.TheVariants.{Words}
+use Rattle.filter_program.specs.declared.fault.TextFault.TheVariants.{Words}
 use Rattle.fault_code.specs.Code.{code_text}
 use Rattle.bpf_formats.specs.Code.{format_code}
 use Rattle.bpf_formats.specs.Ddd.{IsDdd, ddd_text}
@@ -15,7 +15,7 @@ use Rattle.bpf_formats.specs.Fault.{IsFaultOfDdd, IsFaultOfHex}
 use Rattle.bpf_formats.specs.Hex.{IsHex, hex_text}
 use Rattle.bpf_formats.specs.Initialiser.{dd_text}
 use Rattle.bpf_formats.specs.declared.fault.FormatFault.{FormatFault}
-use Rattle.program_text.specs.Program.{IsAssembledTo}
+use Rattle.filter_program.specs.Program.{IsAssembledTo}
 use Rattle.query_commands.specs.declared.format.InputFormat.{InputFormat}
 use Rattle.query_commands.specs.declared.format.InputFormat.TheVariants as input
 use Rattle.query_commands.specs.declared.format.OutputFormat.{OutputFormat}

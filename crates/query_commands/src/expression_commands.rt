@@ -10,7 +10,7 @@ use crate::command_result::CommandResult;
 use crate::format::{OutputFormat, list};
 use crate::stop::Stop;
 use bpf_machine::run;
-use program_text::compiled;
+use filter_program::compiled;
 use std::alloc::Global;
 
 /// Compiles the expression, and prints the program in the format.

@@ -14,7 +14,7 @@ use bpf_machine::{Outcome, run};
 use bpf_verify::Program;
 use control_line::Reason;
 use bpf_formats::{read_ddd, read_hex};
-use program_text::{TextFault, assembled};
+use filter_program::{TextFault, assembled};
 use std::alloc::Global;
 
 fn accepted(words: Vec<u64>) -> Result<Program<Global>, Stop>

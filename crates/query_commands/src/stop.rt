@@ -8,7 +8,7 @@ ghost use Rattle.query_commands.specs.declared.stop.Stop.TheVariants.{Failed};
 use command_line::Failure;
 use control_line::Reason;
 use bpf_formats::FormatFault;
-use program_text::TextFault;
+use filter_program::TextFault;
 use std::alloc::AllocError;
 
 /// Why a command has no result.

@@ -1,4 +1,4 @@
-use Rattle.program_text.specs.Program.{assembly}
+use Rattle.filter_program.specs.Program.{assembly}
 use Rattle.c_calls.proofs.AnswerLemmas.{answers_text}
 use Rattle.c_calls.proofs.assemble_into.Goals as goal
 

@@ -1,4 +1,4 @@
-use Rattle.program_text.specs.Program.{expression}
+use Rattle.filter_program.specs.Program.{expression}
 use Rattle.c_calls.proofs.AnswerLemmas.{answers_text}
 use Rattle.c_calls.proofs.compile_into.Goals as goal
 

@@ -21,8 +21,8 @@ use Rattle.control_line.specs.Answer.{Changes, Does, Means, program_in}
 use Rattle.control_line.specs.Reason.{IsRefusalOfText, reason_of_text}
 use Rattle.control_line.specs.Reading.{Reading, reading_answer}
 use Rattle.control_line.specs.body.Reading.{command_over}
-use Rattle.program_text.specs.Program.{IsProgramFor, Source}
-use Rattle.program_text.specs.declared.fault.TextFault.{TextFault}
+use Rattle.filter_program.specs.Program.{IsProgramFor, Source}
+use Rattle.filter_program.specs.declared.fault.TextFault.{TextFault}
 
 -- this program agrees with one that the text is
 abbrev pub IsMade : Source → ProgramValue → Type 0

@@ -3,7 +3,7 @@ use Rattle.std.specs.Prelude.{◌≢◌, ◌∷◌, List, MatchOption, None, Opt
 use Rattle.ipv4_fields.specs.Cut.{Lacks}
 use Rattle.member_group.specs.declared.command.Command.{Command}
 use Rattle.member_group.specs.declared.command.Command.TheVariants.{AddGroup, ClearFilter, ClearSelector, Join, Leave, LockFilter, RemoveGroup, SetFilter, SetSelector}
-use Rattle.program_text.specs.Program.{Source, assembly, expression}
+use Rattle.filter_program.specs.Program.{Source, assembly, expression}
 use Rattle.control_line.specs.declared.request.ProgramText.{ProgramText as LentText}
 use Rattle.control_line.specs.declared.request.ProgramText.TheVariants as lent
 use Rattle.control_line.specs.declared.request.Request.{Request as LentRequest}

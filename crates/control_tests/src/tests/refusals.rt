@@ -7,7 +7,7 @@ use fault_code::Code;
 use filter_compile::CompileFault;
 use filter_parse::ParseFault;
 use member_group::Refusal;
-use program_text::TextFault;
+use filter_program::TextFault;
 use retire::PublishFault;
 use std::test::Fail;
 

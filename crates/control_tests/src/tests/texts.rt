@@ -1,6 +1,6 @@
 //! The words and the charge of a program in assembly.
 
-use program_text::assembled;
+use filter_program::assembled;
 use std::test::Fail;
 
 // An assembly text and its words (networking/filter.rst, "Structure"); each is charged by their number.

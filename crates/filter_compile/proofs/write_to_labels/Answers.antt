@@ -1,7 +1,7 @@
 use Rattle.std.proofs.Common.{◌≡◌, ap, arith, length}
 use Rattle.std.proofs.lemmas.Result.{on_ok_weaker}
-use Rattle.backpatch.proofs.FinishLemmas.{bindable_last, finished_from}
-use Rattle.backpatch.proofs.WritesLemmas.{Writes-weight, bindable}
+use Rattle.filter_emit.proofs.FinishLemmas.{bindable_last, finished_from}
+use Rattle.filter_emit.proofs.WritesLemmas.{Writes-weight, bindable}
 use Rattle.filter_tree.specs.Measure.{weight_of}
 use Rattle.filter_tree.specs.View.{tree_of}
 use Rattle.filter_compile.proofs.ProgramLemmas.{is_program}

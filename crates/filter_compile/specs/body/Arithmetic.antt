@@ -7,7 +7,7 @@ use Rattle.bpf_insn.specs.declared.instruction.Size.{Size as InsnSize}
 use Rattle.bpf_verify.specs.Accepted.{constant_fault}
 use Rattle.bpf_machine.specs.Meaning.{computed}
 use Rattle.bpf_machine.specs.Packet.{packet_number}
-use Rattle.backpatch.specs.Runs.{IsPushed}
+use Rattle.filter_emit.specs.Runs.{IsPushed}
 use Rattle.filter_tree.specs.declared.arithmetic.Operator.{Operator}
 use Rattle.filter_tree.specs.declared.arithmetic.Protocol.{Protocol}
 use Rattle.filter_tree.specs.declared.arithmetic.Protocol.TheVariants.{Icmp, Ip, Tcp, Udp}

@@ -10,8 +10,8 @@ use Rattle.filter_tree.specs.declared.truth.Truth.{Truth}
 use Rattle.filter_tree.specs.Outcome.{◌and_then◌, tested}
 use Rattle.filter_tree.specs.Primitive.{has_ports, is_first_fragment, is_ip}
 use Rattle.filter_tree.specs.Tree.{Tree, conjunction, disjunction, negation, primitive, relation}
-use Rattle.packet_facts.specs.declared.known.Known.{Known}
-use Rattle.packet_facts.specs.Told.{ip_of, transport_of}
+use Rattle.filter_facts.specs.declared.known.Known.{Known}
+use Rattle.filter_facts.specs.Told.{ip_of, transport_of}
 use Rattle.filter_compile.specs.declared.front.Guard.{Guard}
 use Rattle.filter_compile.specs.declared.front.Guard.TheVariants.{Ports, Version}
 use Rattle.filter_compile.specs.body.NonIpv4.{begins_with_ip}

@@ -8,9 +8,9 @@ use Rattle.filter_tree.specs.Measure.{by_direction}
 use Rattle.filter_tree.specs.Outcome.{tested}
 use Rattle.filter_tree.specs.Prefix.{covers}
 use Rattle.filter_tree.specs.Primitive.{at_ends, is_between}
-use Rattle.packet_facts.specs.declared.load.Loaded.{Loaded}
-use Rattle.packet_facts.specs.declared.load.Loaded.TheVariants.{Destination, DestinationPort, Protocol, Source, SourcePort}
-use Rattle.packet_facts.specs.Known.{loaded_of}
+use Rattle.filter_facts.specs.declared.load.Loaded.{Loaded}
+use Rattle.filter_facts.specs.declared.load.Loaded.TheVariants.{Destination, DestinationPort, Protocol, Source, SourcePort}
+use Rattle.filter_facts.specs.Known.{loaded_of}
 use Rattle.filter_compile.specs.declared.check.Check.{Check}
 use Rattle.filter_compile.specs.declared.check.Check.TheVariants.{Between, Covered, Equal}
 use Rattle.filter_compile.specs.declared.ends.Part.{Part}

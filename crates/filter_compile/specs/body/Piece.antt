@@ -4,14 +4,14 @@ use Rattle.ipv4_fields.specs.Field.{ihl_of}
 use Rattle.bpf_insn.specs.declared.instruction.Insn.{Insn}
 use Rattle.bpf_verify.specs.Path.{Loads, successors}
 use Rattle.bpf_machine.specs.Meaning.{Cells, Ret, a_or_end, effect, mean}
-use Rattle.backpatch.specs.Runs.{LoadsStored}
+use Rattle.filter_emit.specs.Runs.{LoadsStored}
 use Rattle.filter_tree.specs.declared.expression.Relation.{Relation}
 use Rattle.filter_tree.specs.declared.truth.Truth.{Truth}
 use Rattle.filter_tree.specs.declared.truth.Truth.TheVariants.{Fails, No, Yes}
 use Rattle.filter_tree.specs.Outcome.{tested}
 use Rattle.filter_tree.specs.Truth.{holds}
-use Rattle.packet_facts.specs.declared.load.Loaded.{Loaded}
-use Rattle.packet_facts.specs.Known.{IsInA, Knows, loaded_of}
+use Rattle.filter_facts.specs.declared.load.Loaded.{Loaded}
+use Rattle.filter_facts.specs.Known.{IsInA, Knows, loaded_of}
 use Rattle.filter_compile.specs.Answer.{IsPacket}
 use Rattle.filter_compile.specs.body.Header.{by_header}
 

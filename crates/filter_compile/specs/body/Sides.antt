@@ -1,13 +1,13 @@
 -- What is known behind a guard, and behind a test that is known.
 use Rattle.std.specs.Prelude.{◌≡◌, List, None, Option, Some, ℕ}
-use Rattle.backpatch.specs.Fixups.{LabelValue}
-use Rattle.backpatch.specs.Pieces.{Writes}
-use Rattle.backpatch.specs.Runs.{GoesToYes}
-use Rattle.backpatch.specs.Guards.{Guards}
+use Rattle.filter_emit.specs.Fixups.{LabelValue}
+use Rattle.filter_emit.specs.Pieces.{Writes}
+use Rattle.filter_emit.specs.Runs.{GoesToYes}
+use Rattle.filter_emit.specs.Guards.{Guards}
 use Rattle.filter_tree.specs.declared.truth.Truth.{Truth}
-use Rattle.packet_facts.specs.declared.known.Known.{Known}
-use Rattle.packet_facts.specs.Known.{Holds}
-use Rattle.packet_facts.specs.Told.{header_in_x_of, header_of}
+use Rattle.filter_facts.specs.declared.known.Known.{Known}
+use Rattle.filter_facts.specs.Known.{Holds}
+use Rattle.filter_facts.specs.Told.{header_in_x_of, header_of}
 use Rattle.filter_compile.specs.declared.sides.Passed.{Passed}
 use Rattle.filter_compile.specs.declared.sides.Sides.{Sides}
 use Rattle.filter_compile.specs.body.Piece.{Tests}

@@ -9,8 +9,8 @@ use Rattle.filter_tree.specs.declared.primitive.Transport.{Transport}
 use Rattle.filter_tree.specs.Measure.{by_direction, weight_of, weight_of_arith, weight_where}
 use Rattle.filter_tree.specs.Tree.{Tree, conjunction, disjunction, negation, primitive, relation}
 use Rattle.filter_tree.specs.Truth.{accesses_of_both, any_accessor, any_transport}
-use Rattle.packet_facts.specs.declared.known.Known.{Known}
-use Rattle.packet_facts.specs.Told.{first_fragment_of, ip_of, transport_of}
+use Rattle.filter_facts.specs.declared.known.Known.{Known}
+use Rattle.filter_facts.specs.Told.{first_fragment_of, ip_of, transport_of}
 use Rattle.filter_compile.specs.body.Header.{weight_of_transport}
 
 -- the most instructions of the test of the version, by what is told of it

@@ -4,7 +4,7 @@ use Rattle.control_line.specs.declared.reason.Reason.{Reason}
 use Rattle.control_line.specs.Reason.{reason_of_text}
 use Rattle.bpf_formats.specs.declared.fault.FormatFault.{FormatFault}
 use Rattle.bpf_formats.specs.declared.fault.FormatFault.TheVariants as format_fault
-use Rattle.program_text.specs.declared.fault.TextFault.{TextFault}
+use Rattle.filter_program.specs.declared.fault.TextFault.{TextFault}
 use Rattle.command_line.specs.declared.ending.Failure.TheVariants.{OutOfMemory}
 use Rattle.query_commands.specs.Format.{IsFormatFault, IsRefusalOfProgram}
 use Rattle.query_commands.specs.declared.format.InputFormat.{InputFormat}

@@ -1,6 +1,6 @@
 use Rattle.std.proofs.Common.{arith, refl}
 use Rattle.std.proofs.lemmas.Result.{IfOk-weaker, on_ok_weaker}
-use Rattle.backpatch.proofs.GuardLemmas.{Extends-means, Extends-pushed}
+use Rattle.filter_emit.proofs.GuardLemmas.{Extends-means, Extends-pushed}
 use Rattle.filter_tree.specs.Arithmetic.{value_of_arith}
 use Rattle.filter_tree.specs.View.{arith_tree_of}
 use Rattle.filter_compile.specs.body.Arithmetic.{simple_value}

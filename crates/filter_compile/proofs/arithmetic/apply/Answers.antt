@@ -1,5 +1,5 @@
 use Rattle.std.proofs.Common.{refl}
-use Rattle.backpatch.proofs.GuardLemmas.{Extends-extends, Extends-pushed}
+use Rattle.filter_emit.proofs.GuardLemmas.{Extends-extends, Extends-pushed}
 use Rattle.filter_compile.specs.declared.arithmetic.Simple.TheVariants.{Length}
 use Rattle.filter_compile.specs.body.Arithmetic.{simple_value}
 use Rattle.filter_compile.proofs.ArithmeticLemmas.{Computes-applied, Pairs-length}

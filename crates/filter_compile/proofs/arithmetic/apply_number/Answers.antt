@@ -1,5 +1,5 @@
 use Rattle.std.proofs.Common.{Some, arith, refl}
-use Rattle.backpatch.proofs.GuardLemmas.{Extends-extends, Extends-means, Extends-pushed, Extends-weight}
+use Rattle.filter_emit.proofs.GuardLemmas.{Extends-extends, Extends-means, Extends-pushed, Extends-weight}
 use Rattle.filter_compile.proofs.ArithmeticLemmas.{Computes-applied, Computes-constant, Pairs-number}
 use Rattle.filter_compile.proofs.arithmetic.apply_number.Goals as goal
 

@@ -1,5 +1,5 @@
 use Rattle.std.proofs.lemmas.Result.{on_ok_weaker}
-use Rattle.backpatch.proofs.GuardLemmas.{Extends-means}
+use Rattle.filter_emit.proofs.GuardLemmas.{Extends-means}
 use Rattle.filter_compile.proofs.StepLemmas.{Extends-behind}
 use Rattle.filter_compile.proofs.arithmetic.load.Goals as goal
 

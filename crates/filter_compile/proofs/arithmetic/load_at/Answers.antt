@@ -1,6 +1,6 @@
 use Rattle.std.proofs.Common.{refl}
 use Rattle.std.proofs.lemmas.Result.{on_ok_weaker}
-use Rattle.backpatch.proofs.GuardLemmas.{Extends-extends, Extends-pushed}
+use Rattle.filter_emit.proofs.GuardLemmas.{Extends-extends, Extends-pushed}
 use Rattle.filter_compile.proofs.ArithmeticLemmas.{Computes-at}
 use Rattle.filter_compile.proofs.arithmetic.load_at.Goals as goal
 

@@ -2,7 +2,7 @@ use Rattle.std.proofs.Common.{None, Some, ap, arith, cond, refl, subst}
 use Rattle.std.proofs.lemmas.Bool.{lt-ltb}
 use Rattle.bpf_verify.specs.declared.TheConstants.{ANCILLARY_FROM}
 use Rattle.bpf_verify.specs.declared.fault.Fault.TheVariants.{Ancillary}
-use Rattle.backpatch.proofs.GuardLemmas.{Extends-extends, Extends-means, Extends-pushed, Extends-weight}
+use Rattle.filter_emit.proofs.GuardLemmas.{Extends-extends, Extends-means, Extends-pushed, Extends-weight}
 use Rattle.filter_compile.specs.body.Arithmetic.{IsDirect}
 use Rattle.filter_compile.proofs.ArithmeticLemmas.{Computes-absolute, Computes-direct, direct_low}
 use Rattle.filter_compile.proofs.arithmetic.load_directly.Goals as goal

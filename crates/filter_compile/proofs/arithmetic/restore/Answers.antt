@@ -3,7 +3,7 @@ use Rattle.std.proofs.lemmas.Bool.{lt-ltb}
 use Rattle.std.proofs.lemmas.Result.{on_ok_weaker}
 use Rattle.bpf_verify.specs.declared.TheConstants.{CELLS}
 use Rattle.bpf_verify.specs.declared.fault.Fault.TheVariants.{BadCell}
-use Rattle.backpatch.proofs.GuardLemmas.{Extends-extends, Extends-pushed}
+use Rattle.filter_emit.proofs.GuardLemmas.{Extends-extends, Extends-pushed}
 use Rattle.filter_compile.proofs.arithmetic.restore.Goals as goal
 
 pub returns : goal.returns

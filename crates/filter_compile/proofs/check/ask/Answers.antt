@@ -1,6 +1,6 @@
 use Rattle.std.proofs.Common.{◌==◌, refl, true}
 use Rattle.std.proofs.lemmas.Result.{on_ok_weaker}
-use Rattle.backpatch.proofs.WritesLemmas.{Writes-means}
+use Rattle.filter_emit.proofs.WritesLemmas.{Writes-means}
 use Rattle.filter_compile.proofs.TestLemmas.{Asks-checks}
 use Rattle.filter_compile.proofs.check.ask.Goals as goal
 

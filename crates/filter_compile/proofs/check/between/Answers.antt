@@ -1,10 +1,10 @@
 use Rattle.std.proofs.Common.{arith, refl, true}
 use Rattle.std.specs.Prelude.{◌&&◌, nat_le, nat_lt, not}
 use Rattle.std.proofs.lemmas.Result.{on_ok_weaker}
-use Rattle.backpatch.specs.Checks.{Checks}
-use Rattle.backpatch.proofs.BothLemmas.{Writes-and}
-use Rattle.backpatch.proofs.CheckLemmas.{Checks-and, Checks-not}
-use Rattle.backpatch.proofs.WritesLemmas.{Writes-means, Writes-not, bindable}
+use Rattle.filter_emit.specs.Checks.{Checks}
+use Rattle.filter_emit.proofs.BothLemmas.{Writes-and}
+use Rattle.filter_emit.proofs.CheckLemmas.{Checks-and, Checks-not}
+use Rattle.filter_emit.proofs.WritesLemmas.{Writes-means, Writes-not, bindable}
 use Rattle.filter_tree.specs.Primitive.{is_between}
 use Rattle.filter_compile.proofs.HeaderLemmas.{between_asked}
 use Rattle.filter_compile.proofs.TestLemmas.{Asks-checks}

@@ -3,8 +3,8 @@ use Rattle.std.proofs.lemmas.Bool.{lt-ltb}
 use Rattle.std.proofs.lemmas.Result.{on_ok_weaker}
 use Rattle.bpf_insn.specs.declared.instruction.Operation.TheVariants.{And, Rsh}
 use Rattle.bpf_verify.specs.declared.fault.Fault.TheVariants.{BadShift}
-use Rattle.backpatch.proofs.CheckLemmas.{Checks-alu}
-use Rattle.backpatch.proofs.GuardLemmas.{Extends-pushed, Extends-writes}
+use Rattle.filter_emit.proofs.CheckLemmas.{Checks-alu}
+use Rattle.filter_emit.proofs.GuardLemmas.{Extends-pushed, Extends-writes}
 use Rattle.filter_tree.specs.Prefix.{covers}
 use Rattle.filter_compile.proofs.HeaderLemmas.{covered_by_bits, covered_by_none, shifts}
 use Rattle.filter_compile.proofs.TestLemmas.{Asks-checks}

@@ -1,6 +1,6 @@
 use Rattle.std.proofs.Common.{arith}
-use Rattle.backpatch.proofs.BothLemmas.{Writes-and}
-use Rattle.backpatch.proofs.WritesLemmas.{bindable}
+use Rattle.filter_emit.proofs.BothLemmas.{Writes-and}
+use Rattle.filter_emit.proofs.WritesLemmas.{bindable}
 use Rattle.filter_compile.proofs.HeaderLemmas.{Tests-both, check_weight}
 use Rattle.filter_compile.proofs.ends.both_ends.Goals as goal
 

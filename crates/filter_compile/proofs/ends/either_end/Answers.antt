@@ -1,6 +1,6 @@
 use Rattle.std.proofs.Common.{arith}
-use Rattle.backpatch.proofs.BothLemmas.{Writes-or}
-use Rattle.backpatch.proofs.WritesLemmas.{bindable_no}
+use Rattle.filter_emit.proofs.BothLemmas.{Writes-or}
+use Rattle.filter_emit.proofs.WritesLemmas.{bindable_no}
 use Rattle.filter_compile.proofs.HeaderLemmas.{Tests-either, check_weight}
 use Rattle.filter_compile.proofs.ends.either_end.Goals as goal
 

@@ -1,4 +1,4 @@
-use Rattle.backpatch.proofs.WritesLemmas.{Writes-means}
+use Rattle.filter_emit.proofs.WritesLemmas.{Writes-means}
 use Rattle.filter_compile.specs.body.Header.{destination_of, source_of}
 use Rattle.filter_compile.proofs.HeaderLemmas.{Tests-end}
 use Rattle.filter_compile.proofs.ends.ends.Goals as goal

@@ -1,8 +1,8 @@
 use Rattle.std.proofs.Common.{◌+◌, List, arith, subst, sym, ℕ}
-use Rattle.backpatch.proofs.GuardLemmas.{Extends-writes}
-use Rattle.backpatch.proofs.WritesLemmas.{Writes-weight}
+use Rattle.filter_emit.proofs.GuardLemmas.{Extends-writes}
+use Rattle.filter_emit.proofs.WritesLemmas.{Writes-weight}
 use Rattle.filter_tree.specs.Outcome.{tested}
-use Rattle.packet_facts.specs.Known.{Holds, IsInA, loaded_of}
+use Rattle.filter_facts.specs.Known.{Holds, IsInA, loaded_of}
 use Rattle.filter_compile.specs.body.Header.{by_header, keeps_a, passes, weight_of_check, where_kept}
 use Rattle.filter_compile.proofs.HeaderLemmas.{header_there, loaded-below}
 use Rattle.filter_compile.proofs.TestLemmas.{Decides-brought, Tests-decided}

@@ -1,10 +1,10 @@
 use Rattle.std.proofs.Common.{◌∙◌, ◌+◌, ◌≤◌, Some, ap, arith, false, rules, true}
-use Rattle.backpatch.proofs.GuardLemmas.{Guards-bound, Guards-bound_no, Guards-writes}
-use Rattle.backpatch.proofs.WritesLemmas.{Writes-not, Writes-weight, bindable, bindable_no}
+use Rattle.filter_emit.proofs.GuardLemmas.{Guards-bound, Guards-bound_no, Guards-writes}
+use Rattle.filter_emit.proofs.WritesLemmas.{Writes-not, Writes-weight, bindable, bindable_no}
 use Rattle.filter_tree.specs.Measure.{weight_of}
 use Rattle.filter_tree.specs.Truth.{truth_of}
 use Rattle.filter_tree.specs.View.{tree_of}
-use Rattle.packet_facts.specs.Known.{Holds}
+use Rattle.filter_facts.specs.Known.{Holds}
 use Rattle.filter_compile.specs.body.Front.{guard_weight}
 use Rattle.filter_compile.specs.body.Weight.{weight_under}
 use Rattle.filter_compile.proofs.NonIpv4Lemmas.{Writes-no_non_ipv4, Writes-yes_non_ipv4, settled}

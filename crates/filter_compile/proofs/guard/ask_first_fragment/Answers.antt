@@ -1,6 +1,6 @@
 use Rattle.std.proofs.Common.{None, ap, ◌∙◌}
 use Rattle.filter_tree.specs.Primitive.{is_first_fragment}
-use Rattle.packet_facts.specs.Told.{first_fragment_of, ip_told, named_told, transport_of}
+use Rattle.filter_facts.specs.Told.{first_fragment_of, ip_told, named_told, transport_of}
 use Rattle.filter_compile.proofs.GuardLemmas.{Adds-asked}
 use Rattle.filter_compile.proofs.guard.ask_first_fragment.Goals as goal
 

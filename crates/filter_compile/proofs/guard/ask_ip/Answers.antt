@@ -1,7 +1,7 @@
 use Rattle.filter_tree.specs.Primitive.{is_ip}
 use Rattle.filter_compile.proofs.GuardLemmas.{Adds-asked}
 use Rattle.std.proofs.Common.{None, ap, ◌∙◌}
-use Rattle.packet_facts.specs.Told.{ip_of, ip_told, named_told, transport_of}
+use Rattle.filter_facts.specs.Told.{ip_of, ip_told, named_told, transport_of}
 use Rattle.filter_compile.proofs.guard.ask_ip.Goals as goal
 
 pub returns : goal.returns

@@ -1,6 +1,6 @@
 use Rattle.std.proofs.Common.{Some}
 use Rattle.filter_tree.specs.Primitive.{is_protocol}
-use Rattle.packet_facts.specs.declared.load.Loaded.TheVariants.{Protocol}
+use Rattle.filter_facts.specs.declared.load.Loaded.TheVariants.{Protocol}
 use Rattle.filter_compile.proofs.GuardLemmas.{Adds-asked}
 use Rattle.filter_compile.proofs.guard.ask_protocol.Goals as goal
 

@@ -2,7 +2,7 @@ use Rattle.std.proofs.Common.{◌∙◌, refl, sym}
 use Rattle.std.proofs.lemmas.Result.{on_ok_weaker}
 use Rattle.filter_tree.specs.Outcome.{where_so}
 use Rattle.filter_tree.specs.Primitive.{is_ip}
-use Rattle.packet_facts.specs.Told.{ip_of}
+use Rattle.filter_facts.specs.Told.{ip_of}
 use Rattle.filter_compile.proofs.GuardLemmas.{Adds-none, unknown}
 use Rattle.filter_compile.proofs.WeightLemmas.{version_weight-asked}
 use Rattle.filter_compile.proofs.guard.guard_ip.Goals as goal

@@ -3,8 +3,8 @@ use Rattle.ipv4_fields.specs.declared.header.Field.TheVariants.{Protocol}
 use Rattle.ipv4_fields.specs.Field.{field_of}
 use Rattle.filter_tree.specs.Outcome.{tested}
 use Rattle.filter_tree.specs.Primitive.{has_ports}
-use Rattle.packet_facts.specs.declared.load.Loaded.TheVariants.{Protocol as LoadedProtocol}
-use Rattle.packet_facts.specs.Told.{ip_told, named_told, transport_of}
+use Rattle.filter_facts.specs.declared.load.Loaded.TheVariants.{Protocol as LoadedProtocol}
+use Rattle.filter_facts.specs.Told.{ip_told, named_told, transport_of}
 use Rattle.filter_compile.specs.body.Header.{weight_of_transport}
 use Rattle.filter_compile.proofs.GuardLemmas.{Adds-asked, Adds-none, unknown}
 use Rattle.filter_compile.proofs.guard.guard_transport.Goals as goal

@@ -1,10 +1,10 @@
 use Rattle.std.proofs.Common.{arith, refl, true, ◌==◌}
 use Rattle.std.specs.Prelude.{◌||◌}
 use Rattle.std.proofs.lemmas.Result.{on_ok_weaker}
-use Rattle.backpatch.specs.Checks.{Checks}
-use Rattle.backpatch.proofs.CheckLemmas.{Checks-or}
-use Rattle.backpatch.proofs.GuardLemmas.{Extends-writes}
-use Rattle.backpatch.proofs.WritesLemmas.{Writes-weight}
+use Rattle.filter_emit.specs.Checks.{Checks}
+use Rattle.filter_emit.proofs.CheckLemmas.{Checks-or}
+use Rattle.filter_emit.proofs.GuardLemmas.{Extends-writes}
+use Rattle.filter_emit.proofs.WritesLemmas.{Writes-weight}
 use Rattle.filter_tree.specs.declared.primitive.Transport.TheVariants.{Unnamed}
 use Rattle.filter_tree.specs.Primitive.{has_ports}
 use Rattle.filter_compile.proofs.GuardLemmas.{Guards-writes_no}

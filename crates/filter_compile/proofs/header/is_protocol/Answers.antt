@@ -1,6 +1,6 @@
 use Rattle.std.proofs.Common.{◌==◌, refl, true}
 use Rattle.std.proofs.lemmas.Result.{on_ok_weaker}
-use Rattle.backpatch.proofs.GuardLemmas.{Extends-writes}
+use Rattle.filter_emit.proofs.GuardLemmas.{Extends-writes}
 use Rattle.filter_compile.proofs.HeaderLemmas.{Decides-protocol}
 use Rattle.filter_compile.proofs.TestLemmas.{Asks-checks}
 use Rattle.filter_compile.proofs.header.is_protocol.Goals as goal

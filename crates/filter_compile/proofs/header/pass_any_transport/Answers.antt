@@ -1,6 +1,6 @@
 use Rattle.std.proofs.Common.{arith}
-use Rattle.backpatch.proofs.GuardLemmas.{Guards-bound}
-use Rattle.backpatch.proofs.WritesLemmas.{bindable}
+use Rattle.filter_emit.proofs.GuardLemmas.{Guards-bound}
+use Rattle.filter_emit.proofs.WritesLemmas.{bindable}
 use Rattle.filter_compile.proofs.header.pass_any_transport.Goals as goal
 
 pub bind-requires-clause-open : goal.bind-requires-clause-open

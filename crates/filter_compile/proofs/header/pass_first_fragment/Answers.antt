@@ -1,9 +1,9 @@
 use Rattle.std.proofs.Common.{◌==◌, ◌∙◌, arith, bit_and, false, refl}
 use Rattle.std.proofs.lemmas.Result.{on_ok_weaker}
-use Rattle.backpatch.specs.Checks.{Checks}
+use Rattle.filter_emit.specs.Checks.{Checks}
 use Rattle.std.specs.Prelude.{not}
-use Rattle.backpatch.proofs.CheckLemmas.{Checks-not}
-use Rattle.backpatch.proofs.GuardLemmas.{Extends-guards, Extends-pushed, Guards-means, Guards-weight}
+use Rattle.filter_emit.proofs.CheckLemmas.{Checks-not}
+use Rattle.filter_emit.proofs.GuardLemmas.{Extends-guards, Extends-pushed, Guards-means, Guards-weight}
 use Rattle.ipv4_fields.specs.Field.{bits_from}
 use Rattle.filter_compile.proofs.HeaderLemmas.{Decides-offset, not_not, offset_asked}
 use Rattle.filter_compile.proofs.TestLemmas.{Asks-checks}

@@ -1,8 +1,8 @@
 use Rattle.std.proofs.Common.{◌==◌, arith, bit_and, false, refl}
 use Rattle.std.proofs.lemmas.Result.{on_ok_weaker}
 use Rattle.bpf_insn.specs.declared.instruction.Operation.TheVariants.{And}
-use Rattle.backpatch.proofs.CheckLemmas.{Checks-alu}
-use Rattle.backpatch.proofs.GuardLemmas.{Extends-guards, Extends-pushed, Guards-weight}
+use Rattle.filter_emit.proofs.CheckLemmas.{Checks-alu}
+use Rattle.filter_emit.proofs.GuardLemmas.{Extends-guards, Extends-pushed, Guards-weight}
 use Rattle.ipv4_fields.specs.Field.{bits_from}
 use Rattle.filter_compile.specs.body.Piece.{Asks}
 use Rattle.filter_compile.proofs.HeaderLemmas.{Decides-version, version_asked}

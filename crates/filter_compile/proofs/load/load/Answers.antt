@@ -1,6 +1,6 @@
 use Rattle.std.proofs.Common.{◌≡◌, Some, arith, rules}
 use Rattle.std.proofs.lemmas.Result.{on_ok_weaker}
-use Rattle.backpatch.proofs.GuardLemmas.{Extends-means, Extends-none, Extends-pushed, Extends-weight}
+use Rattle.filter_emit.proofs.GuardLemmas.{Extends-means, Extends-none, Extends-pushed, Extends-weight}
 use Rattle.filter_compile.specs.body.Piece.{Brings}
 use Rattle.filter_compile.proofs.HeaderLemmas.{Brings-held, Brings-load}
 use Rattle.filter_compile.proofs.load.load.Goals as goal

@@ -1,6 +1,6 @@
 use Rattle.std.proofs.Common.{arith, refl, true}
 use Rattle.std.proofs.lemmas.Result.{on_ok_weaker}
-use Rattle.backpatch.proofs.GuardLemmas.{Extends-means, Extends-none, Extends-pushed, Extends-weight}
+use Rattle.filter_emit.proofs.GuardLemmas.{Extends-means, Extends-none, Extends-pushed, Extends-weight}
 use Rattle.filter_compile.specs.body.Piece.{LoadsHeader}
 use Rattle.filter_compile.proofs.ArithmeticLemmas.{Computes-header, Computes-held}
 use Rattle.filter_compile.proofs.load.load_header.Goals as goal

@@ -1,6 +1,6 @@
 use Rattle.std.proofs.Common.{refl}
 use Rattle.std.proofs.lemmas.Result.{on_ok_weaker}
-use Rattle.backpatch.proofs.GuardLemmas.{Extends-pushed, Extends-writes}
+use Rattle.filter_emit.proofs.GuardLemmas.{Extends-pushed, Extends-writes}
 use Rattle.filter_compile.proofs.HeaderLemmas.{Decides-length}
 use Rattle.filter_compile.proofs.primitive.bytes.Goals as goal
 

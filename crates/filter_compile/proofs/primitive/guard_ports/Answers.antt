@@ -3,7 +3,7 @@ use Rattle.ipv4_fields.specs.declared.header.Field.TheVariants.{Protocol}
 use Rattle.ipv4_fields.specs.Field.{field_of}
 use Rattle.filter_tree.specs.Outcome.{◌and_then◌, tested}
 use Rattle.filter_tree.specs.Primitive.{has_ports, is_first_fragment, is_ip}
-use Rattle.packet_facts.proofs.FactLemmas.{ip_by_transport}
+use Rattle.filter_facts.proofs.FactLemmas.{ip_by_transport}
 use Rattle.filter_compile.specs.body.Weight.{ports_weight_under}
 use Rattle.filter_compile.proofs.GuardLemmas.{Adds-both, Adds-none, Adds-weight, leads, led_truth}
 use Rattle.filter_compile.proofs.WeightLemmas.{ports_weight-asked}

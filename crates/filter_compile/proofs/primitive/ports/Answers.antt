@@ -1,12 +1,12 @@
 use Rattle.std.proofs.Common.{List, arith, subst, sym, ℕ}
-use Rattle.backpatch.proofs.GuardLemmas.{Extends-writes}
+use Rattle.filter_emit.proofs.GuardLemmas.{Extends-writes}
 use Rattle.ipv4_fields.specs.declared.header.Field.TheVariants.{Protocol}
 use Rattle.ipv4_fields.specs.Field.{field_of}
 use Rattle.filter_tree.specs.declared.truth.Truth.{Truth}
 use Rattle.filter_tree.specs.Outcome.{◌and_then◌, tested}
 use Rattle.filter_tree.specs.Primitive.{has_ports, is_first_fragment, is_ip}
-use Rattle.packet_facts.specs.Known.{Holds, Knows}
-use Rattle.packet_facts.proofs.FactLemmas.{x_known}
+use Rattle.filter_facts.specs.Known.{Holds, Knows}
+use Rattle.filter_facts.proofs.FactLemmas.{x_known}
 use Rattle.filter_compile.specs.declared.ends.Part.TheVariants.{Port}
 use Rattle.filter_compile.specs.body.Header.{ends_pass, weight_of_ports}
 use Rattle.filter_compile.specs.body.Weight.{ports_weight_under}

@@ -1,12 +1,12 @@
 use Rattle.std.proofs.Common.{◌+◌, None, arith, false, length, refl, subst, sym}
 use Rattle.std.proofs.lemmas.Result.{IfOk-weaker}
-use Rattle.backpatch.proofs.WritesLemmas.{Writes-not, Writes-weight}
+use Rattle.filter_emit.proofs.WritesLemmas.{Writes-not, Writes-weight}
 use Rattle.bpf_insn.specs.declared.instruction.Test.TheVariants as test_is
 use Rattle.bpf_machine.specs.Meaning.{holds}
 use Rattle.filter_tree.specs.declared.primitive.Primitive.TheVariants.{AtLeast, AtMost, Host, Net, Port, PortRange}
 use Rattle.filter_tree.specs.Outcome.{answer, opposite}
 use Rattle.filter_tree.specs.Primitive.{is_ip, is_protocol, truth_of_primitive}
-use Rattle.packet_facts.specs.Known.{Holds}
+use Rattle.filter_facts.specs.Known.{Holds}
 use Rattle.filter_compile.specs.body.Piece.{Decides}
 use Rattle.filter_compile.specs.body.Weight.{version_weight_under, weight_of_primitive_under}
 use Rattle.filter_compile.proofs.GuardLemmas.{Guards-added, Writes-decided, Writes-guarded, Writes-no}

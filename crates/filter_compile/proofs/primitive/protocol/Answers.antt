@@ -1,7 +1,7 @@
 use Rattle.std.proofs.Common.{Some, arith}
 use Rattle.std.proofs.lemmas.Result.{IfOk-weaker}
 use Rattle.filter_tree.specs.Primitive.{is_protocol}
-use Rattle.packet_facts.specs.declared.load.Loaded.TheVariants.{Protocol}
+use Rattle.filter_facts.specs.declared.load.Loaded.TheVariants.{Protocol}
 use Rattle.filter_compile.proofs.GuardLemmas.{Writes-decided, Writes-yes}
 use Rattle.filter_compile.proofs.primitive.protocol.Goals as goal
 

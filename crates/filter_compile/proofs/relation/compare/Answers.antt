@@ -1,7 +1,7 @@
 use Rattle.std.proofs.Common.{sym}
 use Rattle.std.proofs.lemmas.Result.{on_ok_weaker}
-use Rattle.backpatch.proofs.CheckLemmas.{Checks-not, Checks-same}
-use Rattle.backpatch.proofs.WritesLemmas.{Writes-not}
+use Rattle.filter_emit.proofs.CheckLemmas.{Checks-not, Checks-same}
+use Rattle.filter_emit.proofs.WritesLemmas.{Writes-not}
 use Rattle.bpf_machine.specs.Meaning.{operand_value}
 use Rattle.filter_compile.proofs.HeaderLemmas.{le_not_lt, lt_not_le}
 use Rattle.filter_compile.proofs.relation.compare.Goals as goal

@@ -3,8 +3,8 @@ use Rattle.std.proofs.lemmas.Result.{IfOk-weaker}
 use Rattle.filter_tree.specs.Tree.{relation}
 use Rattle.filter_tree.specs.Truth.{accesses_of_both, guards, truth_of, used_by}
 use Rattle.filter_tree.specs.View.{arith_tree_of}
-use Rattle.packet_facts.specs.Known.{Knows}
-use Rattle.packet_facts.proofs.FactLemmas.{guards-used_by, x_known}
+use Rattle.filter_facts.specs.Known.{Knows}
+use Rattle.filter_facts.proofs.FactLemmas.{guards-used_by, x_known}
 use Rattle.filter_compile.specs.body.Weight.{weight_of_guards_under, weight_under}
 use Rattle.filter_compile.proofs.GuardLemmas.{Guards-added, Writes-no}
 use Rattle.filter_compile.proofs.RelationLemmas.{Writes-relation, excluded_relation, relation_weight}

@@ -1,8 +1,0 @@
-use Rattle.std.proofs.Common.{rules}
-use Rattle.packet_facts.proofs.known.Known.header_in_x.Goals as goal
-
-pub returns-clause-exact : goal.returns-clause-exact
-returns-clause-exact c = search rules
-
-pub returns-clause-known : goal.returns-clause-known
-returns-clause-known c = search rules
