@@ -1,6 +1,6 @@
 //! Rows of capture files.
 
-use capture_file::summarize;
+use packet_capture::summarize;
 use std::alloc::Global;
 use std::io;
 

@@ -10,7 +10,7 @@ use Rattle.command_line.specs.CommandLine.{Request, WaitingRequest, command_in, 
 use Rattle.command_line.specs.Ending.{AppendsBeginning, line_of}
 use Rattle.command_line.specs.Input.{IsInput}
 use Rattle.script_commands.specs.Replaying.{ReplayWritesBefore, WritesScript}
-use Rattle.capture_file.specs.Packets.{TellsCounts, WritesFirst, WritesText}
+use Rattle.packet_capture.specs.Packets.{TellsCounts, WritesFirst, WritesText}
 use Rattle.query_commands.specs.Query.{QueryWritesBefore, ReadsInput, WritesAnswer}
 
 -- the input was read to its end, and the text of that file was written, and nothing else

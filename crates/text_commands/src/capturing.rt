@@ -5,7 +5,7 @@ ghost use Rattle.command_line.specs.CommandLine.{packets};
 ghost use Rattle.query_commands.specs.Query.{MayFail};
 ghost use Rattle.text_commands.specs.Request.{TellsCountsOf, WritesBefore, WritesPackets};
 
-use capture_file::print_packets;
+use packet_capture::print_packets;
 use command_line::{Failure, Status, read_whole};
 use std::alloc::Global;
 use std::io::{Read, Write};

@@ -1,9 +1,0 @@
-use Rattle.std.proofs.Common.{length}
-use Rattle.capture_file.specs.body.Progress.{WritesRecords}
-use Rattle.capture_file.proofs.packet_lines.write_packets.Given as goal
-
-abbrev pub invariant-loop-captured : goal.invariant-loop-captured
-invariant-loop-captured g l = WritesRecords l.header l.fn.records l.rest (g.W.Write.contents l.fn.out) (g.W.Write.contents l.out)
-
-abbrev pub decreases-loop-captured : goal.decreases-loop-captured
-decreases-loop-captured g l = length l.rest

@@ -1,0 +1,36 @@
+use Rattle.std.proofs.Common.{Ok, Result, ap, arith, drop, length-drop, sym, rules}
+use Rattle.command_line.specs.declared.ending.Failure.{Failure}
+use Rattle.command_line.specs.declared.ending.Failure.TheVariants.{OutOfMemory}
+use Rattle.command_line.specs.declared.ending.Status.{Status}
+use Rattle.packet_capture.proofs.CaptureLemmas.{AreRecords-shorter, behind_header}
+use Rattle.packet_capture.proofs.PacketLemmas.{error_is, text_written}
+use Rattle.packet_capture.specs.body.Progress.{WritesRecords}
+use Rattle.packet_capture.proofs.packet_lines.write_capture.Goals as goal
+
+pub returns-in_err-rest-clause-no_memory : goal.returns-in_err-rest-clause-no_memory
+returns-in_err-rest-clause-no_memory g c = λ is.
+    let first = c.in_err-rest.ensures.no_memory (error_is c.from_residual.result c.in_err-rest.field-0.0 OutOfMemory c.from_residual.ensures.1 is) in
+    (first.0, behind_header (λ bytes. WritesRecords c.args.header bytes first.0 (g.W.Write.contents c.args.out.now) (g.W.Write.contents c.write_packets.new.out)) c.args.file.now first.1)
+
+pub overflow_sub-file : goal.overflow_sub-file
+overflow_sub-file g c =
+    let written = behind_header (λ bytes. WritesRecords c.args.header bytes c.in_ok-rest.rest.now (g.W.Write.contents c.args.out.now) (g.W.Write.contents c.write_packets.new.out)) c.args.file.now c.in_ok-rest.ensures.written in
+    omega (arith, AreRecords-shorter c.args.header (drop 24 c.args.file.now) c.in_ok-rest.rest.now written.contents written.are_records, length-drop 24 c.args.file.now)
+
+pub returns-clause-written : goal.returns-clause-written
+returns-clause-written g c =
+    let told = c.in_ok-status.ensures in
+    let ok : Status → Result Status Failure = λ (s : Status). Ok s in
+    text_written c.args.file.now c.args.header c.requires (g.W.Write.contents c.args.out.now) (g.W.Write.contents c.write_packets.new.out) (g.W.Write.contents c.write_cut.new.out) (g.W.Write.contents c.flush.new.self) c.flush.ensures.bytes
+    c.in_ok-rest.rest.now c.in_ok-status.status
+    (behind_header (λ bytes. WritesRecords c.args.header bytes c.in_ok-rest.rest.now (g.W.Write.contents c.args.out.now) (g.W.Write.contents c.write_packets.new.out)) c.args.file.now c.in_ok-rest.ensures.written)
+    c.in_ok-rest.ensures.no_more
+    told.status
+    (λ is. let whole = told.whole (ap ok is) in (whole.0, ap g.W.Write.contents (sym whole.1)))
+    (λ is. told.cut (ap ok is))
+
+pub returns-clause-failed : goal.returns-clause-failed
+returns-clause-failed g c = search rules
+
+pub returns-clause-no_memory : goal.returns-clause-no_memory
+returns-clause-no_memory g c = search rules

@@ -1,0 +1,21 @@
+use Rattle.std.proofs.Common.{rules}
+use Rattle.packet_capture.proofs.PacketLemmas.{WritesRecords-more}
+use Rattle.packet_capture.proofs.packet_lines.write_packets.Goals as goal
+
+pub loop-captured-preserved : goal.loop-captured-preserved
+loop-captured-preserved g c =
+    WritesRecords-more c.args.header c.args.records.now c.loop-captured.rest.now c.in-Some.captured.now c.in-Some.behind.now c.content_of.result
+    (g.W.Write.contents c.args.out.now) (g.W.Write.contents c.loop-captured.out) (g.W.Write.contents c.write_content.new.out)
+    c.loop-captured.invariant c.in-Some.ensures c.content_of.ensures c.in_ok-write_content.ensures.written
+
+pub returns-clause-failed : goal.returns-clause-failed
+returns-clause-failed g c = search rules
+
+pub returns-clause-no_memory : goal.returns-clause-no_memory
+returns-clause-no_memory g c = search rules
+
+pub returns-clause-no_more : goal.returns-clause-no_more
+returns-clause-no_more g c = search rules
+
+pub returns-clause-written : goal.returns-clause-written
+returns-clause-written g c = search rules

@@ -1,0 +1,91 @@
+-- What `packets` writes (docs/COMMANDS.md, "packets").
+use Rattle.std.specs.Prelude.{◌≡◌, ◌≢◌, ◌++◌, ◌⊎◌, List, None, Option, Some, [], codes, decimal, drop, ℕ}
+use Rattle.std.specs.Io.KnownBytes.{Appends}
+use Rattle.std.specs.List.{flat_map}
+use Rattle.packet_capture.specs.Capture.{AreRecords, IsCapture, IsSummary, packets_of, place_of}
+use Rattle.packet_capture.specs.Fault.{IsHeaderFault}
+use Rattle.packet_capture.specs.Header.{IsFileHeader}
+use Rattle.packet_capture.specs.declared.Summary.{Summary}
+use Rattle.packet_capture.specs.declared.content.Content.{Content}
+use Rattle.packet_capture.specs.declared.fault.HeaderFault.{HeaderFault}
+use Rattle.packet_capture.specs.declared.fault.HeaderFault.TheVariants.{Cut, LinkType, Magic, Pcapng, Version}
+use Rattle.packet_capture.specs.declared.header.FileHeader.{FileHeader}
+use Rattle.command_line.specs.Ending.{AppendsBeginning}
+use Rattle.command_line.specs.declared.ending.Status.{Status}
+use Rattle.command_line.specs.declared.ending.Status.TheVariants.{Done, Refused}
+use Rattle.hex.specs.Hex.{encode_lower}
+
+-- a packet as a line of a script
+abbrev pub packet_line : List ℕ → List ℕ
+packet_line packet = codes "packet " ++ encode_lower packet ++ codes "\n"
+
+-- the lines of the packets among what records hold
+abbrev pub packet_lines : List Content → List ℕ
+packet_lines contents = flat_map packet_line (packets_of contents)
+
+-- how the fault of a header is told
+abbrev pub header_fault_text : HeaderFault → List ℕ
+header_fault_text Magic = codes "refused L1"
+header_fault_text Pcapng = codes "refused L2"
+header_fault_text Version = codes "refused L3"
+header_fault_text (LinkType number) = codes "refused L4 " ++ decimal number
+header_fault_text Cut = codes "refused L5 0"
+
+-- and where a file is cut in a record: nothing where it is not
+abbrev pub cut_text : Option ℕ → List ℕ
+cut_text None = []
+cut_text (Some place) = codes "refused L5 " ++ decimal place ++ codes "\n"
+
+-- the text of a capture: a line for each packet in it
+pub record IsTextOfCapture (file text : List ℕ) : Type 0 where
+  pub header : FileHeader
+  pub contents : List Content
+  pub is_capture : IsCapture file header contents []
+  pub text_is : text ≡ packet_lines contents
+
+-- the text of a capture that is cut in a record: a line for each packet before that, and the refusal
+pub record IsTextOfCut (file text : List ℕ) : Type 0 where
+  pub header : FileHeader
+  pub contents : List Content
+  pub rest : List ℕ
+  pub is_capture : IsCapture file header contents rest
+  pub is_cut : rest ≢ []
+  pub text_is : text ≡ packet_lines contents ++ cut_text (place_of file rest)
+
+-- the text of a file whose header is not read
+pub record IsTextOfFault (file text : List ℕ) : Type 0 where
+  pub fault : HeaderFault
+  pub is_fault : IsHeaderFault file fault
+  pub text_is : text ≡ header_fault_text fault ++ codes "\n"
+
+-- the text that is written of a file, by the status
+abbrev pub IsPacketsText : List ℕ → Status → List ℕ → Type 0
+IsPacketsText file Done text = IsTextOfCapture file text
+IsPacketsText file Refused text = IsTextOfCut file text ⊎ IsTextOfFault file text
+IsPacketsText file _ text = ⊥
+
+-- that text was written behind what stood before, and nothing else
+pub record WritesText (file : List ℕ) (status : Status) (before after : Option (List ℕ)) : Type 0 where
+  pub text : List ℕ
+  pub text_is : IsPacketsText file status text
+  pub written : Appends before after text
+
+-- of the packets of a file, those of some first records were written, and nothing else
+pub record WritesFirst (file : List ℕ) (before after : Option (List ℕ)) : Type 0 where
+  pub header : FileHeader
+  pub contents : List Content
+  pub rest : List ℕ
+  pub is_header : IsFileHeader file header
+  pub are_records : AreRecords header (drop 24 file) contents rest
+  pub written : Appends before after (packet_lines contents)
+
+-- the counts of a file, as a line
+abbrev pub counts_text : Summary → List ℕ
+counts_text summary =
+    codes "packets " ++ decimal summary.whole ++ codes " cut " ++ decimal summary.cut ++ codes " other " ++ decimal summary.other ++ codes "\n"
+
+-- a beginning of the counts was told, where the header was read
+abbrev pub TellsCounts : List ℕ → Option (List ℕ) → Option (List ℕ) → Type 0
+TellsCounts file before after =
+    ((summary : Summary) × IsSummary file summary × AppendsBeginning before after (counts_text summary))
+    ⊎ ((fault : HeaderFault) × IsHeaderFault file fault × (after ≡ before))

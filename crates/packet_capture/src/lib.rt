@@ -1,0 +1,96 @@
+//! Capture files of libpcap, and the IPv4 packets in them (draft-ietf-opsawg-pcap; docs/COMMANDS.md, "packets").
+//!
+//! A file is read record by record: `read_header` reads its header, `first_record` cuts a record off, and `content_of` tells what
+//! it holds. Both byte orders are read, times in microseconds and in nanoseconds, and the link types of `LinkType`. `summarize` counts
+//! the records of a file, and tells where it is cut. `print_packets` writes a line of a script for each packet, and the refusal of a file
+//! that is none or is cut. No other call takes memory.
+#![tactic(auto)]
+
+ghost use Rattle.std.specs.Prelude.{◌≡◌, ◌+◌, ◌<◌, ◌^◌, IfErr, IfOk, None};
+ghost use Rattle.packet_capture.specs.Capture.{IsSummary};
+ghost use Rattle.packet_capture.specs.Fault.{IsHeaderFault};
+ghost use Rattle.packet_capture.specs.Record.{HasNoRecord};
+ghost use Rattle.packet_capture.specs.body.Progress.{CountsOne, IsCounted};
+
+mod content;
+mod counts;
+mod fault;
+mod header;
+mod link_type;
+mod order;
+mod packet_lines;
+mod record;
+mod refusal;
+
+pub use content::{Content, content_of, one_content};
+pub use fault::HeaderFault;
+pub use header::{FILE_HEADER, FileHeader, one_header, read_header};
+pub use link_type::LinkType;
+pub use order::Order;
+pub use packet_lines::print_packets;
+pub use record::{RECORD_HEADER, first_record};
+
+/// What the header of a file tells, how many of its records hold what, and where it is cut.
+#[derive(Clone, Copy, Debug, PartialEq, Eq)]
+pub struct Summary {
+    pub header: FileHeader,
+    /// IPv4 packets, whole.
+    pub whole: usize,
+    /// IPv4 packets that were cut, and records that end before it can be told what they hold.
+    pub cut: usize,
+    /// Records that hold something else.
+    pub other: usize,
+    /// The place of the first byte behind the last whole record, counted from 0, where bytes stand there.
+    pub cut_at: Option<usize>,
+}
+
+/// Counts the records of a capture file by what they hold, and tells where it is cut.
+///
+/// `file` is the file whole. `Err` is the first fault of its header.
+pub fn summarize(file: &[u8]) -> Result<Summary, HeaderFault>
+    ensures summary { IfOk result (IsSummary file.now) }
+    ensures fault { IfErr result (IsHeaderFault file.now) }
+{
+    let header = read_header(file)?;
+    let (mut summary, rest) = count_records(header, &file[FILE_HEADER..]);
+    if !rest.is_empty() {
+        summary.cut_at = Some(file.len() - rest.len());
+    }
+    Ok(summary)
+}
+
+// Counts the records, and gives what stands behind them.
+fn count_records(header: FileHeader, bytes: &[u8]) -> (Summary, &[u8])
+    ensures header { result.0.header ≡ header }
+    ensures counted { IsCounted header bytes.entry.now result.0 result.1.now }
+    ensures no_more { HasNoRecord header.order result.1.now }
+    ensures uncut { result.0.cut_at ≡ None }
+{
+    let mut summary = Summary {
+        header,
+        whole: 0,
+        cut: 0,
+        other: 0,
+        cut_at: None,
+    };
+    let mut rest = bytes;
+    while let Some((captured, behind)) = first_record(header.order, rest) {
+        count(
+            &content_of(header.link_type, header.order, captured),
+            &mut summary,
+        );
+        rest = behind;
+    }
+    (summary, rest)
+}
+
+fn count(content: &Content<'_>, summary: &mut Summary)
+    requires room { summary.old.whole + summary.old.cut + summary.old.other < 2 ^ 63 }
+    ensures { CountsOne content.now summary.old summary.new }
+{
+    match content {
+        Content::Packet(_) => summary.whole += 1,
+        Content::Cut => summary.cut += 1,
+        Content::Other => summary.other += 1,
+    }
+}

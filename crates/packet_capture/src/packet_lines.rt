@@ -1,0 +1,140 @@
+//! The packets of a capture file as lines of a script, and its counts (docs/COMMANDS.md, "packets").
+
+ghost use Rattle.std.specs.Prelude.{◌≡◌, ◌≢◌, ◌++◌, ◌∷◌, ◌⊎◌, [], Err, IfErr, IfOk, Ok, OnErr, OnOk, Some, codes, drop, string_bytes};
+ghost use Rattle.std.specs.Io.KnownBytes.{Appends};
+ghost use Rattle.packet_capture.specs.Header.{IsFileHeader};
+ghost use Rattle.packet_capture.specs.Record.{HasNoRecord};
+ghost use Rattle.packet_capture.specs.Packets.{TellsCounts, WritesFirst, WritesText, counts_text, cut_text, header_fault_text, packet_line, packet_lines};
+ghost use Rattle.packet_capture.specs.body.Progress.{WritesRecords, WritesSome};
+
+use crate::content::{Content, content_of};
+use crate::fault::HeaderFault;
+use crate::header::{FILE_HEADER, FileHeader};
+use crate::record::first_record;
+use crate::{Summary, summarize};
+use command_line::{Failure, Status, write_whole};
+use std::alloc::{AllocError, Global};
+use std::io::Write;
+
+/// Writes the packets of a capture file as lines, and then its counts to `errs`, whose own errors change nothing.
+///
+/// `file` is the file whole. A file that is cut in a record is refused behind the packets before that. Where its header is refused
+/// nothing else is written. At `OutOfMemory` the lines of some first packets were written, each whole.
+pub fn print_packets<W: Write, E: Write>(
+    alloc: Global,
+    file: &[u8],
+    out: &mut W,
+    errs: &mut E,
+) -> Result<Status, Failure>
+    ensures written { IfOk result (λ status. WritesText file.now status (W.contents out.old) (W.contents out.new)) }
+    ensures counted { OnOk result (TellsCounts file.now (E.contents errs.old) (E.contents errs.new)) }
+
+    ensures failed { IfErr result (λ failure. (failure ≡ Failure.WriteFailed) ⊎ (failure ≡ Failure.OutOfMemory)) }
+    ensures no_memory { result ≡ Err Failure.OutOfMemory → WritesFirst file.now (W.contents out.old) (W.contents out.new) }
+    ensures untold { OnErr result (errs.new ≡ errs.old) }
+{
+    let summary = match summarize(file) {
+        Ok(summary) => summary,
+        Err(fault) => return write_refusal(fault, out),
+    };
+    // Made before anything is written, so that want of memory for it comes first.
+    let counts = counts_line(alloc, summary)?;
+    let status = write_capture(alloc, summary.header, file, out)?;
+    let _ = write_whole(counts.as_bytes(), errs);
+    let _ = errs.flush();
+    Ok(status)
+}
+
+fn counts_line(alloc: Global, summary: Summary) -> Result<String, AllocError>
+    ensures { IfOk result (λ text. string_bytes text ≡ counts_text summary) }
+{
+    summary.to_string(alloc)
+}
+
+fn write_refusal<W: Write>(fault: HeaderFault, out: &mut W) -> Result<Status, Failure>
+    ensures failed { IfErr result (λ failure. failure ≡ Failure.WriteFailed) }
+    ensures refused { IfOk result (λ status. status ≡ Status.Refused) }
+    ensures written { OnOk result (Appends (W.contents out.old) (W.contents out.new) (header_fault_text fault ++ codes "\n")) }
+{
+    writeln!(out, "{fault}").map_err(|_| Failure::WriteFailed)?;
+    out.flush().map_err(|_| Failure::WriteFailed)?;
+    Ok(Status::Refused)
+}
+
+// Writes the packets of a file with this header, and where it is cut.
+fn write_capture<W: Write>(
+    alloc: Global,
+    header: FileHeader,
+    file: &[u8],
+    out: &mut W,
+) -> Result<Status, Failure>
+    requires { IsFileHeader file.now header }
+    ensures failed { IfErr result (λ failure. (failure ≡ Failure.WriteFailed) ⊎ (failure ≡ Failure.OutOfMemory)) }
+    ensures no_memory { result ≡ Err Failure.OutOfMemory → WritesSome header (drop 24 file.now) (W.contents out.old) (W.contents out.new) }
+    ensures written { IfOk result (λ status. WritesText file.now status (W.contents out.old) (W.contents out.new)) }
+{
+    let rest = write_packets(alloc, header, &file[FILE_HEADER..], out)?;
+    let status = write_cut(file.len() - rest.len(), rest, out)?;
+    out.flush().map_err(|_| Failure::WriteFailed)?;
+    Ok(status)
+}
+
+// Writes the packets of the records, and gives what stands behind these.
+fn write_packets<'a, W: Write>(
+    alloc: Global,
+    header: FileHeader,
+    records: &'a [u8],
+    out: &mut W,
+) -> Result<&'a [u8], Failure>
+    ensures failed { IfErr result (λ failure. (failure ≡ Failure.WriteFailed) ⊎ (failure ≡ Failure.OutOfMemory)) }
+    ensures no_memory { result ≡ Err Failure.OutOfMemory → WritesSome header records.entry.now (W.contents out.old) (W.contents out.new) }
+    ensures written { IfOk result (λ rest. WritesRecords header records.entry.now rest.now (W.contents out.old) (W.contents out.new)) }
+    ensures no_more { IfOk result (λ rest. HasNoRecord header.order rest.now) }
+{
+    let mut rest = records;
+    while let Some((captured, behind)) = first_record(header.order, rest) {
+        write_content(
+            alloc,
+            &content_of(header.link_type, header.order, captured),
+            out,
+        )?;
+        rest = behind;
+    }
+    Ok(rest)
+}
+
+fn write_content<W: Write>(alloc: Global, content: &Content<'_>, out: &mut W) -> Result<(), Failure>
+    ensures failed { IfErr result (λ failure. (failure ≡ Failure.WriteFailed) ⊎ (failure ≡ Failure.OutOfMemory)) }
+    ensures no_memory { result ≡ Err Failure.OutOfMemory → out.new ≡ out.old }
+    ensures written { OnOk result (Appends (W.contents out.old) (W.contents out.new) (packet_lines (content.now ∷ []))) }
+{
+    match content {
+        Content::Packet(packet) => write_packet(alloc, packet, out),
+        Content::Cut | Content::Other => Ok(()),
+    }
+}
+
+fn write_packet<W: Write>(alloc: Global, packet: &[u8], out: &mut W) -> Result<(), Failure>
+    ensures failed { IfErr result (λ failure. (failure ≡ Failure.WriteFailed) ⊎ (failure ≡ Failure.OutOfMemory)) }
+    ensures no_memory { result ≡ Err Failure.OutOfMemory → out.new ≡ out.old }
+    ensures written { OnOk result (Appends (W.contents out.old) (W.contents out.new) (packet_line packet.now)) }
+{
+    let digits = hex::encode(alloc, packet)?;
+    writeln!(out, "packet {digits}").map_err(|_| Failure::WriteFailed)?;
+    Ok(())
+}
+
+// Where bytes stand behind the last whole record, the file is cut at their place.
+fn write_cut<W: Write>(place: usize, rest: &[u8], out: &mut W) -> Result<Status, Failure>
+    ensures failed { IfErr result (λ failure. failure ≡ Failure.WriteFailed) }
+    ensures status { IfOk result (λ status. (status ≡ Status.Done) ⊎ (status ≡ Status.Refused)) }
+    ensures whole { result ≡ Ok Status.Done → (rest.now ≡ []) × (out.new ≡ out.old) }
+    ensures cut { result ≡ Ok Status.Refused
+        → (rest.now ≢ []) × Appends (W.contents out.old) (W.contents out.new) (cut_text (Some place)) }
+{
+    if rest.is_empty() {
+        return Ok(Status::Done);
+    }
+    writeln!(out, "refused L5 {place}").map_err(|_| Failure::WriteFailed)?;
+    Ok(Status::Refused)
+}
