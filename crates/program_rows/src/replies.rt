@@ -1,7 +1,7 @@
 //! Rows of replies: how a reply is counted, and the summary of a text that comes in pieces.
 
 use crate::texts::with_lines;
-use reply_counts::{ReplyCounts, reply_kind};
+use control_summary::{ReplyCounts, reply_kind};
 use std::alloc::Global;
 use std::io;
 

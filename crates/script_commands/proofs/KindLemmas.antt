@@ -34,9 +34,9 @@ use Rattle.control_line.specs.declared.reason.Reason.TheVariants.{BadForm, Comma
 use Rattle.filter_program.specs.declared.fault.TextFault.TheVariants.{Assembly, Compiling, Expression, OutOfMemory, Words}
 use Rattle.control_line.specs.declared.reply.LineAnswer.TheVariants.{GroupRead, MemberRead, Shown, Swept, WordsRead}
 use Rattle.packet_verdict.specs.declared.verdict.Verdict.TheVariants.{Deliver, Dropped, Malformed, NoGroup, NoMembers}
-use Rattle.reply_counts.specs.Kind.{refusal_in, reply_kind}
-use Rattle.reply_counts.specs.Verdict.{verdict_at, verdict_in, words_of}
-use Rattle.reply_counts.proofs.WordLemmas.{cut_words, one_word}
+use Rattle.control_summary.specs.Kind.{refusal_in, reply_kind}
+use Rattle.control_summary.specs.Verdict.{verdict_at, verdict_in, words_of}
+use Rattle.control_summary.proofs.WordLemmas.{cut_words, one_word}
 use Rattle.script_commands.specs.Counted.{ChangesAreNotCounted, ReadsAreNotCounted, RefusalsAreCounted, ShowsAreNotCounted, SweepsAreNotCounted, VerdictsAreCounted}
 
 -- each byte is above the space

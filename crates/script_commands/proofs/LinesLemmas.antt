@@ -19,8 +19,8 @@ use Rattle.control_line.specs.declared.reply.LineAnswer.{LineAnswer}
 use Rattle.control_line.specs.declared.reply.LineAnswer.TheVariants.{GroupRead, MemberRead, Published, Refused, Shown, Swept, WordsRead}
 use Rattle.packet_verdict.specs.declared.verdict.Verdict.{Verdict}
 use Rattle.packet_verdict.specs.declared.verdict.Verdict.TheVariants.{Deliver, Dropped, Malformed, NoGroup, NoMembers}
-use Rattle.reply_counts.specs.Summary.{lines_of}
-use Rattle.reply_counts.proofs.LineLemmas.{first_line, no_lines}
+use Rattle.control_summary.specs.Summary.{lines_of}
+use Rattle.control_summary.proofs.LineLemmas.{first_line, no_lines}
 use Rattle.script_commands.specs.Lines.{AreLinesOf, AreRepliesInTurn, LinesAreReplies, each_ended, ended, last_open, no_reply, one_reply_more}
 use Rattle.script_commands.proofs.KindLemmas.{above-reason, lacks-above}
 

@@ -11,7 +11,7 @@ use Rattle.control_line.specs.declared.reply.LineAnswer.TheVariants.{GroupRead, 
 use Rattle.packet_verdict.specs.declared.verdict.Verdict.{Verdict}
 use Rattle.packet_verdict.specs.declared.verdict.Verdict.TheVariants.{Deliver, Dropped, Malformed, NoGroup, NoMembers}
 use Rattle.read_section.specs.declared.operator.Reclaimed.{Reclaimed}
-use Rattle.reply_counts.specs.Kind.{reply_kind}
+use Rattle.control_summary.specs.Kind.{reply_kind}
 
 -- the kind of a verdict: what its reply tells but the receiver and the bytes
 abbrev pub verdict_kind : Verdict → List ℕ

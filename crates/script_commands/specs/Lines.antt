@@ -4,7 +4,7 @@ use Rattle.std.specs.Prelude.{◌<◌, ◌++◌, ◌∷◌, All, List, [], lengt
 use Rattle.std.specs.List.{flat_map}
 use Rattle.control.specs.Script.{IsScriptText, RepliesTo, Standing, at_start}
 use Rattle.ipv4_fields.specs.Cut.{Lacks}
-use Rattle.reply_counts.specs.Summary.{lines_of}
+use Rattle.control_summary.specs.Summary.{lines_of}
 
 -- lines one behind the other, each with its LF, which is 10
 abbrev pub ended : List (List ℕ) → List ℕ

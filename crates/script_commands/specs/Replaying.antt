@@ -9,7 +9,7 @@ use Rattle.command_line.specs.declared.ending.Failure.TheVariants.{OutOfMemory, 
 use Rattle.command_line.specs.declared.ending.Status.{Status}
 use Rattle.command_line.specs.declared.ending.Status.TheVariants.{Done}
 use Rattle.control.specs.Script.{AreAnswered, IsScriptText, Standing}
-use Rattle.reply_counts.specs.Summary.{IsSummaryOf}
+use Rattle.control_summary.specs.Summary.{IsSummaryOf}
 use Rattle.command_line.specs.Input.{BeginsInput, IsInput}
 
 -- the input was read to its end, and these are the replies to all its lines

@@ -5,7 +5,7 @@ ghost use Rattle.std.specs.Io.KnownBytes.{Appends};
 ghost use Rattle.dispatch.specs.Memory.{MOST_FAILURES};
 
 use control::{Failed, Output, ToWrite};
-use reply_counts::ReplyCounts;
+use control_summary::ReplyCounts;
 use std::alloc::Global;
 use std::io::Write;
 use std::marker::{Brand, Model, PhantomData};

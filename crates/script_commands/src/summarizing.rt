@@ -10,7 +10,7 @@ use crate::replaying::failure_of;
 use crate::unwritten::count_replies;
 use command_line::{Failure, Status, write_whole};
 use control::{FromRead, replay};
-use reply_counts::ReplyCounts;
+use control_summary::ReplyCounts;
 use std::alloc::Global;
 use std::io::{Read, Write};
 use std::marker::Brand;

@@ -7,7 +7,7 @@ ghost use Rattle.script_commands.specs.body.Summarizing.{WasReplayed};
 use crate::replaying::failure_of;
 use command_line::{Failure, Status};
 use control::{Failed, FromRead, Output, replay};
-use reply_counts::ReplyCounts;
+use control_summary::ReplyCounts;
 use std::alloc::Global;
 use std::io::Read;
 

@@ -2,7 +2,7 @@
 use Rattle.std.specs.Prelude.{List, Option, ℕ}
 use Rattle.std.specs.Io.KnownBytes.{Appends}
 use Rattle.command_line.specs.Ending.{AppendsBeginning}
-use Rattle.reply_counts.specs.Summary.{IsSummaryOf}
+use Rattle.control_summary.specs.Summary.{IsSummaryOf}
 use Rattle.script_commands.specs.Replaying.{AreRepliesTo}
 
 -- the input was read to its end, and each of its lines was answered

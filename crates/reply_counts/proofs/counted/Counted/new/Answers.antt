@@ -1,5 +1,0 @@
-use Rattle.reply_counts.proofs.LineLemmas.{at_start}
-use Rattle.reply_counts.proofs.counted.Counted.new.Goals as goal
-
-pub returns : goal.returns
-returns c = rw (c.new.ensures.items, c.new-2.ensures.items) at_start

@@ -1,6 +1,0 @@
-use Rattle.std.proofs.Common.{◌≡◌, ◌++◌, take}
-use Rattle.reply_counts.specs.body.PutText.{text_of}
-use Rattle.reply_counts.proofs.put_text.PutText.add.Given as goal
-
-abbrev pub invariant-loop-byte : goal.invariant-loop-byte
-invariant-loop-byte l = text_of l.self-inside.last ≡ l.fn.self ++ take l.byte-index l.bytes

@@ -1,8 +1,0 @@
-use Rattle.std.proofs.Common.{rules}
-use Rattle.reply_counts.proofs.verdict.names_member.Goals as goal
-
-pub returns-else-is_name : goal.returns-else-is_name
-returns-else-is_name c = search rules
-
-pub returns-then-is_name : goal.returns-then-is_name
-returns-then-is_name c = search rules

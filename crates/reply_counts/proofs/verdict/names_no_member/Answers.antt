@@ -1,8 +1,0 @@
-use Rattle.std.proofs.Common.{rules}
-use Rattle.reply_counts.proofs.verdict.names_no_member.Goals as goal
-
-pub returns-else-is_name-2 : goal.returns-else-is_name-2
-returns-else-is_name-2 c = search rules
-
-pub returns-then-is_name-2 : goal.returns-then-is_name-2
-returns-then-is_name-2 c = search rules

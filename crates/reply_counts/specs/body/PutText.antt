@@ -1,7 +1,0 @@
--- The text that a `PutText` stands for.
-use Rattle.std.specs.Prelude.{◌++◌, ◌∷◌, List, [], ℕ}
-use Rattle.reply_counts.specs.declared.put_text.Last.{Empty, Last, Byte'}
-
-abbrev pub text_of : Last → List ℕ
-text_of Empty = []
-text_of (Byte' mark before byte) = text_of before ++ byte ∷ []
