@@ -18,8 +18,8 @@ use std::test::Fail;
 use std::thread::Threads;
 use std::time::Clock;
 use streams::{Sink, Source};
-use text_commands::tool;
-use worker_commands::run_waiting;
+use command_returning::tool;
+use command_waiting::run_waiting;
 
 /// The sample packet: 29 bytes of UDP over IPv4 from 10.0.0.1:5000 to 10.0.0.2:53, with the payload `a`.
 const SAMPLE_PACKET: &str = "4500001d00000000401100000a0000010a000002138800350009000061";

@@ -6,8 +6,8 @@ use std::env::Env;
 use std::io::LineWriter;
 use std::process::ExitCode;
 use std::{env, io};
-use text_commands::run_returning;
-use worker_commands::run_waiting;
+use command_returning::run_returning;
+use command_waiting::run_waiting;
 
 // The words after the program's name.
 fn arguments<R: Env + AllocGlobal>(rt: &R) -> io::Result<Vec<String>> {

@@ -11,7 +11,7 @@ use std::sync::atomic::{AtomicU64, Ordering};
 use std::test::Fail;
 use std::thread;
 use std::thread::Threads;
-use worker_commands::flood;
+use command_waiting::flood;
 
 const TOTALS: &str =
     "malformed 1024 nogroup 1024 nomembers 0 dropped 0 delivered 2048 sendfailed 0 receivefailed 0\n";

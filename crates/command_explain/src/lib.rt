@@ -1,0 +1,60 @@
+//! What the codes of the program mean: of a refusal, a failure, or an answer of the libraries (docs/COMMANDS.md, "Failures" and
+//! "Refusals").
+//!
+//! `explanation` finds the text of a code. The codes and texts stand in two tables, in
+//! `table_to_g` and `table_from_i`.
+#![tactic(auto)]
+
+ghost use Rattle.std.specs.Prelude.{◌≡◌, ◌↔◌, Contains, IfSome, IsSome, map, option_map};
+ghost use Rattle.command_explain.specs.Explanation.{Explains, IsExplanation, codes_explained, explanations, explanations_from_i, explanations_to_g, text_beside};
+
+mod table_from_i;
+mod table_to_g;
+
+use table_from_i::EXPLANATIONS_FROM_I;
+use table_to_g::EXPLANATIONS_TO_G;
+
+/// The explanation of a code: what it means, its usual cause and what to do, in lines of at most 80 bytes without the last line's
+/// end.
+///
+/// The code is as it is printed, as `G3`: a capital letter, and a number from 1 on. `None` is for any other text.
+pub fn explanation(code: &str) -> Option<&'static str>
+    ensures explained_exactly { IsSome result ↔ Contains codes_explained code.now }
+    ensures explanation { IfSome result (λ text. IsExplanation code.now text.now) }
+    ensures names_code { IfSome result (λ text. Explains text.now code.now) }
+{
+    text_of(code)
+}
+
+fn text_of(code: &str) -> Option<&'static str>
+    ensures { option_map (λ text. text.now) result ≡ text_beside explanations code.now }
+{
+    match text_to_g(code) {
+        Some(text) => Some(text),
+        None => text_from_i(code),
+    }
+}
+
+fn text_to_g(code: &str) -> Option<&'static str>
+    ensures { option_map (λ text. text.now) result ≡ text_beside explanations_to_g code.now }
+{
+    find_text(&EXPLANATIONS_TO_G, code)
+}
+
+fn text_from_i(code: &str) -> Option<&'static str>
+    ensures { option_map (λ text. text.now) result ≡ text_beside explanations_from_i code.now }
+{
+    find_text(&EXPLANATIONS_FROM_I, code)
+}
+
+fn find_text<'a>(mut rows: &[(&str, &'a str)], code: &str) -> Option<&'a str>
+    ensures { option_map (λ text. text.now) result ≡ text_beside (map (λ row. (row.0.now, row.1.now)) rows.entry.now) code.now }
+{
+    while let [row, rest @ ..] = rows {
+        if row.0 == code {
+            return Some(row.1);
+        }
+        rows = rest;
+    }
+    None
+}

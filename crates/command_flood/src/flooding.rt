@@ -1,0 +1,101 @@
+//! The command `flood`: datagrams over worker threads, while versions are replaced (docs/COMMANDS.md, "flood").
+
+ghost use Rattle.std.specs.Prelude.{◌≡◌, ◌≢◌, ◌↔◌, ◌≤◌, IfErr, IfOk, OnOk, map, vec_len};
+ghost use Rattle.std.specs.List.{All};
+ghost use Rattle.versions.specs.declared.layout.TheConstants.{WORKERS};
+ghost use Rattle.dispatch.specs.Counted.{IsNewWorker};
+ghost use Rattle.command_flood.specs.Failing.{IsRunFailure};
+ghost use Rattle.command_flood.specs.Flood.{IsFlooded, WritesFlood};
+ghost use Rattle.command_flood.specs.FloodVersions.{opening_version, successor_at};
+ghost use Rattle.command_flood.specs.Publications.{AreTried};
+ghost use Rattle.command_flood.specs.Traffic.{numbers_below};
+ghost use Rattle.command_flood.specs.declared.flood_versions.TheConstants.{PUBLICATIONS};
+
+use crate::flood_jobs::jobs;
+use crate::flood_versions::{opening, successors};
+use command_line::Failure;
+use dispatch::{Gate, RunFault, Tally, Totals, gather, run_counted, write_totals};
+use member_group::Config;
+use read_section::{Operator, WORKERS, Worker, open_within, spread};
+use retire::Retire;
+use std::alloc::{AllocError, Global};
+use std::io::Write;
+use std::sync::Wait;
+use std::thread::Threads;
+
+// The table at its opening version, and the versions that are to follow.
+fn open_versions(alloc: Global) -> Result<(Operator, Vec<Worker>, Vec<Config>), AllocError>
+    ensures workers { IfOk result (λ opened. vec_len opened.1 ≡ WORKERS) }
+    ensures opening { IfOk result (λ opened. All (IsNewWorker opening_version opened.0.table) opened.1.items) }
+    ensures successors { IfOk result (λ opened. opened.2.items ≡ map successor_at (numbers_below PUBLICATIONS)) }
+{
+    let opening = opening(alloc)?;
+    let successors = successors(alloc, &opening)?;
+    let (operator, workers) = open_within(opening)?;
+    Ok((operator, workers, successors))
+}
+
+// Tries to publish each; where no row is free it goes on with the next.
+fn publish_each(operator: &mut Operator, successors: Vec<Config>)
+    ensures tried { AreTried successors.items operator.old operator.new }
+{
+    for successor in successors {
+        let _ = operator.publish(successor);
+    }
+}
+
+fn failed(fault: RunFault) -> Failure
+    ensures spawn_failed { result ≡ Failure.SpawnFailed ↔ fault ≡ RunFault.SpawnFailed }
+    ensures run_fault { IsRunFailure result }
+{
+    match fault {
+        RunFault::SpawnFailed => Failure::SpawnFailed,
+        RunFault::OutOfMemory => Failure::OutOfMemory,
+    }
+}
+
+fn count_all<R: Threads + Wait + Sync, G: Gate + Sync>(
+    rt: &R,
+    alloc: Global,
+    workers: usize,
+    datagrams: usize,
+    gate: &G,
+) -> Result<Totals, Failure>
+    requires at_least_one { 1 ≤ workers }
+    requires at_most { workers ≤ WORKERS }
+    ensures totals { IfOk result (IsFlooded workers datagrams) }
+    ensures run_fault { IfErr result IsRunFailure }
+{
+    let (mut operator, mut seats, successors) = open_versions(alloc)?;
+    let (tally, mut spare) = Tally::open(alloc)?;
+    spread(&mut seats);
+    let jobs = jobs(alloc, &mut seats, &mut spare, workers, datagrams)?;
+    let counters = run_counted(rt, alloc, jobs, spare, gate, move || {
+        publish_each(&mut operator, successors);
+    })
+    .map_err(failed)?;
+    Ok(gather(tally, counters))
+}
+
+/// Judges so many datagrams in the threads of so many workers, while the caller's thread tries to publish 64 versions, and
+/// writes the line of the totals. Datagram `i` goes to worker `i mod workers`.
+///
+/// All memory but that of the threads is taken before one is started. It may wait, as `run_workers` does.
+pub fn flood<R: Threads + Wait + Sync, G: Gate + Sync, W: Write>(
+    rt: &R,
+    alloc: Global,
+    workers: usize,
+    datagrams: usize,
+    gate: &G,
+    out: &mut W,
+) -> Result<(), Failure>
+    requires at_least_one { 1 ≤ workers }
+    requires at_most { workers ≤ WORKERS }
+    ensures totals_line { OnOk result (WritesFlood workers datagrams (W.contents out.old) (W.contents out.new)) }
+    ensures nothing_written { IfErr result (λ failure. failure ≢ Failure.WriteFailed → out.new ≡ out.old) }
+    ensures no_input { IfErr result (λ failure. (failure ≢ Failure.ReadFailed) × (failure ≢ Failure.NoAnswer)) }
+    ensures no_socket { IfErr result (λ failure. (failure ≢ Failure.BindFailed) × (failure ≢ Failure.PollFailed)) }
+{
+    let totals = count_all(rt, alloc, workers, datagrams, gate)?;
+    write_totals(&totals, out).map_err(|_| Failure::WriteFailed)
+}

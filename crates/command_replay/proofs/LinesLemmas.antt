@@ -1,0 +1,216 @@
+-- The lines of a script's text are the replies to the script's lines: no reply has an LF.
+use Rattle.std.proofs.Common.{◌+◌, ◌-◌, ◌≡◌, ◌≢◌, ◌∙◌, ◌/◌, ◌%◌, ◌∷◌, ◌++◌, All, Bool, List, None, Option, Some, [], ap, append-nil, append_assoc, arith, codes, decimal, false, if◌then◌else◌, inl, nat_lt, refl, subst, suc, sym, take, true, zero, ℕ}
+use Rattle.std.proofs.lemmas.List.Concat.{flat_map-append}
+use Rattle.std.specs.Char.{digit_char}
+use Rattle.std.specs.Fmt.{digits}
+use Rattle.std.specs.List.{flat_map}
+use Rattle.bpf_formats.specs.Hex.{hex_digits}
+use Rattle.ipv4_fields.specs.Cut.{Lacks}
+use Rattle.ipv4_fields.proofs.TextLemmas.{lacks-append, lacks-cons, lacks-decimal, lacks-endpoint, lacks-test}
+use Rattle.control.specs.Endpoint.{endpoint_text}
+use Rattle.fault_code.specs.Code.{name_text, place_text}
+use Rattle.control.specs.Reason.{reason_code, refusal_text}
+use Rattle.control.specs.Reply.{flag, reply_text, spaced_word}
+use Rattle.control.specs.Script.{AreAnswered, RepliesTo, Standing, all_ended, at_start, judged_text, last_unended, no_line, one_more, text_value, to_control, to_long_packet, to_packet, verdict_text}
+use Rattle.dispatch.specs.Verdict.{verdict}
+use Rattle.control_line.specs.declared.reason.Reason.{Reason}
+use Rattle.control_line.specs.declared.reason.Reason.TheVariants.{PacketTooLong}
+use Rattle.control_line.specs.declared.reply.LineAnswer.{LineAnswer}
+use Rattle.control_line.specs.declared.reply.LineAnswer.TheVariants.{GroupRead, MemberRead, Published, Refused, Shown, Swept, WordsRead}
+use Rattle.packet_verdict.specs.declared.verdict.Verdict.{Verdict}
+use Rattle.packet_verdict.specs.declared.verdict.Verdict.TheVariants.{Deliver, Dropped, Malformed, NoGroup, NoMembers}
+use Rattle.control_summary.specs.Summary.{lines_of}
+use Rattle.control_summary.proofs.LineLemmas.{first_line, no_lines}
+use Rattle.command_replay.specs.Lines.{AreLinesOf, AreRepliesInTurn, LinesAreReplies, each_ended, ended, last_open, no_reply, one_reply_more}
+use Rattle.command_replay.proofs.KindLemmas.{above-reason, lacks-above}
+
+-- ---- no LF in a reply
+
+lacks-number : (n : ℕ) → Lacks 10 (decimal n)
+lacks-number n = lacks-decimal 10 n (inl (omega arith))
+
+both : (one other : List ℕ) → Lacks 10 one → Lacks 10 other → Lacks 10 (one ++ other)
+both one other = lacks-append 10 one other
+
+named : (word : List ℕ) (n : ℕ) → Lacks 10 word → Lacks 10 (word ++ decimal n)
+named word n lacks = both word (decimal n) lacks (lacks-number n)
+
+blank : Lacks 10 (codes " ")
+blank = lacks-test 10 (codes " ") refl
+
+refused : (name number : List ℕ) → Lacks 10 name → Lacks 10 number → Lacks 10 (codes "refused " ++ name ++ number)
+refused name number first last = both (codes "refused ") (name ++ number) (lacks-test 10 (codes "refused ") refl) (both name number first last)
+
+lacks-refusal : (reason : Reason) → Lacks 10 (refusal_text reason)
+lacks-refusal reason =
+    refused (name_text (reason_code reason)) (place_text (reason_code reason).place) (lacks-above 10 (name_text (reason_code reason)) (omega arith) (above-reason reason))
+    (by_place (reason_code reason).place)
+  where
+    by_place : (place : Option ℕ) → Lacks 10 (place_text place)
+    by_place None = λ k inside. absurd (omega arith)
+    by_place (Some n) = named (codes " ") n blank
+
+-- a text, and a word behind a label
+labelled : (text label word : List ℕ) → Lacks 10 text → Lacks 10 label → Lacks 10 word → Lacks 10 (text ++ label ++ word)
+labelled text label word first second last = both (text ++ label) word (both text label first second) last
+
+spaced : (text word : List ℕ) → Lacks 10 text → Lacks 10 word → Lacks 10 (text ++ codes " " ++ word)
+spaced text word first last = labelled text (codes " ") word first blank last
+
+shown : (version groups members charge : List ℕ) → Lacks 10 version → Lacks 10 groups → Lacks 10 members → Lacks 10 charge
+    → Lacks 10 (codes "version " ++ version ++ codes " groups " ++ groups ++ codes " members " ++ members ++ codes " charge " ++ charge)
+shown version groups members charge first second third last =
+    let begun = both (codes "version ") version (lacks-test 10 (codes "version ") refl) first in
+    let with_groups = labelled (codes "version " ++ version) (codes " groups ") groups begun (lacks-test 10 (codes " groups ") refl) second in
+    let text : List ℕ = codes "version " ++ version ++ codes " groups " ++ groups in
+    let with_members = labelled text (codes " members ") members with_groups (lacks-test 10 (codes " members ") refl) third in
+    labelled (text ++ codes " members " ++ members) (codes " charge ") charge with_members (lacks-test 10 (codes " charge ") refl) last
+
+swept : (first count : List ℕ) → Lacks 10 first → Lacks 10 count → Lacks 10 (codes "reclaimed " ++ first ++ codes " " ++ count)
+swept first count one other = spaced (codes "reclaimed " ++ first) count (both (codes "reclaimed ") first (lacks-test 10 (codes "reclaimed ") refl) one) other
+
+-- a text with words behind a label
+with_number : (text label : List ℕ) (n : ℕ) → Lacks 10 text → Lacks 10 label → Lacks 10 (text ++ label ++ decimal n)
+with_number text label n first second = labelled text label (decimal n) first second (lacks-number n)
+
+lacks-hex : (count n : ℕ) → Lacks 10 (hex_digits count n)
+unfolding hex_digits
+lacks-hex zero n = λ k inside. absurd (omega arith)
+lacks-hex (suc count) n = both (hex_digits count (n / 16)) (digit_char (n % 16) ∷ []) (lacks-hex count (n / 16)) (lacks-cons 10 (digit_char (n % 16)) [] (apart (nat_lt (n % 16) 10)) (λ k inside. absurd (omega arith)))
+  where
+    apart : (small : Bool) → (if small then 48 + n % 16 else 87 + n % 16) ≢ 10
+    apart true is = absurd (omega (arith, is))
+    apart false is = absurd (omega (arith, is))
+
+lacks-program : (program : List ℕ) → Lacks 10 (flat_map spaced_word program)
+lacks-program [] = λ k inside. absurd (omega arith)
+lacks-program (word ∷ program) = both (spaced_word word) (flat_map spaced_word program) (both (codes " ") (hex_digits 16 word) blank (lacks-hex 16 word)) (lacks-program program)
+
+lacks-answer : (answer : LineAnswer) → Lacks 10 (reply_text answer)
+lacks-answer (Refused reason) = lacks-refusal reason
+lacks-answer (Published version) = named (codes "ok version ") version (lacks-test 10 (codes "ok version ") refl)
+lacks-answer (Shown version groups members charge) =
+    shown (decimal version) (decimal groups) (decimal members) (decimal charge) (lacks-number version) (lacks-number groups) (lacks-number members) (lacks-number charge)
+lacks-answer (GroupRead version index groups key members selector) =
+    with_number _ (codes " selector ") selector
+    (with_number _ (codes " members ") members
+    (spaced _ (endpoint_text key)
+    (with_number _ (codes " of ") groups (with_number _ (codes " group ") index (named (codes "version ") version (lacks-test 10 (codes "version ") refl)) (lacks-test 10 (codes " group ") refl)) (lacks-test 10 (codes " of ") refl))
+    (lacks-endpoint 10 key (omega arith)))
+    (lacks-test 10 (codes " members ") refl))
+    (lacks-test 10 (codes " selector ") refl)
+lacks-answer (MemberRead version index members id to filter locked) =
+    with_number _ (codes " locked ") (flag locked)
+    (with_number _ (codes " filter ") filter
+    (spaced _ (endpoint_text to)
+    (with_number _ (codes " ") id
+    (with_number _ (codes " of ") members (with_number _ (codes " member ") index (named (codes "version ") version (lacks-test 10 (codes "version ") refl)) (lacks-test 10 (codes " member ") refl)) (lacks-test 10 (codes " of ") refl))
+    blank)
+    (lacks-endpoint 10 to (omega arith)))
+    (lacks-test 10 (codes " filter ") refl))
+    (lacks-test 10 (codes " locked ") refl)
+lacks-answer (WordsRead version place count words) =
+    both _ (flat_map spaced_word (take (count - place) words))
+    (with_number _ (codes " of ") count (with_number _ (codes " words ") place (named (codes "version ") version (lacks-test 10 (codes "version ") refl)) (lacks-test 10 (codes " words ") refl)) (lacks-test 10 (codes " of ") refl))
+    (lacks-program (take (count - place) words))
+lacks-answer (Swept reclaimed) =
+    swept (decimal reclaimed.first) (decimal reclaimed.count) (lacks-number reclaimed.first) (lacks-number reclaimed.count)
+
+-- a name, the group's key and the member's number
+with_member : (name key id : List ℕ) → Lacks 10 name → Lacks 10 key → Lacks 10 id → Lacks 10 (name ++ key ++ codes " " ++ id)
+with_member name key id first second last = spaced (name ++ key) id (both name key first second) last
+
+delivered : (key id receiver bytes : List ℕ) → Lacks 10 key → Lacks 10 id → Lacks 10 receiver → Lacks 10 bytes
+    → Lacks 10 (codes "deliver " ++ key ++ codes " " ++ id ++ codes " " ++ receiver ++ codes " " ++ bytes)
+delivered key id receiver bytes first second third last =
+    let text : List ℕ = codes "deliver " ++ key ++ codes " " ++ id in
+    let member = with_member (codes "deliver ") key id (lacks-test 10 (codes "deliver ") refl) first second in
+    spaced (text ++ codes " " ++ receiver) bytes (spaced text receiver member third) last
+
+lacks-verdict : (judged : Verdict) → Lacks 10 (verdict_text judged)
+lacks-verdict Malformed = lacks-test 10 (codes "malformed") refl
+lacks-verdict NoGroup = lacks-test 10 (codes "nogroup") refl
+lacks-verdict NoMembers = lacks-test 10 (codes "nomembers") refl
+lacks-verdict (Dropped key id) =
+    with_member (codes "dropped ") (endpoint_text key) (decimal id) (lacks-test 10 (codes "dropped ") refl) (lacks-endpoint 10 key (omega arith)) (lacks-number id)
+lacks-verdict (Deliver key id to bytes) =
+    delivered (endpoint_text key) (decimal id) (endpoint_text to) (decimal bytes) (lacks-endpoint 10 key (omega arith)) (lacks-number id) (lacks-endpoint 10 to (omega arith)) (lacks-number bytes)
+
+judged : (version told : List ℕ) → Lacks 10 version → Lacks 10 told → Lacks 10 (codes "version " ++ version ++ codes " " ++ told)
+judged version told first last = spaced (codes "version " ++ version) told (both (codes "version ") version (lacks-test 10 (codes "version ") refl) first) last
+
+lacks-judged : (version : ℕ) (told : Verdict) → Lacks 10 (judged_text version told)
+lacks-judged version told = judged (decimal version) (verdict_text told) (lacks-number version) (lacks-verdict told)
+
+lacks-reply : (now : Standing) (line reply : List ℕ) (next : Standing) → RepliesTo now line reply next → Lacks 10 reply
+lacks-reply now line _ _ (to_control answer next no_packet answers comes) = lacks-answer answer
+lacks-reply now line _ _ (to_packet digits packet within is spells) = lacks-judged now.version (verdict text_value now.config packet)
+lacks-reply now line _ _ (to_long_packet digits within is spells) = lacks-refusal PacketTooLong
+
+-- ---- lines and their replies
+
+all_more : (lines : List (List ℕ)) (line : List ℕ) → All (Lacks 10) lines → Lacks 10 line → All (Lacks 10) (lines ++ line ∷ [])
+all_more [] line each lacks zero d inside = lacks
+all_more [] line each lacks (suc k) d inside = absurd (omega arith)
+all_more (first ∷ lines) line each lacks zero d inside = each 0 d (omega arith)
+all_more (first ∷ lines) line each lacks (suc k) d inside = all_more lines line (λ j e within. each (suc j) e (omega arith)) lacks k d (omega arith)
+
+ended_more : (lines : List (List ℕ)) (line : List ℕ) → ended (lines ++ line ∷ []) ≡ ended lines ++ (line ++ 10 ∷ [])
+ended_more lines line =
+    flat_map-append (λ (l : List ℕ). l ++ 10 ∷ []) lines (line ∷ []) ∙ ap (λ (t : List ℕ). ended lines ++ t) (append-nil (line ++ 10 ∷ []))
+
+-- a text whose lines are those of it, whatever stands behind
+abbrev IsOfLines : List ℕ → Type 0
+IsOfLines text = (rest : List ℕ) → lines_of (text ++ rest) ≡ lines_of text ++ lines_of rest
+
+one_line : (text reply : List ℕ) → IsOfLines text → Lacks 10 reply → lines_of (text ++ (reply ++ 10 ∷ [])) ≡ lines_of text ++ reply ∷ []
+one_line text reply whole lacks =
+    whole (reply ++ 10 ∷ []) ∙ ap (λ (lines : List (List ℕ)). lines_of text ++ lines) (first_line reply [] lacks ∙ ap (λ (lines : List (List ℕ)). reply ∷ lines) no_lines)
+
+more_lines : (text reply : List ℕ) → IsOfLines text → Lacks 10 reply → IsOfLines (text ++ (reply ++ 10 ∷ []))
+more_lines text reply whole lacks rest =
+    ap lines_of (append_assoc text (reply ++ 10 ∷ []) rest ∙ ap (λ (t : List ℕ). text ++ t) (append_assoc reply (10 ∷ []) rest))
+    ∙ (whole (reply ++ 10 ∷ rest)
+    ∙ (ap (λ (lines : List (List ℕ)). lines_of text ++ lines) (first_line reply rest lacks)
+    ∙ (sym (append_assoc (lines_of text) (reply ∷ []) (lines_of rest)) ∙ ap (λ (lines : List (List ℕ)). lines ++ lines_of rest) (sym (one_line text reply whole lacks)))))
+
+record Cut (script text : List ℕ) (last : Standing) : Type 0 where
+  lines : List (List ℕ)
+  is : ended lines ≡ script
+  each : All (Lacks 10) lines
+  in_turn : AreRepliesInTurn lines (lines_of text) last
+  whole : IsOfLines text
+
+cut : (script text : List ℕ) (last : Standing) → AreAnswered script text last → Cut script text last
+cut _ _ _ no_line = record {
+  lines = [];
+  is = refl;
+  each = λ k d inside. absurd (omega arith);
+  in_turn = subst (λ (lines : List (List ℕ)). AreRepliesInTurn [] lines at_start) (sym no_lines) no_reply;
+  whole = λ rest. ap (λ (lines : List (List ℕ)). lines ++ lines_of rest) (sym no_lines);
+}
+cut _ _ _ (one_more script text line reply now next before lacks replies) =
+    let cut = cut script text now before in
+    let lacks' = lacks-reply now line reply next replies in
+    record {
+      lines = cut.lines ++ line ∷ [];
+      is = ended_more cut.lines line ∙ ap (λ (t : List ℕ). t ++ (line ++ 10 ∷ [])) cut.is;
+      each = all_more cut.lines line cut.each lacks;
+      in_turn = subst (λ (found : List (List ℕ)). AreRepliesInTurn (cut.lines ++ line ∷ []) found next) (sym (one_line text reply cut.whole lacks'))
+          (one_reply_more cut.lines (lines_of text) line reply now next cut.in_turn replies);
+      whole = more_lines text reply cut.whole lacks';
+    }
+
+pub lines_are_replies : LinesAreReplies
+lines_are_replies _ _ (all_ended script text last answered) =
+    let cut = cut script text last answered in
+    (cut.lines, last, subst (λ (s : List ℕ). AreLinesOf s cut.lines) cut.is (each_ended cut.lines cut.each), cut.in_turn)
+lines_are_replies _ _ (last_unended script text line reply now last answered lacks more replies) =
+    let cut = cut script text now answered in
+    let lacks' = lacks-reply now line reply last replies in (
+      cut.lines ++ line ∷ [],
+      last,
+      subst (λ (s : List ℕ). AreLinesOf (s ++ line) (cut.lines ++ line ∷ [])) cut.is (last_open cut.lines line cut.each lacks more),
+      subst (λ (found : List (List ℕ)). AreRepliesInTurn (cut.lines ++ line ∷ []) found last) (sym (one_line text reply cut.whole lacks'))
+          (one_reply_more cut.lines (lines_of text) line reply now last cut.in_turn replies),
+    )

@@ -1,0 +1,27 @@
+//! The command `replay`: a script's replies and their summary, over any input and output (docs/COMMANDS.md, "replay").
+//!
+//! `run_replay` gives the script to `control::replay`, and counts the replies if a summary is asked for.
+#![tactic(auto)]
+
+ghost use Rattle.command_replay.specs.Counted.{ChangesAreNotCounted, ReadsAreNotCounted, RefusalsAreCounted, ShowsAreNotCounted, SweepsAreNotCounted, VerdictsAreCounted};
+ghost use Rattle.command_replay.specs.Lines.{LinesAreReplies};
+
+mod counted_output;
+mod replaying;
+mod summarizing;
+mod unwritten;
+
+pub use replaying::run_replay;
+
+/// Law: the kind of the reply to a packet is its verdict, the kind of the reply that refuses a line is its code, and other replies have
+/// no kind; and the lines of a script's text, which a summary counts by their kinds, are the replies to the script's lines, one to each,
+/// in their order. Verdicts are those of versions below 2^64, of keys that are endpoints, and of IDs below 2^32. It runs nothing.
+pub fn replies_are_counted()
+    ensures verdicts { VerdictsAreCounted }
+    ensures refusals { RefusalsAreCounted }
+    ensures changes { ChangesAreNotCounted }
+    ensures shows { ShowsAreNotCounted }
+    ensures reads { ReadsAreNotCounted }
+    ensures sweeps { SweepsAreNotCounted }
+    ensures lines { LinesAreReplies }
+{}

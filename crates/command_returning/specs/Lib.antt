@@ -1,0 +1,9 @@
+pub mod Request
+pub use Rattle.command_line.specs.Input
+pub use Rattle.command_query.specs.Format
+pub use Rattle.command_query.specs.CommandResult
+pub use Rattle.command_query.specs.FirstPath
+pub use Rattle.command_query.specs.Query
+pub use Rattle.command_replay.specs.Replaying
+pub use Rattle.command_replay.specs.Counted
+pub use Rattle.command_replay.specs.Lines

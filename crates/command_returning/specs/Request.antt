@@ -1,0 +1,77 @@
+-- What a command does with its words and its input: what it writes, and how it may fail (docs/COMMANDS.md). `known` are the bytes of the
+-- input, where they are known. `before` and `after` are what the output held before the command and holds after it, where that is
+-- known; `told_before` and `told_after` are the same of standard error.
+use Rattle.std.specs.Prelude.{◌≡◌, ◌⊎◌, List, Option, Some, [], ℕ}
+use Rattle.clap.specs.Words.{Text}
+use Rattle.command_line.specs.declared.ending.Failure.{Failure}
+use Rattle.command_line.specs.declared.ending.Failure.TheVariants.{BindFailed, NoAnswer, OutOfMemory, PollFailed, ReadFailed, SpawnFailed, WriteFailed}
+use Rattle.command_line.specs.declared.ending.Status.{Status}
+use Rattle.command_line.specs.CommandLine.{Request, WaitingRequest, command_in, faults_in, packets, replay, returning, waiting}
+use Rattle.command_line.specs.Ending.{AppendsBeginning, line_of}
+use Rattle.command_line.specs.Input.{IsInput}
+use Rattle.command_replay.specs.Replaying.{ReplayWritesBefore, WritesScript}
+use Rattle.packet_capture.specs.Packets.{TellsCounts, WritesFirst, WritesText}
+use Rattle.command_query.specs.Query.{QueryWritesBefore, ReadsInput, WritesAnswer}
+
+-- the input was read to its end, and the text of that file was written, and nothing else
+abbrev pub WritesPackets : Option (List ℕ) → Status → Option (List ℕ) → Option (List ℕ) → Type 0
+WritesPackets known status before after = (file : List ℕ) × IsInput known file × WritesText file status before after
+
+-- the input was read to its end, and a beginning of the counts of that file was told, and nothing else; nothing where its header is at
+-- fault
+abbrev pub TellsCountsOf : Option (List ℕ) → Option (List ℕ) → Option (List ℕ) → Type 0
+TellsCountsOf known before after = (file : List ℕ) × IsInput known file × TellsCounts file before after
+
+-- what a command has written that ends with a status
+abbrev pub Writes : Request → Option (List ℕ) → Status → Option (List ℕ) → Option (List ℕ) → Type 0
+Writes (replay summary quiet) known status before after = WritesScript summary quiet known status before after
+Writes packets known status before after = WritesPackets known status before after
+Writes request known status before after = WritesAnswer request known status before after
+
+-- the same of the command that the words name
+abbrev pub WritesAnswerTo : List Text → Option (List ℕ) → Status → Option (List ℕ) → Option (List ℕ) → Type 0
+WritesAnswerTo words known status before after =
+    (request : Request) × (command_in words ≡ Some (returning request)) × Writes request known status before after
+
+-- the words ask for a command that may wait
+abbrev pub AskToWait : List Text → Type 0
+AskToWait words = (faults_in words ≡ []) × ((request : WaitingRequest) × (command_in words ≡ Some (waiting request)))
+
+-- the same of words, which may also ask for a text
+abbrev pub MayFailBy : List Text → Failure → Type 0
+MayFailBy words ReadFailed = (request : Request) × (command_in words ≡ Some (returning request)) × ReadsInput request
+MayFailBy words WriteFailed = AskToWait words → ⊥
+MayFailBy words OutOfMemory = Unit {0}
+MayFailBy words SpawnFailed = ⊥
+MayFailBy words BindFailed = ⊥
+MayFailBy words PollFailed = ⊥
+MayFailBy words NoAnswer = ⊥
+
+-- ---- what a command that failed has written
+
+-- of the packets of the input, those of some first records were written, and nothing else
+abbrev pub WritesFirstPackets : Option (List ℕ) → Option (List ℕ) → Option (List ℕ) → Type 0
+WritesFirstPackets known before after = (file : List ℕ) × IsInput known file × WritesFirst file before after
+
+abbrev pub PacketsWriteBefore : Failure → Option (List ℕ) → Option (List ℕ) → Option (List ℕ) → Type 0
+PacketsWriteBefore OutOfMemory known before after = (after ≡ before) ⊎ WritesFirstPackets known before after
+PacketsWriteBefore failure known before after = QueryWritesBefore failure before after
+
+-- what was written before each failure: what is promised of a failed write is promised of `replay` alone
+abbrev pub WritesBefore : Request → Failure → Option (List ℕ) → Option (List ℕ) → Option (List ℕ) → Type 0
+WritesBefore (replay summary quiet) failure known before after = ReplayWritesBefore summary quiet failure known before after
+WritesBefore packets failure known before after = PacketsWriteBefore failure known before after
+WritesBefore request failure known before after = QueryWritesBefore failure before after
+
+-- the same of the command that words without a fault name; of one that may wait, nothing was written
+abbrev pub WritesBeforeBy : List Text → Failure → Option (List ℕ) → Option (List ℕ) → Option (List ℕ) → Type 0
+WritesBeforeBy words failure known before after =
+    (faults_in words ≡ [] → (request : Request) → command_in words ≡ Some (returning request) → WritesBefore request failure known before after)
+    × (AskToWait words → after ≡ before)
+
+-- a command failed in a way in which it may; a beginning of the failure's line was told
+pub record EndsInFailure (words : List Text) (known before after told_before told_after : Option (List ℕ)) : Type 0 where
+  pub failure : Failure
+  pub may_fail : MayFailBy words failure
+  pub written : WritesBeforeBy words failure known before after
+  pub told : AppendsBeginning told_before told_after (line_of failure)

@@ -1,0 +1,47 @@
+use Rattle.std.proofs.Common.{rules}
+use Rattle.command_waiting.proofs.run_waiting.Goals as goal
+
+pub returns-in-Flood-clause-done : goal.returns-in-Flood-clause-done
+returns-in-Flood-clause-done g c = search rules
+
+pub returns-in-Flood-clause-failed : goal.returns-in-Flood-clause-failed
+returns-in-Flood-clause-failed g c = search rules
+
+pub returns-in-Flood-clause-never_misused : goal.returns-in-Flood-clause-never_misused
+returns-in-Flood-clause-never_misused g c = search rules
+
+pub returns-in-Flood-clause-no_errors : goal.returns-in-Flood-clause-no_errors
+returns-in-Flood-clause-no_errors g c = search rules
+
+pub returns-in-Flood-clause-refused : goal.returns-in-Flood-clause-refused
+returns-in-Flood-clause-refused g c = search rules
+
+pub returns-in-Serve-clause-done : goal.returns-in-Serve-clause-done
+returns-in-Serve-clause-done g c = search rules
+
+pub returns-in-Serve-clause-failed : goal.returns-in-Serve-clause-failed
+returns-in-Serve-clause-failed g c = search rules
+
+pub returns-in-Serve-clause-never_misused : goal.returns-in-Serve-clause-never_misused
+returns-in-Serve-clause-never_misused g c = search rules
+
+pub returns-in-Serve-clause-no_errors : goal.returns-in-Serve-clause-no_errors
+returns-in-Serve-clause-no_errors g c = search rules
+
+pub returns-in-Serve-clause-refused : goal.returns-in-Serve-clause-refused
+returns-in-Serve-clause-refused g c = search rules
+
+pub returns-in-Tell-clause-done : goal.returns-in-Tell-clause-done
+returns-in-Tell-clause-done g c = search rules
+
+pub returns-in-Tell-clause-failed : goal.returns-in-Tell-clause-failed
+returns-in-Tell-clause-failed g c = λ ended. rw c.in-Tell.is (rw c.as_slice.ensures.value at (c.run_tell.ensures.failed ended))
+
+pub returns-in-Tell-clause-never_misused : goal.returns-in-Tell-clause-never_misused
+returns-in-Tell-clause-never_misused g c = search rules
+
+pub returns-in-Tell-clause-no_errors : goal.returns-in-Tell-clause-no_errors
+returns-in-Tell-clause-no_errors g c = search rules
+
+pub returns-in-Tell-clause-refused : goal.returns-in-Tell-clause-refused
+returns-in-Tell-clause-refused g c = search rules

@@ -1,0 +1,12 @@
+pub mod Telling
+pub mod Waiting
+pub use Rattle.control_client.specs.Exchange
+pub use Rattle.control_client.specs.Lines
+pub use Rattle.control_client.specs.Tell
+pub use Rattle.control_client.specs.Wire
+pub use Rattle.dispatch.specs.Counted
+pub use Rattle.dispatch.specs.Totals
+pub use Rattle.command_flood.specs.Failing
+pub use Rattle.command_flood.specs.Flood
+pub use Rattle.command_flood.specs.FloodVersions
+pub use Rattle.command_flood.specs.Traffic

@@ -1,0 +1,123 @@
+//! The commands that run worker threads or await replies, so that they may wait (docs/COMMANDS.md, "flood", "serve", "tell").
+//!
+//! `run_waiting` runs one: `flood` of memory_flood, `serve` of udp_service, or `tell` of control_client.
+#![tactic(auto)]
+
+ghost use Rattle.std.specs.Prelude.{◌≡◌, ◌⊎◌, OnOk, codes};
+ghost use Rattle.std.specs.Io.KnownBytes.{Appends};
+ghost use Rattle.command_line.specs.CommandLine.{waiting_of};
+ghost use Rattle.command_line.specs.Ending.{AppendsBeginning, line_of};
+ghost use Rattle.command_line.specs.declared.ending.Failure.TheVariants as failure;
+ghost use Rattle.udp_service.specs.Service.{WritesServed};
+ghost use Rattle.command_waiting.specs.Waiting.{EndsInServeFailure, EndsInWaitingFailure, IsAddress, IsNoAddress, WritesFor, WritesRefusal};
+
+mod telling;
+
+use command_line::{Failure, Status, Waiting, Workers};
+use dispatch::OpenGate;
+use ipv4_fields::Endpoint;
+use command_flood::run_flood;
+pub use command_flood::{DATAGRAMS, flood};
+use std::alloc::Global;
+use std::io;
+use std::io::{Read, Write};
+use std::net::Net;
+use std::sync::Wait;
+use std::thread::Threads;
+use std::time::Clock;
+use telling::run_tell;
+pub use udp_service::serve;
+
+fn write_refusal<W: Write>(out: &mut W) -> io::Result<()>
+    ensures { OnOk result (Appends (W.contents out.old) (W.contents out.new) (codes "refused C1\n")) }
+{
+    out.write_all(b"refused C1\n".as_slice())?;
+    out.flush()
+}
+
+// An address is no endpoint.
+fn refuse_address<W: Write, E: Write>(out: &mut W, errs: &mut E) -> Status
+    ensures refused { result ≡ Status.Refused → Appends (W.contents out.old) (W.contents out.new) (codes "refused C1\n") }
+    ensures no_errors { result ≡ Status.Refused → errs.new ≡ errs.old }
+    ensures never_done { result ≡ Status.Done → ⊥ }
+    ensures never_misused { result ≡ Status.Misused → ⊥ }
+    ensures failed { result ≡ Status.Failed → AppendsBeginning (E.contents errs.old) (E.contents errs.new) (line_of failure.WriteFailed) }
+{
+    match write_refusal(out) {
+        Ok(()) => Status::Refused,
+        Err(_) => Failure::WriteFailed.report(errs),
+    }
+}
+
+fn run_serve<R: Threads + Wait + Net + Sync, W: Write, E: Write>(
+    rt: &R,
+    alloc: Global,
+    addresses: (&str, &str),
+    workers: Workers,
+    out: &mut W,
+    errs: &mut E,
+) -> Status
+    ensures done { result ≡ Status.Done
+        → IsAddress addresses.entry.0.now × IsAddress addresses.entry.1.now × WritesServed workers.count (W.contents out.old) (W.contents out.new) }
+    ensures refused { result ≡ Status.Refused
+        → (IsNoAddress addresses.entry.0.now ⊎ IsNoAddress addresses.entry.1.now)
+        × Appends (W.contents out.old) (W.contents out.new) (codes "refused C1\n") }
+    ensures no_errors { (result ≡ Status.Done) ⊎ (result ≡ Status.Refused) → errs.new ≡ errs.old }
+    ensures never_misused { result ≡ Status.Misused → ⊥ }
+    ensures failed { result ≡ Status.Failed
+        → EndsInServeFailure addresses.entry.0.now addresses.entry.1.now (W.contents out.old) (W.contents out.new)
+        (E.contents errs.old) (E.contents errs.new) }
+{
+    let Some(front) = Endpoint::from_text(addresses.0.as_bytes()) else {
+        return refuse_address(out, errs);
+    };
+    let Some(control) = Endpoint::from_text(addresses.1.as_bytes()) else {
+        return refuse_address(out, errs);
+    };
+    match serve(rt, alloc, front, control, workers.count, &OpenGate, out) {
+        Ok(()) => Status::Done,
+        Err(failure) => failure.report(errs),
+    }
+}
+
+/// Runs a command that may wait, and returns its exit status. `tell` without lines reads its lines from the input.
+pub fn run_waiting<R: Threads + Wait + Net + Clock + Sync, I: Read + Drop, W: Write, E: Write>(
+    rt: &R,
+    alloc: Global,
+    command: Waiting<'_>,
+    input: I,
+    out: &mut W,
+    errs: &mut E,
+) -> Status
+    ensures done { result ≡ Status.Done → WritesFor (waiting_of command.entry) (I.remaining input) (W.contents out.old) (W.contents out.new) }
+    ensures refused { result ≡ Status.Refused → WritesRefusal (waiting_of command.entry) (I.remaining input) (W.contents out.old) (W.contents out.new) }
+    ensures no_errors { (result ≡ Status.Done) ⊎ (result ≡ Status.Refused) → errs.new ≡ errs.old }
+    ensures never_misused { result ≡ Status.Misused → ⊥ }
+    ensures failed { result ≡ Status.Failed
+        → EndsInWaitingFailure (waiting_of command.entry) (I.remaining input) (W.contents out.old) (W.contents out.new)
+        (E.contents errs.old) (E.contents errs.new) }
+{
+    match command {
+        Waiting::Flood { workers, datagrams } => {
+            run_flood(rt, alloc, workers, datagrams, out, errs)
+        }
+        Waiting::Serve {
+            front,
+            control,
+            workers,
+        } => run_serve(rt, alloc, (front, control), workers, out, errs),
+        Waiting::Tell {
+            control,
+            timeout,
+            lines,
+        } => run_tell(
+            rt,
+            alloc,
+            (control, timeout),
+            lines.as_slice(),
+            input,
+            out,
+            errs,
+        ),
+    }
+}

@@ -1,8 +1,0 @@
-use Rattle.std.proofs.Common.{rules}
-use Rattle.query_commands.proofs.queries.read_packet.Goals as goal
-
-pub returns-clause-refused : goal.returns-clause-refused
-returns-clause-refused c = search rules
-
-pub returns-clause-spelt : goal.returns-clause-spelt
-returns-clause-spelt c = search rules

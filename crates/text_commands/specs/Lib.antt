@@ -1,9 +1,0 @@
-pub mod Request
-pub use Rattle.command_line.specs.Input
-pub use Rattle.query_commands.specs.Format
-pub use Rattle.query_commands.specs.CommandResult
-pub use Rattle.query_commands.specs.FirstPath
-pub use Rattle.query_commands.specs.Query
-pub use Rattle.script_commands.specs.Replaying
-pub use Rattle.script_commands.specs.Counted
-pub use Rattle.script_commands.specs.Lines
