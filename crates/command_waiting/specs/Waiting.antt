@@ -8,7 +8,7 @@ use Rattle.command_line.specs.CommandLine.{WaitingRequest, flood, serve, tell}
 use Rattle.command_line.specs.Ending.{AppendsBeginning, line_of}
 use Rattle.ipv4_fields.specs.Endpoint.{IsEndpoint, endpoint_text}
 use Rattle.ipv4_fields.specs.declared.endpoint.Endpoint.{Endpoint}
-use Rattle.udp_service.specs.Service.{WritesReadyOrNothing, WritesServed}
+use Rattle.serve_udp.specs.Service.{WritesReadyOrNothing, WritesServed}
 use Rattle.command_flood.specs.Failing.{EndsInFloodFailure}
 use Rattle.command_flood.specs.Flood.{WritesFlood}
 use Rattle.command_waiting.specs.Telling.{EndsInTellFailure, WritesReplies}

@@ -8,7 +8,7 @@ ghost use Rattle.std.specs.Io.KnownBytes.{Appends};
 ghost use Rattle.command_line.specs.CommandLine.{waiting_of};
 ghost use Rattle.command_line.specs.Ending.{AppendsBeginning, line_of};
 ghost use Rattle.command_line.specs.declared.ending.Failure.TheVariants as failure;
-ghost use Rattle.udp_service.specs.Service.{WritesServed};
+ghost use Rattle.serve_udp.specs.Service.{WritesServed};
 ghost use Rattle.command_waiting.specs.Waiting.{EndsInServeFailure, EndsInWaitingFailure, IsAddress, IsNoAddress, WritesFor, WritesRefusal};
 
 mod telling;
@@ -26,7 +26,7 @@ use std::sync::Wait;
 use std::thread::Threads;
 use std::time::Clock;
 use telling::run_tell;
-pub use udp_service::serve;
+pub use serve_udp::serve;
 
 fn write_refusal<W: Write>(out: &mut W) -> io::Result<()>
     ensures { OnOk result (Appends (W.contents out.old) (W.contents out.new) (codes "refused C1\n")) }

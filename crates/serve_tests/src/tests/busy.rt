@@ -7,7 +7,7 @@ use std::process::Abort;
 use std::sync::Arc;
 use std::sync::atomic::{AtomicU64, Ordering};
 use std::{io, thread};
-use udp_service::serve;
+use serve_udp::serve;
 
 // How many datagrams a batch adds to the flood: more than it judges at most.
 const ADDED: u32 = 128;

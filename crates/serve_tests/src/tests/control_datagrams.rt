@@ -1,6 +1,6 @@
 //! Answers to control datagrams.
 
-use control_datagram::{BoundAddresses, ControlAnswer, answer};
+use serve_control::{BoundAddresses, ControlAnswer, answer};
 use dispatch::{Counter, Kind, Tally};
 use ipv4_fields::Endpoint;
 use member_group::Config;

@@ -15,7 +15,7 @@ use std::process::Abort;
 use std::sync::Wait;
 use std::test::Fail;
 use std::time::Duration;
-use worker_devices::{
+use serve_devices::{
     ChannelReceiver, ChannelSender, ChannelSource, QUEUE_PLACES, Received, SocketOutbox,
     WorkerQueue, WorkerQueues, open_channel, open_queue,
 };

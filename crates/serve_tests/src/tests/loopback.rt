@@ -9,7 +9,7 @@ use std::process::Abort;
 use std::sync::atomic::{AtomicU64, Ordering};
 use std::time::Duration;
 use std::{io, thread};
-use udp_service::serve;
+use serve_udp::serve;
 
 // Two first batches and a client that wait for each other, each for `TURNS` turns at most.
 #[derive(Drop)]

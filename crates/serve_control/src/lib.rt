@@ -1,0 +1,112 @@
+//! Control datagrams (docs/COMMANDS.md, "serve"): `stop`, `totals`, and every other text as a control line, one answer each. A
+//! datagram that looks like a reply, or that comes from the switch itself, is ignored.
+//!
+//! Nothing here knows of a socket: a datagram is its sender's address and the bytes that it carried, and its answer the bytes to
+//! send back.
+#![tactic(auto)]
+
+ghost use Rattle.std.specs.Prelude.{◌≡◌, ◌≤◌, ◌++◌, IfSome, OnOk, length};
+ghost use Rattle.control_line.specs.declared.reply.TheConstants.{REPLY_LIMIT};
+ghost use Rattle.serve_control.specs.Answer.{AnswersDatagram, AnswersText, RepliesToLine, bytes_of};
+ghost use Rattle.serve_control.specs.Ignored.{IsAlwaysIgnored};
+
+mod ignored;
+
+use control_line::{Reply, is_word, line};
+use dispatch::{Tally, Totals};
+pub use ignored::BoundAddresses;
+use ignored::is_ignored;
+use ipv4_fields::Endpoint;
+use read_section::Operator;
+use std::alloc::{AllocError, Global};
+use std::io::Write;
+
+/// The answer to a control datagram.
+#[derive(Drop)]
+pub enum ControlAnswer {
+    /// `ok stop`: the switch is asked to stop.
+    Stop,
+    /// The line of the totals so far.
+    Totals(Totals),
+    /// The reply to a control line, or `failed E3`.
+    Line(Reply),
+}
+
+impl ControlAnswer {
+    /// Appends the bytes to send back, without LF.
+    pub fn append_to(&self, bytes: &mut Vec<u8>) -> Result<(), AllocError>
+        ensures { OnOk result (bytes.new.items ≡ bytes.old.items ++ bytes_of self.now) }
+    {
+        match self {
+            ControlAnswer::Stop => bytes.extend_from_slice(b"ok stop".as_slice()),
+            ControlAnswer::Totals(totals) => write!(bytes, "{totals}").map_err(|_| AllocError),
+            ControlAnswer::Line(reply) => bytes.extend_from_slice(reply.bytes()),
+        }
+    }
+}
+
+// The reply where memory was refused.
+const NO_MEMORY: &str = "failed E3";
+
+fn text_reply(text: &str) -> Reply
+    requires { length text.now ≤ REPLY_LIMIT }
+    ensures { result ≡ text.now }
+{
+    let mut reply = Reply::empty();
+    reply.push(text);
+    reply
+}
+
+// The reply of the control line, or `NO_MEMORY`.
+fn line_reply(alloc: Global, text: &[u8], operator: &mut Operator) -> Reply
+    ensures { RepliesToLine text.now operator.old operator.new result }
+{
+    match line(alloc, text, operator) {
+        Ok(reply) => reply,
+        Err(_) => text_reply(NO_MEMORY),
+    }
+}
+
+// Answers a text, and does what it asks for.
+fn answer_text(
+    alloc: Global,
+    text: &[u8],
+    operator: &mut Operator,
+    tally: &mut Tally,
+) -> ControlAnswer
+    ensures answered { AnswersText text.now operator.old operator.new tally.old tally.new result }
+    ensures table { tally.new.table ≡ tally.old.table }
+{
+    if is_word(text, "stop") {
+        return ControlAnswer::Stop;
+    }
+    if is_word(text, "totals") {
+        return ControlAnswer::Totals(tally.totals());
+    }
+    ControlAnswer::Line(line_reply(alloc, text, operator))
+}
+
+/// Answers a control datagram, and does what it asks for. `None` if the datagram is ignored; then nothing was done.
+///
+/// A datagram is ignored if its text begins with a word that begins replies and a space, or if its sender is one of the switch's
+/// two sockets. Each answer is such a text, so no switch answers an answer.
+///
+/// `stop` changes nothing here: its caller stops. `totals` reads each total by one load, in the order of their line. Every other
+/// text is answered and done by `line`; if memory is refused then, the reply is `failed E3` and nothing was changed.
+pub fn answer(
+    alloc: Global,
+    bound: &BoundAddresses,
+    sender: Endpoint,
+    text: &[u8],
+    operator: &mut Operator,
+    tally: &mut Tally,
+) -> Option<ControlAnswer>
+    ensures answered { AnswersDatagram bound.now sender text.now operator.old operator.new tally.old tally.new result }
+    ensures no_loop { IfSome result (λ answer. IsAlwaysIgnored (bytes_of answer)) }
+    ensures table { tally.new.table ≡ tally.old.table }
+{
+    if is_ignored(bound, sender, text) {
+        return None;
+    }
+    Some(answer_text(alloc, text, operator, tally))
+}

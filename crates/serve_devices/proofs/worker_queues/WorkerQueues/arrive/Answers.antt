@@ -1,0 +1,5 @@
+use Rattle.std.proofs.Common.{rules}
+use Rattle.serve_devices.proofs.worker_queues.WorkerQueues.arrive.Goals as goal
+
+pub returns : goal.returns
+returns g c = search rules

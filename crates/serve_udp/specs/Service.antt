@@ -1,0 +1,62 @@
+-- What `serve` writes, and of which jobs its totals tell (docs/COMMANDS.md, "serve").
+use Rattle.std.specs.Prelude.{◌≡◌, ◌≢◌, ◌++◌, ◌⊎◌, List, None, Option, [], codes, length, ℕ}
+use Rattle.std.specs.Io.KnownBytes.{Appends}
+use Rattle.std.specs.List.{All}
+use Rattle.command_line.specs.declared.ending.Failure.{Failure}
+use Rattle.command_line.specs.declared.ending.Failure.TheVariants.{NoAnswer, ReadFailed}
+use Rattle.dispatch.specs.Batch.{Parts}
+use Rattle.dispatch.specs.Device.{OutboxValue}
+use Rattle.dispatch.specs.declared.kind.Totals.{Totals}
+use Rattle.ipv4_fields.specs.Endpoint.{endpoint_text}
+use Rattle.ipv4_fields.specs.declared.endpoint.Endpoint.{Endpoint}
+use Rattle.serve_devices.specs.Devices.{ChannelSourceValue, new_source, silent_outbox}
+use Rattle.dispatch.specs.Counted.{IsCounted}
+use Rattle.dispatch.specs.Totals.{WritesTotals}
+use Rattle.serve_udp.specs.declared.jobs.TheConstants.{LIMIT}
+use Rattle.serve_udp.specs.declared.sockets.TheConstants.{LONGEST_DATAGRAM}
+
+-- the room for a datagram, and how many a batch judges at most
+abbrev pub HasRoom : ℕ → ℕ → Type 0
+HasRoom room limit = (room ≡ LONGEST_DATAGRAM) × (limit ≡ LIMIT)
+
+-- the devices of a job, as they are made
+abbrev pub HasNewDevices : ChannelSourceValue → OutboxValue → Type 0
+HasNewDevices source outbox = (source ≡ new_source) × (outbox ≡ silent_outbox 0)
+
+-- devices that have not failed yet, and tell nothing of their datagrams
+abbrev pub HasSilentDevices : Parts → Type 0
+HasSilentDevices start =
+    (start.source ≡ record { failures = 0; coming = None }) × (start.outbox ≡ record { failures = 0; taken = None })
+
+-- what the jobs of so many workers start with
+abbrev pub AreServiceStarts : ℕ → List Parts → Type 0
+AreServiceStarts workers starts = (length starts ≡ workers) × All HasSilentDevices starts
+
+-- the totals are what such jobs counted in all; their table opened without groups
+abbrev pub IsServed : ℕ → Totals → Type 0
+IsServed workers totals = IsCounted [] LONGEST_DATAGRAM LIMIT (AreServiceStarts workers) totals
+
+-- `serve` reads no input, and waits for no reply
+abbrev pub IsServeFailure : Failure → Type 0
+IsServeFailure failure = (failure ≢ ReadFailed) × (failure ≢ NoAnswer)
+
+-- the line that tells that the service is ready
+abbrev pub ready_text : Endpoint → Endpoint → List ℕ
+ready_text front control = codes "ready " ++ endpoint_text front ++ codes " " ++ endpoint_text control ++ codes "\n"
+
+abbrev pub WritesReady : Endpoint → Endpoint → Option (List ℕ) → Option (List ℕ) → Type 0
+WritesReady front control before after = Appends before after (ready_text front control)
+
+-- that line, for some two endpoints, or nothing
+abbrev pub WritesReadyOrNothing : Option (List ℕ) → Option (List ℕ) → Type 0
+WritesReadyOrNothing before after = (after ≡ before) ⊎ ((front control : Endpoint) × WritesReady front control before after)
+
+-- that line, then the line of such totals, and nothing else
+pub record WritesServed (workers : ℕ) (before after : Option (List ℕ)) : Type 0 where
+  pub front : Endpoint
+  pub control : Endpoint
+  pub totals : Totals
+  pub between : Option (List ℕ)
+  pub ready : WritesReady front control before between
+  pub is_served : IsServed workers totals
+  pub totals_line : WritesTotals totals between after

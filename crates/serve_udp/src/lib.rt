@@ -1,0 +1,109 @@
+//! The switch over UDP (docs/COMMANDS.md, "serve"; docs/OPERATING.md): datagrams that come to the front are judged by worker threads
+//! and sent on to members, while control datagrams change the rules.
+//!
+//! The caller's thread receives from both sockets, and hands what comes at the front to the workers in turn. It answers control
+//! itself, by `control_datagram`.
+#![tactic(auto)]
+
+ghost use Rattle.std.specs.Prelude.{◌≡◌, ◌≢◌, ◌⊎◌, ◌↔◌, ◌≤◌, Err, IfErr, IfOk, OnOk, vec_len};
+ghost use Rattle.versions.specs.declared.layout.TheConstants.{WORKERS};
+ghost use Rattle.serve_udp.specs.declared.jobs.TheConstants.{LIMIT};
+ghost use Rattle.serve_udp.specs.Service.{IsServeFailure, IsServed, WritesReadyOrNothing, WritesServed};
+ghost use Rattle.serve_udp.specs.body.Jobs.{AreOpened};
+
+mod jobs;
+mod opening;
+mod ready;
+mod receiving;
+mod sockets;
+
+use command_line::Failure;
+use dispatch::{Gate, NamedTally, RunFault, TallyName, Totals, gather, run_counted, write_totals};
+use ipv4_fields::Endpoint;
+use jobs::ServiceJob;
+use opening::{Service, open_service};
+use read_section::WORKERS;
+use ready::write_ready;
+use receiving::Ended;
+pub use sockets::LONGEST_DATAGRAM;
+use std::alloc::Global;
+use std::io::Write;
+use std::marker::Brand;
+use std::net::Net;
+use std::sync::Wait;
+use std::thread::Threads;
+
+/// Law: the limits, as numbers. It runs nothing.
+pub fn limits_as_numbers()
+    ensures datagram { LONGEST_DATAGRAM ≡ 65535 }
+    ensures batch { LIMIT ≡ 64 }
+{}
+
+fn failed(fault: RunFault) -> Failure
+    ensures spawn_failed { result ≡ Failure.SpawnFailed ↔ fault ≡ RunFault.SpawnFailed }
+    ensures run_fault { (result ≡ Failure.SpawnFailed) ⊎ (result ≡ Failure.OutOfMemory) }
+{
+    match fault {
+        RunFault::SpawnFailed => Failure::SpawnFailed,
+        RunFault::OutOfMemory => Failure::OutOfMemory,
+    }
+}
+
+// Receives beside the jobs until it is asked to stop, and then counts what they judged.
+fn count_served<N: TallyName, R: Threads + Wait + Sync, G: Gate + Sync>(
+    rt: &R,
+    alloc: Global,
+    jobs: Vec<ServiceJob<'_, R>>,
+    service: Service,
+    gate: &G,
+) -> Result<Totals, Failure>
+    requires named { service.tally.table ≡ N.table }
+    requires opened { AreOpened service.tally.table service.receiver.operator.table service.spare.items jobs.items }
+    ensures totals { IfOk result (IsServed (vec_len jobs.entry)) }
+    ensures bound { IfErr result (λ failure. failure ≢ Failure.BindFailed) }
+    ensures no_input { IfErr result IsServeFailure }
+{
+    let mut named = NamedTally::<N>::new(service.tally);
+    let mut ended = Ended::PollFailed;
+    let lent = &mut named;
+    let told = &mut ended;
+    let mut receiver = service.receiver;
+    let counters = run_counted(rt, alloc, jobs, service.spare, gate, move || {
+        *told = receiver.receive(rt, alloc, &mut lent.tally);
+    })
+    .map_err(failed)?;
+    match ended {
+        Ended::Stopped => Ok(gather(named.tally, counters)),
+        Ended::PollFailed => Err(Failure::PollFailed),
+    }
+}
+
+/// Runs the switch on two UDP sockets until a control datagram says `stop`, and then writes the line of the totals.
+///
+/// A port 0 lets the system pick one. The line `ready FRONT CONTROL` tells the addresses bound, and is flushed before a datagram
+/// is received. The switch opens without groups. Of its workers each receives through a queue, in turn, and sends by a
+/// socket of its own at the front's address.
+///
+/// All memory but that of the threads, of queued datagrams and of control lines is taken before the line `ready`. It may wait,
+/// since nothing says that it is ever asked to stop.
+pub fn serve<R: Threads + Wait + Net + Sync, G: Gate + Sync, W: Write>(
+    rt: &R,
+    alloc: Global,
+    front: Endpoint,
+    control: Endpoint,
+    workers: usize,
+    gate: &G,
+    out: &mut W,
+) -> Result<(), Failure>
+    requires at_least_one { 1 ≤ workers }
+    requires at_most { workers ≤ WORKERS }
+    ensures served { OnOk result (WritesServed workers (W.contents out.old) (W.contents out.new)) }
+    ensures no_input { IfErr result IsServeFailure }
+    ensures not_bound { result ≡ Err Failure.BindFailed → out.new ≡ out.old }
+    ensures ready_or_nothing { IfErr result (λ failure. failure ≢ Failure.WriteFailed → WritesReadyOrNothing (W.contents out.old) (W.contents out.new)) }
+{
+    let (jobs, service) = open_service(rt, alloc, front, control, workers)?;
+    write_ready(service.front, service.control, out)?;
+    let totals = count_served::<Brand, R, G>(rt, alloc, jobs, service, gate)?;
+    write_totals(&totals, out).map_err(|_| Failure::WriteFailed)
+}

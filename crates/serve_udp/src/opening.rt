@@ -1,0 +1,136 @@
+//! The service before it receives: its sockets are bound, and its jobs are made.
+
+ghost use Rattle.std.specs.Prelude.{◌≡◌, ◌<◌, ◌≤◌, IfErr, IfOk, [], vec_len};
+ghost use Rattle.std.specs.List.{All};
+ghost use Rattle.versions.specs.declared.layout.TheConstants.{WORKERS};
+ghost use Rattle.dispatch.specs.Counted.{IsNewWorker};
+ghost use Rattle.serve_udp.specs.Service.{IsServeFailure};
+ghost use Rattle.serve_udp.specs.body.Jobs.{AreMade, AreOpened};
+
+use crate::jobs::{ServiceJob, jobs};
+use crate::receiving::Receiver;
+use crate::sockets::{BoundSockets, Room, Sockets};
+use command_line::Failure;
+use serve_control::BoundAddresses;
+use dispatch::{Counter, Tally};
+use ipv4_fields::Endpoint;
+use member_group::Config;
+use read_section::{Operator, WORKERS, Worker, open_within, spread};
+use std::alloc::{AllocError, Global};
+use std::net::Net;
+use std::sync::Wait;
+use serve_devices::{WorkerQueue, WorkerQueues};
+
+/// What the service has beside its jobs.
+#[derive(Drop)]
+pub struct Service {
+    /// The address that the front is bound to.
+    pub front: Endpoint,
+    /// The address that control is bound to.
+    pub control: Endpoint,
+    pub tally: Tally,
+    /// The counters that no job has.
+    pub spare: Vec<Counter>,
+    pub receiver: Receiver,
+}
+
+// A table without groups, and its workers in the order in which they are to be taken, from the last on.
+fn open_table(alloc: Global) -> Result<(Operator, Vec<Worker>), AllocError>
+    ensures workers { IfOk result (λ opened. vec_len opened.1 ≡ WORKERS) }
+    ensures opening { IfOk result (λ opened. All (IsNewWorker [] opened.0.table) opened.1.items) }
+{
+    let (operator, mut workers) = open_within(Config::new(alloc))?;
+    spread(&mut workers);
+    Ok((operator, workers))
+}
+
+// Binds both sockets, and makes so many jobs of the workers and the counters, with the queues that lead to them.
+fn connect<'a, R: Wait + Net>(
+    rt: &'a R,
+    alloc: Global,
+    front: Endpoint,
+    control: Endpoint,
+    seats: &mut Vec<Worker>,
+    counters: &mut Vec<Counter>,
+    workers: usize,
+) -> Result<(Vec<ServiceJob<'a, R>>, Vec<WorkerQueue>, Sockets), Failure>
+    requires seats { workers ≤ vec_len seats.old }
+    requires counters { workers ≤ vec_len counters.old }
+    ensures made { IfOk result (λ parts. AreMade workers seats.old.items seats.new.items counters.old.items counters.new.items
+        parts.0.items (vec_len parts.1)) }
+    ensures no_input { IfErr result IsServeFailure }
+{
+    let Ok(room) = Room::new(alloc) else {
+        return Err(Failure::OutOfMemory);
+    };
+    let Some(sockets) = BoundSockets::bind(rt, front, control) else {
+        return Err(Failure::BindFailed);
+    };
+    let Some(bound) = sockets.addresses() else {
+        return Err(Failure::BindFailed);
+    };
+    let (jobs, queues) = jobs(rt, alloc, seats, counters, bound.front.address, workers)?;
+    let Ok(sockets) = Sockets::open(rt, sockets, bound, room) else {
+        return Err(Failure::PollFailed);
+    };
+    Ok((jobs, queues, sockets))
+}
+
+fn service_of(
+    alloc: Global,
+    sockets: Sockets,
+    queues: Vec<WorkerQueue>,
+    operator: Operator,
+    tally: Tally,
+    spare: Vec<Counter>,
+) -> Service
+    requires { 0 < vec_len queues }
+    ensures tally { result.tally ≡ tally }
+    ensures spare { result.spare ≡ spare }
+    ensures operator { result.receiver.operator ≡ operator }
+{
+    let BoundAddresses { front, control } = sockets.bound;
+    let queues = WorkerQueues::new(alloc, queues);
+    Service {
+        front,
+        control,
+        tally,
+        spare,
+        receiver: Receiver {
+            sockets,
+            queues,
+            operator,
+        },
+    }
+}
+
+/// Binds both sockets, and makes so many jobs and all that they and receiving need. The jobs have new workers of the operator's
+/// table, and new counters of the tally.
+pub fn open_service<'a, R: Wait + Net>(
+    rt: &'a R,
+    alloc: Global,
+    front: Endpoint,
+    control: Endpoint,
+    workers: usize,
+) -> Result<(Vec<ServiceJob<'a, R>>, Service), Failure>
+    requires at_least_one { 1 ≤ workers }
+    requires at_most { workers ≤ WORKERS }
+    ensures one_a_worker { IfOk result (λ opened. vec_len opened.0 ≡ workers) }
+    ensures opened { IfOk result (λ opened. AreOpened opened.1.tally.table opened.1.receiver.operator.table opened.1.spare.items
+        opened.0.items) }
+    ensures no_input { IfErr result IsServeFailure }
+{
+    let Ok((operator, mut seats)) = open_table(alloc) else {
+        return Err(Failure::OutOfMemory);
+    };
+    let Ok((tally, mut spare)) = Tally::open(alloc) else {
+        return Err(Failure::OutOfMemory);
+    };
+    let (jobs, queues, sockets) = connect(
+        rt, alloc, front, control, &mut seats, &mut spare, workers,
+    )?;
+    Ok((
+        jobs,
+        service_of(alloc, sockets, queues, operator, tally, spare),
+    ))
+}

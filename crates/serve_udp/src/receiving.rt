@@ -1,0 +1,48 @@
+//! The caller's thread of the service: it hands over what comes, and answers control, until it is asked to stop.
+
+ghost use Rattle.std.specs.Prelude.{◌≡◌};
+
+use crate::sockets::Sockets;
+use dispatch::Tally;
+use read_section::Operator;
+use std::alloc::Global;
+use std::sync::Wait;
+use serve_devices::WorkerQueues;
+
+/// Why the service receives no more.
+#[derive(Clone, Copy)]
+pub enum Ended {
+    /// It was asked to stop.
+    Stopped,
+    /// The sockets could not be waited for.
+    PollFailed,
+}
+
+/// What receives, with the workers' queues and the operator. Where it is dropped the queues close, so that the workers end.
+#[derive(Drop)]
+pub struct Receiver {
+    pub sockets: Sockets,
+    pub queues: WorkerQueues,
+    pub operator: Operator,
+}
+
+impl Receiver {
+    /// Receives until it is asked to stop. It may wait, for the sockets and for a place in a worker's queue.
+    pub fn receive<R: Wait>(&mut self, rt: &R, alloc: Global, tally: &mut Tally) -> Ended
+        ensures { tally.new.table ≡ tally.old.table }
+    {
+        for _ in rt.forever() {
+            if self.sockets.wait().is_err() {
+                return Ended::PollFailed;
+            }
+            self.sockets.receive(rt, &mut self.queues);
+            if self
+                .sockets
+                .answer_control(alloc, &mut self.operator, tally)
+            {
+                return Ended::Stopped;
+            }
+        }
+        unreachable!()
+    }
+}

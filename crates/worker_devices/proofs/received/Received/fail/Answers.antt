@@ -1,5 +1,0 @@
-use Rattle.std.proofs.Common.{rules}
-use Rattle.worker_devices.proofs.received.Received.fail.Goals as goal
-
-pub returns : goal.returns
-returns c = search rules

@@ -1,5 +1,0 @@
-use Rattle.std.proofs.Common.{rules}
-use Rattle.worker_devices.proofs.worker_queues.WorkerQueues.arrive.Goals as goal
-
-pub returns : goal.returns
-returns g c = search rules
