@@ -19,7 +19,7 @@ def mixed(chance, parts, between, most):
 
 
 def differences(program, seeds=None, times=1):
-    """Describes each text on which the two differ. The assembler is that of program_rows, whatever the program."""
+    """Describes each text on which the two differ. The assembler is that of test_rows, whatever the program."""
     chance = drawn.Numbers(seeds.randrange(2**63) if seeds else SEED)
     texts = [text for _ in range(times * TEXTS) for text in (mixed(chance, LINES, "\n", 11), mixed(chance, PIECES, "", 7))]
     # In a row an end of line is `\`.

@@ -30,7 +30,7 @@ def is_fault(answer):
 
 
 def differences(program, seeds=None, times=1):
-    """Describes each text on which the two differ. The parser is that of program_rows, whatever the program."""
+    """Describes each text on which the two differ. The parser is that of test_rows, whatever the program."""
     chance = drawn.Numbers(seeds.randrange(2**63) if seeds else SEED)
     worked = [*rows.worked("expr"), ("ip\nor ip", "Syntax { at: 2 }")]
     texts = [" ".join(changed(chance, tokens)) + chance.pick(["", " "]) for _ in range(times * ROUNDS) for tokens in TEXTS]

@@ -88,7 +88,7 @@ def word(pc, code, letters, places):
 
 
 def assemble(text):
-    """The words of a text, or its fault, as program_rows prints them."""
+    """The words of a text, or its fault, as test_rows prints them."""
     lines = [parts(line) for line in re.split("[\n;]", text)]
     places, read = {}, []
     for at, (label, tokens) in enumerate(lines, 1):

@@ -1,9 +1,9 @@
-"""Calls that no command shows, by the program of crates/program_rows: a row for each call, and a line for what it returns."""
+"""Calls that no command shows, by the program of crates/test_rows: a row for each call, and a line for what it returns."""
 import os
 import subprocess
 
-CRATE = os.path.realpath(f"{os.path.dirname(os.path.realpath(__file__))}/../../crates/program_rows")
-PROGRAM = f"{CRATE}/out/program_rows"
+CRATE = os.path.realpath(f"{os.path.dirname(os.path.realpath(__file__))}/../../crates/test_rows")
+PROGRAM = f"{CRATE}/out/test_rows"
 SECONDS = 120
 
 

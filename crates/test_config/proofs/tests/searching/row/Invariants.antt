@@ -1,0 +1,8 @@
+use Rattle.std.proofs.Common.{◌≡◌, ◌+◌, ◌*◌, ◌≤◌, vec_len}
+use Rattle.test_config.proofs.tests.searching.row.Given as goal
+
+abbrev pub invariant-loop-i : goal.invariant-loop-i
+invariant-loop-i l = record {
+  names : vec_len l.names ≡ l.i;
+  start : l.start ≤ 260 + 16 * l.i;
+}
