@@ -21,7 +21,7 @@
 #include <urcu/urcu-memb.h>
 #endif
 
-/* crates/measured_calls: each opens a table at a script's configuration, and then makes so many rounds. */
+/* crates/bench_calls: each opens a table at a script's configuration, and then makes so many rounds. */
 uint64_t measured_section(const uint8_t *script, size_t length, uint64_t rounds);
 uint64_t measured_judge(const uint8_t *script, size_t length, const uint8_t *packet, size_t bytes, uint64_t rounds);
 uint64_t measured_line(const uint8_t *script, size_t length, const uint8_t *text, size_t bytes, const uint8_t *other, size_t more,

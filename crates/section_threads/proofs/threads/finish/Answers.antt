@@ -1,5 +1,0 @@
-use Rattle.std.proofs.Common.{rules}
-use Rattle.section_threads.proofs.threads.finish.Goals as goal
-
-pub returns : goal.returns
-returns c = search rules
