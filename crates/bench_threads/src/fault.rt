@@ -61,7 +61,7 @@ pub fn refuse_words<E: Write>(errs: &mut E) -> Status
 {
     let _ = writeln!(
         errs,
-        "error: usage: section_threads THREADS ROUNDS spread|side-by-side [--time], THREADS from 1 to {WORKERS}, ROUNDS to {}",
+        "error: usage: bench_threads THREADS ROUNDS spread|side-by-side [--time], THREADS from 1 to {WORKERS}, ROUNDS to {}",
         u32::MAX
     );
     Status::Misused

@@ -1,4 +1,4 @@
-//! The program `section_threads`: read sections in threads, on one table (docs/PERFORMANCE.md, "Sections in threads").
+//! The program `bench_threads`: read sections in threads, on one table (docs/PERFORMANCE.md, "Sections in threads").
 //!
 //! Its words are the number of threads, how many rounds each makes, `spread` or `side-by-side`, and `--time` or nothing. It prints one
 //! line: the threads, the placing of their workers, how many sections were made in all and, with `--time`, the nanoseconds from before

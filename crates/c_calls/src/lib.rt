@@ -1,5 +1,5 @@
 //! The calls for programs in C, on numbers and slices: the verifier, the machine, the assembler, the compiler of filter expressions and
-//! the printer (docs/C.md). `dswitch_c` gives each its name in C.
+//! the printer (docs/C.md). `c_library` gives each its name in C.
 //!
 //! No call keeps anything of what it is given, and none halts. Those that take memory return `NO_MEMORY` if it is refused.
 #![tactic(auto)]
@@ -23,8 +23,8 @@ use bpf_verify::{Program, verify};
 use buffer::{give, give_program};
 pub use codes::{NO_MEMORY, NO_ROOM, PACKET_TOO_LONG};
 use codes::{code_answer, text_answer};
-pub use outcome::{Outcome, run_words};
 use filter_program::{TextFault, assembled, compiled};
+pub use outcome::{Outcome, run_words};
 use std::alloc::Global;
 
 /// Law: the codes that name no fault of words or of a text, as numbers. It runs nothing.

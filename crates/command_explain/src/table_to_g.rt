@@ -168,9 +168,9 @@ is refused the program says `failed E3` in its place.",
     (
         "G1",
         "\
-G1: No group has this key.
+G1: There is no group with this key, or at this place.
 Usual mistake: `add` forgotten, or another address or port.
-What to do: `add` the group, or correct the key.",
+What to do: `add` the group, or correct the key or the place.",
     ),
     (
         "G2",
@@ -210,9 +210,9 @@ What to do: let a member `leave`, and send the line again.",
     (
         "G7",
         "\
-G7: There is no program to clear.
-Usual mistake: `none` sent twice.
-What to do: go on: there is nothing to clear.",
+G7: There is no program to clear or to read.
+Usual mistake: `none` sent twice, or `words` of a program that is not there.
+What to do: go on: there is nothing to clear or to read.",
     ),
     (
         "G8",

@@ -70,11 +70,12 @@ fn count_all<R: Threads + Wait + Sync, G: Gate + Sync>(
     let (tally, mut spare) = Tally::open(alloc)?;
     spread(&mut seats);
     let jobs = jobs(alloc, &mut seats, &mut spare, workers, datagrams)?;
-    let counters = run_counted(rt, alloc, jobs, spare, gate, move || {
+    match run_counted(rt, alloc, jobs, spare, gate, move || {
         publish_each(&mut operator, successors);
-    })
-    .map_err(failed)?;
-    Ok(gather(tally, counters))
+    }) {
+        Ok(counters) => Ok(gather(tally, counters)),
+        Err(fault) => Err(failed(fault)),
+    }
 }
 
 /// Judges so many datagrams in the threads of so many workers, while the caller's thread tries to publish 64 versions, and

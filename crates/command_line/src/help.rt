@@ -129,7 +129,8 @@ pub const REPLAY_QUIET: &str = "Writes no replies; with --summary the summary al
 
 pub const REPLAY_MORE: &str = "\
 Reads lines from standard input, and prints one line for each before it reads on. A new switch has
-no groups, and is version 0. KEY and TO are ADDRESS:PORT, ID is a number, HEX an IPv4 packet.
+no groups, and is version 0. KEY and TO are ADDRESS:PORT, ID is a number, I and P count from 0, and
+HEX is an IPv4 packet.
   add KEY, remove KEY                              ok version N
   join KEY ID TO, leave KEY ID                     ok version N
   lock KEY ID                                      ok version N
@@ -138,6 +139,8 @@ no groups, and is version 0. KEY and TO are ADDRESS:PORT, ID is a number, HEX an
   filter KEY ID none                               ok version N
   packet HEX                                       version N, and what becomes of the packet
   show                                             version N groups G members M charge C
+  group I, member KEY I                            version N, and a group or a member
+  words KEY selector P, words KEY ID P             version N, and words of a program
   sweep                                            reclaimed FIRST COUNT
 A line that is refused prints `refused CODE` or `refused CODE NUMBER` and changes nothing.
 Without a selector the packet's addresses and ports pick the member. With 2, 4, 8, 16, 32 or 64

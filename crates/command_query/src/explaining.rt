@@ -7,8 +7,8 @@ ghost use Rattle.command_query.specs.body.Stop.{IsStopBy};
 
 use crate::command_result::CommandResult;
 use crate::stop::Stop;
-use control_line::Reason;
 use command_explain::explanation;
+use control_line::Reason;
 
 /// Finds the explanation of the code. A text that is no code is refused.
 pub fn explain(code: &str) -> Result<CommandResult, Stop>

@@ -4,8 +4,8 @@ ghost use Rattle.std.specs.Prelude.{◌≡◌, IfErr, IfOk, Some, string_bytes};
 ghost use Rattle.command_query.specs.Format.{input_format_of, listing_text, output_format_of};
 
 use bpf_asm::print;
-use bpf_verify::{OutOfMemory, Program};
 use bpf_formats::{print_dd, print_ddd, print_hex};
+use bpf_verify::{OutOfMemory, Program};
 use std::alloc::Global;
 
 /// A format that programs are read in.

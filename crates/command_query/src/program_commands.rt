@@ -10,10 +10,10 @@ ghost use Rattle.command_query.specs.body.Stop.{IsStopBy, IsStopByProgram};
 use crate::command_result::CommandResult;
 use crate::format::InputFormat;
 use crate::stop::Stop;
+use bpf_formats::{read_ddd, read_hex};
 use bpf_machine::{Outcome, run};
 use bpf_verify::Program;
 use control_line::Reason;
-use bpf_formats::{read_ddd, read_hex};
 use filter_program::{TextFault, assembled};
 use std::alloc::Global;
 

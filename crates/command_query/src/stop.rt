@@ -5,9 +5,9 @@ ghost use Rattle.command_query.specs.body.Stop.{stop_of_format, stop_of_text};
 ghost use Rattle.command_line.specs.declared.ending.Failure.TheVariants.{OutOfMemory};
 ghost use Rattle.command_query.specs.declared.stop.Stop.TheVariants.{Failed};
 
+use bpf_formats::FormatFault;
 use command_line::Failure;
 use control_line::Reason;
-use bpf_formats::FormatFault;
 use filter_program::TextFault;
 use std::alloc::AllocError;
 

@@ -273,17 +273,32 @@ none_read : (number : List ℕ) (behind : List (List ℕ))
 unfolding verdict_in verdict_at refusal_in
 none_read number behind = (refl, refl, refl)
 
+group_regrouped : (version index groups key members selector : List ℕ)
+    → codes "version " ++ version ++ codes " group " ++ index ++ codes " of " ++ groups ++ codes " " ++ key ++ codes " members " ++ members ++ codes " selector " ++ selector
+    ≡ codes "version" ++ 32 ∷ (version ++ 32 ∷ (codes "group" ++ 32 ∷ (index ++ (codes " of " ++ (groups ++ (codes " " ++ (key ++ (codes " members " ++ (members ++ (codes " selector " ++ selector))))))))))
+group_regrouped version index groups key members selector = simp append_assoc
+
+member_regrouped : (version index members id to filter locked : List ℕ)
+    → codes "version " ++ version ++ codes " member " ++ index ++ codes " of " ++ members ++ codes " " ++ id ++ codes " " ++ to ++ codes " filter " ++ filter ++ codes " locked " ++ locked
+    ≡ codes "version" ++ 32 ∷ (version ++ 32 ∷ (codes "member" ++ 32 ∷ (index ++ (codes " of " ++ (members ++ (codes " " ++ (id ++ (codes " " ++ (to ++ (codes " filter " ++ (filter ++ (codes " locked " ++ locked))))))))))))
+member_regrouped version index members id to filter locked = simp append_assoc
+
+words_regrouped : (version place count words : List ℕ)
+    → codes "version " ++ version ++ codes " words " ++ place ++ codes " of " ++ count ++ words
+    ≡ codes "version" ++ 32 ∷ (version ++ 32 ∷ (codes "words" ++ 32 ∷ (place ++ (codes " of " ++ (count ++ words)))))
+words_regrouped version place count words = simp append_assoc
+
 pub reads_are_not_counted : ReadsAreNotCounted
 reads_are_not_counted = (
   λ version index groups key members selector.
-      read_at (codes "group") (λ number behind. (none_read number behind).0) (lacks-test 32 (codes "group") refl) version (reply_text (GroupRead version index groups key members selector))
-      (decimal index ++ (codes " of " ++ (decimal groups ++ (codes " " ++ (endpoint_text key ++ (codes " members " ++ (decimal members ++ (codes " selector " ++ decimal selector)))))))) (simp append_assoc),
+      read_at (codes "group") (λ number behind. (none_read number behind).0) (lacks-test 32 (codes "group") refl) version (reply_text (GroupRead version index groups key members selector)) _
+      (group_regrouped (decimal version) (decimal index) (decimal groups) (endpoint_text key) (decimal members) (decimal selector)),
   λ version index members id to filter locked.
-      read_at (codes "member") (λ number behind. (none_read number behind).1) (lacks-test 32 (codes "member") refl) version (reply_text (MemberRead version index members id to filter locked))
-      (decimal index ++ (codes " of " ++ (decimal members ++ (codes " " ++ (decimal id ++ (codes " " ++ (endpoint_text to ++ (codes " filter " ++ (decimal filter ++ (codes " locked " ++ decimal (flag locked))))))))))) (simp append_assoc),
+      read_at (codes "member") (λ number behind. (none_read number behind).1) (lacks-test 32 (codes "member") refl) version (reply_text (MemberRead version index members id to filter locked)) _
+      (member_regrouped (decimal version) (decimal index) (decimal members) (decimal id) (endpoint_text to) (decimal filter) (decimal (flag locked))),
   λ version place count words.
-      read_at (codes "words") (λ number behind. (none_read number behind).2) (lacks-test 32 (codes "words") refl) version (reply_text (WordsRead version place count words))
-      (decimal place ++ (codes " of " ++ (decimal count ++ flat_map spaced_word (take (count - place) words)))) (simp append_assoc),
+      read_at (codes "words") (λ number behind. (none_read number behind).2) (lacks-test 32 (codes "words") refl) version (reply_text (WordsRead version place count words)) _
+      (words_regrouped (decimal version) (decimal place) (decimal count) (flat_map spaced_word (take (count - place) words))),
 )
 
 swept_at : (behind : List (List ℕ)) → option_or (verdict_in (codes "reclaimed" ∷ behind)) (refusal_in (codes "reclaimed" ∷ behind)) ≡ None

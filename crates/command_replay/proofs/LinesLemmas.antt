@@ -92,27 +92,36 @@ lacks-answer (Published version) = named (codes "ok version ") version (lacks-te
 lacks-answer (Shown version groups members charge) =
     shown (decimal version) (decimal groups) (decimal members) (decimal charge) (lacks-number version) (lacks-number groups) (lacks-number members) (lacks-number charge)
 lacks-answer (GroupRead version index groups key members selector) =
-    with_number _ (codes " selector ") selector
-    (with_number _ (codes " members ") members
-    (spaced _ (endpoint_text key)
-    (with_number _ (codes " of ") groups (with_number _ (codes " group ") index (named (codes "version ") version (lacks-test 10 (codes "version ") refl)) (lacks-test 10 (codes " group ") refl)) (lacks-test 10 (codes " of ") refl))
-    (lacks-endpoint 10 key (omega arith)))
-    (lacks-test 10 (codes " members ") refl))
-    (lacks-test 10 (codes " selector ") refl)
+    let begun : List ℕ = codes "version " ++ decimal version in
+    let with_index : List ℕ = begun ++ codes " group " ++ decimal index in
+    let with_groups : List ℕ = with_index ++ codes " of " ++ decimal groups in
+    let with_key : List ℕ = with_groups ++ codes " " ++ endpoint_text key in
+    let with_members : List ℕ = with_key ++ codes " members " ++ decimal members in
+    let lacks_index = with_number begun (codes " group ") index (named (codes "version ") version (lacks-test 10 (codes "version ") refl)) (lacks-test 10 (codes " group ") refl) in
+    let lacks_groups = with_number with_index (codes " of ") groups lacks_index (lacks-test 10 (codes " of ") refl) in
+    let lacks_key = spaced with_groups (endpoint_text key) lacks_groups (lacks-endpoint 10 key (omega arith)) in
+    let lacks_members = with_number with_key (codes " members ") members lacks_key (lacks-test 10 (codes " members ") refl) in
+    with_number with_members (codes " selector ") selector lacks_members (lacks-test 10 (codes " selector ") refl)
 lacks-answer (MemberRead version index members id to filter locked) =
-    with_number _ (codes " locked ") (flag locked)
-    (with_number _ (codes " filter ") filter
-    (spaced _ (endpoint_text to)
-    (with_number _ (codes " ") id
-    (with_number _ (codes " of ") members (with_number _ (codes " member ") index (named (codes "version ") version (lacks-test 10 (codes "version ") refl)) (lacks-test 10 (codes " member ") refl)) (lacks-test 10 (codes " of ") refl))
-    blank)
-    (lacks-endpoint 10 to (omega arith)))
-    (lacks-test 10 (codes " filter ") refl))
-    (lacks-test 10 (codes " locked ") refl)
+    let begun : List ℕ = codes "version " ++ decimal version in
+    let with_index : List ℕ = begun ++ codes " member " ++ decimal index in
+    let with_members : List ℕ = with_index ++ codes " of " ++ decimal members in
+    let with_id : List ℕ = with_members ++ codes " " ++ decimal id in
+    let with_to : List ℕ = with_id ++ codes " " ++ endpoint_text to in
+    let with_filter : List ℕ = with_to ++ codes " filter " ++ decimal filter in
+    let lacks_index = with_number begun (codes " member ") index (named (codes "version ") version (lacks-test 10 (codes "version ") refl)) (lacks-test 10 (codes " member ") refl) in
+    let lacks_members = with_number with_index (codes " of ") members lacks_index (lacks-test 10 (codes " of ") refl) in
+    let lacks_id = with_number with_members (codes " ") id lacks_members blank in
+    let lacks_to = spaced with_id (endpoint_text to) lacks_id (lacks-endpoint 10 to (omega arith)) in
+    let lacks_filter = with_number with_to (codes " filter ") filter lacks_to (lacks-test 10 (codes " filter ") refl) in
+    with_number with_filter (codes " locked ") (flag locked) lacks_filter (lacks-test 10 (codes " locked ") refl)
 lacks-answer (WordsRead version place count words) =
-    both _ (flat_map spaced_word (take (count - place) words))
-    (with_number _ (codes " of ") count (with_number _ (codes " words ") place (named (codes "version ") version (lacks-test 10 (codes "version ") refl)) (lacks-test 10 (codes " words ") refl)) (lacks-test 10 (codes " of ") refl))
-    (lacks-program (take (count - place) words))
+    let begun : List ℕ = codes "version " ++ decimal version in
+    let with_place : List ℕ = begun ++ codes " words " ++ decimal place in
+    let with_count : List ℕ = with_place ++ codes " of " ++ decimal count in
+    let lacks_place = with_number begun (codes " words ") place (named (codes "version ") version (lacks-test 10 (codes "version ") refl)) (lacks-test 10 (codes " words ") refl) in
+    let lacks_count = with_number with_place (codes " of ") count lacks_place (lacks-test 10 (codes " of ") refl) in
+    both with_count (flat_map spaced_word (take (count - place) words)) lacks_count (lacks-program (take (count - place) words))
 lacks-answer (Swept reclaimed) =
     swept (decimal reclaimed.first) (decimal reclaimed.count) (lacks-number reclaimed.first) (lacks-number reclaimed.count)
 

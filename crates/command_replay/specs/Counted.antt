@@ -49,9 +49,9 @@ ShowsAreNotCounted = (version groups members charge : ℕ) → version < 2 ^ 64 
 abbrev pub ReadsAreNotCounted : Type 0
 ReadsAreNotCounted =
     ((version index groups : ℕ) (key : Endpoint) (members selector : ℕ) →
-        reply_kind (reply_text (GroupRead version index groups key members selector)) ≡ None)
+    reply_kind (reply_text (GroupRead version index groups key members selector)) ≡ None)
     × ((version index members id : ℕ) (to : Endpoint) (filter : ℕ) (locked : Bool) →
-        reply_kind (reply_text (MemberRead version index members id to filter locked)) ≡ None)
+    reply_kind (reply_text (MemberRead version index members id to filter locked)) ≡ None)
     × ((version place count : ℕ) (words : List ℕ) → reply_kind (reply_text (WordsRead version place count words)) ≡ None)
 
 abbrev pub SweepsAreNotCounted : Type 0

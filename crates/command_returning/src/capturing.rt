@@ -5,8 +5,8 @@ ghost use Rattle.command_line.specs.CommandLine.{packets};
 ghost use Rattle.command_query.specs.Query.{MayFail};
 ghost use Rattle.command_returning.specs.Request.{TellsCountsOf, WritesBefore, WritesPackets};
 
-use packet_capture::print_packets;
 use command_line::{Failure, Status, read_whole};
+use packet_capture::print_packets;
 use std::alloc::Global;
 use std::io::{Read, Write};
 

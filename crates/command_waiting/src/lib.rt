@@ -1,6 +1,6 @@
 //! The commands that run worker threads or await replies, so that they may wait (docs/COMMANDS.md, "flood", "serve", "tell").
 //!
-//! `run_waiting` runs one: `flood` of memory_flood, `serve` of udp_service, or `tell` of control_client.
+//! `run_waiting` runs one: `flood` of command_flood, `serve` of serve_udp, or `tell` of control_client.
 #![tactic(auto)]
 
 ghost use Rattle.std.specs.Prelude.{◌≡◌, ◌⊎◌, OnOk, codes};
@@ -13,11 +13,12 @@ ghost use Rattle.command_waiting.specs.Waiting.{EndsInServeFailure, EndsInWaitin
 
 mod telling;
 
+use command_flood::run_flood;
+pub use command_flood::{DATAGRAMS, flood};
 use command_line::{Failure, Status, Waiting, Workers};
 use dispatch::OpenGate;
 use ipv4_fields::Endpoint;
-use command_flood::run_flood;
-pub use command_flood::{DATAGRAMS, flood};
+pub use serve_udp::serve;
 use std::alloc::Global;
 use std::io;
 use std::io::{Read, Write};
@@ -26,7 +27,6 @@ use std::sync::Wait;
 use std::thread::Threads;
 use std::time::Clock;
 use telling::run_tell;
-pub use serve_udp::serve;
 
 fn write_refusal<W: Write>(out: &mut W) -> io::Result<()>
     ensures { OnOk result (Appends (W.contents out.old) (W.contents out.new) (codes "refused C1\n")) }

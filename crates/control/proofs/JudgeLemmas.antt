@@ -45,7 +45,7 @@ module _ {P Q : Type 0} (over : P → Q) (f : Q → List ℕ → ℕ) (g : P →
   flow_verdict-over config None = refl
   flow_verdict-over config (Some flow) = ap (group_verdict f flow packet) (group-over over flow.destination config) ∙ group_verdict-over flow (group_of flow.destination config)
 
-  verdict-over : (config : List (GroupOf P)) → verdict f (config_over over config) packet ≡ verdict g config packet
+  pub verdict-over : (config : List (GroupOf P)) → verdict f (config_over over config) packet ≡ verdict g config packet
   verdict-over config = flow_verdict-over config (flow_of packet)
 
 -- configurations that agree have the same verdict

@@ -1,5 +1,5 @@
--- What a script is answered, line by line (docs/COMMANDS.md, "replay"). It speaks of the texts and what they mean; compiled words
--- are in the replies that read them back alone.
+-- What a script is answered, line by line (docs/COMMANDS.md, "replay"). It speaks of the texts and what they mean. Only
+-- replies that read a program back contain compiled words.
 use Rattle.std.specs.Prelude.{◌≡◌, ◌+◌, ◌<◌, ◌≤◌, ◌++◌, ◌∷◌, List, [], codes, decimal, length, ℕ}
 use Rattle.dispatch.specs.Verdict.{returned, verdict}
 use Rattle.packet_verdict.specs.declared.verdict.Verdict.{Verdict}
@@ -12,6 +12,8 @@ use Rattle.control_line.specs.declared.reply.LineAnswer.TheVariants.{GroupRead, 
 use Rattle.filter_tree.specs.Tree.{Tree}
 use Rattle.control_line.specs.Agrees.{Compiler, LoadedProgram, TextConfig}
 use Rattle.control_line.specs.Answer.{AnswersBy, by_function}
+use Rattle.control_line.specs.Reading.{Reading}
+use Rattle.control_line.specs.Request.{Spells, read}
 use Rattle.ipv4_fields.specs.Cut.{Lacks}
 use Rattle.ipv4_fields.specs.Endpoint.{endpoint_text}
 use Rattle.control.specs.PacketLine.{HasNoPacket, IsPacketLine}
@@ -100,8 +102,16 @@ AreAnswered = AreAnsweredBy IsProgramFor
 abbrev pub IsScriptText : List ℕ → List ℕ → Type 0
 IsScriptText = IsScriptTextBy IsProgramFor
 
--- a script has one text, with a compiler that makes the same words of an expression each time
+-- no part of a script is a line that reads
+abbrev pub ReadsNothing : List ℕ → Type 0
+ReadsNothing script = (front line back : List ℕ) (reading : Reading) → script ≡ front ++ (line ++ back) → ¬ Spells line (read reading)
+
+-- a script without lines that read has one text
 abbrev pub HasOneText : Type 0
-HasOneText =
+HasOneText = (script one other : List ℕ) → ReadsNothing script → IsScriptText script one → IsScriptText script other → one ≡ other
+
+-- with a compiler that makes the same words of an expression each time, each script has one text
+abbrev pub HasOneTextBy : Type 0
+HasOneTextBy =
     (compiled : Tree → List ℕ) (script one other : List ℕ) →
     IsScriptTextBy (by_function compiled) script one → IsScriptTextBy (by_function compiled) script other → one ≡ other

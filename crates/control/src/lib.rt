@@ -4,7 +4,7 @@
 //! these over the standard library's readers and writers.
 #![tactic(auto)]
 
-ghost use Rattle.control.specs.Script.{HasOneText};
+ghost use Rattle.control.specs.Script.{HasOneText, HasOneTextBy};
 
 mod fault;
 mod judged;
@@ -29,9 +29,11 @@ pub use replaying::replay;
 pub use std_streams::{FromRead, READ_LIMIT, ToWrite, limits_as_numbers};
 pub use streams::{Input, Output};
 
-/// Law: a script has one text. It runs nothing.
+/// Law: a script without lines that read has one text. With a compiler that makes the same words of an expression each time, so has
+/// every script. It runs nothing.
 pub fn one_text()
-    ensures { HasOneText }
+    ensures texts { HasOneText }
+    ensures compiled { HasOneTextBy }
 {
     one_reply();
 }

@@ -1,5 +1,6 @@
 -- What a line is answered, kind by kind, and what a refusal keeps.
-use Rattle.std.proofs.Common.{◌≡◌, ◌∙◌, ◌<◌, ◌≤◌, ◌∷◌, Err, List, Ok, Result, [], ap, inl, inr, length, refl, subst, sym, ℕ}
+use Rattle.std.proofs.Common.{◌≡◌, ◌∙◌, ◌<◌, ◌≤◌, ◌∷◌, arith, Err, List, Ok, Result, [], ap, inl, inr, length, refl, subst, sym, ℕ}
+use Rattle.std.specs.Prelude.{IfErr}
 use Rattle.std.proofs.lemmas.List.{length-map}
 use Rattle.config_image.specs.Image.{Group}
 use Rattle.member_group.specs.Charge.{charge_of, members_of}
@@ -20,8 +21,9 @@ use Rattle.control_line.specs.declared.reply.LineAnswer.{LineAnswer}
 use Rattle.control_line.specs.declared.reply.LineAnswer.TheVariants.{GroupRead, MemberRead, Published, Refused, Shown, Swept, WordsRead}
 use Rattle.control_line.specs.Agrees.{Agrees, AgreesNow, TextConfig, group_over}
 use Rattle.control_line.specs.Answer.{Answers, Does, DoesNothing, DoesRefused, IsRefusedReply, IsReplyTo, LeavesConfig, PublishesNothing, bad_line, changed, charge_of_text, shown, swept, too_long, was_read}
-use Rattle.control_line.specs.Answer.{IsAnswered}
-use Rattle.control_line.specs.body.Making.{IsChanged, IsOutcome, IsReadBack, IsShown}
+use Rattle.control_line.specs.Answer.{AsksForChange, IsAnswered, IsReadBack}
+use Rattle.control_line.proofs.OneLineLemmas.{one_thing}
+use Rattle.control_line.specs.body.Making.{IsChanged, IsOutcome, IsShown}
 use Rattle.control_line.specs.Reply.{reply_text}
 use Rattle.control_line.specs.Request.{Request, Spells, change, read, show, sweep}
 use Rattle.control_line.specs.Reading.{Reading, reading_answer}
@@ -35,15 +37,16 @@ use Rattle.control_line.proofs.FormLemmas.{differ}
 
 module _ (line : List ℕ) (before : OperatorValue) where
   pub is_too_long : LINE_LIMIT < length line → IsAnswered line before before (Refused reason.LineTooLong)
-  is_too_long long = record { steps = refl; text = λ config agrees. (config, too_long long, agrees) }
+  is_too_long long = record { steps = refl; read_back = λ reading short spells. absurd (omega arith); text = λ config agrees. (config, too_long long, agrees) }
 
   module _ (short : length line ≤ LINE_LIMIT) where
     pub is_bad_line : ((request : Request) → Spells line request → ⊥) → IsAnswered line before before (Refused reason.BadForm)
-    is_bad_line none = record { steps = refl; text = λ config agrees. (config, bad_line short none, agrees) }
+    is_bad_line none = record { steps = refl; read_back = λ reading small spells. absurd (none (read reading) spells); text = λ config agrees. (config, bad_line short none, agrees) }
 
     is_changed : (command : Command Source) (after : OperatorValue) (answer : LineAnswer) → Spells line (change command) → IsChanged command before after answer → IsAnswered line before after answer
     is_changed command after answer spells done = record {
       steps = done.steps;
+      read_back = λ reading small reads. let same = one_thing line (change command) (read reading) spells reads in absurd (cc);
       text = λ config agrees. let next = done.text config agrees in (next.0, changed command answer next.0 short spells next.1, next.2);
     }
 
@@ -63,6 +66,7 @@ module _ (line : List ℕ) (before : OperatorValue) where
     pub is_shown : Spells line show → (answer : LineAnswer) → IsShown before.view answer → IsAnswered line before before answer
     is_shown spells answer (real, current, is) = subst (IsAnswered line before before) (sym is) (record {
       steps = refl;
+      read_back = λ reading small reads. let same = one_thing line show (read reading) spells reads in absurd (cc);
       text = λ config agrees. (
         config,
         subst (λ a. Answers (number_after before.view.log) config line a config) (sym (shown_alike config real (agrees_with config before.view real current agrees) (number_after before.view.log))) (shown short spells),
@@ -73,6 +77,10 @@ module _ (line : List ℕ) (before : OperatorValue) where
     pub is_read : (reading : Reading) → Spells line (read reading) → (answer : LineAnswer) → IsReadBack reading before.view answer → IsAnswered line before before answer
     is_read reading spells answer (real, current, is) = subst (IsAnswered line before before) (sym is) (record {
       steps = does_nothing_read (λ program. program.words) (number_after before.view.log) real reading before;
+      read_back = λ other small reads.
+          let one = one_thing line (read reading) (read other) spells reads in
+          let same : reading ≡ other = cc in
+          ((real, current, ap (reading_answer (λ program. program.words) (number_after before.view.log) real) same), refl);
       text = λ config agrees. (
         config,
         subst (λ a. Answers (number_after before.view.log) config line a config) (sym (read_alike config real (agrees_with config before.view real current agrees) (number_after before.view.log) reading)) (was_read reading short spells),
@@ -83,12 +91,18 @@ module _ (line : List ℕ) (before : OperatorValue) where
     pub is_swept : Spells line sweep → (after : OperatorValue) (reclaimed : Reclaimed) → Sweeps before after reclaimed.first reclaimed.count → IsAnswered line before after (Swept reclaimed)
     is_swept spells after reclaimed sweeps = record {
       steps = sweeps;
+      read_back = λ reading small reads. let same = one_thing line sweep (read reading) spells reads in absurd (cc);
       text = λ config agrees. (
         config,
         swept reclaimed short spells,
         still_agrees config before.view after.view (ap (λ (o : OperatorValue). o.view.published) sweeps.reported ∙ scanned_keeps before sweeps.scanned sweeps.each) agrees,
       );
     }
+
+-- memory that is refused to a change
+pub asked : {line : List ℕ} (result : Result LineAnswer LineFault) → AsksForChange line → IfErr result (λ fault. fault ≡ failure_of.OutOfMemory → AsksForChange line)
+asked (Ok answer) asks = tt
+asked (Err fault) asks = λ same. asks
 
 -- ---- what a refusal keeps
 

@@ -197,10 +197,11 @@ module _ (fields : List ℕ) where
     none_placed_members misspelt reading spells = let at = member_fields reading spells in misspelt at.2 at.3 (at_member reading spells).1
 
     pub member_spelled : (endpoint : Endpoint) (index : ℕ) → IsEndpoint endpoint → key ≡ endpoint_text endpoint → index ≤ 4294967295 → rest ≡ decimal index → Spells (codes "member " ++ fields) (read (member_at endpoint index))
-    member_spelled endpoint index range key_is small rest_is =
-        (codes "member" ∷ endpoint_text endpoint ∷ decimal index ∷ [],
-        ap (λ text. codes "member " ++ text) (cut.whole ∙ ap (λ k. k ++ 32 ∷ rest) key_is ∙ ap (λ r. endpoint_text endpoint ++ 32 ∷ r) rest_is),
-        (range, omega arith, refl))
+    member_spelled endpoint index range key_is small rest_is = (
+      codes "member" ∷ endpoint_text endpoint ∷ decimal index ∷ [],
+      ap (λ text. codes "member " ++ text) (cut.whole ∙ ap (λ k. k ++ 32 ∷ rest) key_is ∙ ap (λ r. endpoint_text endpoint ++ 32 ∷ r) rest_is),
+      (range, omega arith, refl),
+    )
 
     at_words : (reading : Reading) → (spells : Spells (codes "words " ++ fields) (read reading)) → let at = words_fields reading spells in (key ≡ endpoint_text at.0) × (rest ≡ at.2 ++ 32 ∷ decimal at.4)
     at_words reading spells =
@@ -239,17 +240,19 @@ module _ (fields : List ℕ) where
 
       pub selector_words_spelled : (endpoint : Endpoint) (number : ℕ) → IsEndpoint endpoint → key ≡ endpoint_text endpoint → program ≡ codes "selector" → number ≤ 4294967295 → place ≡ decimal number
           → Spells (codes "words " ++ fields) (read (selector_words endpoint number))
-      selector_words_spelled endpoint number range key_is program_is small place_is =
-          (codes "words" ∷ endpoint_text endpoint ∷ codes "selector" ∷ decimal number ∷ [],
-          ap (λ text. codes "words " ++ text) (fields_are endpoint (codes "selector") number key_is program_is place_is),
-          (range, omega arith, refl))
+      selector_words_spelled endpoint number range key_is program_is small place_is = (
+        codes "words" ∷ endpoint_text endpoint ∷ codes "selector" ∷ decimal number ∷ [],
+        ap (λ text. codes "words " ++ text) (fields_are endpoint (codes "selector") number key_is program_is place_is),
+        (range, omega arith, refl),
+      )
 
       pub filter_words_spelled : (endpoint : Endpoint) (id number : ℕ) → IsEndpoint endpoint → key ≡ endpoint_text endpoint → id ≤ 4294967295 → program ≡ decimal id → number ≤ 4294967295 → place ≡ decimal number
           → Spells (codes "words " ++ fields) (read (filter_words endpoint id number))
-      filter_words_spelled endpoint id number range key_is low program_is small place_is =
-          (codes "words" ∷ endpoint_text endpoint ∷ decimal id ∷ decimal number ∷ [],
-          ap (λ text. codes "words " ++ text) (fields_are endpoint (decimal id) number key_is program_is place_is),
-          (range, omega arith, omega arith, refl))
+      filter_words_spelled endpoint id number range key_is low program_is small place_is = (
+        codes "words" ∷ endpoint_text endpoint ∷ decimal id ∷ decimal number ∷ [],
+        ap (λ text. codes "words " ++ text) (fields_are endpoint (decimal id) number key_is program_is place_is),
+        (range, omega arith, omega arith, refl),
+      )
 
 -- ---- lines by their first word
 

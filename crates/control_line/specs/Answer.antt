@@ -9,7 +9,8 @@ use Rattle.member_group.specs.declared.refusal.Refusal.{Refusal}
 use Rattle.config_image.specs.Image.{Group}
 use Rattle.versions.specs.Free.{number_after}
 use Rattle.versions.specs.declared.layout.TheConstants.{CHARGE_LIMIT, LAST_NUMBER}
-use Rattle.read_section.specs.Operator.{OperatorValue}
+use Rattle.versions.specs.declared.view.OperatorView.{OperatorView}
+use Rattle.read_section.specs.Operator.{IsCurrent, OperatorValue}
 use Rattle.read_section.specs.declared.operator.Reclaimed.{Reclaimed}
 use Rattle.retire.specs.Publish.{IsBusy, Publishes}
 use Rattle.retire.specs.Sweep.{Sweeps}
@@ -22,7 +23,7 @@ use Rattle.control_line.specs.declared.reason.Reason.TheVariants.{BadForm, LineT
 use Rattle.control_line.specs.declared.reason.Reason.TheVariants as reason
 use Rattle.control_line.specs.declared.reply.LineAnswer.{LineAnswer}
 use Rattle.control_line.specs.declared.reply.LineAnswer.TheVariants.{GroupRead, MemberRead, Published, Refused, Shown, Swept, WordsRead}
-use Rattle.control_line.specs.Agrees.{AgreesNow, Compiler, IsLoadedBy, LoadedProgram, TextConfig}
+use Rattle.control_line.specs.Agrees.{AgreesNow, Compiler, IsLoadedBy, LoadedProgram, TextConfig, config_over}
 use Rattle.control_line.specs.Reading.{Reading, reading_answer}
 use Rattle.control_line.specs.Reply.{reply_text}
 use Rattle.control_line.specs.Reason.{IsRefusalOfText}
@@ -105,27 +106,38 @@ abbrev pub Answers : ℕ → TextConfig → List ℕ → LineAnswer → TextConf
 Answers = AnswersBy IsProgramFor
 
 -- the operator decides between two answers: whether a publication is made or busy, and what a sweep reclaims
-abbrev pub IsOperatorsChoice : LineAnswer → TextConfig → LineAnswer → TextConfig → Type 0
-IsOperatorsChoice (Published version) next (Refused (Publishing Busy)) also = Unit {0}
-IsOperatorsChoice (Refused (Publishing Busy)) next (Published version) also = Unit {0}
-IsOperatorsChoice (Swept one) next (Swept other) also = next ≡ also
-IsOperatorsChoice one next other also = ⊥
+abbrev pub IsOperatorsChoice : (TextConfig → TextConfig → Type 0) → LineAnswer → TextConfig → LineAnswer → TextConfig → Type 0
+IsOperatorsChoice AreAlike (Published version) next (Refused (Publishing Busy)) also = Unit {0}
+IsOperatorsChoice AreAlike (Refused (Publishing Busy)) next (Published version) also = Unit {0}
+IsOperatorsChoice AreAlike (Swept one) next (Swept other) also = AreAlike next also
+IsOperatorsChoice AreAlike one next other also = ⊥
 
--- two answers and the configurations that they leave are one, or the operator decides between them
-abbrev pub AreOne : LineAnswer → TextConfig → LineAnswer → TextConfig → Type 0
-AreOne one next other also = ((one ≡ other) × (next ≡ also)) ⊎ IsOperatorsChoice one next other also
+-- two answers are one and leave configurations that are alike, or the operator decides between them
+abbrev pub AreOne : (TextConfig → TextConfig → Type 0) → LineAnswer → TextConfig → LineAnswer → TextConfig → Type 0
+AreOne AreAlike one next other also = ((one ≡ other) × AreAlike next also) ⊎ IsOperatorsChoice AreAlike one next other also
+
+-- the programs of two configurations mean the same, whatever their words
+abbrev pub HaveSameTexts : TextConfig → TextConfig → Type 0
+HaveSameTexts config other = config_over (λ program. program.text) config ≡ config_over (λ program. program.text) other
+
+-- A line that does not read has one answer at a version and what its configuration means, but for what the operator has to say.
+abbrev pub HasOneAnswer : Type 0
+HasOneAnswer =
+    (version : ℕ) (config config' : TextConfig) (line : List ℕ) (one other : LineAnswer) (next also : TextConfig) →
+    HaveSameTexts config config' → ((reading : Reading) → ¬ Spells line (read reading)) →
+    Answers version config line one next → Answers version config' line other also → AreOne HaveSameTexts one next other also
 
 -- a compiler that makes the same words of an expression each time
 abbrev pub by_function : (Tree → List ℕ) → Compiler
 by_function compiled tree words = words ≡ compiled tree
 
--- With such a compiler a line has one answer at a version and its configuration, but for what the operator has to say.
-abbrev pub HasOneAnswer : Type 0
-HasOneAnswer =
+-- With such a compiler each line has one answer and leaves one configuration, but for what the operator has to say.
+abbrev pub HasOneAnswerBy : Type 0
+HasOneAnswerBy =
     (compiled : Tree → List ℕ)
     (version : ℕ) (config : TextConfig) (line : List ℕ) (one other : LineAnswer) (next also : TextConfig) →
     AnswersBy (by_function compiled) version config line one next →
-    AnswersBy (by_function compiled) version config line other also → AreOne one next other also
+    AnswersBy (by_function compiled) version config line other also → AreOne (λ after after'. after ≡ after') one next other also
 
 -- what the operator does with a refusal: nothing, but for the scans of a publication that is busy
 abbrev pub DoesRefused : Reason → OperatorValue → OperatorValue → Type 0
@@ -142,9 +154,17 @@ Does (MemberRead version index members id to filter locked) before after = after
 Does (WordsRead version place count words) before after = after ≡ before
 Does (Swept reclaimed) before after = Sweeps before after reclaimed.first reclaimed.count
 
--- a line is answered, for each configuration that agrees with the operator's
+-- what a line that reads is answered, from the configuration that was published last
+abbrev pub IsReadBack : Reading → OperatorView (List Group) → LineAnswer → Type 0
+IsReadBack reading view answer =
+    (config : List Group)
+    × IsCurrent view config
+    × (answer ≡ reading_answer (λ program. program.words) (number_after view.log) config reading)
+
+-- A line is answered: a line that reads from the operator's configuration, and each line for each configuration that agrees with it.
 pub record IsAnswered (line : List ℕ) (before after : OperatorValue) (answer : LineAnswer) : Type 0 where
   pub steps : Does answer before after
+  pub read_back : (reading : Reading) → length line ≤ LINE_LIMIT → Spells line (read reading) → IsReadBack reading before.view answer × (after ≡ before)
   pub text : (config : TextConfig) → AgreesNow config before.view →
       (next : TextConfig) × Answers (number_after before.view.log) config line answer next × AgreesNow next after.view
 
@@ -180,3 +200,7 @@ DoesNothing before after = (after ≡ before) ⊎ IsBusy before after
 -- a reply that refuses
 abbrev pub IsRefusedReply : List ℕ → Type 0
 IsRefusedReply reply = (rest : List ℕ) × (reply ≡ codes "refused " ++ rest)
+
+-- only a change needs memory
+abbrev pub AsksForChange : List ℕ → Type 0
+AsksForChange line = (command : Command Source) × Spells line (change command)

@@ -6,13 +6,14 @@
 //! `Reason` is why a line is refused, or a command of the program (docs/COMMANDS.md, "Refusals").
 #![tactic(auto)]
 
-ghost use Rattle.std.specs.Prelude.{◌≡◌, [], IfOk, OnErr};
+ghost use Rattle.std.specs.Prelude.{◌≡◌, [], IfErr, IfOk, OnErr};
 ghost use Rattle.control_line.specs.declared.reply.LineAnswer.{LineAnswer as LineAnswerValue};
 ghost use Rattle.control_line.specs.Agrees.{Agrees, AgreesNow, TextConfig};
-ghost use Rattle.control_line.specs.Answer.{DoesNothing, HasOneAnswer, IsAnswered, IsRefusedReply, IsReplyTo, LeavesConfig, PublishesNothing};
-ghost use Rattle.control_line.specs.body.Making.{IsOutcome, IsReadBack, IsShort, IsShown};
+ghost use Rattle.control_line.specs.Answer.{AsksForChange, DoesNothing, HasOneAnswer, HasOneAnswerBy, IsAnswered, IsReadBack, IsRefusedReply, IsReplyTo, LeavesConfig, PublishesNothing};
+ghost use Rattle.control_line.specs.body.Making.{IsOutcome, IsShort, IsShown};
 ghost use Rattle.control_line.specs.body.Reading.{reading_of};
 ghost use Rattle.control_line.specs.Reply.{reply_text};
+ghost use Rattle.control_line.specs.declared.program.LineFault.TheVariants as line_fault;
 ghost use Rattle.control_line.specs.Request.{AsksForOneThing};
 
 mod change;
@@ -26,8 +27,8 @@ mod request;
 use change::publish_change;
 pub use packet::{packet_of_hex, read_packet};
 use program::LineFault;
-use reading::{Reading, read_back};
 use read_section::Operator;
+use reading::{Reading, read_back};
 pub use reason::Reason;
 pub use reply::{LineAnswer, NUMBER_LIMIT, REPLY_LIMIT, Reply, WINDOW};
 pub use request::is_word;
@@ -70,6 +71,7 @@ fn part_read(operator: &Operator, reading: Reading) -> LineAnswer
 fn answer(alloc: Global, text: &[u8], operator: &mut Operator) -> Result<LineAnswer, LineFault>
     ensures answered { IsOutcome (IsAnswered text.now) operator.old operator.new result }
     ensures short { IfOk result IsShort }
+    ensures memory { IfErr result (λ fault. fault ≡ line_fault.OutOfMemory → AsksForChange text.now) }
 {
     if text.len() > LINE_LIMIT {
         return Err(LineFault::Refused(Reason::LineTooLong));
@@ -101,6 +103,7 @@ pub fn line(alloc: Global, text: &[u8], operator: &mut Operator) -> Result<Reply
     ensures only_scans { IfOk result (λ reply. IsRefusedReply reply → DoesNothing operator.old operator.new) }
 
     ensures unchanged { OnErr result (operator.new ≡ operator.old) }
+    ensures needs_memory { OnErr result (AsksForChange text.now) }
 {
     match answer(alloc, text, operator) {
         Ok(answer) => Ok(Reply::of(answer)),
@@ -115,9 +118,11 @@ pub fn one_request()
     ensures { AsksForOneThing }
 {}
 
-/// Law: a line has one answer, but for whether a publication is busy and for what a sweep reclaims. It runs nothing.
+/// Law: a line that does not read has one answer, but for whether a publication is busy and for what a sweep reclaims. With a
+/// compiler that makes the same words of an expression each time, so has every line. It runs nothing.
 pub fn one_reply()
-    ensures { HasOneAnswer }
+    ensures texts { HasOneAnswer }
+    ensures compiled { HasOneAnswerBy }
 {
     filter_program::one_meaning();
 }

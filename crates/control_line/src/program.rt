@@ -8,8 +8,8 @@ ghost use Rattle.control_line.specs.declared.program.LineFault.TheVariants.{OutO
 use crate::reason::Reason;
 use crate::request::ProgramText;
 use bpf_verify::Program;
-use member_group::Command;
 use filter_program::{TextFault, assembled, compiled};
+use member_group::Command;
 use std::alloc::Global;
 
 /// Why nothing came of a line.

@@ -57,10 +57,7 @@ fn group_by_key(groups: &[Group<Global>], key: Endpoint) -> Option<&Group<Global
     None
 }
 
-fn member_by_number(
-    group: &Group<Global>,
-    number: u32,
-) -> Option<&Member<Program<Global>>>
+fn member_by_number(group: &Group<Global>, number: u32) -> Option<&Member<Program<Global>>>
     ensures { option_map (λ member. member.now) result ≡ member_of number group.now }
 {
     for member in group.members() {

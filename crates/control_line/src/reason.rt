@@ -4,8 +4,8 @@ ghost use Rattle.std.specs.Prelude.{◌≡◌, Some};
 ghost use Rattle.control_line.specs.Reason.{reason_code, reason_of_text, refusal_text};
 
 use fault_code::Code;
-use member_group::Refusal;
 use filter_program::TextFault;
+use member_group::Refusal;
 use retire::PublishFault;
 use std::fmt;
 

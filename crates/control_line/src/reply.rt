@@ -332,7 +332,11 @@ impl Reply {
         }
         self.push_hex(count - 1, number / 16);
         let digit = (number % 16) as u8;
-        self.push_digit(if digit < 10 { b'0' + digit } else { b'a' + (digit - 10) });
+        self.push_digit(if digit < 10 {
+            b'0' + digit
+        } else {
+            b'a' + (digit - 10)
+        });
     }
 
     fn push_words(&mut self, words: &[u64])

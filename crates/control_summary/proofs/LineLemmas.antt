@@ -111,8 +111,6 @@ pub record IsTakenUpTo (bytes left held : List ℕ) (rows : List RowValue) (held
   pub is : bytes ≡ front ++ left
   pub so_far : (text : List ℕ) → IsAt text held rows → IsAt (text ++ front) held' rows'
 
-}
-
 module _ (bytes left held : List ℕ) (rows : List RowValue) (mid : List ℕ) (mid_rows : List RowValue) (before : IsTakenUpTo bytes left held rows mid mid_rows) where
   pub taken_line : (line behind : List ℕ) → IsSplitAt 10 left line behind → (after : List ℕ) (after_rows : List RowValue)
       → ((text : List ℕ) → IsAt text (mid ++ line) mid_rows → IsAt (text ++ 10 ∷ []) after after_rows) → IsTakenUpTo bytes behind held rows after after_rows

@@ -11,8 +11,8 @@ ghost use Rattle.filter_compile.specs.body.Arithmetic.{Applies, DoesAs, IsDirect
 ghost use Rattle.filter_compile.specs.body.Piece.{Computes, Pairs};
 
 use crate::load::load_header;
-use filter_emit::Code;
 use bpf_insn::{Insn, Operand, Operation};
+use filter_emit::Code;
 use filter_tree::{Arith, Operator, Protocol, Size};
 use std::alloc::{AllocError, Allocator};
 

@@ -8,10 +8,10 @@ ghost use Rattle.filter_tree.specs.Primitive.{is_between};
 ghost use Rattle.filter_compile.specs.body.Header.{keeps_a, passes, weight_of_check, where_kept};
 ghost use Rattle.filter_compile.specs.body.Piece.{Asks};
 
-use filter_emit::{Code, Label};
 use bpf_insn::{Insn, Operand, Operation, Test};
-use filter_tree::Prefix;
+use filter_emit::{Code, Label};
 use filter_facts::Loaded;
+use filter_tree::Prefix;
 use std::alloc::{AllocError, Allocator};
 
 /// A question to a number.

@@ -16,8 +16,8 @@ use crate::check::{Check, ask, left_in_a};
 use crate::load::load;
 use crate::sides::Sides;
 use filter_emit::{Code, Label};
-use filter_tree::Direction;
 use filter_facts::{Known, Loaded};
+use filter_tree::Direction;
 use std::alloc::{AllocError, Allocator};
 
 /// What is loaded of an end.

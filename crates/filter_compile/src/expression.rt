@@ -21,8 +21,8 @@ use crate::primitive::primitive;
 use crate::relation::relation;
 use crate::sides::Sides;
 use filter_emit::{Code, Label};
-use filter_tree::Expr;
 use filter_facts::Known;
+use filter_tree::Expr;
 use std::alloc::{AllocError, Allocator};
 
 // A place where the first of two parts ends at last. Where no jump can be far, the end of both is near enough, and the second

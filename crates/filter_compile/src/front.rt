@@ -17,8 +17,8 @@ use crate::non_ipv4::{begins_with_ip, non_ipv4};
 use crate::primitive::guard_ports;
 use crate::sides::Passed;
 use filter_emit::{Code, Label};
-use filter_tree::{Expr, Primitive, Transport};
 use filter_facts::Known;
+use filter_tree::{Expr, Primitive, Transport};
 use std::alloc::{AllocError, Allocator};
 
 /// What is tested in front.

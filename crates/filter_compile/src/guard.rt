@@ -19,8 +19,8 @@ ghost use Rattle.filter_compile.specs.body.Weight.{leads_to_ports, version_weigh
 use crate::header::{pass_first_fragment, pass_ip, pass_ports, pass_protocol};
 use crate::sides::Passed;
 use filter_emit::{Code, Label};
-use filter_tree::Transport;
 use filter_facts::{Known, Loaded};
+use filter_tree::Transport;
 use std::alloc::{AllocError, Allocator};
 
 /// Tests whether a test has to be written: there is cause, and what is known does not tell that it is true.

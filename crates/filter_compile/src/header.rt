@@ -14,10 +14,10 @@ ghost use Rattle.filter_compile.specs.body.Header.{weight_of_transport};
 ghost use Rattle.filter_compile.specs.body.Piece.{Decides};
 
 use crate::load::load;
-use filter_emit::{Code, Label};
 use bpf_insn::{Insn, Operand, Operation, Size, Test};
-use filter_tree::Transport;
+use filter_emit::{Code, Label};
 use filter_facts::Loaded;
+use filter_tree::Transport;
 use std::alloc::{AllocError, Allocator};
 
 /// Writes the test that the version is 4.

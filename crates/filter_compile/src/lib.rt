@@ -26,12 +26,12 @@ mod relation;
 mod sides;
 
 use crate::expression::expression;
-use filter_emit::{Code, Label};
 use bpf_insn::Insn;
 use bpf_verify::{CELLS, MAX_INSTRUCTIONS, Program};
 pub use fault::CompileFault;
-use filter_tree::Expr;
+use filter_emit::{Code, Label};
 use filter_facts::Known;
+use filter_tree::Expr;
 use std::alloc::{AllocError, Allocator};
 
 /// What a program answers where it accepts a packet: the whole of it is kept.

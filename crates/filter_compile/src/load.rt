@@ -6,8 +6,8 @@ ghost use Rattle.filter_facts.specs.Known.{loaded_of};
 ghost use Rattle.filter_compile.specs.body.Header.{by_header};
 ghost use Rattle.filter_compile.specs.body.Piece.{Brings, IsPlain, LoadsAs, LoadsHeader};
 
-use filter_emit::Code;
 use bpf_insn::{Insn, Size};
+use filter_emit::Code;
 use filter_facts::Loaded;
 use std::alloc::{AllocError, Allocator};
 

@@ -21,10 +21,10 @@ use crate::guard::{guard_first_fragment, guard_ip, guard_transport, leads_to_por
 use crate::header::{is_ip, is_protocol};
 use crate::load::load_header;
 use crate::sides::{Passed, Sides, settled};
-use filter_emit::{Code, Label};
 use bpf_insn::{Insn, Operand, Test};
-use filter_tree::{Direction, Primitive, Transport};
+use filter_emit::{Code, Label};
 use filter_facts::{Known, Loaded};
+use filter_tree::{Direction, Primitive, Transport};
 use std::alloc::{AllocError, Allocator};
 
 fn version<'a, A: Allocator>(

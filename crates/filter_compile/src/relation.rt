@@ -18,10 +18,10 @@ ghost use Rattle.filter_compile.specs.body.Weight.{weight_of_guards_under, weigh
 use crate::arithmetic::{Simple, arithmetic, pair, simple_of};
 use crate::guard::{guard_first_fragment, guard_ip, guard_protocol};
 use crate::sides::{Passed, Sides, settled};
-use filter_emit::{Code, Label};
 use bpf_insn::{Insn, Operand, Test};
-use filter_tree::{Accesses, Arith, Relation};
+use filter_emit::{Code, Label};
 use filter_facts::Known;
+use filter_tree::{Accesses, Arith, Relation};
 use std::alloc::{AllocError, Allocator};
 
 // What is tested before accessors of these protocols.

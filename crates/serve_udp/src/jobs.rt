@@ -12,10 +12,10 @@ use command_line::Failure;
 use dispatch::{Counter, Job};
 use ipv4_fields::Endpoint;
 use read_section::Worker;
+use serve_devices::{ChannelSource, SocketOutbox, WorkerQueue, open_queue};
 use std::alloc::Global;
 use std::net::Net;
 use std::sync::Wait;
-use serve_devices::{ChannelSource, SocketOutbox, WorkerQueue, open_queue};
 
 // How many datagrams a batch judges at most.
 const LIMIT: u64 = 64;

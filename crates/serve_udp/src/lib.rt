@@ -2,7 +2,7 @@
 //! and sent on to members, while control datagrams change the rules.
 //!
 //! The caller's thread receives from both sockets, and hands what comes at the front to the workers in turn. It answers control
-//! itself, by `control_datagram`.
+//! itself, by `serve_control`.
 #![tactic(auto)]
 
 ghost use Rattle.std.specs.Prelude.{◌≡◌, ◌≢◌, ◌⊎◌, ◌↔◌, ◌≤◌, Err, IfErr, IfOk, OnOk, vec_len};
@@ -68,10 +68,12 @@ fn count_served<N: TallyName, R: Threads + Wait + Sync, G: Gate + Sync>(
     let lent = &mut named;
     let told = &mut ended;
     let mut receiver = service.receiver;
-    let counters = run_counted(rt, alloc, jobs, service.spare, gate, move || {
+    let counters = match run_counted(rt, alloc, jobs, service.spare, gate, move || {
         *told = receiver.receive(rt, alloc, &mut lent.tally);
-    })
-    .map_err(failed)?;
+    }) {
+        Ok(counters) => counters,
+        Err(fault) => return Err(failed(fault)),
+    };
     match ended {
         Ended::Stopped => Ok(gather(named.tally, counters)),
         Ended::PollFailed => Err(Failure::PollFailed),

@@ -11,15 +11,15 @@ use crate::jobs::{ServiceJob, jobs};
 use crate::receiving::Receiver;
 use crate::sockets::{BoundSockets, Room, Sockets};
 use command_line::Failure;
-use serve_control::BoundAddresses;
 use dispatch::{Counter, Tally};
 use ipv4_fields::Endpoint;
 use member_group::Config;
 use read_section::{Operator, WORKERS, Worker, open_within, spread};
+use serve_control::BoundAddresses;
+use serve_devices::{WorkerQueue, WorkerQueues};
 use std::alloc::{AllocError, Global};
 use std::net::Net;
 use std::sync::Wait;
-use serve_devices::{WorkerQueue, WorkerQueues};
 
 /// What the service has beside its jobs.
 #[derive(Drop)]

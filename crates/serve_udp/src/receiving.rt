@@ -5,9 +5,9 @@ ghost use Rattle.std.specs.Prelude.{◌≡◌};
 use crate::sockets::Sockets;
 use dispatch::Tally;
 use read_section::Operator;
+use serve_devices::WorkerQueues;
 use std::alloc::Global;
 use std::sync::Wait;
-use serve_devices::WorkerQueues;
 
 /// Why the service receives no more.
 #[derive(Clone, Copy)]

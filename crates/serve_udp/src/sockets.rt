@@ -2,19 +2,19 @@
 
 ghost use Rattle.std.specs.Prelude.{◌≡◌};
 
-use serve_control::{BoundAddresses, ControlAnswer, answer};
 use dispatch::Tally;
 use ipv4_fields::Endpoint;
 use mio::net::UdpSocket;
 use mio::{Events, Interest, Poll, Token};
 use read_section::Operator;
+use serve_control::{BoundAddresses, ControlAnswer, answer};
+use serve_devices::WorkerQueues;
 use std::alloc::{AllocError, Global};
 use std::io;
 use std::io::ErrorKind;
 use std::net::{Net, SocketAddr};
 use std::sync::Wait;
 use std::time::Duration;
-use serve_devices::WorkerQueues;
 
 const FRONT: Token = Token(0);
 

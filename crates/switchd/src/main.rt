@@ -2,12 +2,12 @@
 #![tactic(auto)]
 
 use command_line::{Failure, refuse_arguments};
+use command_returning::run_returning;
+use command_waiting::run_waiting;
 use std::env::Env;
 use std::io::LineWriter;
 use std::process::ExitCode;
 use std::{env, io};
-use command_returning::run_returning;
-use command_waiting::run_waiting;
 
 // The words after the program's name.
 fn arguments<R: Env + AllocGlobal>(rt: &R) -> io::Result<Vec<String>> {

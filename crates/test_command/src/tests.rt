@@ -8,6 +8,8 @@ mod telling;
 mod words;
 
 use command_line::{Subcommand, read_words};
+use command_returning::tool;
+use command_waiting::run_waiting;
 use std::alloc::{AllocError, Global};
 use std::fmt::Debug;
 use std::io::Read;
@@ -18,8 +20,6 @@ use std::test::Fail;
 use std::thread::Threads;
 use std::time::Clock;
 use streams::{Sink, Source};
-use command_returning::tool;
-use command_waiting::run_waiting;
 
 /// The sample packet: 29 bytes of UDP over IPv4 from 10.0.0.1:5000 to 10.0.0.2:53, with the payload `a`.
 const SAMPLE_PACKET: &str = "4500001d00000000401100000a0000010a000002138800350009000061";

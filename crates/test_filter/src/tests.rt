@@ -1,4 +1,4 @@
-//! Tests by crate: bpf_asm, program_formats, filter_tree, filter_parse, filter_compile.
+//! Tests by crate: bpf_asm, bpf_formats, filter_tree, filter_parse, filter_compile.
 
 mod assembly;
 mod built;

@@ -1,5 +1,8 @@
-use Rattle.control.proofs.OneTextLemmas.{one_text}
+use Rattle.control.proofs.OneTextLemmas.{one_text, one_text_by}
 use Rattle.control.proofs.one_text.Goals as goal
 
-pub returns : goal.returns
-returns c = one_text c.one_reply.ensures
+pub returns-clause-texts : goal.returns-clause-texts
+returns-clause-texts c = one_text c.one_reply.ensures.texts
+
+pub returns-clause-compiled : goal.returns-clause-compiled
+returns-clause-compiled c = one_text_by c.one_reply.ensures.compiled

@@ -19,7 +19,6 @@ use Rattle.control_line.specs.declared.reply.LineAnswer.TheVariants as answer
 use Rattle.control_line.specs.Agrees.{Agreeing, AgreesNow, IsLoadedBy, TextConfig}
 use Rattle.control_line.specs.Answer.{Changes, Does, Means, program_in}
 use Rattle.control_line.specs.Reason.{IsRefusalOfText, reason_of_text}
-use Rattle.control_line.specs.Reading.{Reading, reading_answer}
 use Rattle.control_line.specs.body.Reading.{command_over}
 use Rattle.filter_program.specs.Program.{IsProgramFor, Source}
 use Rattle.filter_program.specs.declared.fault.TextFault.{TextFault}
@@ -79,13 +78,6 @@ abbrev pub IsOutcome : (OperatorValue → OperatorValue → LineAnswer → Type 
 IsOutcome IsGiven before after (Ok given) = IsGiven before after given
 IsOutcome IsGiven before after (Err (Refused why)) = IsGiven before after (answer.Refused why)
 IsOutcome IsGiven before after (Err OutOfMemory) = after ≡ before
-
--- what a reading line is answered, from the configuration that was published last
-abbrev pub IsReadBack : Reading → OperatorView (List Group) → LineAnswer → Type 0
-IsReadBack reading view given =
-    (config : List Group)
-    × IsCurrent view config
-    × (given ≡ reading_answer (λ program. program.words) (number_after view.log) config reading)
 
 -- its numbers are small enough for a reply
 abbrev pub IsShort : LineAnswer → Type 0

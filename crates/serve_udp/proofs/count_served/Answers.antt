@@ -13,15 +13,15 @@ use Rattle.serve_udp.proofs.count_served.Goals as goal
 pub gather-requires : goal.gather-requires
 gather-requires g c =
     let opened = c.requires.opened in record {
-      counters = subst (λ table. AreCountersOf table c.in_ok-counters.counters.items) (c.requires.named ∙ sym c.named-2-1.given.is_named)
-          (all_counters _ _ c.args.service.tally.table c.args.jobs.items c.args.service.spare.items c.in_ok-counters.counters.items c.in_ok-counters.ensures.counters_back
+      counters = subst (λ table. AreCountersOf table c.in-Ok.counters.items) (c.requires.named ∙ sym c.named-2-1.given.is_named)
+          (all_counters _ _ c.args.service.tally.table c.args.jobs.items c.args.service.spare.items c.in-Ok.counters.items c.in-Ok.ensures.counters_back
           opened.new_spare opened.new_counters opened.all_counters);
     }
 
 pub returns-in-Stopped-clause-totals : goal.returns-in-Stopped-clause-totals
 returns-in-Stopped-clause-totals g c =
     let opened = c.requires.opened in
-    counted _ _ c.args.service.tally.table c.args.jobs.items c.args.service.spare.items c.in_ok-counters.counters.items c.in_ok-counters.ensures.counters_back
+    counted _ _ c.args.service.tally.table c.args.jobs.items c.args.service.spare.items c.in-Ok.counters.items c.in-Ok.ensures.counters_back
     opened.new_spare opened.new_counters [] c.args.service.receiver.operator.table LONGEST_DATAGRAM LIMIT (AreServiceStarts (vec_len c.args.jobs))
     opened.new_workers opened.rooms (
       length-map c.args.jobs.items (parts_of_job _ _) ∙ sym c.args.jobs.ok.0,

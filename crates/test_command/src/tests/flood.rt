@@ -3,6 +3,7 @@
 use super::streams::{Sink, Source};
 use super::{assert_wrote, run_as_main};
 use command_line::Failure;
+use command_waiting::flood;
 use dispatch::{Gate, OpenGate};
 use std::alloc::Global;
 use std::process::Abort;
@@ -11,7 +12,6 @@ use std::sync::atomic::{AtomicU64, Ordering};
 use std::test::Fail;
 use std::thread;
 use std::thread::Threads;
-use command_waiting::flood;
 
 const TOTALS: &str =
     "malformed 1024 nogroup 1024 nomembers 0 dropped 0 delivered 2048 sendfailed 0 receivefailed 0\n";

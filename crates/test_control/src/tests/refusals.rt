@@ -6,8 +6,8 @@ use control::Reason;
 use fault_code::Code;
 use filter_compile::CompileFault;
 use filter_parse::ParseFault;
-use member_group::Refusal;
 use filter_program::TextFault;
+use member_group::Refusal;
 use retire::PublishFault;
 use std::test::Fail;
 

@@ -1,8 +1,8 @@
 //! Programs in numbers: the words of texts, and what tcpdump prints, read and printed in heaps of every size.
 
+use bpf_formats::{FormatFault, print_dd, print_ddd, print_hex, read_ddd, read_hex};
 use bpf_verify::Program;
 use linked_list_allocator::LocalHeap;
-use bpf_formats::{FormatFault, print_dd, print_ddd, print_hex, read_ddd, read_hex};
 use std::alloc::Global;
 use std::process::Abort;
 use std::test::Fail;

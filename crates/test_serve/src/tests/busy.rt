@@ -2,12 +2,12 @@
 
 use super::client::{Case, Client, PACKET, Ports, TURNS, at, local, new_client, new_output};
 use dispatch::Gate;
+use serve_udp::serve;
 use std::net::{Net, UdpSocket};
 use std::process::Abort;
 use std::sync::Arc;
 use std::sync::atomic::{AtomicU64, Ordering};
 use std::{io, thread};
-use serve_udp::serve;
 
 // How many datagrams a batch adds to the flood: more than it judges at most.
 const ADDED: u32 = 128;

@@ -1,10 +1,10 @@
 //! Answers to control datagrams.
 
-use serve_control::{BoundAddresses, ControlAnswer, answer};
 use dispatch::{Counter, Kind, Tally};
 use ipv4_fields::Endpoint;
 use member_group::Config;
 use read_section::{Operator, open};
+use serve_control::{BoundAddresses, ControlAnswer, answer};
 use std::alloc::Global;
 use std::process::Abort;
 
@@ -117,7 +117,7 @@ const ALMOST_REPLIES: [&[u8]; 10] = [
     b"okay version 1",
     b"versions 0",
     b"o k",
-    b"group 0",
+    b"groups 0",
     b"dropped 0",
 ];
 

@@ -8,6 +8,10 @@ use dispatch::{
 use ipv4_fields::Endpoint;
 use member_group::{Command, Config};
 use read_section::{Worker, open};
+use serve_devices::{
+    ChannelReceiver, ChannelSender, ChannelSource, QUEUE_PLACES, Received, SocketOutbox,
+    WorkerQueue, WorkerQueues, open_channel, open_queue,
+};
 use std::alloc::Global;
 use std::io;
 use std::net::UdpSocket;
@@ -15,10 +19,6 @@ use std::process::Abort;
 use std::sync::Wait;
 use std::test::Fail;
 use std::time::Duration;
-use serve_devices::{
-    ChannelReceiver, ChannelSender, ChannelSource, QUEUE_PLACES, Received, SocketOutbox,
-    WorkerQueue, WorkerQueues, open_channel, open_queue,
-};
 
 // 10.0.0.2:53
 const KEY: Endpoint = Endpoint {

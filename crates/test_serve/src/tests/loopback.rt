@@ -3,13 +3,13 @@
 use super::client::{Case, Client, PACKET, Ports, TURNS, at, new_client, new_output};
 use command_line::Failure;
 use dispatch::{Gate, OpenGate};
+use serve_udp::serve;
 use std::alloc::Global;
 use std::net::{Net, SocketAddr, UdpSocket};
 use std::process::Abort;
 use std::sync::atomic::{AtomicU64, Ordering};
 use std::time::Duration;
 use std::{io, thread};
-use serve_udp::serve;
 
 // Two first batches and a client that wait for each other, each for `TURNS` turns at most.
 #[derive(Drop)]

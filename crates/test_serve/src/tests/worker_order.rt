@@ -2,7 +2,6 @@
 
 ghost use Rattle.std.specs.Prelude.{◌<◌};
 
-use dispatch::spread;
 use member_group::Config;
 use read_section::{Operator, WORKERS, Worker, open, spread};
 use std::process::Abort;

@@ -15,27 +15,21 @@ gather-requires g c =
     let given = opened.count in let taken = made.left in let one_a_worker = made.one_a_worker in
     let of_all = c.in_ok-tally.spare.ok.0 in let of_spare = c.jobs.new.counters.ok.0 in let of_jobs = c.in_ok-jobs.jobs.ok.0 in
     record {
-      counters = all_counters datagrams_source sends_outbox table c.in_ok-jobs.jobs.items c.jobs.new.counters.items _ c.in_ok-counters.ensures.counters_back
+      counters = all_counters datagrams_source sends_outbox table c.in_ok-jobs.jobs.items c.jobs.new.counters.items _ c.in-Ok.ensures.counters_back
           (made.new table opened.each) (made.counters table opened.each) (omega arith);
     }
 
-pub returns-clause-totals : goal.returns-clause-totals
-returns-clause-totals g c =
+pub returns-in-Ok-clause-totals : goal.returns-in-Ok-clause-totals
+returns-in-Ok-clause-totals g c =
     let table = c.in_ok-tally.tally.table in let opened = c.in_ok-tally.ensures.counters in let made = c.in_ok-jobs.ensures in
     let versions = c.in_ok-operator.operator.table in
-    counted datagrams_source sends_outbox table c.in_ok-jobs.jobs.items c.jobs.new.counters.items _ c.in_ok-counters.ensures.counters_back
+    counted datagrams_source sends_outbox table c.in_ok-jobs.jobs.items c.jobs.new.counters.items _ c.in-Ok.ensures.counters_back
     (made.new table opened.each) (made.counters table opened.each) opening_version versions BUFFER LIMIT (AreStarts c.args.workers c.args.datagrams)
     (made.workers versions (All-permutation (IsNewWorker opening_version versions) _ _ c.spread.ensures.same_workers c.in_ok-operator.ensures.opening))
     made.buffers made.starts c.gather.result c.gather.ensures.sum_exact
 
-pub returns-clause-run_fault : goal.returns-clause-run_fault
-returns-clause-run_fault g c = search rules
-
-pub returns-in_err-counters-clause-run_fault : goal.returns-in_err-counters-clause-run_fault
-returns-in_err-counters-clause-run_fault g c = search rules
-
-pub returns-in_err-counters-clause-totals : goal.returns-in_err-counters-clause-totals
-returns-in_err-counters-clause-totals g c = search rules
+pub returns-in-Ok-clause-run_fault : goal.returns-in-Ok-clause-run_fault
+returns-in-Ok-clause-run_fault g c = search rules
 
 pub returns-in_err-jobs-clause-run_fault : goal.returns-in_err-jobs-clause-run_fault
 returns-in_err-jobs-clause-run_fault g c = search rules

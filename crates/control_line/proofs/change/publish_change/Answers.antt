@@ -19,12 +19,18 @@ returns-in_err-next c =
 pub returns-in-Ok : goal.returns-in-Ok
 returns-in-Ok c =
     let told = c.in-Ok.ensures in
-    record { short = tt; changed = is_published c.args.operator.now (command_over source_of c.args.command) c.config.result.now c.config.ensures.current_configuration c.in_ok-command.command c.in_ok-command.ensures
-    c.in_ok-next.next c.in_ok-next.ensures c.publish.new.self c.in-Ok.version
-    (λ above. told.too_big.1 above) (λ small last. told.exhausted.1 (small, last)) told.published_exactly told.new_number }
+    record {
+      short = tt;
+      changed = is_published c.args.operator.now (command_over source_of c.args.command) c.config.result.now c.config.ensures.current_configuration c.in_ok-command.command c.in_ok-command.ensures
+          c.in_ok-next.next c.in_ok-next.ensures c.publish.new.self c.in-Ok.version
+          (λ above. told.too_big.1 above) (λ small last. told.exhausted.1 (small, last)) told.published_exactly told.new_number;
+    }
 
 pub returns : goal.returns
 returns c =
     let told = c.in-Err.ensures in
-    record { short = tt; changed = is_unpublished c.args.operator.now (command_over source_of c.args.command) c.config.result.now c.config.ensures.current_configuration c.in_ok-command.command c.in_ok-command.ensures
-    c.in_ok-next.next c.in_ok-next.ensures c.publish.new.self c.in-Err.fault told.too_big told.exhausted told.busy told.kept }
+    record {
+      short = tt;
+      changed = is_unpublished c.args.operator.now (command_over source_of c.args.command) c.config.result.now c.config.ensures.current_configuration c.in_ok-command.command c.in_ok-command.ensures
+          c.in_ok-next.next c.in_ok-next.ensures c.publish.new.self c.in-Err.fault told.too_big told.exhausted told.busy told.kept;
+    }
