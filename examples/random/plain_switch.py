@@ -2,11 +2,13 @@
 
 It reads lines and packets from their text. Of programs it knows the texts of ASSEMBLY and EXPRESSIONS, each with its charge and what
 it returns for a packet, worked by hand from docs/MACHINE.md and docs/EXPRESSIONS.md, and the texts of FAULTS, each with its refusal.
-Further it knows `ret #0`, repeated.
+Further it knows `ret #0`, repeated. It does not know which words an expression compiles to.
 """
 import dataclasses
 import re
 import typing
+
+import plain_assembly
 
 MAX_GROUPS = 64
 MAX_MEMBERS = 64
@@ -61,6 +63,8 @@ def is_dispatched(packet):
 class Program(typing.NamedTuple):
     charge: int
     returns: typing.Callable[[bytes], int]
+    # Those of assembly; which words an expression is compiled to this switch does not say.
+    words: tuple[str, ...] | None = None
 
 
 def always(number):
@@ -148,17 +152,31 @@ class Refused(Exception):
     """A line is refused; the code, and the place if there is one."""
 
 
+class Untold(Exception):
+    """A line reads the words of an expression, and changes nothing."""
+
+
+def words_of(made):
+    if made.words is None:
+        raise Untold
+    return made.words
+
+
+def size(made):
+    return len(words_of(made)) if made else 0
+
+
 def program(language, text):
     known, faults = (ASSEMBLY, FAULTY_ASSEMBLY) if language == "asm" else (EXPRESSIONS, FAULTY_EXPRESSIONS)
     if text in faults:
         raise Refused(faults[text])
     if text in known:
-        return known[text]
+        return known[text]._replace(words=tuple(plain_assembly.assemble(text).split()[1:])) if language == "asm" else known[text]
     instructions = text.split(";")
     assert language == "asm" and set(instructions) == {"ret #0"}, text
     if len(instructions) > MAX_INSTRUCTIONS:
         raise Refused("V2")
-    return Program(len(instructions), always(0))
+    return Program(len(instructions), always(0), ("0006000000000000",) * len(instructions))
 
 
 # Configurations
@@ -295,6 +313,14 @@ def member_id(text):
     return number(text, 4294967295)
 
 
+# A form of a line that reads, its fields, and what it reads.
+READINGS = [
+    (rf"group {ID}", "group", [member_id]),
+    (rf"member {KEY} {ID}", "member", [endpoint, member_id]),
+    (rf"words {KEY} selector {ID}", "selector_words", [endpoint, member_id]),
+    (rf"words {KEY} {ID} {ID}", "filter_words", [endpoint, member_id, member_id]),
+]
+
 # A form of line, its fields, and its command. A program's text is judged before the group is looked for.
 FORMS = [
     (rf"add {KEY}", add, [endpoint]),
@@ -335,6 +361,42 @@ class Switch:
         members = sum(len(group.members) for group in self.groups.values())
         return f"version {self.version} groups {len(self.groups)} members {members} charge {self.charge()}"
 
+    def group(self, index):
+        keys = sorted(self.groups, key=lambda key: [int(part) for part in re.split("[.:]", key)])
+        if index >= len(keys):
+            raise Refused("G1")
+        group = self.groups[keys[index]]
+        return (f"version {self.version} group {index} of {len(keys)} {keys[index]} members {len(group.members)}"
+                f" selector {size(group.selector)}")
+
+    def member(self, key, index):
+        members = group_of(self.groups, key).members
+        if index >= len(members):
+            raise Refused("G3")
+        it = members[index]
+        return (f"version {self.version} member {index} of {len(members)} {it.number} {it.to} filter {size(it.filter)}"
+                f" locked {int(it.is_locked)}")
+
+    def words(self, made, place):
+        if not made:
+            raise Refused("G7")
+        words = words_of(made)
+        return " ".join([f"version {self.version} words {place} of {len(words)}", *words[place:place + 5]])
+
+    def selector_words(self, key, place):
+        return self.words(group_of(self.groups, key).selector, place)
+
+    def filter_words(self, key, number, place):
+        group = group_of(self.groups, key)
+        return self.words(group.members[group.place(number)].filter, place)
+
+    def reading(self, line):
+        """What a line reads, or None of another line."""
+        for form, name, fields in READINGS:
+            if found := re.fullmatch(form, line):
+                return getattr(self, name)(*(read(text) for read, text in zip(fields, found.groups(), strict=True)))
+        return None
+
     def sweep(self):
         first, self.reclaimed = self.reclaimed, self.version
         return f"reclaimed {first} {self.version - first}"
@@ -368,6 +430,6 @@ class Switch:
                 return self.sweep()
             if found := re.fullmatch(r"packet ([0-9a-fA-F]*)", line):
                 return self.judge(found[1])
-            return self.change(line)
+            return self.reading(line) or self.change(line)
         except Refused as refused:
             return f"refused {refused}"

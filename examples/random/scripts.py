@@ -8,10 +8,10 @@ import plain_switch
 SECONDS = 120
 
 # The gate's scripts: a seed, a number of lines, and of how many settings one is a long program (none at 0).
-SCRIPTS = [(1, 400, 0), (2, 400, 0), (3, 400, 0), (4, 400, 0), (5, 250, 5), (6, 250, 5)]
+SCRIPTS = [(1, 400, 0), (2, 400, 0), (3, 400, 0), (8, 400, 0), (5, 250, 5), (6, 250, 5)]
 
 # The replies that have to come to the gate's scripts, by `kind_of`. Few scripts with other seeds may lack one.
-KINDS = ("ok groups reclaimed malformed nogroup nomembers dropped deliver A1 A2 A3 A4 A5 B1 C1 G1 G2 G3 G4 G7 G9 P1 P2 P3 P4 V1 V10 V11 "
+KINDS = ("ok groups group member words reclaimed malformed nogroup nomembers dropped deliver A1 A2 A3 A4 A5 B1 C1 G1 G2 G3 G4 G7 G9 P1 P2 P3 P4 V1 V10 V11 "
          "V2 V5 V6 V7 V8 V9").split()
 
 KEYS = ["10.0.0.2:53", "10.0.0.2:5353", "0.0.0.0:0", "255.255.255.255:65535"]
@@ -22,7 +22,8 @@ SOURCE_PORTS = [0, 1, 2, 3, 53, 5000, 40000, 65535]
 NO_LINES = [
     "", " show", "show ", "Show", "sweep\r", "stop", "totals", "add", "add  10.0.0.2:53", "add 10.0.0.2:053", "add 10.0.0.256:53",
     "add 10.0.0.2:65536", "remove 10.0.0.2:53 1", "join 10.0.0.2:53 1", "join 10.0.0.2:53 01 127.0.0.1:9001",
-    "leave 10.0.0.2:53 4294967296", "lock 10.0.0.2:53", "lock 10.0.0.2:53 1 none", "selector 10.0.0.2:53 asm",
+    "group", "group 01", "group 4294967296", "member 10.0.0.2:53", "member 10.0.0.2:53 0 0", "words 10.0.0.2:53 selector",
+    "words 10.0.0.2:53 expr 0", "words 10.0.0.2:53 1 2 3", "leave 10.0.0.2:53 4294967296", "lock 10.0.0.2:53", "lock 10.0.0.2:53 1 none", "selector 10.0.0.2:53 asm",
     "selector 10.0.0.2:53 expr udp", "filter 10.0.0.2:53 1 none none", "filter 10.0.0.2:53 1 Expr udp", "packet", "packet 4", "packet 4g",
     "packet 4500 ",
 ]
@@ -137,7 +138,8 @@ class Lines(drawn.Numbers):
         if which < 61:
             return f"filter {key} {member} {self.filter(charge)}"
         if which < 64:
-            return "show"
+            return self.pick(["show", f"group {self.below(6)}", f"member {key} {self.below(3)}", f"words {key} selector {self.below(8)}",
+                              f"words {key} {member} {self.below(3)}"])
         if which < 68:
             return "sweep"
         if which < 97:
@@ -162,9 +164,12 @@ def script(seed, count, long_in):
     """The lines of a script, and the plain switch's replies."""
     lines, switch = Lines(seed, long_in), plain_switch.Switch()
     pairs = []
-    for _ in range(count):
+    while len(pairs) < count:
         line = lines.line(switch.charge())
-        pairs.append((line, switch.reply(line)))
+        try:
+            pairs.append((line, switch.reply(line)))
+        except plain_switch.Untold:
+            pass
     return pairs
 
 
