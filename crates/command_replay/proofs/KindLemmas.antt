@@ -30,7 +30,7 @@ use Rattle.retire.specs.Code.{publish_code}
 use Rattle.control.specs.Reason.{reason_code}
 use Rattle.control.specs.Reply.{flag, reply_text, spaced_word}
 use Rattle.control_line.specs.declared.reason.Reason.{Reason}
-use Rattle.control_line.specs.declared.reason.Reason.TheVariants.{BadForm, Command, LineTooLong, PacketTooLong, Publishing, Text}
+use Rattle.control_line.specs.declared.reason.Reason.TheVariants.{BadForm, Command, LineTooLong, OtherVersion, PacketTooLong, Publishing, Text}
 use Rattle.filter_program.specs.declared.fault.TextFault.TheVariants.{Assembly, Compiling, Expression, OutOfMemory, Words}
 use Rattle.control_line.specs.declared.reply.LineAnswer.TheVariants.{GroupRead, MemberRead, Shown, Swept, WordsRead}
 use Rattle.packet_verdict.specs.declared.verdict.Verdict.TheVariants.{Deliver, Dropped, Malformed, NoGroup, NoMembers}
@@ -201,6 +201,7 @@ above-reason (Text (Compiling fault)) = above-compile fault
 above-reason (Text OutOfMemory) = refl
 above-reason (Command why) = above-refusal why
 above-reason (Publishing fault) = above-publish fault
+above-reason (OtherVersion current) = refl
 
 refused_at : (name : List ℕ) (behind : List (List ℕ)) → option_or (verdict_in (codes "refused" ∷ (name ∷ behind))) (refusal_in (codes "refused" ∷ (name ∷ behind))) ≡ Some (codes "refused " ++ name)
 unfolding verdict_in refusal_in
@@ -220,8 +221,33 @@ refused_kind name (Some number) lacks =
     ∙ (cut (codes "refused") (name ++ 32 ∷ decimal number) (lacks-test 32 (codes "refused") refl) ∙ more (codes "refused") _ _ (cut name (decimal number) lacks)))
     ∙ refused_at name (words_of (decimal number))
 
+-- the same of a line of a block
+with_line : (name place number : List ℕ) → codes "refused " ++ (name ++ place) ++ codes " line " ++ number ≡ codes "refused " ++ (name ++ (place ++ (codes " line " ++ number)))
+with_line name place number =
+    ap (λ (t : List ℕ). codes "refused " ++ t) (append_assoc (name ++ place) (codes " line ") number ∙ append_assoc name place (codes " line " ++ number))
+
+line_refused_words : (name place number rest : List ℕ) → Lacks 32 name → place ++ (codes " line " ++ number) ≡ 32 ∷ rest
+    → reply_kind (codes "refused " ++ (name ++ place) ++ codes " line " ++ number) ≡ Some (codes "refused " ++ name)
+line_refused_words name place number rest lacks is =
+    kind_by_words (codes "refused " ++ (name ++ place) ++ codes " line " ++ number) (codes "refused" ∷ (name ∷ words_of rest))
+    (ap words_of (with_line name place number ∙ ap (λ (t : List ℕ). codes "refused " ++ (name ++ t)) is)
+    ∙ (cut (codes "refused") (name ++ 32 ∷ rest) (lacks-test 32 (codes "refused") refl) ∙ more (codes "refused") _ _ (cut name rest lacks)))
+    ∙ refused_at name (words_of rest)
+
+line_refused_kind : (name : List ℕ) (place : Option ℕ) (number : List ℕ) → Lacks 32 name
+    → reply_kind (codes "refused " ++ (name ++ place_text place) ++ codes " line " ++ number) ≡ Some (codes "refused " ++ name)
+line_refused_kind name None number lacks = line_refused_words name [] number (codes "line " ++ number) lacks refl
+line_refused_kind name (Some place) number lacks =
+    line_refused_words name (codes " " ++ decimal place) number (decimal place ++ (codes " line " ++ number)) lacks refl
+
+lacks-name : (reason : Reason) → Lacks 32 (name_text (reason_code reason))
+lacks-name reason = lacks-above 32 (name_text (reason_code reason)) (omega arith) (above-reason reason)
+
 pub refusals_are_counted : RefusalsAreCounted
-refusals_are_counted reason = refused_kind (name_text (reason_code reason)) (reason_code reason).place (lacks-above 32 (name_text (reason_code reason)) (omega arith) (above-reason reason))
+refusals_are_counted = (
+  λ reason. refused_kind (name_text (reason_code reason)) (reason_code reason).place (lacks-name reason),
+  λ number reason. line_refused_kind (name_text (reason_code reason)) (reason_code reason).place (decimal number) (lacks-name reason),
+)
 
 -- ---- other replies
 

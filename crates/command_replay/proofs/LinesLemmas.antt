@@ -1,6 +1,7 @@
--- The lines of a script's text are the replies to the script's lines: no reply has an LF.
+-- The lines of a script's text are the replies to the script's requests: no reply has an LF.
 use Rattle.std.proofs.Common.{◌+◌, ◌-◌, ◌≡◌, ◌≢◌, ◌∙◌, ◌/◌, ◌%◌, ◌∷◌, ◌++◌, All, Bool, List, None, Option, Some, [], ap, append-nil, append_assoc, arith, codes, decimal, false, if◌then◌else◌, inl, nat_lt, refl, subst, suc, sym, take, true, zero, ℕ}
 use Rattle.std.proofs.lemmas.List.Concat.{flat_map-append}
+use Rattle.std.proofs.lemmas.List.Elements.{All-nil, All-push}
 use Rattle.std.specs.Char.{digit_char}
 use Rattle.std.specs.Fmt.{digits}
 use Rattle.std.specs.List.{flat_map}
@@ -11,17 +12,17 @@ use Rattle.control.specs.Endpoint.{endpoint_text}
 use Rattle.fault_code.specs.Code.{name_text, place_text}
 use Rattle.control.specs.Reason.{reason_code, refusal_text}
 use Rattle.control.specs.Reply.{flag, reply_text, spaced_word}
-use Rattle.control.specs.Script.{AreAnswered, RepliesTo, Standing, all_ended, at_start, judged_text, last_unended, no_line, one_more, text_value, to_control, to_long_packet, to_packet, verdict_text}
+use Rattle.control.specs.Script.{AreAnswered, IsRequest, RepliesTo, Standing, at_start, judged_text, no_request, of_nothing, of_requests, one_more, text_value, to_control, to_long_packet, to_packet, verdict_text}
 use Rattle.dispatch.specs.Verdict.{verdict}
 use Rattle.control_line.specs.declared.reason.Reason.{Reason}
 use Rattle.control_line.specs.declared.reason.Reason.TheVariants.{PacketTooLong}
 use Rattle.control_line.specs.declared.reply.LineAnswer.{LineAnswer}
-use Rattle.control_line.specs.declared.reply.LineAnswer.TheVariants.{GroupRead, MemberRead, Published, Refused, Shown, Swept, WordsRead}
+use Rattle.control_line.specs.declared.reply.LineAnswer.TheVariants.{GroupRead, LineRefused, MemberRead, Published, Refused, Shown, Swept, WordsRead}
 use Rattle.packet_verdict.specs.declared.verdict.Verdict.{Verdict}
 use Rattle.packet_verdict.specs.declared.verdict.Verdict.TheVariants.{Deliver, Dropped, Malformed, NoGroup, NoMembers}
 use Rattle.control_summary.specs.Summary.{lines_of}
 use Rattle.control_summary.proofs.LineLemmas.{first_line, no_lines}
-use Rattle.command_replay.specs.Lines.{AreLinesOf, AreRepliesInTurn, LinesAreReplies, each_ended, ended, last_open, no_reply, one_reply_more}
+use Rattle.command_replay.specs.Lines.{AreRepliesInTurn, LinesAreReplies, ended, no_reply, none_of, one_reply_more, some_of}
 use Rattle.command_replay.proofs.KindLemmas.{above-reason, lacks-above}
 
 -- ---- no LF in a reply
@@ -88,6 +89,7 @@ lacks-program (word ∷ program) = both (spaced_word word) (flat_map spaced_word
 
 lacks-answer : (answer : LineAnswer) → Lacks 10 (reply_text answer)
 lacks-answer (Refused reason) = lacks-refusal reason
+lacks-answer (LineRefused number reason) = with_number (refusal_text reason) (codes " line ") number (lacks-refusal reason) (lacks-test 10 (codes " line ") refl)
 lacks-answer (Published version) = named (codes "ok version ") version (lacks-test 10 (codes "ok version ") refl)
 lacks-answer (Shown version groups members charge) =
     shown (decimal version) (decimal groups) (decimal members) (decimal charge) (lacks-number version) (lacks-number groups) (lacks-number members) (lacks-number charge)
@@ -156,17 +158,11 @@ lacks-reply now line _ _ (to_control answer next no_packet answers comes) = lack
 lacks-reply now line _ _ (to_packet digits packet within is spells) = lacks-judged now.version (verdict text_value now.config packet)
 lacks-reply now line _ _ (to_long_packet digits within is spells) = lacks-refusal PacketTooLong
 
--- ---- lines and their replies
+-- ---- requests and their replies
 
-all_more : (lines : List (List ℕ)) (line : List ℕ) → All (Lacks 10) lines → Lacks 10 line → All (Lacks 10) (lines ++ line ∷ [])
-all_more [] line each lacks zero d inside = lacks
-all_more [] line each lacks (suc k) d inside = absurd (omega arith)
-all_more (first ∷ lines) line each lacks zero d inside = each 0 d (omega arith)
-all_more (first ∷ lines) line each lacks (suc k) d inside = all_more lines line (λ j e within. each (suc j) e (omega arith)) lacks k d (omega arith)
-
-ended_more : (lines : List (List ℕ)) (line : List ℕ) → ended (lines ++ line ∷ []) ≡ ended lines ++ (line ++ 10 ∷ [])
-ended_more lines line =
-    flat_map-append (λ (l : List ℕ). l ++ 10 ∷ []) lines (line ∷ []) ∙ ap (λ (t : List ℕ). ended lines ++ t) (append-nil (line ++ 10 ∷ []))
+ended_more : (requests : List (List ℕ)) (request : List ℕ) → ended (requests ++ request ∷ []) ≡ ended requests ++ (request ++ 10 ∷ [])
+ended_more requests request =
+    flat_map-append (λ (l : List ℕ). l ++ 10 ∷ []) requests (request ∷ []) ∙ ap (λ (t : List ℕ). ended requests ++ t) (append-nil (request ++ 10 ∷ []))
 
 -- a text whose lines are those of it, whatever stands behind
 abbrev IsOfLines : List ℕ → Type 0
@@ -184,42 +180,41 @@ more_lines text reply whole lacks rest =
     ∙ (sym (append_assoc (lines_of text) (reply ∷ []) (lines_of rest)) ∙ ap (λ (lines : List (List ℕ)). lines ++ lines_of rest) (sym (one_line text reply whole lacks)))))
 
 record Cut (script text : List ℕ) (last : Standing) : Type 0 where
-  lines : List (List ℕ)
-  is : ended lines ≡ script
-  each : All (Lacks 10) lines
-  in_turn : AreRepliesInTurn lines (lines_of text) last
+  requests : List (List ℕ)
+  is : ended requests ≡ script
+  each : All IsRequest requests
+  in_turn : AreRepliesInTurn requests (lines_of text) last
   whole : IsOfLines text
 
 cut : (script text : List ℕ) (last : Standing) → AreAnswered script text last → Cut script text last
-cut _ _ _ no_line = record {
-  lines = [];
+cut _ _ _ no_request = record {
+  requests = [];
   is = refl;
-  each = λ k d inside. absurd (omega arith);
+  each = All-nil IsRequest;
   in_turn = subst (λ (lines : List (List ℕ)). AreRepliesInTurn [] lines at_start) (sym no_lines) no_reply;
   whole = λ rest. ap (λ (lines : List (List ℕ)). lines ++ lines_of rest) (sym no_lines);
 }
-cut _ _ _ (one_more script text line reply now next before lacks replies) =
+cut _ _ _ (one_more script text request reply now next before is replies) =
     let cut = cut script text now before in
-    let lacks' = lacks-reply now line reply next replies in
+    let lacks = lacks-reply now request reply next replies in
     record {
-      lines = cut.lines ++ line ∷ [];
-      is = ended_more cut.lines line ∙ ap (λ (t : List ℕ). t ++ (line ++ 10 ∷ [])) cut.is;
-      each = all_more cut.lines line cut.each lacks;
-      in_turn = subst (λ (found : List (List ℕ)). AreRepliesInTurn (cut.lines ++ line ∷ []) found next) (sym (one_line text reply cut.whole lacks'))
-          (one_reply_more cut.lines (lines_of text) line reply now next cut.in_turn replies);
-      whole = more_lines text reply cut.whole lacks';
+      requests = cut.requests ++ request ∷ [];
+      is = ended_more cut.requests request ∙ ap (λ (t : List ℕ). t ++ (request ++ 10 ∷ [])) cut.is;
+      each = All-push IsRequest cut.requests request cut.each is;
+      in_turn = subst (λ (found : List (List ℕ)). AreRepliesInTurn (cut.requests ++ request ∷ []) found next) (sym (one_line text reply cut.whole lacks))
+          (one_reply_more cut.requests (lines_of text) request reply now next cut.in_turn replies);
+      whole = more_lines text reply cut.whole lacks;
     }
 
 pub lines_are_replies : LinesAreReplies
-lines_are_replies _ _ (all_ended script text last answered) =
-    let cut = cut script text last answered in
-    (cut.lines, last, subst (λ (s : List ℕ). AreLinesOf s cut.lines) cut.is (each_ended cut.lines cut.each), cut.in_turn)
-lines_are_replies _ _ (last_unended script text line reply now last answered lacks more replies) =
-    let cut = cut script text now answered in
-    let lacks' = lacks-reply now line reply last replies in (
-      cut.lines ++ line ∷ [],
+lines_are_replies script _ (of_nothing none) =
+    ([], at_start, none_of none, subst (λ (lines : List (List ℕ)). AreRepliesInTurn [] lines at_start) (sym no_lines) no_reply)
+lines_are_replies script _ (of_requests requests text request reply now last answered begins whole replies) =
+    let cut = cut requests text now answered in
+    let lacks = lacks-reply now request reply last replies in (
+      cut.requests ++ request ∷ [],
       last,
-      subst (λ (s : List ℕ). AreLinesOf (s ++ line) (cut.lines ++ line ∷ [])) cut.is (last_open cut.lines line cut.each lacks more),
-      subst (λ (found : List (List ℕ)). AreRepliesInTurn (cut.lines ++ line ∷ []) found last) (sym (one_line text reply cut.whole lacks'))
-          (one_reply_more cut.lines (lines_of text) line reply now last cut.in_turn replies),
+      some_of cut.requests request cut.each begins (whole ∙ (ap (λ (t : List ℕ). t ++ (request ++ 10 ∷ [])) (sym cut.is) ∙ sym (ended_more cut.requests request))),
+      subst (λ (found : List (List ℕ)). AreRepliesInTurn (cut.requests ++ request ∷ []) found last) (sym (one_line text reply cut.whole lacks))
+          (one_reply_more cut.requests (lines_of text) request reply now last cut.in_turn replies),
     )

@@ -6,7 +6,7 @@ use Rattle.dispatch.specs.Memory.{MOST_FAILURES}
 use Rattle.control.specs.declared.fault.ReplayFault.{ReplayFault}
 use Rattle.control.specs.declared.fault.ReplayFault.TheVariants as fault
 use Rattle.control.specs.Replay.{AnsweredAllLines, AnsweredFirstLines, FailedBy, IsReplayed, IsTextOfLines, WasRead, WasWritten, WroteBeginning}
-use Rattle.control.specs.Script.{at_start, no_line}
+use Rattle.control.specs.Script.{at_start, no_request}
 use Rattle.control.specs.Streams.{InputValue, OutputValue}
 use Rattle.command_line.specs.declared.ending.Failure.{Failure}
 use Rattle.command_line.specs.declared.ending.Failure.TheVariants.{WriteFailed}
@@ -135,7 +135,7 @@ begins_with_none known before = record {
   text = [];
   last = at_start;
   read = begins_nothing known;
-  answered = no_line;
+  answered = no_request;
   written = Appends-nil before;
 }
   where

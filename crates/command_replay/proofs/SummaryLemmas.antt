@@ -83,7 +83,7 @@ module _ (input input' : InputValue) (output output' : OutputValue) (known befor
       text = all.text;
       last = all.last;
       read = all.read;
-      no_line = all.no_line;
+      is_part = all.is_part;
       answered = all.answered;
       written = written_here all.text all.written;
     }

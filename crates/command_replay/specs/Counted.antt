@@ -7,7 +7,7 @@ use Rattle.control.specs.Reason.{reason_code, refusal_text}
 use Rattle.control.specs.Reply.{reply_text}
 use Rattle.control.specs.Script.{judged_text}
 use Rattle.control_line.specs.declared.reason.Reason.{Reason}
-use Rattle.control_line.specs.declared.reply.LineAnswer.TheVariants.{GroupRead, MemberRead, Published, Shown, Swept, WordsRead}
+use Rattle.control_line.specs.declared.reply.LineAnswer.TheVariants.{GroupRead, LineRefused, MemberRead, Published, Shown, Swept, WordsRead}
 use Rattle.packet_verdict.specs.declared.verdict.Verdict.{Verdict}
 use Rattle.packet_verdict.specs.declared.verdict.Verdict.TheVariants.{Deliver, Dropped, Malformed, NoGroup, NoMembers}
 use Rattle.read_section.specs.declared.operator.Reclaimed.{Reclaimed}
@@ -35,9 +35,11 @@ NamesMember judged = Unit {0}
 abbrev pub VerdictsAreCounted : Type 0
 VerdictsAreCounted = (version : ℕ) (judged : Verdict) → version < 2 ^ 64 → NamesMember judged → reply_kind (judged_text version judged) ≡ Some (verdict_kind judged)
 
--- the reply that refuses a line is counted by its code
+-- the reply that refuses a request is counted by its code, also if a line of a block is refused
 abbrev pub RefusalsAreCounted : Type 0
-RefusalsAreCounted = (reason : Reason) → reply_kind (refusal_text reason) ≡ Some (refusal_kind reason)
+RefusalsAreCounted =
+    ((reason : Reason) → reply_kind (refusal_text reason) ≡ Some (refusal_kind reason))
+    × ((number : ℕ) (reason : Reason) → reply_kind (reply_text (LineRefused number reason)) ≡ Some (refusal_kind reason))
 
 -- the other replies are not counted
 abbrev pub ChangesAreNotCounted : Type 0

@@ -12,7 +12,7 @@ use Rattle.control.specs.Script.{AreAnswered, IsScriptText, Standing}
 use Rattle.control_summary.specs.Summary.{IsSummaryOf}
 use Rattle.command_line.specs.Input.{BeginsInput, IsInput}
 
--- the input was read to its end, and these are the replies to all its lines
+-- the input was read to its end, and these are the replies to all its requests
 pub record AreRepliesTo (known : Option (List ℕ)) (replies : List ℕ) : Type 0 where
   pub script : List ℕ
   pub whole : IsInput known script
@@ -25,7 +25,7 @@ IsTextFor false true replies text = text ≡ []
 IsTextFor true false replies text = (summary : List ℕ) × IsSummaryOf replies summary × (text ≡ replies ++ summary)
 IsTextFor true true replies text = IsSummaryOf replies text
 
--- the status is 0, each line of the whole input was answered, and the text that the options ask for was written, and nothing else
+-- the status is 0, each request of the whole input was answered, and the text that the options ask for was written, and nothing else
 pub record WritesScript (summary quiet : Bool) (known : Option (List ℕ)) (status : Status) (before after : Option (List ℕ)) : Type 0 where
   pub done : status ≡ Done
   pub replies : List ℕ
@@ -43,7 +43,7 @@ ReplayMayFail WriteFailed = Unit {0}
 ReplayMayFail OutOfMemory = Unit {0}
 ReplayMayFail failure = ⊥
 
--- the replies to some first lines of the input were written, each whole, and nothing else
+-- the replies to some first requests of the input were written, each whole, and nothing else
 pub record RepliesToFirstLines (known before after : Option (List ℕ)) : Type 0 where
   pub lines : List ℕ
   pub text : List ℕ
@@ -52,13 +52,13 @@ pub record RepliesToFirstLines (known before after : Option (List ℕ)) : Type 0
   pub answered : AreAnswered lines text last
   pub written : Appends before after text
 
--- the replies to all lines of the input were written, and nothing else
+-- the replies to all requests of the input were written, and nothing else
 pub record WritesAllReplies (known before after : Option (List ℕ)) : Type 0 where
   pub replies : List ℕ
   pub answered : AreRepliesTo known replies
   pub written : Appends before after replies
 
--- these are the replies to some first lines of the input, or to all its lines
+-- these are the replies to some first requests of the input, or to all its requests
 abbrev pub IsTextOfInput : Option (List ℕ) → List ℕ → Type 0
 IsTextOfInput known text = ((lines : List ℕ) × (last : Standing) × BeginsInput known lines × AreAnswered lines text last) ⊎ AreRepliesTo known text
 
@@ -66,7 +66,7 @@ IsTextOfInput known text = ((lines : List ℕ) × (last : Standing) × BeginsInp
 abbrev pub WritesBeginningOfReplies : Option (List ℕ) → Option (List ℕ) → Option (List ℕ) → Type 0
 WritesBeginningOfReplies known before after = (text : List ℕ) × IsTextOfInput known text × AppendsBeginning before after text
 
--- each line of the whole input was answered; of the text that the options ask for a beginning was written, and nothing else
+-- each request of the whole input was answered; of the text that the options ask for a beginning was written, and nothing else
 pub record WritesBeginningFor (summary quiet : Bool) (known before after : Option (List ℕ)) : Type 0 where
   pub replies : List ℕ
   pub text : List ℕ
@@ -74,15 +74,15 @@ pub record WritesBeginningFor (summary quiet : Bool) (known before after : Optio
   pub asked_for : IsTextFor summary quiet replies text
   pub begun : AppendsBeginning before after text
 
--- without options: where a write failed a beginning of the replies, and else the replies to some first lines
+-- without options: if a write failed a beginning of the replies, and else the replies to some first requests
 abbrev pub RepliesBefore : Failure → Option (List ℕ) → Option (List ℕ) → Option (List ℕ) → Type 0
 RepliesBefore ReadFailed known before after = RepliesToFirstLines known before after
 RepliesBefore WriteFailed known before after = WritesBeginningOfReplies known before after
 RepliesBefore OutOfMemory known before after = RepliesToFirstLines known before after
 RepliesBefore failure known before after = ⊥
 
--- with `--summary`: the same; but once all lines are answered, a write of the summary may fail, or memory for the summary be refused,
--- and then the replies to all lines stand there
+-- with `--summary`: the same; but after all requests are answered, a write of the summary may fail, or memory for the summary be
+-- refused, and then the replies to all requests were written
 abbrev pub RepliesAndSummaryBefore : Failure → Option (List ℕ) → Option (List ℕ) → Option (List ℕ) → Type 0
 RepliesAndSummaryBefore ReadFailed known before after = RepliesToFirstLines known before after
 RepliesAndSummaryBefore WriteFailed known before after = WritesBeginningOfReplies known before after ⊎ WritesBeginningFor true false known before after

@@ -13,9 +13,9 @@ mod unwritten;
 
 pub use replaying::run_replay;
 
-/// Law: the kind of the reply to a packet is its verdict, the kind of the reply that refuses a line is its code, and other replies have
-/// no kind; and the lines of a script's text, which a summary counts by their kinds, are the replies to the script's lines, one to each,
-/// in their order. Verdicts are those of versions below 2^64, of keys that are endpoints, and of IDs below 2^32. It runs nothing.
+/// Law: the kind of the reply to a packet is its verdict, the kind of the reply that refuses a request is its code, and other replies
+/// have no kind; and the lines of a script's text, which a summary counts by their kinds, are the replies to the script's requests, one
+/// to each, in their order. Verdicts are those of versions below 2^64, of keys that are endpoints, and of IDs below 2^32. It runs nothing.
 pub fn replies_are_counted()
     ensures verdicts { VerdictsAreCounted }
     ensures refusals { RefusalsAreCounted }

@@ -1,3 +1,6 @@
+pub mod HeadLemmas
+pub mod RequestLemmas
+pub mod EndLemmas
 mod OneTextLemmas
 mod MeetLemmas
 mod JudgeLemmas

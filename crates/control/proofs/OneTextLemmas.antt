@@ -1,5 +1,5 @@
 -- A script has one text.
-use Rattle.std.proofs.Common.{◌≡◌, ◌∙◌, ◌<◌, ◌≤◌, ◌++◌, ◌∷◌, ◌⊎◌, List, [], ap, append_assoc, append-nil, arith, codes, inl, inr, length, refl, subst, sym, ℕ}
+use Rattle.std.proofs.Common.{◌≡◌, ◌∙◌, ◌≤◌, ◌++◌, ◌∷◌, List, [], ap, append_assoc, arith, codes, inl, inr, length, refl, subst, sym, ℕ}
 use Rattle.std.proofs.lemmas.List.{append_cancel_left, append_cancel_right}
 use Rattle.dispatch.specs.Verdict.{returned, verdict}
 use Rattle.hex.proofs.HexLemmas.{decode_of-ok}
@@ -8,20 +8,19 @@ use Rattle.retire.specs.declared.fault.PublishFault.TheVariants.{Busy}
 use Rattle.control_line.specs.declared.TheConstants.{LINE_LIMIT}
 use Rattle.control_line.specs.declared.reason.Reason.TheVariants.{Publishing}
 use Rattle.control_line.specs.declared.reply.LineAnswer.{LineAnswer}
-use Rattle.control_line.specs.declared.reply.LineAnswer.TheVariants.{GroupRead, MemberRead, Published, Refused, Shown, Swept, WordsRead}
-use Rattle.filter_tree.specs.Tree.{Tree}
+use Rattle.control_line.specs.declared.reply.LineAnswer.TheVariants.{GroupRead, LineRefused, MemberRead, Published, Refused, Shown, Swept, WordsRead}
 use Rattle.control_line.specs.Agrees.{Compiler, TextConfig, config_over}
 use Rattle.control_line.specs.Answer.{AnswersBy, AreOne, HasOneAnswer, HasOneAnswerBy, HaveSameTexts, IsOperatorsChoice, by_function}
 use Rattle.control_line.specs.Reading.{Reading}
 use Rattle.control_line.specs.Request.{Spells, read}
 use Rattle.filter_program.specs.Program.{IsProgramFor, text_ending}
+use Rattle.control.proofs.EndLemmas.{part_of_script}
 use Rattle.control.proofs.JudgeLemmas.{verdict-over}
-use Rattle.ipv4_fields.specs.Cut.{Lacks}
+use Rattle.control.proofs.RequestLemmas.{same_last, same_request}
 use Rattle.control.specs.PacketLine.{HasNoPacket, IsPacketLine}
 use Rattle.control_line.specs.Packet.{IsHex, SpellsPacket, SpellsTooMuch}
 use Rattle.control_line.specs.Reply.{reply_text}
-use Rattle.control.specs.Script.{AreAnsweredBy, ComesInScript, HasOneText, HasOneTextBy, IsScriptTextBy, RepliesToBy, Standing, all_ended, judged_text, last_unended, no_line, one_more, standing_after, text_value, to_control, to_long_packet, to_packet}
-use Rattle.ipv4_fields.proofs.TextLemmas.{has_separator}
+use Rattle.control.specs.Script.{AreAnsweredBy, BeginsRequest, ComesInScript, HasOneText, HasOneTextBy, IsRequest, IsScriptTextBy, RepliesToBy, Standing, at_start, judged_text, no_request, of_nothing, of_requests, one_more, standing_after, text_value, to_control, to_long_packet, to_packet, with_last_lf}
 
 -- ---- lines that have a packet
 
@@ -47,52 +46,35 @@ same_packet digits one other spells also = let both = sym spells.spells ∙ also
 no_control : (line digits : List ℕ) → HasNoPacket line → length line ≤ LINE_LIMIT → IsPacketLine line digits → IsHex digits → ⊥
 no_control line digits none short is hex = let long = none digits is hex in omega arith
 
--- ---- one cut behind the last LF
+-- ---- requests from the first to the last
 
--- it ends with LF, or there is nothing
-abbrev IsEnded : List ℕ → Type 0
-IsEnded lines = (lines ≡ []) ⊎ ((front : List ℕ) × (lines ≡ front ++ 10 ∷ []))
+-- from here on the requests have this text; only the last one may lack lines
+data GoesOnBy (by : Compiler) : Standing → List ℕ → List ℕ → Type 0 where
+  last_one : (now last : Standing) (request reply : List ℕ) → BeginsRequest request → RepliesToBy by now request reply last → GoesOnBy by now (request ++ 10 ∷ []) (reply ++ 10 ∷ [])
+  one_first : (now next : Standing) (request reply rest text : List ℕ) → IsRequest request → RepliesToBy by now request reply next → GoesOnBy by next rest text
+      → GoesOnBy by now (request ++ 10 ∷ rest) (reply ++ 10 ∷ text)
 
-ended : {by : Compiler} (lines text : List ℕ) (last : Standing) → AreAnsweredBy by lines text last → IsEnded lines
-ended _ _ _ no_line = inl refl
-ended _ _ _ (one_more lines text line reply now next answered lacks replies) = inr (lines ++ line, sym (append_assoc lines line (10 ∷ [])))
+not_nil : (front rest : List ℕ) → front ++ 10 ∷ rest ≡ [] → ⊥
+not_nil [] rest is = cc is
+not_nil (x ∷ front) rest is = cc is
 
-ended-tail : (x : ℕ) (lines : List ℕ) → IsEnded (x ∷ lines) → IsEnded lines
-ended-tail x lines (inl none) = cc none
-ended-tail x lines (inr ([], is)) = inl (cc is)
-ended-tail x lines (inr (y ∷ front, is)) = inr (front, cc is)
+goes_on : (by : Compiler) (requests text rest more : List ℕ) (now : Standing) → AreAnsweredBy by requests text now → GoesOnBy by now rest more → GoesOnBy by at_start (requests ++ rest) (text ++ more)
+goes_on by _ _ rest more _ no_request tail = tail
+goes_on by _ _ rest more _ (one_more requests text request reply now next answered is replies) tail =
+    subst (λ t. GoesOnBy by at_start t ((text ++ (reply ++ 10 ∷ [])) ++ more)) (whole requests request rest)
+    (subst (GoesOnBy by at_start (requests ++ (request ++ 10 ∷ rest))) (whole text reply more)
+    (goes_on by requests text (request ++ 10 ∷ rest) (reply ++ 10 ∷ more) now answered (one_first now next request reply rest more is replies tail)))
+  where
+    whole : (front one rest : List ℕ) → front ++ (one ++ 10 ∷ rest) ≡ (front ++ (one ++ 10 ∷ [])) ++ rest
+    whole front one rest = ap (λ t. front ++ t) (sym (append_assoc one (10 ∷ []) rest)) ∙ sym (append_assoc front (one ++ 10 ∷ []) rest)
 
-has_end : (x : ℕ) (lines : List ℕ) (part : List ℕ) → IsEnded (x ∷ lines) → Lacks 10 ((x ∷ lines) ++ part) → ⊥
-has_end x lines part (inl none) lacks = cc none
-has_end x lines part (inr (front, is)) lacks =
-    has_separator 10 front part (subst (Lacks 10) (ap (λ l. l ++ part) is ∙ append_assoc front (10 ∷ []) part) lacks)
-
-same_cut : (lines part lines' part' : List ℕ) → IsEnded lines → IsEnded lines' → Lacks 10 part → Lacks 10 part' → lines ++ part ≡ lines' ++ part' → (lines ≡ lines') × (part ≡ part')
-same_cut [] part [] part' e e' lacks lacks' is = (refl, is)
-same_cut [] part (x ∷ lines') part' e e' lacks lacks' is = absurd (has_end x lines' part' e' (subst (Lacks 10) is lacks))
-same_cut (x ∷ lines) part [] part' e e' lacks lacks' is = absurd (has_end x lines part e (subst (Lacks 10) (sym is) lacks'))
-same_cut (x ∷ lines) part (y ∷ lines') part' e e' lacks lacks' is =
-    let first : x ≡ y = cc is in
-    let tails : lines ++ part ≡ lines' ++ part' = cc is in
-    let rest = same_cut lines part lines' part' (ended-tail x lines e) (ended-tail y lines' e') lacks lacks' tails in
-    (ap (λ l. x ∷ l) rest.0 ∙ ap (λ z. z ∷ lines') first, rest.1)
-
--- lines that each end with LF are not none
-no_lines : (lines line : List ℕ) → [] ≡ lines ++ (line ++ 10 ∷ []) → ⊥
-no_lines [] [] is = cc is
-no_lines [] (x ∷ line) is = cc is
-no_lines (x ∷ lines) line is = cc is
-
--- without their last LF they are cut in one way
-same_lines : (lines line lines' line' : List ℕ) → IsEnded lines → IsEnded lines' → Lacks 10 line → Lacks 10 line'
-    → lines ++ (line ++ 10 ∷ []) ≡ lines' ++ (line' ++ 10 ∷ []) → (lines ≡ lines') × (line ≡ line')
-same_lines lines line lines' line' e e' lacks lacks' is =
-    same_cut lines line lines' line' e e' lacks lacks'
-    (append_cancel_right (lines ++ line) (lines' ++ line') (10 ∷ []) (append_assoc lines line (10 ∷ []) ∙ (is ∙ sym (append_assoc lines' line' (10 ∷ [])))))
+goes_on_some : {by : Compiler} (now : Standing) (rest text : List ℕ) → GoesOnBy by now rest text → rest ≡ [] → ⊥
+goes_on_some _ _ _ (last_one now last request reply begins replies) none = not_nil request [] none
+goes_on_some _ _ _ (one_first now next request reply rest text is replies tail) none = not_nil request rest none
 
 -- ---- two texts
 
--- Two compilers, and configurations that are alike: for a fit line they lead to one answer and to configurations that are alike, but for
+-- Two compilers, and configurations that are alike: for a fit request they lead to one answer and to configurations that are alike, but for
 -- what the operator has to say. They judge a packet alike.
 module _ (AreAlike : TextConfig → TextConfig → Type 0) (by by' : Compiler) (IsFit : List ℕ → Type 0) (start : AreAlike [] [])
     (law : (version : ℕ) (config config' : TextConfig) (line : List ℕ) (one other : LineAnswer) (next also : TextConfig) → AreAlike config config' → IsFit line
@@ -111,7 +93,7 @@ module _ (AreAlike : TextConfig → TextConfig → Type 0) (by by' : Compiler) (
         let count : one.count ≡ other.count = omega (arith, comes.0, comes.1, also.0, also.1, at.reported, at.version) in
         ap (λ n. record { first = n; count = one.count }) first ∙ ap (λ n. record { first = other.first; count = n }) count
 
-    -- what the operator has to say of a line is settled in a script
+    -- what the operator has to say of a request is settled in a script
     by_choice : (one other : LineAnswer) (next also : TextConfig) → IsOperatorsChoice AreAlike one next other also → ComesInScript now one → ComesInScript now' other → (one ≡ other) × AreAlike next also
     by_choice (Published version) (Refused (Publishing Busy)) next also choice comes comes' = absurd comes'
     by_choice (Refused (Publishing Busy)) (Published version) next also choice comes comes' = absurd comes
@@ -124,6 +106,7 @@ module _ (AreAlike : TextConfig → TextConfig → Type 0) (by by' : Compiler) (
 
     at_after : (answer : LineAnswer) (next also : TextConfig) → AreAlike next also → AreAt (standing_after now answer next) (standing_after now' answer also)
     at_after (Refused why) next also alike = record { version = at.version; config = alike; reported = at.reported }
+    at_after (LineRefused number why) next also alike = record { version = at.version; config = alike; reported = at.reported }
     at_after (Published version) next also alike = record { version = refl; config = alike; reported = at.reported }
     at_after (Shown version groups members charge) next also alike = record { version = at.version; config = alike; reported = at.reported }
     at_after (GroupRead version index groups key members selector) next also alike = record { version = at.version; config = alike; reported = at.reported }
@@ -154,50 +137,48 @@ module _ (AreAlike : TextConfig → TextConfig → Type 0) (by by' : Compiler) (
         absurd (not_too_much digits' packet spells (subst SpellsTooMuch (same_digits line digits digits' is is') much))
     same_reply line _ _ _ _ fit (to_long_packet digits short is much) (to_long_packet digits' short' is' much') = (refl, at)
 
-  -- each part of a text is fit
+  -- each text before an LF is fit
   abbrev AllFit : List ℕ → Type 0
-  AllFit text = (front line back : List ℕ) → text ≡ front ++ (line ++ back) → IsFit line
+  AllFit text = (front line back : List ℕ) → text ≡ front ++ (line ++ 10 ∷ back) → IsFit line
 
-  front_fits : (lines rest : List ℕ) → AllFit (lines ++ rest) → AllFit lines
-  front_fits lines rest all front line back is =
-      all front line (back ++ rest) (ap (λ t. t ++ rest) is ∙ append_assoc front (line ++ back) rest ∙ ap (λ t. front ++ t) (append_assoc line back rest))
+  rest_fits : (request rest : List ℕ) → AllFit (request ++ 10 ∷ rest) → AllFit rest
+  rest_fits request rest all front line back is =
+      all (request ++ 10 ∷ front) line back (ap (λ t. request ++ 10 ∷ t) is ∙ sym (append_assoc request (10 ∷ front) (line ++ 10 ∷ back)))
 
   same_line : (line line' : List ℕ) (now now' : Standing) → line ≡ line' → AreAt now now' → IsFit line → (one other : List ℕ) (next also : Standing)
       → RepliesToBy by now line one next → RepliesToBy by' now' line' other also → (one ≡ other) × AreAt next also
   same_line line line' now now' same at fit one other next also replies replies' =
       same_reply now now' at line one other next also fit replies (subst (λ l. RepliesToBy by' now' l other also) (sym same) replies')
 
-  with_reply : (text text' reply reply' : List ℕ) → text ≡ text' → reply ≡ reply' → text ++ (reply ++ 10 ∷ []) ≡ text' ++ (reply' ++ 10 ∷ [])
-  with_reply text text' reply reply' same also = ap (λ t. t ++ (reply ++ 10 ∷ [])) same ∙ ap (λ r. text' ++ (r ++ 10 ∷ [])) also
+  with_reply : (reply reply' text text' : List ℕ) → reply ≡ reply' → text ≡ text' → reply ++ 10 ∷ text ≡ reply' ++ 10 ∷ text'
+  with_reply reply reply' text text' same also = ap (λ r. r ++ 10 ∷ text) same ∙ ap (λ t. reply' ++ 10 ∷ t) also
 
-  same_answers : (lines lines' one other : List ℕ) (last last' : Standing) → lines ≡ lines' → AllFit lines → AreAnsweredBy by lines one last → AreAnsweredBy by' lines' other last' → (one ≡ other) × AreAt last last'
-  same_answers _ _ _ _ _ _ same fit no_line no_line = (refl, record { version = refl; config = start; reported = refl })
-  same_answers _ _ _ _ _ _ same fit no_line (one_more lines text line reply now next answered lacks replies) = absurd (no_lines lines line same)
-  same_answers _ _ _ _ _ _ same fit (one_more lines text line reply now next answered lacks replies) no_line = absurd (no_lines lines line (sym same))
-  same_answers _ _ _ _ _ _ same fit (one_more lines text line reply now next answered lacks replies) (one_more lines' text' line' reply' now' next' answered' lacks' replies') =
-      let cut = same_lines lines line lines' line' (ended lines text now answered) (ended lines' text' now' answered') lacks lacks' same in
-      let before = same_answers lines lines' text text' now now' cut.0 (front_fits lines (line ++ 10 ∷ []) fit) answered answered' in
-      let last = same_line line line' now now' cut.1 before.1 (fit lines line (10 ∷ []) refl) reply reply' next next' replies replies' in
-      (with_reply text text' reply reply' before.0 last.0, last.1)
+  same_on : (now now' : Standing) (rest rest' one other : List ℕ) → AreAt now now' → rest ≡ rest' → AllFit rest → GoesOnBy by now rest one → GoesOnBy by' now' rest' other → one ≡ other
+  same_on _ _ _ _ _ _ at same fit (last_one now last request reply begins replies) (last_one now' last' request' reply' begins' replies') =
+      let both = same_line request request' now now' (append_cancel_right request request' (10 ∷ []) same) at (fit [] request [] refl) reply reply' last last' replies replies' in
+      with_reply reply reply' [] [] both.0 refl
+  same_on _ _ _ _ _ _ at same fit (last_one now last request reply begins replies) (one_first now' next' request' reply' rest' text' is' replies' tail') =
+      absurd (goes_on_some next' rest' text' tail' (same_last request' request rest' is' begins (sym same)).1)
+  same_on _ _ _ _ _ _ at same fit (one_first now next request reply rest text is replies tail) (last_one now' last' request' reply' begins' replies') =
+      absurd (goes_on_some next rest text tail (same_last request request' rest is begins' same).1)
+  same_on _ _ _ _ _ _ at same fit (one_first now next request reply rest text is replies tail) (one_first now' next' request' reply' rest' text' is' replies' tail') =
+      let cut = same_request request request' rest rest' is is' same in
+      let both = same_line request request' now now' cut.0 at (fit [] request rest refl) reply reply' next next' replies replies' in
+      with_reply reply reply' text text' both.0 (same_on next next' rest rest' text text' both.1 cut.1 (rest_fits request rest fit) tail tail')
 
-  no_part : (lines lines' part' : List ℕ) → IsEnded lines → IsEnded lines' → Lacks 10 part' → 0 < length part' → lines ≡ lines' ++ part' → ⊥
-  no_part lines lines' part' e e' lacks some is =
-      let cut = same_cut lines [] lines' part' e e' (λ k inside. absurd (omega arith)) lacks (append-nil lines ∙ is) in
-      let none : length part' ≡ 0 = sym (ap length cut.1) in
-      omega arith
+  none_and_some : (script requests request : List ℕ) → script ≡ [] → with_last_lf script ≡ requests ++ (request ++ 10 ∷ []) → ⊥
+  none_and_some script requests request none is =
+      not_nil (requests ++ request) [] (append_assoc requests request (10 ∷ []) ∙ (sym is ∙ ap with_last_lf none))
 
-  same_text : (script script' one other : List ℕ) → script ≡ script' → AllFit script → IsScriptTextBy by script one → IsScriptTextBy by' script' other → one ≡ other
-  same_text _ _ _ _ same fit (all_ended lines text last answered) (all_ended lines' text' last' answered') =
-      (same_answers lines lines' text text' last last' same fit answered answered').0
-  same_text _ _ _ _ same fit (all_ended lines text last answered) (last_unended lines' text' line' reply' now' last' answered' lacks' some' replies') =
-      absurd (no_part lines lines' line' (ended lines text last answered) (ended lines' text' now' answered') lacks' some' same)
-  same_text _ _ _ _ same fit (last_unended lines text line reply now last answered lacks some replies) (all_ended lines' text' last' answered') =
-      absurd (no_part lines' lines line (ended lines' text' last' answered') (ended lines text now answered) lacks some (sym same))
-  same_text _ _ _ _ same fit (last_unended lines text line reply now last answered lacks some replies) (last_unended lines' text' line' reply' now' last' answered' lacks' some' replies') =
-      let cut = same_cut lines line lines' line' (ended lines text now answered) (ended lines' text' now' answered') lacks lacks' same in
-      let before = same_answers lines lines' text text' now now' cut.0 (front_fits lines line fit) answered answered' in
-      let reply_is = same_line line line' now now' cut.1 before.1 (fit lines line [] (ap (λ t. lines ++ t) (sym (append-nil line)))) reply reply' last last' replies replies' in
-      with_reply text text' reply reply' before.0 reply_is.0
+  same_text : (script one other : List ℕ) → AllFit (with_last_lf script) → IsScriptTextBy by script one → IsScriptTextBy by' script other → one ≡ other
+  same_text script _ _ fit (of_nothing none) (of_nothing none') = refl
+  same_text script _ _ fit (of_nothing none) (of_requests requests text request reply now last answered begins whole replies) = absurd (none_and_some script requests request none whole)
+  same_text script _ _ fit (of_requests requests text request reply now last answered begins whole replies) (of_nothing none) = absurd (none_and_some script requests request none whole)
+  same_text script _ _ fit (of_requests requests text request reply now last answered begins whole replies) (of_requests requests' text' request' reply' now' last' answered' begins' whole' replies') =
+      same_on at_start at_start (requests ++ (request ++ 10 ∷ [])) (requests' ++ (request' ++ 10 ∷ [])) (text ++ (reply ++ 10 ∷ [])) (text' ++ (reply' ++ 10 ∷ []))
+      (record { version = refl; config = start; reported = refl }) (sym whole ∙ whole') (subst AllFit whole fit)
+      (goes_on by requests text (request ++ 10 ∷ []) (reply ++ 10 ∷ []) now answered (last_one now last request reply begins replies))
+      (goes_on by' requests' text' (request' ++ 10 ∷ []) (reply' ++ 10 ∷ []) now' answered' (last_one now' last' request' reply' begins' replies'))
 
 -- ---- one text
 
@@ -210,7 +191,7 @@ one_text law script one other silent is also =
     same_text HaveSameTexts IsProgramFor IsProgramFor (λ line. (reading : Reading) → Spells line (read reading) → ⊥) refl
     (λ version config config' line first second next after alike fit answers answers'. law version config config' line first second next after alike fit answers answers')
     (λ config config' packet alike. sym (text_verdict config packet) ∙ ap (λ texts. verdict (λ text p. returned (text_ending text p)) texts packet) alike ∙ text_verdict config' packet)
-    script script one other refl (λ front line back is reading. silent front line back reading is) is also
+    script one other (λ front line back whole reading. let part = part_of_script script front line back whole in silent front line part.0 reading part.1) is also
 
 pub one_text_by : HasOneAnswerBy → HasOneTextBy
 one_text_by law compiled script one other is also =
@@ -218,4 +199,4 @@ one_text_by law compiled script one other is also =
     (λ version config config' line first second next after same fit answers answers'.
     law compiled version config line first second next after answers (subst (λ c. AnswersBy (by_function compiled) version c line second after) (sym same) answers'))
     (λ config config' packet same. ap (λ c. verdict text_value c packet) same)
-    script script one other refl (λ front line back is. tt) is also
+    script one other (λ front line back whole. tt) is also

@@ -26,12 +26,14 @@ use Rattle.control_line.specs.declared.reason.Reason.{Reason}
 use Rattle.control_line.specs.declared.reason.Reason.TheVariants.{Publishing}
 use Rattle.control_line.specs.declared.reason.Reason.TheVariants as reason
 use Rattle.control_line.specs.declared.reply.LineAnswer.{LineAnswer}
-use Rattle.control_line.specs.declared.reply.LineAnswer.TheVariants.{GroupRead, MemberRead, Published, Refused, Shown, Swept, WordsRead}
+use Rattle.control_line.specs.declared.reply.LineAnswer.TheVariants.{GroupRead, LineRefused, MemberRead, Published, Refused, Shown, Swept, WordsRead}
 use Rattle.control_line.specs.Agrees.{AgreesNow, TextConfig}
-use Rattle.control_line.specs.Answer.{Answers, Changes, Does, DoesRefused, bad_line, bad_text, busy, changed, exhausted, published, refused, shown, swept, too_big, too_long, was_read}
+use Rattle.control_line.specs.declared.head.Start.{Start}
+use Rattle.control_line.specs.Answer.{Answers, AnswersMessageBy, Changes, ChangesTogetherBy, Does, DoesRefused, PublishesText, all_made, bad_form, busy, changed, changed_at, changed_together, exhausted, is_made, line_refused, not_made, other_version, published, replied, shown, swept, too_big, too_long, was_read}
+use Rattle.control_line.specs.Block.{Message}
 use Rattle.control_line.proofs.ReadBackLemmas.{each_reading}
 use Rattle.control.specs.body.Ready.{AllFree, Stands}
-use Rattle.filter_program.specs.Program.{Source}
+use Rattle.filter_program.specs.Program.{IsProgramFor, Source}
 use Rattle.control.specs.Script.{ComesInScript, Standing, standing_after}
 use Rattle.member_group.specs.declared.command.Command.{Command}
 
@@ -41,22 +43,34 @@ abbrev IsNextNumber : ℕ → LineAnswer → Type 0
 IsNextNumber version (Published next) = next ≡ version + 1
 IsNextNumber version _ = Unit {0}
 
-change_number : (version : ℕ) (config next : TextConfig) (command : Command Source) (answer : LineAnswer) → Changes version config command answer next → IsNextNumber version answer
-change_number version config next command answer (bad_text source why has fault) = tt
-change_number version config next command answer (refused made refusal means first) = tt
-change_number version config next command answer (too_big other leads big) = tt
-change_number version config next command answer (exhausted other leads small last) = tt
-change_number version config next command answer (busy other leads small left) = tt
-change_number version config next command answer (published other leads small left) = refl
+publishes_number : (version : ℕ) (config next left : TextConfig) (answer : LineAnswer) → PublishesText version config next answer left → IsNextNumber version answer
+publishes_number version config next left answer (too_big big) = tt
+publishes_number version config next left answer (exhausted small last) = tt
+publishes_number version config next left answer (busy small more) = tt
+publishes_number version config next left answer (published small more) = refl
 
-next_number : (version : ℕ) (config next : TextConfig) (line : List ℕ) (answer : LineAnswer) → Answers version config line answer next → IsNextNumber version answer
-next_number version config next line answer (too_long long) = tt
-next_number version config next line answer (bad_line short none) = tt
-next_number version config next line answer (changed command other after short spells changes) = change_number version config next command answer changes
-next_number version config next line answer (shown short spells) = tt
-next_number version config next line answer (was_read reading short spells) =
+change_number : (version : ℕ) (config next : TextConfig) (command : Command Source) (answer : LineAnswer) → Changes version config command answer next → IsNextNumber version answer
+change_number version config next command answer (not_made why refuses) = tt
+change_number version config next command answer (is_made other result left leads publishes) = publishes_number version config other left result publishes
+
+together_number : (version : ℕ) (config next : TextConfig) (start : Start) (lines : List (List ℕ)) (answer : LineAnswer) → ChangesTogetherBy IsProgramFor version config start lines answer next → IsNextNumber version answer
+together_number version config next start lines answer (line_refused number why first) = tt
+together_number version config next start lines answer (all_made other result left leads publishes) = publishes_number version config other left result publishes
+
+message_number : (version : ℕ) (config next : TextConfig) (message : Message) (answer : LineAnswer) → AnswersMessageBy IsProgramFor version config message answer next → IsNextNumber version answer
+message_number version config next message answer (other_version _ wanted is differs) = tt
+message_number version config next message answer (changed command other after changes) = change_number version config next command answer changes
+message_number version config next message answer (changed_at wanted command other after same changes) = change_number version config next command answer changes
+message_number version config next message answer (changed_together head lines other after fits changes) = together_number version config next head.start lines answer changes
+message_number version config next message answer shown = tt
+message_number version config next message answer (was_read reading) =
     each_reading (λ program. program.words) (IsNextNumber version) (λ refusal. tt) (λ version' index groups key members selector. tt) (λ version' index members id to filter locked. tt) (λ version' place count words. tt) version config reading
-next_number version config next line answer (swept reclaimed short spells) = tt
+message_number version config next message answer (swept reclaimed) = tt
+
+next_number : (version : ℕ) (config next : TextConfig) (request : List ℕ) (answer : LineAnswer) → Answers version config request answer next → IsNextNumber version answer
+next_number version config next request answer (too_long above) = tt
+next_number version config next request answer (bad_form short none) = tt
+next_number version config next request answer (replied message other after short spells done) = message_number version config next message answer done
 
 -- ---- fills change no number
 
@@ -115,6 +129,7 @@ module _ (before : OperatorValue) (now : Standing) (stands : Stands before now) 
   refusal_comes reason.PacketTooLong after same = (tt, same)
   refusal_comes (reason.Text why) after same = (tt, same)
   refusal_comes (reason.Command why) after same = (tt, same)
+  refusal_comes (reason.OtherVersion current) after same = (tt, same)
   refusal_comes (Publishing TooBig) after same = (tt, same)
   refusal_comes (Publishing Exhausted) after same = (tt, same)
   refusal_comes (Publishing Busy) after is_busy = absurd (is_busy.none_before has_free_row)
@@ -185,6 +200,7 @@ module _ (before : OperatorValue) (now : Standing) (stands : Stands before now) 
   pub comes_and_stands : (line : List ℕ) (answer : LineAnswer) (next : TextConfig) (after : OperatorValue) → Answers now.version now.config line answer next → Does answer before after → AgreesNow next after.view
       → ComesInScript now answer × Stands after (standing_after now answer next)
   comes_and_stands line (Refused why) next after answers does agrees = let (comes, same) = refusal_comes why after does in (comes, stands_same after next same agrees)
+  comes_and_stands line (LineRefused number why) next after answers does agrees = (tt, stands_same after next does agrees)
   comes_and_stands line (Published version) next after answers (config, publishes) agrees = (tt, stands_published after config publishes version next (next_number now.version now.config next line (Published version) answers) agrees)
   comes_and_stands line (Shown version groups members charge) next after answers does agrees = (tt, stands_same after next does agrees)
   comes_and_stands line (GroupRead version index groups key members selector) next after answers does agrees = (tt, stands_same after next does agrees)

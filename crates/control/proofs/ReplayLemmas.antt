@@ -1,17 +1,17 @@
 -- A script that is replayed: the input gave its first bytes, and its lines so far are answered.
-use Rattle.std.proofs.Common.{◌≡◌, ◌∙◌, ◌≤◌, ◌++◌, Err, List, None, Ok, Option, Result, Some, [], ap, append-nil, inl, inr, length, refl, subst, suc, sym, take, ℕ}
+use Rattle.std.proofs.Common.{◌≡◌, ◌∙◌, ◌++◌, Err, List, None, Ok, Option, Result, Some, [], ap, append-nil, inl, inr, refl, subst, sym, take, ℕ}
 use Rattle.std.proofs.KnownBytes.{Appends-nil, Consumes-nil, Consumes-trans}
 use Rattle.std.specs.Prelude.{OnOk}
 use Rattle.std.specs.Io.KnownBytes.{Consumes, IsAtEnd}
-use Rattle.control_line.specs.declared.TheConstants.{LINE_LIMIT}
 use Rattle.control.specs.declared.fault.ReplayFault.{ReplayFault}
 use Rattle.control.specs.declared.fault.ReplayFault.TheVariants.{OutOfMemory, WriteFailed}
 use Rattle.control.specs.declared.script.Script.{Script}
 use Rattle.control.specs.body.Ready.{AreOutside}
 use Rattle.control.specs.Replay.{AnsweredAllLines, AnsweredFirstLines, IsReplayed, WasRead, WroteBeginning}
-use Rattle.control.specs.Script.{at_start, no_line}
+use Rattle.control.specs.Script.{at_start, no_request}
 use Rattle.control.specs.body.ScriptSoFar.{Advances, Ends, IsAt}
 use Rattle.control.specs.Streams.{InputValue, KeepsOrForgets, OutputValue}
+use Rattle.control.proofs.HeldLemmas.{begins_part}
 use Rattle.control.proofs.WaitingLemmas.{told_all}
 
 read_before_failure : (failures : ℕ) (before mid after : Option (List ℕ)) (read : List ℕ) → Consumes before mid read → KeepsOrForgets failures mid after → WasRead failures before after read
@@ -26,18 +26,16 @@ pub record IsReplaying (input input' : InputValue) (output output' : OutputValue
   pub was_read : Consumes input.coming input'.coming read
   pub so_far : IsAt read output.taken script output'.taken []
   pub outside : AreOutside script.switch.operator.table script.switch.workers.items
-  pub within : length script.held.items ≤ suc LINE_LIMIT
   pub input_healthy : input'.failures ≡ input.failures
   pub output_healthy : output'.failures ≡ output.failures
 
 pub replaying_begins : (input : InputValue) (output : OutputValue) (script : Script) → IsAt [] output.taken script output.taken []
-    → AreOutside script.switch.operator.table script.switch.workers.items → length script.held.items ≤ suc LINE_LIMIT → IsReplaying input input output output script
-replaying_begins input output script at outside within = record {
+    → AreOutside script.switch.operator.table script.switch.workers.items → IsReplaying input input output output script
+replaying_begins input output script at outside = record {
   read = [];
   was_read = Consumes-nil input.coming;
   so_far = at;
   outside = outside;
-  within = within;
   input_healthy = refl;
   output_healthy = refl;
 }
@@ -50,7 +48,7 @@ nothing_answered input output = record {
   text = [];
   last = at_start;
   read = Consumes-nil input.coming;
-  answered = no_line;
+  answered = no_request;
   written = Appends-nil output.taken;
 }
 
@@ -63,7 +61,7 @@ module _ (input mid : InputValue) (output now : OutputValue) (script : Script) (
     text = at.text;
     last = at.now;
     read = read_before_failure after.failures input.coming mid.coming after.coming (at.lines ++ at.part) (subst (Consumes input.coming mid.coming) at.read_is before.was_read) kept;
-    no_line = at.no_line;
+    is_part = begins_part at.part script.held at.holds;
     answered = at.answered;
     written = told_all output.taken now.taken at.text at.written;
   }
@@ -71,14 +69,13 @@ module _ (input mid : InputValue) (output now : OutputValue) (script : Script) (
   -- bytes came, and were taken
   module _ (after : InputValue) (bytes : List ℕ) (gave : Consumes mid.coming after.coming bytes) (healthy : after.failures ≡ mid.failures) where
     pub replaying_on : (script' : Script) (later : OutputValue) → Advances later.failures bytes script script' now.taken [] later.taken [] (Ok tt)
-        → AreOutside script'.switch.operator.table script'.switch.workers.items → length script'.held.items ≤ suc LINE_LIMIT → later.failures ≡ now.failures
+        → AreOutside script'.switch.operator.table script'.switch.workers.items → later.failures ≡ now.failures
         → IsReplaying input after output later script'
-    replaying_on script' later advances outside within same = record {
+    replaying_on script' later advances outside same = record {
       read = before.read ++ bytes;
       was_read = Consumes-trans input.coming mid.coming after.coming before.read bytes before.was_read gave;
       so_far = advances before.read output.taken before.so_far;
       outside = outside;
-      within = within;
       input_healthy = healthy ∙ before.input_healthy;
       output_healthy = same ∙ before.output_healthy;
     }

@@ -19,7 +19,7 @@ use Rattle.retire.proofs.RowLemmas.{worker_inside}
 use Rattle.control_line.specs.declared.TheConstants.{LINE_LIMIT}
 use Rattle.control_line.specs.declared.reason.Reason.TheVariants.{PacketTooLong}
 use Rattle.control_line.specs.declared.reply.LineAnswer.{LineAnswer}
-use Rattle.control_line.specs.declared.reply.LineAnswer.TheVariants.{GroupRead, MemberRead, Published, Refused, Shown, Swept, WordsRead}
+use Rattle.control_line.specs.declared.reply.LineAnswer.TheVariants.{GroupRead, LineRefused, MemberRead, Published, Refused, Shown, Swept, WordsRead}
 use Rattle.control_line.specs.Answer.{Answers, Does}
 use Rattle.control_line.specs.Answer.{IsAnswered}
 use Rattle.control.specs.PacketLine.{HasNoPacket, IsPacketLine}
@@ -87,6 +87,7 @@ module _ (table : TableId) (config : List Group) where
 
 keeps_table : (answer : LineAnswer) (before after : OperatorValue) → Does answer before after → after.table ≡ before.table
 keeps_table (Refused why) before after does = (nothing_keeps before after (refused_does_nothing why before after does)).table
+keeps_table (LineRefused number why) before after same = ap (λ (o : OperatorValue). o.table) same
 keeps_table (Published version) before after (config, publishes) = publishes.table
 keeps_table (Shown version groups members charge) before after same = ap (λ (o : OperatorValue). o.table) same
 keeps_table (GroupRead version index groups key members selector) before after same = ap (λ (o : OperatorValue). o.table) same

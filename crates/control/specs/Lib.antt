@@ -12,5 +12,6 @@ pub use Rattle.control_line.specs.Reason
 pub use Rattle.control_line.specs.Reply
 pub use Rattle.control_line.specs.Agrees
 pub use Rattle.control_line.specs.Answer
+pub use Rattle.control_line.specs.Block
 pub use Rattle.control_line.specs.Packet
 pub use Rattle.dispatch.specs.Device

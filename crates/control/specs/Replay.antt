@@ -4,8 +4,7 @@ use Rattle.std.specs.Io.KnownBytes.{Appends, Consumes, IsAtEnd}
 use Rattle.dispatch.specs.Memory.{MOST_FAILURES}
 use Rattle.control.specs.declared.fault.ReplayFault.{ReplayFault}
 use Rattle.control.specs.declared.fault.ReplayFault.TheVariants.{OutOfMemory, ReadFailed, WriteFailed}
-use Rattle.ipv4_fields.specs.Cut.{Lacks}
-use Rattle.control.specs.Script.{AreAnswered, IsScriptText, Standing}
+use Rattle.control.specs.Script.{AreAnswered, BeginsRequest, IsScriptText, Standing}
 use Rattle.control.specs.Streams.{InputValue, OutputValue}
 
 -- what was read up to a failed read, which made the failures so many; what is left is told but where no more can be counted
@@ -29,23 +28,23 @@ pub record IsReplayed (input input' : InputValue) (output output' : OutputValue)
   pub is_text : IsScriptText script text
   pub written : Appends output.taken output'.taken text
 
--- the replies to all whole lines that were read were written, and nothing else
+-- the replies to all requests whose ends were read were written, and nothing else; a part of one more may have been read
 pub record AnsweredAllLines (input input' : InputValue) (output output' : OutputValue) : Type 0 where
   pub lines : List ℕ
   pub part : List ℕ
   pub text : List ℕ
   pub last : Standing
   pub read : WasRead input'.failures input.coming input'.coming (lines ++ part)
-  pub no_line : Lacks 10 part
+  pub is_part : BeginsRequest part
   pub answered : AreAnswered lines text last
   pub written : Appends output.taken output'.taken text
 
--- this is the text of lines that were read: of whole ones, or of all where the input is at its end
+-- this is the text of requests that were read: of whole ones, or of all if the input is at its end
 abbrev pub IsTextOfLines : InputValue → List ℕ → List ℕ → List ℕ → Type 0
 IsTextOfLines input' lines rest text =
     ((last : Standing) × AreAnswered lines text last) ⊎ ((rest ≡ []) × IsAtEnd input'.coming × IsScriptText lines text)
 
--- of the replies to lines that were read a beginning was written, and nothing else
+-- of the replies to requests that were read a beginning was written, and nothing else
 pub record WroteBeginning (input input' : InputValue) (output output' : OutputValue) : Type 0 where
   pub lines : List ℕ
   pub rest : List ℕ
@@ -57,7 +56,7 @@ pub record WroteBeginning (input input' : InputValue) (output output' : OutputVa
   pub beginning : text ≡ told ++ untold
   pub written : WasWritten output'.failures output.taken output'.taken told
 
--- the replies to some first lines that were read were written, and nothing else
+-- the replies to some first requests that were read were written, and nothing else
 pub record AnsweredFirstLines (input input' : InputValue) (output output' : OutputValue) : Type 0 where
   pub lines : List ℕ
   pub rest : List ℕ

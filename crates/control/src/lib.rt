@@ -7,6 +7,7 @@
 ghost use Rattle.control.specs.Script.{HasOneText, HasOneTextBy};
 
 mod fault;
+mod held;
 mod judged;
 mod packet_line;
 mod replaying;

@@ -1,17 +1,16 @@
-//! A script that is read in pieces: the switch that has answered its lines, and the line that is not ended yet.
+//! A script that is read in pieces: the switch that has answered its requests, and the request that has not ended yet.
 
-ghost use Rattle.std.specs.Prelude.{◌≡◌, ◌≤◌, ◌++◌, IfOk, List, MatchOption, Ok, OnOk, Option, [], length, suc, take, ℕ};
+ghost use Rattle.std.specs.Prelude.{◌≡◌, ◌∷◌, IfOk, List, MatchOption, Ok, OnOk, Option, [], ℕ};
 ghost use Rattle.ipv4_fields.specs.Cut.{IsSplitAt, Lacks};
-ghost use Rattle.control_line.specs.declared.TheConstants.{LINE_LIMIT};
 ghost use Rattle.control.specs.body.Ready.{AreOutside};
 ghost use Rattle.control.specs.body.ScriptSoFar.{Advances, AnswersHeld, Ends, IsAt, OutputFailedBy};
 ghost use Rattle.control.specs.body.Waiting.{WritesWaiting};
 
 use crate::fault::ReplayFault;
+use crate::held::Held;
 use crate::replies::Replies;
 use crate::streams::Output;
 use crate::switch::Switch;
-use control_line::LINE_LIMIT;
 use memchr::memchr;
 use std::alloc::{AllocError, Global};
 
@@ -19,34 +18,21 @@ use std::alloc::{AllocError, Global};
 #[derive(Drop)]
 pub(crate) struct Script {
     switch: Switch,
-    // What was read behind the last LF, but of a line that is too long no more than shows that.
-    held: Vec<u8>,
+    held: Held,
 }
 
 impl Script {
     pub(crate) fn open(alloc: Global) -> Result<Script, AllocError>
         ensures at_start { IfOk result (λ script. (start : Option (List ℕ)) → IsAt [] start script start []) }
         ensures outside { IfOk result (λ script. AreOutside script.switch.operator.table script.switch.workers.items) }
-        ensures within { IfOk result (λ script. length script.held.items ≤ suc LINE_LIMIT) }
     {
         Ok(Script {
             switch: Switch::open(alloc)?,
-            held: Vec::new(alloc),
+            held: Held::new(alloc),
         })
     }
 
-    fn hold(&mut self, bytes: &[u8]) -> Result<(), AllocError>
-        requires within { length self.old.held.items ≤ suc LINE_LIMIT }
-        ensures held { OnOk result (self.new.held.items ≡ take (suc LINE_LIMIT) (self.old.held.items ++ bytes.now)) }
-        ensures within { OnOk result (length self.new.held.items ≤ suc LINE_LIMIT) }
-        ensures switch_kept { self.new.switch ≡ self.old.switch }
-    {
-        let room = LINE_LIMIT + 1 - self.held.len();
-        let bytes = &bytes[..bytes.len().min(room)];
-        Ok(self.held.extend_from_slice(bytes)?)
-    }
-
-    // Answers the line that is held, which ends here. The reply waits.
+    // Answers the request that is held, which ends here. The reply waits.
     fn answer_held<W: Output>(
         &mut self,
         alloc: Global,
@@ -59,7 +45,7 @@ impl Script {
         ensures device_failed { OutputFailedBy result (W.state writer.old).failures (W.state writer.new).failures }
         ensures rest_kept { W.rest writer.new ≡ W.rest writer.old }
     {
-        let reply = self.switch.answer(alloc, &self.held)?;
+        let reply = self.switch.answer(alloc, &self.held.bytes)?;
         self.held.clear();
         let Ok(()) = replies.add(&reply, writer) else {
             return Err(ReplayFault::WriteFailed);
@@ -67,7 +53,26 @@ impl Script {
         Ok(())
     }
 
-    // Takes the next bytes, and answers each line that they end. The last replies wait.
+    // Ends a line. If the request ends with it, it is answered, and the reply waits.
+    fn end_line<W: Output>(
+        &mut self,
+        alloc: Global,
+        replies: &mut Replies,
+        writer: &mut W,
+    ) -> Result<(), ReplayFault>
+        requires outside { AreOutside self.old.switch.operator.table self.old.switch.workers.items }
+        ensures advances { Advances (W.state writer.new).failures (10 ∷ []) self.old self.new (W.state writer.old).taken replies.old (W.state writer.new).taken replies.new result }
+        ensures outside { OnOk result (AreOutside self.new.switch.operator.table self.new.switch.workers.items) }
+        ensures device_failed { OutputFailedBy result (W.state writer.old).failures (W.state writer.new).failures }
+        ensures rest_kept { W.rest writer.new ≡ W.rest writer.old }
+    {
+        if !self.held.end_line()? {
+            return Ok(());
+        }
+        self.answer_held(alloc, replies, writer)
+    }
+
+    // Takes the next bytes, and answers each request that they end. The last replies wait.
     fn answer_lines<W: Output>(
         &mut self,
         alloc: Global,
@@ -76,23 +81,21 @@ impl Script {
         writer: &mut W,
     ) -> Result<(), ReplayFault>
         requires outside { AreOutside self.old.switch.operator.table self.old.switch.workers.items }
-        requires within { length self.old.held.items ≤ suc LINE_LIMIT }
         ensures advances { Advances (W.state writer.new).failures bytes.now self.old self.new (W.state writer.old).taken replies.old (W.state writer.new).taken replies.new result }
         ensures outside { OnOk result (AreOutside self.new.switch.operator.table self.new.switch.workers.items) }
-        ensures within { OnOk result (length self.new.held.items ≤ suc LINE_LIMIT) }
         ensures device_failed { OutputFailedBy result (W.state writer.old).failures (W.state writer.new).failures }
         ensures rest_kept { W.rest writer.new ≡ W.rest writer.old }
     {
         let mut left = bytes;
         while let Some((front, behind)) = split_line(left) {
-            self.hold(front)?;
-            self.answer_held(alloc, replies, writer)?;
+            self.held.add(front)?;
+            self.end_line(alloc, replies, writer)?;
             left = behind;
         }
-        Ok(self.hold(left)?)
+        Ok(self.held.add(left)?)
     }
 
-    /// Takes the next bytes, and answers each line that they end. All replies are written then.
+    /// Takes the next bytes, and answers each request that they end. All replies are written then.
     pub(crate) fn take<W: Output>(
         &mut self,
         alloc: Global,
@@ -100,10 +103,8 @@ impl Script {
         writer: &mut W,
     ) -> Result<(), ReplayFault>
         requires outside { AreOutside self.old.switch.operator.table self.old.switch.workers.items }
-        requires within { length self.old.held.items ≤ suc LINE_LIMIT }
         ensures advances { Advances (W.state writer.new).failures bytes.now self.old self.new (W.state writer.old).taken [] (W.state writer.new).taken [] result }
         ensures outside { OnOk result (AreOutside self.new.switch.operator.table self.new.switch.workers.items) }
-        ensures within { OnOk result (length self.new.held.items ≤ suc LINE_LIMIT) }
         ensures device_failed { OutputFailedBy result (W.state writer.old).failures (W.state writer.new).failures }
         ensures rest_kept { W.rest writer.new ≡ W.rest writer.old }
     {
@@ -112,7 +113,7 @@ impl Script {
         write_waiting(answered, &replies, writer)
     }
 
-    /// Answers the last line, where it has no LF.
+    /// Ends the script, and answers its last request if its end was not read.
     pub(crate) fn end<W: Output>(
         &mut self,
         alloc: Global,
@@ -123,9 +124,10 @@ impl Script {
         ensures device_failed { OutputFailedBy result (W.state writer.old).failures (W.state writer.new).failures }
         ensures rest_kept { W.rest writer.new ≡ W.rest writer.old }
     {
-        if self.held.is_empty() {
+        if self.held.bytes.is_empty() {
             return Ok(());
         }
+        self.held.end_script();
         let mut replies = Replies::new();
         self.answer_held(alloc, &mut replies, writer)?;
         let Ok(()) = replies.write(writer) else {

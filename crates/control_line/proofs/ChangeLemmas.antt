@@ -1,6 +1,6 @@
 -- A change that the operator makes is the one that the texts mean.
-use Rattle.std.proofs.Common.{◌≡◌, ◌∙◌, ◌+◌, ◌<◌, ◌≤◌, ◌⊎◌, ◌∷◌, Err, List, Some, [], ap, arith, inl, inr, refl, subst, sym, ℕ}
-use Rattle.std.specs.Prelude.{◌↔◌}
+use Rattle.std.proofs.Common.{◌≡◌, ◌∙◌, ◌+◌, ◌<◌, ◌≤◌, ◌⊎◌, ◌∷◌, Err, List, Ok, Result, Some, [], ap, arith, inl, inr, refl, subst, sym, ℕ}
+use Rattle.std.specs.Prelude.{◌↔◌, MatchResult}
 use Rattle.std.proofs.lemmas.Bool.{cases_lt}
 use Rattle.std.proofs.lemmas.List.{same_from_push}
 use Rattle.bpf_verify.specs.Program.{ProgramValue}
@@ -20,12 +20,13 @@ use Rattle.retire.specs.declared.fault.PublishFault.TheVariants.{Busy, Exhausted
 use Rattle.control_line.specs.declared.reason.Reason.{Reason}
 use Rattle.control_line.specs.declared.reason.Reason.TheVariants.{Publishing}
 use Rattle.control_line.specs.declared.reason.Reason.TheVariants as reason
+use Rattle.control_line.specs.declared.reply.LineAnswer.{LineAnswer}
 use Rattle.control_line.specs.declared.reply.LineAnswer.TheVariants.{Published, Refused}
 use Rattle.control_line.specs.Agrees.{Agrees, AgreesNow, TextConfig}
-use Rattle.control_line.specs.Answer.{Changes, DoesRefused, LeadsTo, Means, bad_text, busy, charge_of_text, exhausted, published, refused, too_big}
+use Rattle.control_line.specs.Answer.{DoesRefused, Means, PublishesText, bad_text, busy, charge_of_text, exhausted, is_made, not_made, published, refused, too_big}
 use Rattle.control_line.specs.declared.program.LineFault.{LineFault}
 use Rattle.control_line.specs.declared.program.LineFault.TheVariants as failure_of
-use Rattle.control_line.specs.body.Making.{IsChanged, IsLineFaultOfCommand, IsMadeCommand, IsNext, IsOutcome, IsRefusedFor}
+use Rattle.control_line.specs.body.Making.{IsChangeDone, IsChangeFault, IsChanged, IsLineFaultOfCommand, IsMadeCommand, IsNext, IsOutcome, IsOwnFault, IsPublication, IsRefusedFor}
 use Rattle.control_line.specs.Agrees.{Agreeing}
 use Rattle.filter_program.specs.declared.fault.TextFault.{TextFault}
 use Rattle.filter_program.specs.declared.fault.TextFault.TheVariants as text_fault
@@ -64,7 +65,7 @@ charged_alike config next (pairs, text_is, real_is) =
 
 -- ---- changes
 
-module _ (before : OperatorValue) (command : Command Source) (real : List Group) (current : IsCurrent before.view real) (both : Command Agreeing) (means : Means command (command_over (λ b. b.loaded) both)) where
+module _ (command : Command Source) (real : List Group) (both : Command Agreeing) (means : Means command (command_over (λ b. b.loaded) both)) where
   -- the first refusal is the same on both sides
   refuses_alike : (config : TextConfig) → Agrees config real → first_refusal (command_over (λ b. b.loaded) both) config ≡ first_refusal (command_over (λ b. b.program) both) real
   refuses_alike config (pairs, text_is, real_is) =
@@ -81,108 +82,105 @@ module _ (before : OperatorValue) (command : Command Source) (real : List Group)
     ap (after_command (command_over (λ b. b.program) both)) real_is ∙ after-over (λ b. b.program) both pairs,
   )
 
-  pub refused_change : (refusal : Refusal) → first_refusal (command_over (λ b. b.program) both) real ≡ Some refusal → IsChanged command before before (Refused (reason.Command refusal))
-  refused_change refusal first = record {
-    steps = refl;
-    text = λ config agrees. (config, refused _ refusal means (refuses_alike config (agrees_with config before.view real current agrees) ∙ first), agrees);
+  refused_for : (refusal : Refusal) → first_refusal (command_over (λ b. b.program) both) real ≡ Some refusal → IsChangeFault command real (failure_of.Refused (reason.Command refusal))
+  refused_for refusal first = (tt, λ config agrees. refused _ refusal means (refuses_alike config agrees ∙ first))
+
+  leads_to : (next : List Group) → IsNext (command_over (λ b. b.program) both) real next → IsChangeDone command real next
+  leads_to next made config agrees = (
+    after_command (command_over (λ b. b.loaded) both) config,
+    record { made = _; means = means; applied = refuses_alike config agrees ∙ made.applied; is = refl },
+    subst (Agrees _) (sym made.is) (next_agrees config agrees),
+  )
+
+-- a text is refused for its own fault
+text_is_own : (source : Source) (why : Reason) → IsRefusalOfText source why → IsOwnFault why
+text_is_own source why (fault, is, named) = by_fault fault named
+  where
+    own : (f : TextFault) → Some (reason.Text f) ≡ Some why → IsOwnFault why
+    own f same = let is : reason.Text f ≡ why = cc in subst IsOwnFault is tt
+
+    by_fault : (f : TextFault) → reason_of_text f ≡ Some why → IsOwnFault why
+    by_fault text_fault.OutOfMemory named = absurd (cc)
+    by_fault f named = own f named
+
+pub no_command : (command : Command Source) (real : List Group) (failure : LineFault) → IsLineFaultOfCommand command failure → IsChangeFault command real failure
+no_command command real (failure_of.Refused why) (source, has, fault) = (text_is_own source why fault, λ config agrees. bad_text source why has fault)
+no_command command real failure_of.OutOfMemory none = tt
+
+module _ (command : Command Source) (real : List Group) (made : Command ProgramValue) (is_made : IsMadeCommand command made) where
+  no_next : (failure : LineFault) → IsRefusedFor (first_refusal made real) failure → IsChangeFault command real failure
+  no_next (failure_of.Refused why) (refusal, first, is) =
+      subst (λ w. IsChangeFault command real (failure_of.Refused w)) (sym is) (refused_for command real is_made.0 is_made.1 refusal (ap (λ c. first_refusal c real) (sym is_made.2) ∙ first))
+  no_next failure_of.OutOfMemory none = tt
+
+  pub change_result : (result : Result (List Group) LineFault) → MatchResult result (IsNext made real) (IsRefusedFor (first_refusal made real)) → MatchResult result (IsChangeDone command real) (IsChangeFault command real)
+  change_result (Ok next) is = leads_to command real is_made.0 is_made.1 next (subst (λ c. IsNext c real next) is_made.2 is)
+  change_result (Err failure) is = no_next failure is
+
+-- ---- publications
+
+module _ (next : List Group) (before : OperatorValue) where
+  pub is_published : (after : OperatorValue) (version : ℕ) → (CHARGE_LIMIT < charge_of next → ⊥) → (charge_of next ≤ CHARGE_LIMIT → number_after before.view.log ≡ LAST_NUMBER → ⊥) → Publishes before after next → version ≡ number_after before.view.log + 1 → IsPublication next before after (Published version)
+  is_published after version not_big not_last publishes is = by_charge (cases_lt CHARGE_LIMIT (charge_of next))
+    where
+      by_charge : (CHARGE_LIMIT < charge_of next) ⊎ (charge_of next ≤ CHARGE_LIMIT) → IsPublication next before after (Published version)
+      by_charge (inl above) = absurd (not_big above)
+      by_charge (inr small) = record {
+        steps = (next, publishes);
+        text = λ config made agrees also. (
+          made,
+          subst (λ n. PublishesText (number_after before.view.log) config made (Published n) made) (sym is) (published (omega (arith, charged_alike made next also)) (not_last small)),
+          (next, (before.view.published, publishes.published), also),
+        );
+      }
+
+  too_big_stays : CHARGE_LIMIT < charge_of next → IsPublication next before before (Refused (Publishing TooBig))
+  too_big_stays big = record { steps = refl; text = λ config made agrees also. (config, too_big (omega (arith, charged_alike made next also)), agrees) }
+
+  exhausted_stays : charge_of next ≤ CHARGE_LIMIT → number_after before.view.log ≡ LAST_NUMBER → IsPublication next before before (Refused (Publishing Exhausted))
+  exhausted_stays small last = record { steps = refl; text = λ config made agrees also. (config, exhausted (omega (arith, charged_alike made next also)) last, agrees) }
+
+  busy_stays : (after : OperatorValue) → charge_of next ≤ CHARGE_LIMIT → (number_after before.view.log ≡ LAST_NUMBER → ⊥) → IsBusy before after → IsPublication next before after (Refused (Publishing Busy))
+  busy_stays after small left is_busy = record {
+    steps = is_busy;
+    text = λ config made agrees also. (config, busy (omega (arith, charged_alike made next also)) left, still_agrees config before.view after.view (scanned_keeps before after is_busy.scanned) agrees);
   }
 
-  module _ (next : List Group) (made : IsNext (command_over (λ b. b.program) both) real next) where
-    -- the text's next configuration, and what it agrees with
-    leads_to : (config : TextConfig) → Agrees config real → LeadsTo config command (after_command (command_over (λ b. b.loaded) both) config)
-    leads_to config agrees = record { made = _; means = means; applied = refuses_alike config agrees ∙ made.applied; is = refl }
+  pub is_unpublished : (after : OperatorValue) (fault : PublishFault) → (fault ≡ TooBig) ↔ (CHARGE_LIMIT < charge_of next) → (fault ≡ Exhausted) ↔ ((charge_of next ≤ CHARGE_LIMIT) × (number_after before.view.log ≡ LAST_NUMBER)) → (fault ≡ Busy → IsBusy before after) → ((fault ≡ Busy → ⊥) → after ≡ before) → IsPublication next before after (Refused (Publishing fault))
+  is_unpublished after TooBig big last is_busy kept = subst (λ o. IsPublication next before o (Refused (Publishing TooBig))) (sym (kept (λ e. cc))) (too_big_stays (big.0 refl))
+  is_unpublished after Exhausted big last is_busy kept =
+      let both = last.0 refl in
+      subst (λ o. IsPublication next before o (Refused (Publishing Exhausted))) (sym (kept (λ e. cc))) (exhausted_stays both.0 both.1)
+  is_unpublished after Busy big last is_busy kept = by_charge (cases_lt CHARGE_LIMIT (charge_of next))
+    where
+      by_charge : (CHARGE_LIMIT < charge_of next) ⊎ (charge_of next ≤ CHARGE_LIMIT) → IsPublication next before after (Refused (Publishing Busy))
+      by_charge (inl above) = let not_busy = big.1 above in absurd (cc)
+      by_charge (inr small) = busy_stays after small (λ e. let not_busy = last.1 (small, e) in absurd (cc)) (is_busy refl)
 
-    leads_to_agreeing : (config : TextConfig) → Agrees config real → Agrees (after_command (command_over (λ b. b.loaded) both) config) next
-    leads_to_agreeing config agrees = subst (Agrees _) (sym made.is) (next_agrees config agrees)
+-- ---- a change that is published
 
-    charge_is : (config : TextConfig) → Agrees config real → charge_of next ≡ charge_of_text (after_command (command_over (λ b. b.loaded) both) config)
-    charge_is config agrees = charged_alike _ next (leads_to_agreeing config agrees)
+own_does : (why : Reason) (before : OperatorValue) → IsOwnFault why → DoesRefused why before before
+own_does reason.BadForm before own = refl
+own_does reason.LineTooLong before own = refl
+own_does reason.PacketTooLong before own = refl
+own_does (reason.Text fault) before own = refl
+own_does (reason.Command refusal) before own = refl
+own_does (reason.OtherVersion current) before own = refl
+own_does (Publishing fault) before own = absurd own
 
-    abbrev after_made : TextConfig → TextConfig
-    after_made config = after_command (command_over (λ b. b.loaded) both) config
+module _ (before : OperatorValue) (command : Command Source) (real : List Group) (current : IsCurrent before.view real) where
+  pub not_changed : (failure : LineFault) → IsChangeFault command real failure → IsOutcome (IsChanged command) before before (Err failure)
+  not_changed (failure_of.Refused why) fault = record {
+    steps = own_does why before fault.0;
+    text = λ config agrees. (config, not_made why (fault.1 config (agrees_with config before.view real current agrees)), agrees);
+  }
+  not_changed failure_of.OutOfMemory none = refl
 
-    within : (config : TextConfig) → Agrees config real → charge_of next ≤ CHARGE_LIMIT → charge_of_text (after_command (command_over (λ b. b.loaded) both) config) ≤ CHARGE_LIMIT
-    within config agrees small = omega (arith, charge_is config agrees)
-
-    pub too_big_change : CHARGE_LIMIT < charge_of next → IsChanged command before before (Refused (Publishing TooBig))
-    too_big_change big = record {
-      steps = refl;
-      text = λ config agrees.
-          let now = agrees_with config before.view real current agrees in
-          (config, too_big _ (leads_to config now) (omega (arith, charge_is config now)), agrees);
-    }
-
-    pub exhausted_change : charge_of next ≤ CHARGE_LIMIT → number_after before.view.log ≡ LAST_NUMBER → IsChanged command before before (Refused (Publishing Exhausted))
-    exhausted_change small last = record {
-      steps = refl;
-      text = λ config agrees.
-          let now = agrees_with config before.view real current agrees in
-          (config, exhausted _ (leads_to config now) (within config now small) last, agrees);
-    }
-
-    pub busy_change : (after : OperatorValue) → charge_of next ≤ CHARGE_LIMIT → (number_after before.view.log ≡ LAST_NUMBER → ⊥) → IsBusy before after → IsChanged command before after (Refused (Publishing Busy))
-    busy_change after small left is_busy = record {
-      steps = is_busy;
-      text = λ config agrees.
-          let now = agrees_with config before.view real current agrees in
-          (config, busy _ (leads_to config now) (within config now small) left, still_agrees config before.view after.view (scanned_keeps before after is_busy.scanned) agrees);
-    }
-
-    pub published_change : (after : OperatorValue) (version : ℕ) → charge_of next ≤ CHARGE_LIMIT → (number_after before.view.log ≡ LAST_NUMBER → ⊥) → Publishes before after next → version ≡ number_after before.view.log + 1 → IsChanged command before after (Published version)
-    published_change after version small left publishes is = record {
-      steps = (next, publishes);
-      text = λ config agrees.
-          let now = agrees_with config before.view real current agrees in (
-            _,
-            subst (λ n. Changes (number_after before.view.log) config command (Published n) (after_made config)) (sym is) (published _ (leads_to config now) (within config now small) left),
-            (next, (before.view.published, publishes.published), leads_to_agreeing config now),
-          );
-    }
-
-    pub unpublished_change : (after : OperatorValue) (fault : PublishFault) → (fault ≡ TooBig) ↔ (CHARGE_LIMIT < charge_of next) → (fault ≡ Exhausted) ↔ ((charge_of next ≤ CHARGE_LIMIT) × (number_after before.view.log ≡ LAST_NUMBER)) → (fault ≡ Busy → IsBusy before after) → ((fault ≡ Busy → ⊥) → after ≡ before) → IsChanged command before after (Refused (Publishing fault))
-    unpublished_change after TooBig big last is_busy kept =
-        subst (λ o. IsChanged command before o (Refused (Publishing TooBig))) (sym (kept (λ e. cc))) (too_big_change (big.0 refl))
-    unpublished_change after Exhausted big last is_busy kept =
-        let both = last.0 refl in
-        subst (λ o. IsChanged command before o (Refused (Publishing Exhausted))) (sym (kept (λ e. cc))) (exhausted_change both.0 both.1)
-    unpublished_change after Busy big last is_busy kept = by_charge (cases_lt CHARGE_LIMIT (charge_of next))
-      where
-        by_charge : (CHARGE_LIMIT < charge_of next) ⊎ (charge_of next ≤ CHARGE_LIMIT) → IsChanged command before after (Refused (Publishing Busy))
-        by_charge (inl above) = let not_busy = big.1 above in absurd (cc)
-        by_charge (inr small) = busy_change after small (λ e. let not_busy = last.1 (small, e) in absurd (cc)) (is_busy refl)
-
--- ---- the steps of a change
-
-does_nothing : (source : Source) (why : Reason) (before : OperatorValue) → IsRefusalOfText source why → DoesRefused why before before
-does_nothing source why before (fault, is, named) = by_fault fault named
-  where
-    does : (f : TextFault) → Some (reason.Text f) ≡ Some why → DoesRefused why before before
-    does f same = let is : reason.Text f ≡ why = cc in subst (λ w. DoesRefused w before before) is refl
-
-    by_fault : (f : TextFault) → reason_of_text f ≡ Some why → DoesRefused why before before
-    by_fault text_fault.OutOfMemory named = absurd (cc)
-    by_fault f named = does f named
-
-pub no_command : (before : OperatorValue) (command : Command Source) (failure : LineFault) → IsLineFaultOfCommand command failure → IsOutcome (IsChanged command) before before (Err failure)
-no_command before command (failure_of.Refused why) (source, has, fault) = record { steps = does_nothing source why before fault; text = λ config agrees. (config, bad_text source why has fault, agrees) }
-no_command before command failure_of.OutOfMemory none = refl
-
-module _ (before : OperatorValue) (command : Command Source) (real : List Group) (current : IsCurrent before.view real) (made : Command ProgramValue) (is_made : IsMadeCommand command made) where
-  pub no_next : (failure : LineFault) → IsRefusedFor (first_refusal made real) failure → IsOutcome (IsChanged command) before before (Err failure)
-  no_next (failure_of.Refused why) (refusal, first, is) =
-      subst (λ w. IsChanged command before before (Refused w)) (sym is) (refused_change before command real current is_made.0 is_made.1 refusal (ap (λ c. first_refusal c real) (sym is_made.2) ∙ first))
-  no_next failure_of.OutOfMemory none = refl
-
-  module _ (next : List Group) (is_next : IsNext made real next) (after : OperatorValue) where
-    next_of_both : IsNext (command_over (λ b. b.program) is_made.0) real next
-    next_of_both = subst (λ c. IsNext c real next) is_made.2 is_next
-
-    pub is_published : (version : ℕ) → (CHARGE_LIMIT < charge_of next → ⊥) → (charge_of next ≤ CHARGE_LIMIT → number_after before.view.log ≡ LAST_NUMBER → ⊥) → Publishes before after next → version ≡ number_after before.view.log + 1 → IsChanged command before after (Published version)
-    is_published version not_big not_last publishes is = by_charge (cases_lt CHARGE_LIMIT (charge_of next))
-      where
-        by_charge : (CHARGE_LIMIT < charge_of next) ⊎ (charge_of next ≤ CHARGE_LIMIT) → IsChanged command before after (Published version)
-        by_charge (inl above) = absurd (not_big above)
-        by_charge (inr small) = published_change before command real current is_made.0 is_made.1 next next_of_both after version small (not_last small) publishes is
-
-    pub is_unpublished : (fault : PublishFault) → (fault ≡ TooBig) ↔ (CHARGE_LIMIT < charge_of next) → (fault ≡ Exhausted) ↔ ((charge_of next ≤ CHARGE_LIMIT) × (number_after before.view.log ≡ LAST_NUMBER)) → (fault ≡ Busy → IsBusy before after) → ((fault ≡ Busy → ⊥) → after ≡ before) → IsChanged command before after (Refused (Publishing fault))
-    is_unpublished fault big last is_busy kept = unpublished_change before command real current is_made.0 is_made.1 next next_of_both after fault big last is_busy kept
+  pub change_published : (after : OperatorValue) (next : List Group) (answer : LineAnswer) → IsChangeDone command real next → IsPublication next before after answer → IsChanged command before after answer
+  change_published after next answer done publication = record {
+    steps = publication.steps;
+    text = λ config agrees.
+        let now = done config (agrees_with config before.view real current agrees) in
+        let left = publication.text config now.0 agrees now.2 in
+        (left.0, is_made now.0 answer left.0 now.1 left.1, left.2);
+  }

@@ -1,5 +1,5 @@
 -- How long the decimal digits of a number are, and words by their hexadecimal digits.
-use Rattle.std.proofs.Common.{List, append-nil, append_assoc, codes, get_or, refl, subst, suc, sym, take, zero, ◌++◌, ◌-◌, ◌≡◌, ◌∙◌, ◌+◌, ◌/◌, ◌%◌, ◌^◌, ◌<◌, ◌≤◌, ◌∷◌, [], ap, arith, decimal, length, length-append, ℕ}
+use Rattle.std.proofs.Common.{List, append-nil, append_assoc, codes, get_or, subst, suc, sym, take, zero, ◌++◌, ◌-◌, ◌≡◌, ◌∙◌, ◌+◌, ◌/◌, ◌%◌, ◌^◌, ◌<◌, ◌≤◌, ◌∷◌, [], ap, arith, decimal, length, length-append, ℕ}
 use Rattle.std.specs.Char.{digit_char}
 use Rattle.std.specs.List.{flat_map}
 use Rattle.std.proofs.lemmas.Bool.Decides.{nat_tests}

@@ -8,9 +8,14 @@ mod LaneLemmas
 mod ProgramLemmas
 pub mod OverLemmas
 pub mod ChangeLemmas
+mod BlockLemmas
+mod HeadLemmas
 pub mod ReadBackLemmas
 pub mod LineLemmas
+mod MessageLemmas
 mod OneLineLemmas
+mod OneMessageLemmas
 mod OneAnswerLemmas
 mod DigitLemmas
+pub mod RulesLemmas
 mod StandardFacts

@@ -1,5 +1,6 @@
 -- A line has one answer, but for what the operator has to say.
-use Rattle.std.proofs.Common.{◌≡◌, ◌∙◌, ◌∷◌, List, None, Option, Some, [], ap, arith, inl, inr, length, map, refl, subst, sym, ℕ}
+use Rattle.std.proofs.Common.{◌≡◌, ◌∙◌, ◌∷◌, ◌++◌, List, None, Option, Some, [], ap, arith, inl, inr, length, map, refl, subst, sym, ℕ}
+use Rattle.std.specs.Prelude.{IfSome}
 use Rattle.std.specs.Option.{option_map}
 use Rattle.std.proofs.lemmas.List.{length-map}
 use Rattle.member_group.specs.Charge.{charge_by, members_of}
@@ -14,19 +15,23 @@ use Rattle.member_group.specs.declared.refusal.Refusal.{Refusal}
 use Rattle.control_line.specs.declared.reason.Reason.{Reason}
 use Rattle.control_line.specs.declared.reason.Reason.TheVariants as reason
 use Rattle.control_line.specs.declared.reply.LineAnswer.{LineAnswer}
-use Rattle.control_line.specs.declared.reply.LineAnswer.TheVariants.{Published, Refused, Shown, Swept}
+use Rattle.control_line.specs.declared.reply.LineAnswer.TheVariants.{LineRefused, Published, Refused, Shown, Swept}
 use Rattle.control_line.specs.declared.reason.Reason.TheVariants.{Publishing}
 use Rattle.filter_tree.specs.Tree.{Tree}
 use Rattle.control_line.specs.Agrees.{AreWordsOf, Compiler, IsLoadedBy, LoadedProgram, TextConfig, config_over, group_over, member_over}
 use Rattle.control_line.specs.Reading.{Reading, reading_answer}
-use Rattle.control_line.specs.Answer.{AnswersBy, AreOne, ChangesBy, HasOneAnswer, HasOneAnswerBy, IsOperatorsChoice, LeadsToBy, MeansBy, bad_line, bad_text, busy, by_function, changed, charge_of_text, exhausted, program_in, published, refused, shown, swept, too_big, too_long, was_read}
+use Rattle.control_line.specs.Answer.{AnswersBy, AnswersMessageBy, AreOne, ChangesBy, ChangesTogetherBy, HasOneAnswer, HasOneAnswerBy, IsDoneBy, IsOperatorsChoice, LeadBy, LeadsToBy, MeansBy, NumberedLine, PublishesText, RefusesBy, RefusesLineBy, all_made, bad_change, bad_form, bad_text, busy, by_function, changed, changed_at, changed_together, charge_of_text, config_at, exhausted, line_refused, is_made, long, no_change, no_line, not_made, numbered, one_more, other_version, program_in, published, refused, replied, shown, swept, too_big, too_long, was_read}
+use Rattle.control_line.specs.Block.{Message, SpellsMessage}
+use Rattle.control_line.specs.declared.head.Start.{Start}
+use Rattle.control_line.specs.declared.head.Start.TheVariants.{Current, Empty}
 use Rattle.control_line.specs.Reason.{IsRefusalOfText, reason_of_text}
 use Rattle.filter_program.specs.Program.{IsMeaningOf, IsProgramFor, TextProgram, of_tree, of_words, text_charge}
 use Rattle.filter_program.specs.Program.{Source}
-use Rattle.control_line.specs.Request.{Request, Spells, change, read, show, sweep}
+use Rattle.control_line.specs.Request.{Spells, change, read}
 use Rattle.filter_program.specs.Fault.{HasNotBoth, HasOneFault, HasOneProgram}
 use Rattle.control_line.specs.body.Reading.{command_over}
 use Rattle.control_line.proofs.OneLineLemmas.{one_thing}
+use Rattle.control_line.proofs.OneMessageLemmas.{one_message}
 use Rattle.control_line.proofs.OverLemmas.{after-over, charge_by-over, first_refusal-over, members_of-over}
 
 -- ---- texts
@@ -125,44 +130,131 @@ module _ (laws : TextLaws) {V : Type 0} (view : LoadedProgram → V) (weight : V
       one_refusal made other refusal also means first means_too first_too =
           let both : Some refusal ≡ Some also = sym first ∙ same_first made other means means_too ∙ first_too in cc
 
-      one_change : (one other : LineAnswer) (next also : TextConfig) → ChangesBy by version config command one next → ChangesBy by' version config' command other also → AreOne AreAlike one next other also
-      one_change one other next also (bad_text source why has fault) (bad_text source' why' has' fault') = inl (ap Refused (one_bad laws command source source' why why' has fault has' fault'), alike)
-      one_change one other next also (bad_text source why has fault) (refused made' refusal' means' first') = absurd (not_at_fault laws by' command made' source why means' has fault)
-      one_change one other next also (bad_text source why has fault) (too_big n' leads' big') = absurd (not_at_fault laws by' command leads'.made source why leads'.means has fault)
-      one_change one other next also (bad_text source why has fault) (exhausted n' leads' small' last') = absurd (not_at_fault laws by' command leads'.made source why leads'.means has fault)
-      one_change one other next also (bad_text source why has fault) (busy n' leads' small' left') = absurd (not_at_fault laws by' command leads'.made source why leads'.means has fault)
-      one_change one other next also (bad_text source why has fault) (published n' leads' small' left') = absurd (not_at_fault laws by' command leads'.made source why leads'.means has fault)
-      one_change one other next also (refused made refusal means first) (bad_text source' why' has' fault') = absurd (not_at_fault laws by command made source' why' means has' fault')
-      one_change one other next also (refused made refusal means first) (refused made' refusal' means' first') = inl (ap (λ r. Refused (reason.Command r)) (one_refusal made made' refusal refusal' means first means' first'), alike)
-      one_change one other next also (refused made refusal means first) (too_big n' leads' big') = absurd (first_not_refused made refusal n' means first leads')
-      one_change one other next also (refused made refusal means first) (exhausted n' leads' small' last') = absurd (first_not_refused made refusal n' means first leads')
-      one_change one other next also (refused made refusal means first) (busy n' leads' small' left') = absurd (first_not_refused made refusal n' means first leads')
-      one_change one other next also (refused made refusal means first) (published n' leads' small' left') = absurd (first_not_refused made refusal n' means first leads')
-      one_change one other next also (too_big n leads big) (bad_text source' why' has' fault') = absurd (not_at_fault laws by command leads.made source' why' leads.means has' fault')
-      one_change one other next also (too_big n leads big) (refused made' refusal' means' first') = absurd (then_not_refused made' refusal' n means' first' leads)
-      one_change one other next also (too_big n leads big) (too_big n' leads' big') = inl (refl, alike)
-      one_change one other next also (too_big n leads big) (exhausted n' leads' small' last') = let same = one_charge n n' leads leads' in absurd (omega arith)
-      one_change one other next also (too_big n leads big) (busy n' leads' small' left') = let same = one_charge n n' leads leads' in absurd (omega arith)
-      one_change one other next also (too_big n leads big) (published n' leads' small' left') = let same = one_charge n n' leads leads' in absurd (omega arith)
-      one_change one other next also (exhausted n leads small last) (bad_text source' why' has' fault') = absurd (not_at_fault laws by command leads.made source' why' leads.means has' fault')
-      one_change one other next also (exhausted n leads small last) (refused made' refusal' means' first') = absurd (then_not_refused made' refusal' n means' first' leads)
-      one_change one other next also (exhausted n leads small last) (too_big n' leads' big') = let same = one_charge n n' leads leads' in absurd (omega arith)
-      one_change one other next also (exhausted n leads small last) (exhausted n' leads' small' last') = inl (refl, alike)
-      one_change one other next also (exhausted n leads small last) (busy n' leads' small' left') = absurd (left' last)
-      one_change one other next also (exhausted n leads small last) (published n' leads' small' left') = absurd (left' last)
-      one_change one other next also (busy n leads small left) (bad_text source' why' has' fault') = absurd (not_at_fault laws by command leads.made source' why' leads.means has' fault')
-      one_change one other next also (busy n leads small left) (refused made' refusal' means' first') = absurd (then_not_refused made' refusal' n means' first' leads)
-      one_change one other next also (busy n leads small left) (too_big n' leads' big') = let same = one_charge n n' leads leads' in absurd (omega arith)
-      one_change one other next also (busy n leads small left) (exhausted n' leads' small' last') = absurd (left last')
-      one_change one other next also (busy n leads small left) (busy n' leads' small' left') = inl (refl, alike)
-      one_change one other next also (busy n leads small left) (published n' leads' small' left') = inr tt
-      one_change one other next also (published n leads small left) (bad_text source' why' has' fault') = absurd (not_at_fault laws by command leads.made source' why' leads.means has' fault')
-      one_change one other next also (published n leads small left) (refused made' refusal' means' first') = absurd (then_not_refused made' refusal' n means' first' leads)
-      one_change one other next also (published n leads small left) (too_big n' leads' big') = let same = one_charge n n' leads leads' in absurd (omega arith)
-      one_change one other next also (published n leads small left) (exhausted n' leads' small' last') = absurd (left last')
-      one_change one other next also (published n leads small left) (busy n' leads' small' left') = inr tt
-      one_change one other next also (published n leads small left) (published n' leads' small' left') = inl (refl, one_next n n' leads leads')
+      one_fault : (one other : Reason) → RefusesBy by config command one → RefusesBy by' config' command other → one ≡ other
+      one_fault _ _ (bad_text source why has fault) (bad_text source' why' has' fault') = one_bad laws command source source' why why' has fault has' fault'
+      one_fault _ _ (bad_text source why has fault) (refused made' refusal' means' first') = absurd (not_at_fault laws by' command made' source why means' has fault)
+      one_fault _ _ (refused made refusal means first) (bad_text source' why' has' fault') = absurd (not_at_fault laws by command made source' why' means has' fault')
+      one_fault _ _ (refused made refusal means first) (refused made' refusal' means' first') = ap reason.Command (one_refusal made made' refusal refusal' means first means' first')
 
+      fault_not_done : (why : Reason) (next : TextConfig) → RefusesBy by config command why → LeadsToBy by' config' command next → ⊥
+      fault_not_done _ next (bad_text source why has fault) leads = not_at_fault laws by' command leads.made source why leads.means has fault
+      fault_not_done _ next (refused made refusal means first) leads = first_not_refused made refusal next means first leads
+
+      done_not_fault : (why : Reason) (next : TextConfig) → LeadsToBy by config command next → RefusesBy by' config' command why → ⊥
+      done_not_fault _ next leads (bad_text source why has fault) = not_at_fault laws by command leads.made source why leads.means has fault
+      done_not_fault _ next leads (refused made refusal means first) = then_not_refused made refusal next means first leads
+
+    -- what is published of configurations that are alike
+    one_publication : (next next' : TextConfig) → AreAlike next next' → (one other : LineAnswer) (left also : TextConfig) → PublishesText version config next one left → PublishesText version config' next' other also → AreOne AreAlike one left other also
+    one_publication next next' same _ _ _ _ (too_big big) (too_big big') = inl (refl, alike)
+    one_publication next next' same _ _ _ _ (too_big big) (exhausted small' last') = let charge = same_charge next next' same in absurd (omega arith)
+    one_publication next next' same _ _ _ _ (too_big big) (busy small' left') = let charge = same_charge next next' same in absurd (omega arith)
+    one_publication next next' same _ _ _ _ (too_big big) (published small' left') = let charge = same_charge next next' same in absurd (omega arith)
+    one_publication next next' same _ _ _ _ (exhausted small last) (too_big big') = let charge = same_charge next next' same in absurd (omega arith)
+    one_publication next next' same _ _ _ _ (exhausted small last) (exhausted small' last') = inl (refl, alike)
+    one_publication next next' same _ _ _ _ (exhausted small last) (busy small' left') = absurd (left' last)
+    one_publication next next' same _ _ _ _ (exhausted small last) (published small' left') = absurd (left' last)
+    one_publication next next' same _ _ _ _ (busy small left) (too_big big') = let charge = same_charge next next' same in absurd (omega arith)
+    one_publication next next' same _ _ _ _ (busy small left) (exhausted small' last') = absurd (left last')
+    one_publication next next' same _ _ _ _ (busy small left) (busy small' left') = inl (refl, alike)
+    one_publication next next' same _ _ _ _ (busy small left) (published small' left') = inr tt
+    one_publication next next' same _ _ _ _ (published small left) (too_big big') = let charge = same_charge next next' same in absurd (omega arith)
+    one_publication next next' same _ _ _ _ (published small left) (exhausted small' last') = absurd (left last')
+    one_publication next next' same _ _ _ _ (published small left) (busy small' left') = inr tt
+    one_publication next next' same _ _ _ _ (published small left) (published small' left') = inl (refl, same)
+
+    one_change : (command : Command Source) (one other : LineAnswer) (next also : TextConfig) → ChangesBy by version config command one next → ChangesBy by' version config' command other also → AreOne AreAlike one next other also
+    one_change command _ _ _ _ (not_made why fault) (not_made why' fault') = inl (ap Refused (one_fault command why why' fault fault'), alike)
+    one_change command _ _ _ _ (not_made why fault) (is_made next' answer' left' leads' publishes') = absurd (fault_not_done command why next' fault leads')
+    one_change command _ _ _ _ (is_made next answer left leads publishes) (not_made why' fault') = absurd (done_not_fault command why' next leads fault')
+    one_change command _ _ _ _ (is_made next answer left leads publishes) (is_made next' answer' left' leads' publishes') =
+        one_publication next next' (one_next command next next' leads leads') answer answer' left left' publishes publishes'
+
+  -- ---- several lines
+
+  one_done : (config config' : TextConfig) → AreAlike config config' → (line : List ℕ) (next also : TextConfig) → IsDoneBy by config line next → IsDoneBy by' config' line also → AreAlike next also
+  one_done config config' alike line next also done done' =
+      one_next 0 config config' alike done'.command next also (subst (λ c. LeadsToBy by config c next) (same_command line done.command done'.command done.spells done'.spells) done.leads) done'.leads
+
+  line_not_both : (config config' : TextConfig) → AreAlike config config' → (line : List ℕ) (why : Reason) (next : TextConfig) → RefusesLineBy by config line why → IsDoneBy by' config' line next → ⊥
+  line_not_both config config' alike line _ next (long above) done = let short = done.short in omega arith
+  line_not_both config config' alike line _ next (no_change short none) done = none done.command done.spells
+  line_not_both config config' alike line _ next (bad_change command why short spells fault) done =
+      fault_not_done 0 config config' alike done.command why next (subst (λ c. RefusesBy by config c why) (same_command line command done.command spells done.spells) fault) done.leads
+
+  line_not_both_then : (config config' : TextConfig) → AreAlike config config' → (line : List ℕ) (why : Reason) (next : TextConfig) → IsDoneBy by config line next → RefusesLineBy by' config' line why → ⊥
+  line_not_both_then config config' alike line _ next done (long above) = let short = done.short in omega arith
+  line_not_both_then config config' alike line _ next done (no_change short none) = none done.command done.spells
+  line_not_both_then config config' alike line _ next done (bad_change command why short spells fault) =
+      done_not_fault 0 config config' alike command why next (subst (λ c. LeadsToBy by config c next) (same_command line done.command command done.spells spells) done.leads) fault
+
+  one_line_fault : (config config' : TextConfig) → AreAlike config config' → (line : List ℕ) (why other : Reason) → RefusesLineBy by config line why → RefusesLineBy by' config' line other → why ≡ other
+  one_line_fault config config' alike line _ _ (long above) (long above') = refl
+  one_line_fault config config' alike line _ _ (long above) (no_change short' none') = absurd (omega arith)
+  one_line_fault config config' alike line _ _ (long above) (bad_change command' why' short' spells' fault') = absurd (omega arith)
+  one_line_fault config config' alike line _ _ (no_change short none) (long above') = absurd (omega arith)
+  one_line_fault config config' alike line _ _ (no_change short none) (no_change short' none') = refl
+  one_line_fault config config' alike line _ _ (no_change short none) (bad_change command' why' short' spells' fault') = absurd (none command' spells')
+  one_line_fault config config' alike line _ _ (bad_change command why short spells fault) (long above') = absurd (omega arith)
+  one_line_fault config config' alike line _ _ (bad_change command why short spells fault) (no_change short' none') = absurd (none' command spells)
+  one_line_fault config config' alike line _ _ (bad_change command why short spells fault) (bad_change command' why' short' spells' fault') =
+      one_fault 0 config config' alike command' why why' (subst (λ c. RefusesBy by config c why) (same_command line command command' spells spells') fault) fault'
+
+  one_lead : (lines : List NumberedLine) (config config' : TextConfig) → AreAlike config config' → (last also : TextConfig) → LeadBy by config lines last → LeadBy by' config' lines also → AreAlike last also
+  one_lead _ _ _ alike _ _ (no_line config) (no_line config') = alike
+  one_lead _ _ _ alike _ _ (one_more config line rest next last done lead) (one_more config' line' rest' next' last' done' lead') =
+      one_lead rest next next' (one_done config config' alike line.text next next' done done') last last' lead lead'
+
+  -- all lines are done, or the first that is not is the same
+  lead_not_refused : (earlier later : List NumberedLine) (line : NumberedLine) (why : Reason) (config config' : TextConfig) → AreAlike config config' → (mid last : TextConfig)
+      → LeadBy by config earlier mid → RefusesLineBy by mid line.text why → LeadBy by' config' (earlier ++ line ∷ later) last → ⊥
+  lead_not_refused _ later line why _ _ alike _ _ (no_line config) fault (one_more config' line' rest' next' last' done' lead') = line_not_both config config' alike line.text why next' fault done'
+  lead_not_refused _ later line why _ _ alike _ _ (one_more config first rest next mid done lead) fault (one_more config' line' rest' next' last' done' lead') =
+      lead_not_refused rest later line why next next' (one_done config config' alike first.text next next' done done') mid last' lead fault lead'
+
+  refused_not_lead : (earlier later : List NumberedLine) (line : NumberedLine) (why : Reason) (config config' : TextConfig) → AreAlike config config' → (mid last : TextConfig)
+      → LeadBy by' config' earlier mid → RefusesLineBy by' mid line.text why → LeadBy by config (earlier ++ line ∷ later) last → ⊥
+  refused_not_lead _ later line why _ _ alike _ _ (no_line config') fault (one_more config line' rest' next' last' done' lead') = line_not_both_then config config' alike line.text why next' done' fault
+  refused_not_lead _ later line why _ _ alike _ _ (one_more config' first rest next mid done lead) fault (one_more config line' rest' next' last' done' lead') =
+      refused_not_lead rest later line why next' next (one_done config config' alike first.text next' next done' done) mid last' lead fault lead'
+
+  one_first : (earlier earlier' later later' : List NumberedLine) (line line' : NumberedLine) (why why' : Reason) (config config' : TextConfig) → AreAlike config config' → (mid mid' : TextConfig)
+      → LeadBy by config earlier mid → RefusesLineBy by mid line.text why → LeadBy by' config' earlier' mid' → RefusesLineBy by' mid' line'.text why' → earlier ++ line ∷ later ≡ earlier' ++ line' ∷ later' → (line ≡ line') × (why ≡ why')
+  one_first _ _ later later' line line' why why' _ _ alike _ _ (no_line config) fault (no_line config') fault' same =
+      let first : line ≡ line' = cc in
+      (first, one_line_fault config config' alike line'.text why why' (subst (λ (l : NumberedLine). RefusesLineBy by config l.text why) first fault) fault')
+  one_first _ _ later later' line line' why why' _ _ alike _ _ (no_line config) fault (one_more config' first' rest' next' mid' done' lead') fault' same =
+      let first : line ≡ first' = cc in
+      absurd (line_not_both config config' alike first'.text why next' (subst (λ (l : NumberedLine). RefusesLineBy by config l.text why) first fault) done')
+  one_first _ _ later later' line line' why why' _ _ alike _ _ (one_more config first rest next mid done lead) fault (no_line config') fault' same =
+      let is : first ≡ line' = cc in
+      absurd (line_not_both_then config config' alike line'.text why' next (subst (λ (l : NumberedLine). IsDoneBy by config l.text next) is done) fault')
+  one_first _ _ later later' line line' why why' _ _ alike _ _ (one_more config first rest next mid done lead) fault (one_more config' first' rest' next' mid' done' lead') fault' same =
+      let is : first ≡ first' = cc in
+      let behind : rest ++ line ∷ later ≡ rest' ++ line' ∷ later' = cc in
+      one_first rest rest' later later' line line' why why' next next' (one_done config config' alike first'.text next next' (subst (λ (l : NumberedLine). IsDoneBy by config l.text next) is done) done') mid mid' lead fault lead' fault' behind
+
+  starts_alike : (start : Start) (config config' : TextConfig) → AreAlike config config' → AreAlike (config_at start config) (config_at start config')
+  starts_alike Current config config' alike = alike
+  starts_alike Empty config config' alike = refl
+
+  one_together : (version : ℕ) (config config' : TextConfig) → AreAlike config config' → (start : Start) (lines : List (List ℕ)) (one other : LineAnswer) (next also : TextConfig)
+      → ChangesTogetherBy by version config start lines one next → ChangesTogetherBy by' version config' start lines other also → AreOne AreAlike one next other also
+  one_together version config config' alike start lines _ _ _ _ (line_refused number why first) (line_refused number' why' first') =
+      let same = one_first first.earlier first'.earlier first.later first'.later first.line first'.line why why' (config_at start config) (config_at start config') (starts_alike start config config' alike) first.mid first'.mid
+      first.lead first.refused first'.lead first'.refused (sym first.all ∙ first'.all) in
+      let numbers : number ≡ number' = first.number_is ∙ ap (λ (l : NumberedLine). l.number) same.0 ∙ sym first'.number_is in
+      inl (ap (λ n. LineRefused n why) numbers ∙ ap (LineRefused number') same.1, alike)
+  one_together version config config' alike start lines _ _ _ _ (line_refused number why first) (all_made next' answer' left' lead' publishes') =
+      absurd (lead_not_refused first.earlier first.later first.line why (config_at start config) (config_at start config') (starts_alike start config config' alike) first.mid next' first.lead first.refused (subst (λ ls. LeadBy by' (config_at start config') ls next') first.all lead'))
+  one_together version config config' alike start lines _ _ _ _ (all_made next answer left lead publishes) (line_refused number' why' first') =
+      absurd (refused_not_lead first'.earlier first'.later first'.line why' (config_at start config) (config_at start config') (starts_alike start config config' alike) first'.mid next first'.lead first'.refused (subst (λ ls. LeadBy by (config_at start config) ls next) first'.all lead))
+  one_together version config config' alike start lines _ _ _ _ (all_made next answer left lead publishes) (all_made next' answer' left' lead' publishes') =
+      one_publication version config config' alike next next' (one_lead (numbered 1 lines) (config_at start config) (config_at start config') (starts_alike start config config' alike) next next' lead lead') answer answer' left left' publishes publishes'
+
+  -- ---- requests
+
+  module _ (version : ℕ) (config config' : TextConfig) (alike : AreAlike config config') where
     module _ (line : List ℕ) (reads : (reading : Reading) → Spells line (read reading) → reading_answer (λ program. program.words) version config reading ≡ reading_answer (λ program. program.words) version config' reading) where
       same_shown : Shown version (length config) (members_of config) (charge_of_text config) ≡ Shown version (length config') (members_of config') (charge_of_text config')
       same_shown =
@@ -172,49 +264,38 @@ module _ (laws : TextLaws) {V : Type 0} (view : LoadedProgram → V) (weight : V
           ∙ ap (λ n. Shown version (length config') n (charge_of_text config)) members
           ∙ ap (Shown version (length config') (members_of config')) (same_charge config config' alike)
 
-      same_read : (reading reading' : Reading) → Spells line (read reading) → Spells line (read reading') → reading_answer (λ program. program.words) version config reading ≡ reading_answer (λ program. program.words) version config' reading'
-      same_read reading reading' spells spells' =
-          let one = one_thing line (read reading) (read reading') spells spells' in
-          let same : reading ≡ reading' = cc in
-          reads reading spells ∙ ap (reading_answer (λ program. program.words) version config') same
+      one_message_answer : (message : Message) → SpellsMessage line message → (one other : LineAnswer) (next also : TextConfig) → AnswersMessageBy by version config message one next → AnswersMessageBy by' version config' message other also → AreOne AreAlike one next other also
+      one_message_answer message spells _ _ _ _ (other_version _ wanted is other) (other_version _ wanted' is' other') = inl (refl, alike)
+      one_message_answer message spells _ _ _ _ (other_version _ wanted is other) (changed command' answer' next' done') = absurd (cc)
+      one_message_answer message spells _ _ _ _ (other_version _ wanted is other) (changed_at v' command' answer' next' at' done') = let same : wanted ≡ version = cc in absurd (other same)
+      one_message_answer message spells _ _ _ _ (other_version _ wanted is other) (changed_together head' lines' answer' next' meant' done') = absurd (other (subst (λ v. IfSome v (λ w. w ≡ version)) is meant'))
+      one_message_answer message spells _ _ _ _ (other_version _ wanted is other) shown = absurd (cc)
+      one_message_answer message spells _ _ _ _ (other_version _ wanted is other) (was_read reading') = absurd (cc)
+      one_message_answer message spells _ _ _ _ (other_version _ wanted is other) (swept reclaimed') = absurd (cc)
+      one_message_answer message spells _ _ _ _ (changed command answer next done) (other_version _ wanted' is' other') = absurd (cc)
+      one_message_answer message spells _ _ _ _ (changed command answer next done) (changed command' answer' next' done') = one_change version config config' alike command answer answer' next next' done done'
+      one_message_answer message spells _ _ _ _ (changed_at v command answer next at done) (other_version _ wanted' is' other') = let same : wanted' ≡ version = cc in absurd (other' same)
+      one_message_answer message spells _ _ _ _ (changed_at v command answer next at done) (changed_at v' command' answer' next' at' done') = one_change version config config' alike command answer answer' next next' done done'
+      one_message_answer message spells _ _ _ _ (changed_together head lines answer next meant done) (other_version _ wanted' is' other') = absurd (other' (subst (λ v. IfSome v (λ w. w ≡ version)) is' meant))
+      one_message_answer message spells _ _ _ _ (changed_together head lines answer next meant done) (changed_together head' lines' answer' next' meant' done') = one_together version config config' alike head.start lines answer answer' next next' done done'
+      one_message_answer message spells _ _ _ _ shown (other_version _ wanted' is' other') = absurd (cc)
+      one_message_answer message spells _ _ _ _ shown shown = inl (same_shown, alike)
+      one_message_answer message spells _ _ _ _ (was_read reading) (other_version _ wanted' is' other') = absurd (cc)
+      one_message_answer message spells _ _ _ _ (was_read reading) (was_read reading') = inl (reads reading spells, alike)
+      one_message_answer message spells _ _ _ _ (swept reclaimed) (other_version _ wanted' is' other') = absurd (cc)
+      one_message_answer message spells _ _ _ _ (swept reclaimed) (swept reclaimed') = inr alike
 
       pub two_answers : (one other : LineAnswer) (next also : TextConfig) → AnswersBy by version config line one next → AnswersBy by' version config' line other also → AreOne AreAlike one next other also
-      two_answers _ _ _ _ (too_long long) (too_long long') = inl (refl, alike)
-      two_answers _ _ _ _ (too_long long) (bad_line short' none') = absurd (omega arith)
-      two_answers _ _ _ _ (too_long long) (changed command' answer' n' short' spells' done') = absurd (omega arith)
-      two_answers _ _ _ _ (too_long long) (shown short' spells') = absurd (omega arith)
-      two_answers _ _ _ _ (too_long long) (was_read reading' short' spells') = absurd (omega arith)
-      two_answers _ _ _ _ (too_long long) (swept reclaimed' short' spells') = absurd (omega arith)
-      two_answers _ _ _ _ (bad_line short none) (too_long long') = absurd (omega arith)
-      two_answers _ _ _ _ (bad_line short none) (bad_line short' none') = inl (refl, alike)
-      two_answers _ _ _ _ (bad_line short none) (changed command' answer' n' short' spells' done') = absurd (none (change command') spells')
-      two_answers _ _ _ _ (bad_line short none) (shown short' spells') = absurd (none show spells')
-      two_answers _ _ _ _ (bad_line short none) (was_read reading' short' spells') = absurd (none (read reading') spells')
-      two_answers _ _ _ _ (bad_line short none) (swept reclaimed' short' spells') = absurd (none sweep spells')
-      two_answers _ _ _ _ (changed command answer n short spells done) (too_long long') = absurd (omega arith)
-      two_answers _ _ _ _ (changed command answer n short spells done) (bad_line short' none') = absurd (none' (change command) spells)
-      two_answers _ _ _ _ (changed command answer n short spells done) (changed command' answer' n' short' spells' done') = one_change command' answer answer' n n' (subst (λ c. ChangesBy by version config c answer n) (same_command line command command' spells spells') done) done'
-      two_answers _ _ _ _ (changed command answer n short spells done) (shown short' spells') = let same = one_thing line (change command) show spells spells' in absurd (cc)
-      two_answers _ _ _ _ (changed command answer n short spells done) (was_read reading' short' spells') = let same = one_thing line (change command) (read reading') spells spells' in absurd (cc)
-      two_answers _ _ _ _ (changed command answer n short spells done) (swept reclaimed' short' spells') = let same = one_thing line (change command) sweep spells spells' in absurd (cc)
-      two_answers _ _ _ _ (shown short spells) (too_long long') = absurd (omega arith)
-      two_answers _ _ _ _ (shown short spells) (bad_line short' none') = absurd (none' show spells)
-      two_answers _ _ _ _ (shown short spells) (changed command' answer' n' short' spells' done') = let same = one_thing line show (change command') spells spells' in absurd (cc)
-      two_answers _ _ _ _ (shown short spells) (shown short' spells') = inl (same_shown, alike)
-      two_answers _ _ _ _ (shown short spells) (was_read reading' short' spells') = let same = one_thing line show (read reading') spells spells' in absurd (cc)
-      two_answers _ _ _ _ (shown short spells) (swept reclaimed' short' spells') = let same = one_thing line show sweep spells spells' in absurd (cc)
-      two_answers _ _ _ _ (was_read reading short spells) (too_long long') = absurd (omega arith)
-      two_answers _ _ _ _ (was_read reading short spells) (bad_line short' none') = absurd (none' (read reading) spells)
-      two_answers _ _ _ _ (was_read reading short spells) (changed command' answer' n' short' spells' done') = let same = one_thing line (read reading) (change command') spells spells' in absurd (cc)
-      two_answers _ _ _ _ (was_read reading short spells) (shown short' spells') = let same = one_thing line (read reading) show spells spells' in absurd (cc)
-      two_answers _ _ _ _ (was_read reading short spells) (was_read reading' short' spells') = inl (same_read reading reading' spells spells', alike)
-      two_answers _ _ _ _ (was_read reading short spells) (swept reclaimed' short' spells') = let same = one_thing line (read reading) sweep spells spells' in absurd (cc)
-      two_answers _ _ _ _ (swept reclaimed short spells) (too_long long') = absurd (omega arith)
-      two_answers _ _ _ _ (swept reclaimed short spells) (bad_line short' none') = absurd (none' sweep spells)
-      two_answers _ _ _ _ (swept reclaimed short spells) (changed command' answer' n' short' spells' done') = let same = one_thing line sweep (change command') spells spells' in absurd (cc)
-      two_answers _ _ _ _ (swept reclaimed short spells) (shown short' spells') = let same = one_thing line sweep show spells spells' in absurd (cc)
-      two_answers _ _ _ _ (swept reclaimed short spells) (was_read reading' short' spells') = let same = one_thing line sweep (read reading') spells spells' in absurd (cc)
-      two_answers _ _ _ _ (swept reclaimed short spells) (swept reclaimed' short' spells') = inr alike
+      two_answers _ _ _ _ (too_long above) (too_long above') = inl (refl, alike)
+      two_answers _ _ _ _ (too_long above) (bad_form short' none') = absurd (short' above)
+      two_answers _ _ _ _ (too_long above) (replied message' answer' n' short' spells' done') = absurd (short' above)
+      two_answers _ _ _ _ (bad_form short none) (too_long above') = absurd (short above')
+      two_answers _ _ _ _ (bad_form short none) (bad_form short' none') = inl (refl, alike)
+      two_answers _ _ _ _ (bad_form short none) (replied message' answer' n' short' spells' done') = absurd (none message' spells')
+      two_answers _ _ _ _ (replied message answer n short spells done) (too_long above') = absurd (short above')
+      two_answers _ _ _ _ (replied message answer n short spells done) (bad_form short' none') = absurd (none' message spells)
+      two_answers _ _ _ _ (replied message answer n short spells done) (replied message' answer' n' short' spells' done') =
+          one_message_answer message' spells' answer answer' n n' (subst (λ m. AnswersMessageBy by version config m answer n) (one_message line message message' spells spells') done) done'
 
 -- ---- lines that do not read, whatever the compiler
 

@@ -1,10 +1,8 @@
 -- The numbers of what is read are small enough for a reply.
-use Rattle.std.proofs.Common.{◌≡◌, ◌∙◌, ◌^◌, ◌<◌, ◌≤◌, List, None, Option, Some, arith, length, refl, slice_get, sym, ℕ}
+use Rattle.std.proofs.Common.{◌≡◌, ◌∙◌, ◌^◌, ◌<◌, List, None, Option, Some, arith, length, refl, slice_get, sym, ℕ}
 use Rattle.std.specs.Prelude.{IfSome}
-use Rattle.std.specs.List.{find}
 use Rattle.std.proofs.lemmas.List.Folds.{find_at}
 use Rattle.bpf_verify.specs.Program.{IsProgram, ProgramValue}
-use Rattle.bpf_verify.specs.declared.TheConstants.{MAX_INSTRUCTIONS}
 use Rattle.config_image.specs.Image.{Group}
 use Rattle.member_group.specs.Group.{IsConfig, IsGroup, IsMember, group_of, has_id, has_key, member_of}
 use Rattle.member_group.specs.declared.member.Member.{Member}

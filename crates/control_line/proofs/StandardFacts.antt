@@ -10,10 +10,12 @@ use Rattle.member_group.specs.declared.command.Command.TheVariants.{AddGroup, Jo
 use Rattle.member_group.specs.declared.refusal.Refusal.TheVariants.{GroupExists, NoMember}
 use Rattle.filter_program.specs.declared.fault.TextFault.TheVariants.{Assembly, Words}
 use Rattle.retire.specs.declared.fault.PublishFault.TheVariants.{Busy}
-use Rattle.control_line.specs.declared.reason.Reason.TheVariants.{BadForm, Command, Publishing, Text}
-use Rattle.control_line.specs.declared.reply.LineAnswer.TheVariants.{Published, Refused, Shown, Swept}
+use Rattle.control_line.specs.declared.reason.Reason.TheVariants.{BadForm, Command, OtherVersion, Publishing, Text}
+use Rattle.control_line.specs.declared.reply.LineAnswer.TheVariants.{LineRefused, Published, Refused, Shown, Swept}
 use Rattle.control_line.specs.Agrees.{Agrees, TextConfig}
-use Rattle.control_line.specs.Answer.{Answers, changed, published, refused, shown}
+use Rattle.control_line.specs.Answer.{Answers, changed, is_made, not_made, published, refused, replied, shown}
+use Rattle.control_line.specs.Block.{single}
+use Rattle.control_line.proofs.OneMessageLemmas.{spelled_short}
 use Rattle.control_line.specs.Reply.{reply_text}
 use Rattle.control_line.specs.Request.{Spells, change, show}
 use Rattle.filter_program.specs.Program.{assembly, expression}
@@ -64,20 +66,30 @@ one_group = record { key = key; selector = None; members = [] } ∷ []
 
 adds_a_group : Answers 0 [] (codes "add 10.0.0.2:53") (Published 1) one_group
 adds_a_group =
-    changed (AddGroup key) _ _ (lit≤ tt) adds
-    (published _ (record { made = AddGroup key; means = refl; applied = refl; is = refl }) (lit≤ tt) (λ e. absurd (omega arith)))
+    replied (single (change (AddGroup key))) _ _ (spelled_short _ (change (AddGroup key)) adds (lit≤ tt)) adds
+    (changed (AddGroup key) _ _ (is_made one_group _ _ (record { made = AddGroup key; means = refl; applied = refl; is = refl }) (published (lit≤ tt) (λ e. absurd (omega arith)))))
 
 refuses_it_again : Answers 1 one_group (codes "add 10.0.0.2:53") (Refused (Command GroupExists)) one_group
-refuses_it_again = changed (AddGroup key) _ _ (lit≤ tt) adds (refused (AddGroup key) GroupExists refl refl)
+refuses_it_again =
+    replied (single (change (AddGroup key))) _ _ (spelled_short _ (change (AddGroup key)) adds (lit≤ tt)) adds
+    (changed (AddGroup key) _ _ (not_made (Command GroupExists) (refused (AddGroup key) GroupExists refl refl)))
 
 shows_it : Answers 1 one_group (codes "show") (Shown 1 1 0 6) one_group
-shows_it = shown (lit≤ tt) refl
+shows_it = replied (single show) _ _ (spelled_short _ show shows (lit≤ tt)) shows shown
 
 -- ---- replies
 
 published_text : reply_text (Published 7) ≡ codes "ok version 7"
 unfolding digits
 published_text = refl
+
+second_line : reply_text (LineRefused 2 (Command GroupExists)) ≡ codes "refused G2 line 2"
+unfolding digits encode_utf8
+second_line = refl
+
+other_version : reply_text (Refused (OtherVersion 7)) ≡ codes "refused M1 7"
+unfolding digits encode_utf8
+other_version = refl
 
 shown_text : reply_text (Shown 7 1 2 28) ≡ codes "version 7 groups 1 members 2 charge 28"
 unfolding digits

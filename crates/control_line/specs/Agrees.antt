@@ -9,7 +9,7 @@ use Rattle.member_group.specs.declared.member.Member.{Member}
 use Rattle.versions.specs.declared.view.OperatorView.{OperatorView}
 use Rattle.read_section.specs.Operator.{IsCurrent}
 use Rattle.filter_tree.specs.Tree.{Tree}
-use Rattle.filter_program.specs.Program.{IsMeaningOf, IsProgramFor, Source, TextProgram, of_tree, of_words, text_charge, text_ending}
+use Rattle.filter_program.specs.Program.{IsMeaningOf, Source, TextProgram, of_tree, of_words, text_charge, text_ending}
 
 -- a program as it was loaded: what its text means, and its words
 pub record LoadedProgram : Type 0 where

@@ -1,5 +1,5 @@
 -- What a line is answered, and which configuration it leaves (docs/COMMANDS.md, "Control lines").
-use Rattle.std.specs.Prelude.{◌≡◌, ◌+◌, ◌<◌, ◌≤◌, ◌++◌, ◌⊎◌, List, None, Option, Some, codes, length, ℕ}
+use Rattle.std.specs.Prelude.{◌≡◌, ◌+◌, ◌<◌, ◌≤◌, ◌++◌, ◌∷◌, ◌⊎◌, IfSome, List, None, Option, Some, [], codes, length, suc, ℕ}
 use Rattle.member_group.specs.Charge.{charge_by, members_of}
 use Rattle.member_group.specs.Command.{after}
 use Rattle.member_group.specs.Refusal.{first_refusal}
@@ -18,16 +18,20 @@ use Rattle.retire.specs.declared.fault.PublishFault.TheVariants.{Busy, Exhausted
 use Rattle.filter_tree.specs.Tree.{Tree}
 use Rattle.filter_program.specs.Program.{IsProgramFor, Source, text_charge}
 use Rattle.control_line.specs.declared.TheConstants.{LINE_LIMIT}
+use Rattle.control_line.specs.declared.head.Head.{Head}
+use Rattle.control_line.specs.declared.head.Start.{Start}
+use Rattle.control_line.specs.declared.head.Start.TheVariants.{Current, Empty}
 use Rattle.control_line.specs.declared.reason.Reason.{Reason}
-use Rattle.control_line.specs.declared.reason.Reason.TheVariants.{BadForm, LineTooLong, Publishing}
+use Rattle.control_line.specs.declared.reason.Reason.TheVariants.{BadForm, LineTooLong, OtherVersion, Publishing}
 use Rattle.control_line.specs.declared.reason.Reason.TheVariants as reason
 use Rattle.control_line.specs.declared.reply.LineAnswer.{LineAnswer}
-use Rattle.control_line.specs.declared.reply.LineAnswer.TheVariants.{GroupRead, MemberRead, Published, Refused, Shown, Swept, WordsRead}
+use Rattle.control_line.specs.declared.reply.LineAnswer.TheVariants.{GroupRead, LineRefused, MemberRead, Published, Refused, Shown, Swept, WordsRead}
 use Rattle.control_line.specs.Agrees.{AgreesNow, Compiler, IsLoadedBy, LoadedProgram, TextConfig, config_over}
+use Rattle.control_line.specs.Block.{IsTooLong, Message, SpellsMessage, block, for_version, single, wanted_version}
 use Rattle.control_line.specs.Reading.{Reading, reading_answer}
 use Rattle.control_line.specs.Reply.{reply_text}
 use Rattle.control_line.specs.Reason.{IsRefusalOfText}
-use Rattle.control_line.specs.Request.{Request, Spells, change, read, show, sweep}
+use Rattle.control_line.specs.Request.{Spells, change, read, show, sweep}
 
 -- the program that a command has, or none
 abbrev pub program_in : {P : Type 0} → Command P → Option P
@@ -58,39 +62,110 @@ pub record LeadsToBy (by : Compiler) (config : TextConfig) (command : Command So
   pub applied : first_refusal made config ≡ None
   pub is : next ≡ after made config
 
--- What a change is answered at a version and its configuration, and the configuration that it leaves. The refusals come in
--- this order.
-pub data ChangesBy (by : Compiler) (version : ℕ) (config : TextConfig) (command : Command Source) : LineAnswer → TextConfig → Type 0 where
+-- why a configuration refuses a change: for its text, else for its command
+pub data RefusesBy (by : Compiler) (config : TextConfig) (command : Command Source) : Reason → Type 0 where
   bad_text : (source : Source) (why : Reason) → program_in command ≡ Some source → IsRefusalOfText source why →
-      ChangesBy by version config command (Refused why) config
+      RefusesBy by config command why
   refused : (made : Command LoadedProgram) (refusal : Refusal) → MeansBy by command made →
-      first_refusal made config ≡ Some refusal →
-      ChangesBy by version config command (Refused (reason.Command refusal)) config
-  too_big : (next : TextConfig) → LeadsToBy by config command next → CHARGE_LIMIT < charge_of_text next →
-      ChangesBy by version config command (Refused (Publishing TooBig)) config
-  exhausted : (next : TextConfig) → LeadsToBy by config command next →
-      charge_of_text next ≤ CHARGE_LIMIT → version ≡ LAST_NUMBER →
-      ChangesBy by version config command (Refused (Publishing Exhausted)) config
-  busy : (next : TextConfig) → LeadsToBy by config command next →
-      charge_of_text next ≤ CHARGE_LIMIT → ¬ (version ≡ LAST_NUMBER) →
-      ChangesBy by version config command (Refused (Publishing Busy)) config
-  published : (next : TextConfig) → LeadsToBy by config command next →
-      charge_of_text next ≤ CHARGE_LIMIT → ¬ (version ≡ LAST_NUMBER) →
-      ChangesBy by version config command (Published (version + 1)) next
+      first_refusal made config ≡ Some refusal → RefusesBy by config command (reason.Command refusal)
 
--- The same of a line. Whether a change is refused as busy, and what a sweep reclaims, is the operator's to say.
-pub data AnswersBy (by : Compiler) (version : ℕ) (config : TextConfig) (line : List ℕ) : LineAnswer → TextConfig → Type 0 where
-  too_long : LINE_LIMIT < length line → AnswersBy by version config line (Refused LineTooLong) config
-  bad_line : length line ≤ LINE_LIMIT → ((request : Request) → ¬ Spells line request) →
-      AnswersBy by version config line (Refused BadForm) config
-  changed : (command : Command Source) (answer : LineAnswer) (next : TextConfig) → length line ≤ LINE_LIMIT →
-      Spells line (change command) → ChangesBy by version config command answer next → AnswersBy by version config line answer next
-  shown : length line ≤ LINE_LIMIT → Spells line show →
-      AnswersBy by version config line (Shown version (length config) (members_of config) (charge_of_text config)) config
-  was_read : (reading : Reading) → length line ≤ LINE_LIMIT → Spells line (read reading) →
-      AnswersBy by version config line (reading_answer (λ program. program.words) version config reading) config
-  swept : (reclaimed : Reclaimed) → length line ≤ LINE_LIMIT → Spells line sweep →
-      AnswersBy by version config line (Swept reclaimed) config
+-- the reply if this configuration is to be published in place of the current one, and the configuration then
+pub data PublishesText (version : ℕ) (config next : TextConfig) : LineAnswer → TextConfig → Type 0 where
+  too_big : CHARGE_LIMIT < charge_of_text next → PublishesText version config next (Refused (Publishing TooBig)) config
+  exhausted : charge_of_text next ≤ CHARGE_LIMIT → version ≡ LAST_NUMBER →
+      PublishesText version config next (Refused (Publishing Exhausted)) config
+  busy : charge_of_text next ≤ CHARGE_LIMIT → ¬ (version ≡ LAST_NUMBER) →
+      PublishesText version config next (Refused (Publishing Busy)) config
+  published : charge_of_text next ≤ CHARGE_LIMIT → ¬ (version ≡ LAST_NUMBER) →
+      PublishesText version config next (Published (version + 1)) next
+
+-- The reply to a change at a version and its configuration, and the configuration then. The refusals come in this order.
+pub data ChangesBy (by : Compiler) (version : ℕ) (config : TextConfig) (command : Command Source) : LineAnswer → TextConfig → Type 0 where
+  not_made : (why : Reason) → RefusesBy by config command why → ChangesBy by version config command (Refused why) config
+  is_made : (next : TextConfig) (answer : LineAnswer) (left : TextConfig) → LeadsToBy by config command next →
+      PublishesText version config next answer left → ChangesBy by version config command answer left
+
+-- ---- several lines as one change
+
+-- a line, and its number
+pub record NumberedLine : Type 0 where
+  pub number : ℕ
+  pub text : List ℕ
+
+abbrev pub numbered : ℕ → List (List ℕ) → List NumberedLine
+numbered number [] = []
+numbered number (text ∷ rest) = record { number = number; text = text } ∷ numbered (suc number) rest
+
+-- the line asks for a change that the configuration does not refuse, and this is the next configuration
+pub record IsDoneBy (by : Compiler) (config : TextConfig) (line : List ℕ) (next : TextConfig) : Type 0 where
+  pub command : Command Source
+  pub short : length line ≤ LINE_LIMIT
+  pub spells : Spells line (change command)
+  pub leads : LeadsToBy by config command next
+
+-- why a configuration refuses one of several lines, each of which has to ask for a change
+pub data RefusesLineBy (by : Compiler) (config : TextConfig) (line : List ℕ) : Reason → Type 0 where
+  long : LINE_LIMIT < length line → RefusesLineBy by config line LineTooLong
+  no_change : length line ≤ LINE_LIMIT → ((command : Command Source) → ¬ Spells line (change command)) →
+      RefusesLineBy by config line BadForm
+  bad_change : (command : Command Source) (why : Reason) → length line ≤ LINE_LIMIT → Spells line (change command) →
+      RefusesBy by config command why → RefusesLineBy by config line why
+
+-- what the lines make of a configuration, one after the other
+pub data LeadBy (by : Compiler) : TextConfig → List NumberedLine → TextConfig → Type 0 where
+  no_line : (config : TextConfig) → LeadBy by config [] config
+  one_more : (config : TextConfig) (line : NumberedLine) (rest : List NumberedLine) (next last : TextConfig) →
+      IsDoneBy by config line.text next → LeadBy by next rest last → LeadBy by config (line ∷ rest) last
+
+-- the first of the lines that is refused, and why
+pub record IsFirstRefused (by : Compiler) (config : TextConfig) (lines : List NumberedLine) (number : ℕ) (why : Reason) : Type 0 where
+  pub earlier : List NumberedLine
+  pub line : NumberedLine
+  pub later : List NumberedLine
+  pub mid : TextConfig
+  pub all : lines ≡ earlier ++ line ∷ later
+  pub lead : LeadBy by config earlier mid
+  pub refused : RefusesLineBy by mid line.text why
+  pub number_is : number ≡ line.number
+
+-- the configuration that a block's lines change
+abbrev pub config_at : Start → TextConfig → TextConfig
+config_at Current config = config
+config_at Empty config = []
+
+-- The reply to a block, and the configuration then. Only the last configuration is published, and only its charge counts.
+pub data ChangesTogetherBy (by : Compiler) (version : ℕ) (config : TextConfig) (start : Start) (lines : List (List ℕ)) : LineAnswer → TextConfig → Type 0 where
+  line_refused : (number : ℕ) (why : Reason) → IsFirstRefused by (config_at start config) (numbered 1 lines) number why →
+      ChangesTogetherBy by version config start lines (LineRefused number why) config
+  all_made : (next : TextConfig) (answer : LineAnswer) (left : TextConfig) → LeadBy by (config_at start config) (numbered 1 lines) next →
+      PublishesText version config next answer left → ChangesTogetherBy by version config start lines answer left
+
+-- ---- requests
+
+-- The reply to what a request asks for, and the configuration then. The operator decides whether a change is refused as busy, and
+-- what a sweep reclaims.
+pub data AnswersMessageBy (by : Compiler) (version : ℕ) (config : TextConfig) : Message → LineAnswer → TextConfig → Type 0 where
+  other_version : (message : Message) (wanted : ℕ) → wanted_version message ≡ Some wanted → ¬ (wanted ≡ version) →
+      AnswersMessageBy by version config message (Refused (OtherVersion version)) config
+  changed : (command : Command Source) (answer : LineAnswer) (next : TextConfig) → ChangesBy by version config command answer next →
+      AnswersMessageBy by version config (single (change command)) answer next
+  changed_at : (wanted : ℕ) (command : Command Source) (answer : LineAnswer) (next : TextConfig) → wanted ≡ version →
+      ChangesBy by version config command answer next → AnswersMessageBy by version config (for_version wanted command) answer next
+  changed_together : (head : Head) (lines : List (List ℕ)) (answer : LineAnswer) (next : TextConfig) →
+      IfSome head.version (λ wanted. wanted ≡ version) → ChangesTogetherBy by version config head.start lines answer next →
+      AnswersMessageBy by version config (block head lines) answer next
+  shown : AnswersMessageBy by version config (single show) (Shown version (length config) (members_of config) (charge_of_text config)) config
+  was_read : (reading : Reading) →
+      AnswersMessageBy by version config (single (read reading)) (reading_answer (λ program. program.words) version config reading) config
+  swept : (reclaimed : Reclaimed) → AnswersMessageBy by version config (single sweep) (Swept reclaimed) config
+
+-- the reply to a text
+pub data AnswersBy (by : Compiler) (version : ℕ) (config : TextConfig) (text : List ℕ) : LineAnswer → TextConfig → Type 0 where
+  too_long : IsTooLong text → AnswersBy by version config text (Refused LineTooLong) config
+  bad_form : ¬ IsTooLong text → ((message : Message) → ¬ SpellsMessage text message) →
+      AnswersBy by version config text (Refused BadForm) config
+  replied : (message : Message) (answer : LineAnswer) (next : TextConfig) → ¬ IsTooLong text → SpellsMessage text message →
+      AnswersMessageBy by version config message answer next → AnswersBy by version config text answer next
 
 -- the same with any compiler that makes programs for the trees that it is given
 abbrev pub Means : Command Source → Command LoadedProgram → Type 0
@@ -98,6 +173,9 @@ Means = MeansBy IsProgramFor
 
 abbrev pub LeadsTo : TextConfig → Command Source → TextConfig → Type 0
 LeadsTo = LeadsToBy IsProgramFor
+
+abbrev pub Refuses : TextConfig → Command Source → Reason → Type 0
+Refuses = RefusesBy IsProgramFor
 
 abbrev pub Changes : ℕ → TextConfig → Command Source → LineAnswer → TextConfig → Type 0
 Changes = ChangesBy IsProgramFor
@@ -147,6 +225,7 @@ DoesRefused _ before after = after ≡ before
 -- what it does with each answer
 abbrev pub Does : LineAnswer → OperatorValue → OperatorValue → Type 0
 Does (Refused why) before after = DoesRefused why before after
+Does (LineRefused number why) before after = after ≡ before
 Does (Published version) before after = (config : List Group) × Publishes before after config
 Does (Shown version groups members charge) before after = after ≡ before
 Does (GroupRead version index groups key members selector) before after = after ≡ before
@@ -202,5 +281,11 @@ abbrev pub IsRefusedReply : List ℕ → Type 0
 IsRefusedReply reply = (rest : List ℕ) × (reply ≡ codes "refused " ++ rest)
 
 -- only a change needs memory
+abbrev pub IsChange : Message → Type 0
+IsChange (single (change command)) = Unit {0}
+IsChange (single other) = ⊥
+IsChange (for_version version command) = Unit {0}
+IsChange (block head lines) = Unit {0}
+
 abbrev pub AsksForChange : List ℕ → Type 0
-AsksForChange line = (command : Command Source) × Spells line (change command)
+AsksForChange text = (message : Message) × SpellsMessage text message × IsChange message

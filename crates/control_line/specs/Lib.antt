@@ -1,9 +1,11 @@
 pub mod Reading
 pub mod Request
 pub mod Reason
+pub mod Block
 pub mod Reply
 pub mod Agrees
 pub mod Answer
+pub mod Rules
 pub mod Packet
 pub mod body
 pub use Rattle.ipv4_fields.specs.Endpoint

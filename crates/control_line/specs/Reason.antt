@@ -1,6 +1,6 @@
 -- Why lines are refused, and the text of a refusal (docs/COMMANDS.md, "Refusals").
 use Rattle.std.specs.Prelude.{◌≡◌, ◌++◌, List, None, Option, Some, codes, ℕ}
-use Rattle.fault_code.specs.Code.{code_text, plain}
+use Rattle.fault_code.specs.Code.{at, code_text, plain}
 use Rattle.fault_code.specs.declared.Code.{Code}
 use Rattle.member_group.specs.Code.{command_code}
 use Rattle.filter_program.specs.Code.{text_code}
@@ -10,7 +10,7 @@ use Rattle.filter_program.specs.declared.fault.TextFault.{TextFault}
 use Rattle.filter_program.specs.declared.fault.TextFault.TheVariants.{OutOfMemory}
 use Rattle.retire.specs.Code.{publish_code}
 use Rattle.control_line.specs.declared.reason.Reason.{Reason}
-use Rattle.control_line.specs.declared.reason.Reason.TheVariants.{BadForm, Command, LineTooLong, PacketTooLong, Publishing, Text}
+use Rattle.control_line.specs.declared.reason.Reason.TheVariants.{BadForm, Command, LineTooLong, OtherVersion, PacketTooLong, Publishing, Text}
 
 abbrev pub reason_code : Reason → Code
 reason_code BadForm = plain (codes "C") 1
@@ -19,6 +19,7 @@ reason_code PacketTooLong = plain (codes "C") 3
 reason_code (Text fault) = text_code fault
 reason_code (Command refusal) = command_code refusal
 reason_code (Publishing fault) = publish_code fault
+reason_code (OtherVersion current) = at (codes "M") 1 current
 
 -- `refused CODE` or `refused CODE NUMBER`
 abbrev pub refusal_text : Reason → List ℕ

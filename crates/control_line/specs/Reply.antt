@@ -1,10 +1,10 @@
 -- The text of a reply (docs/COMMANDS.md, "Control lines").
-use Rattle.std.specs.Prelude.{◌-◌, ◌++◌, ◌∷◌, Bool, List, codes, decimal, false, take, true, ℕ}
+use Rattle.std.specs.Prelude.{◌-◌, ◌++◌, Bool, List, codes, decimal, false, take, true, ℕ}
 use Rattle.std.specs.List.{flat_map}
 use Rattle.ipv4_fields.specs.Endpoint.{endpoint_text}
 use Rattle.bpf_formats.specs.Hex.{hex_digits}
 use Rattle.control_line.specs.declared.reply.LineAnswer.{LineAnswer}
-use Rattle.control_line.specs.declared.reply.LineAnswer.TheVariants.{GroupRead, MemberRead, Published, Refused, Shown, Swept, WordsRead}
+use Rattle.control_line.specs.declared.reply.LineAnswer.TheVariants.{GroupRead, LineRefused, MemberRead, Published, Refused, Shown, Swept, WordsRead}
 use Rattle.control_line.specs.Reason.{refusal_text}
 
 -- 1 for true
@@ -19,6 +19,7 @@ spaced_word word = codes " " ++ hex_digits 16 word
 -- the line of an answer, without LF
 abbrev pub reply_text : LineAnswer → List ℕ
 reply_text (Refused reason) = refusal_text reason
+reply_text (LineRefused number reason) = refusal_text reason ++ codes " line " ++ decimal number
 reply_text (Published version) = codes "ok version " ++ decimal version
 reply_text (Shown version groups members charge) =
     codes "version " ++ decimal version ++ codes " groups " ++ decimal groups

@@ -2,13 +2,15 @@
 
 ghost use Rattle.std.specs.Prelude.{IfOk, MatchResult};
 ghost use Rattle.member_group.specs.Refusal.{first_refusal};
-ghost use Rattle.control_line.specs.body.Making.{IsChanged, IsNext, IsOutcome, IsRefusedFor, IsShort};
+ghost use Rattle.control_line.specs.body.Blocks.{IsDone, IsLineFault};
+ghost use Rattle.control_line.specs.body.Making.{IsChangeDone, IsChangeFault, IsChanged, IsNext, IsOutcome, IsPublication, IsRefusedFor, IsShort};
 ghost use Rattle.control_line.specs.body.Reading.{command_over, source_of};
 
+use crate::LINE_LIMIT;
 use crate::program::{LineFault, command_of};
 use crate::reason::Reason;
 use crate::reply::LineAnswer;
-use crate::request::ProgramText;
+use crate::request::{ProgramText, read_change};
 use member_group::{Command, Config, Refusal};
 use read_section::Operator;
 use retire::Retire;
@@ -24,7 +26,44 @@ fn next_config(config: &Config, command: &Command) -> Result<Config, LineFault>
     }
 }
 
-/// Makes the configuration that a command leaves, and publishes it. All memory is taken before.
+/// The configuration after a change.
+pub(crate) fn changed(
+    alloc: Global,
+    config: &Config,
+    command: Command<ProgramText<'_>>,
+) -> Result<Config, LineFault>
+    ensures { let asked = command_over source_of command.entry in
+        MatchResult result (IsChangeDone asked config.now) (IsChangeFault asked config.now) }
+{
+    let command = command_of(alloc, command)?;
+    next_config(config, &command)
+}
+
+/// The configuration after one of several lines, which has to ask for a change.
+pub(crate) fn line_done(alloc: Global, config: &Config, line: &[u8]) -> Result<Config, LineFault>
+    ensures { MatchResult result (IsDone config.now line.now) (IsLineFault config.now line.now) }
+{
+    if line.len() > LINE_LIMIT {
+        return Err(LineFault::Refused(Reason::LineTooLong));
+    }
+    match read_change(line) {
+        Some(command) => changed(alloc, config, command),
+        None => Err(LineFault::Refused(Reason::BadForm)),
+    }
+}
+
+/// Publishes a configuration. It takes no memory.
+pub(crate) fn publish_next(next: Config, operator: &mut Operator) -> LineAnswer
+    ensures published { IsPublication next operator.old operator.new result }
+    ensures short { IsShort result }
+{
+    match operator.publish(next) {
+        Ok(version) => LineAnswer::Published { version },
+        Err((fault, _next)) => LineAnswer::Refused(Reason::Publishing(fault)),
+    }
+}
+
+/// Makes the configuration after a change, and publishes it. All memory is taken before.
 pub(crate) fn publish_change(
     alloc: Global,
     command: Command<ProgramText<'_>>,
@@ -33,10 +72,6 @@ pub(crate) fn publish_change(
     ensures changed { IsOutcome (IsChanged (command_over source_of command.entry)) operator.old operator.new result }
     ensures short { IfOk result IsShort }
 {
-    let command = command_of(alloc, command)?;
-    let next = next_config(operator.config(), &command)?;
-    match operator.publish(next) {
-        Ok(version) => Ok(LineAnswer::Published { version }),
-        Err((fault, _next)) => Err(LineFault::Refused(Reason::Publishing(fault))),
-    }
+    let next = changed(alloc, operator.config(), command)?;
+    Ok(publish_next(next, operator))
 }

@@ -24,6 +24,8 @@ pub enum Reason {
     Command(Refusal),
     /// B1 to B3: the new configuration is not published.
     Publishing(PublishFault),
+    /// M1: the request is for one version only, and another one is current, which has this number.
+    OtherVersion(u64),
 }
 
 impl Reason {
@@ -48,6 +50,7 @@ impl Reason {
             Reason::Text(fault) => fault.code(),
             Reason::Command(refusal) => refusal.code(),
             Reason::Publishing(fault) => fault.code(),
+            Reason::OtherVersion(current) => Code::at('M', 1, current as usize),
         }
     }
 }

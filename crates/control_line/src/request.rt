@@ -218,3 +218,15 @@ pub(crate) fn read_request(line: &[u8]) -> Option<Request<'_>>
         Some((word, fields)) => read_fields(word, fields),
     }
 }
+
+/// Reads the change that a line asks for.
+pub(crate) fn read_change(line: &[u8]) -> Option<Command<ProgramText<'_>>>
+    ensures { IsCommandRead line.now result }
+{
+    match read_request(line)? {
+        Request::Change(command) => Some(command),
+        Request::Show => None,
+        Request::Read(_reading) => None,
+        Request::Sweep => None,
+    }
+}

@@ -7,7 +7,7 @@ use Rattle.ipv4_fields.specs.Cut.{IsSplitAt, Lacks}
 use Rattle.ipv4_fields.proofs.TextLemmas.{has_separator, lacks-test, one_cut}
 use Rattle.control_line.specs.Reply.{reply_text}
 use Rattle.control_line.specs.declared.reply.LineAnswer.{LineAnswer}
-use Rattle.control_line.specs.declared.reply.LineAnswer.TheVariants.{GroupRead, MemberRead, Published, Refused, Shown, Swept, WordsRead}
+use Rattle.control_line.specs.declared.reply.LineAnswer.TheVariants.{GroupRead, LineRefused, MemberRead, Published, Refused, Shown, Swept, WordsRead}
 use Rattle.dispatch.specs.Tally.{TallyValue}
 use Rattle.read_section.specs.Operator.{OperatorValue}
 use Rattle.serve_control.specs.Answer.{AnswersText, RepliesToLine, answers_line, bytes_of, no_memory, replied, stops, tells_totals}
@@ -74,6 +74,7 @@ begun word rest begins = record { word = word; rest = rest; begins_replies = beg
 
 line_answer_looks : (answer : LineAnswer) → LooksLikeReply (reply_text answer)
 line_answer_looks (Refused reason) = begun (codes "refused") _ refused
+line_answer_looks (LineRefused number reason) = begun (codes "refused") _ refused
 line_answer_looks (Published number) = begun (codes "ok") _ ok
 line_answer_looks (Shown number groups members charge) = begun (codes "version") _ version
 line_answer_looks (GroupRead number index groups key members selector) = begun (codes "version") _ version

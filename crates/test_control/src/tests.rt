@@ -4,6 +4,7 @@ mod digits;
 mod judged;
 mod refusals;
 mod refused;
+mod rules;
 mod scripts;
 mod streams;
 mod texts;

@@ -1,11 +1,10 @@
 -- How far a script was read and answered, and what each piece of it adds.
-use Rattle.std.specs.Prelude.{◌≡◌, ◌++◌, ◌∷◌, Err, List, Ok, Option, Result, [], suc, take, ℕ}
+use Rattle.std.specs.Prelude.{◌≡◌, ◌++◌, ◌∷◌, Err, List, Ok, Option, Result, [], suc, ℕ}
 use Rattle.std.specs.Io.KnownBytes.{Appends}
-use Rattle.control_line.specs.declared.TheConstants.{LINE_LIMIT}
 use Rattle.control.specs.declared.fault.ReplayFault.{ReplayFault}
 use Rattle.control.specs.declared.fault.ReplayFault.TheVariants.{OutOfMemory, ReadFailed, WriteFailed}
 use Rattle.control.specs.declared.script.Script.{Script}
-use Rattle.ipv4_fields.specs.Cut.{Lacks}
+use Rattle.control.specs.body.Held.{Holds}
 use Rattle.control.specs.body.Ready.{IsReady}
 use Rattle.control.specs.body.Waiting.{WritesAllBut}
 use Rattle.control.specs.Replay.{WasWritten}
@@ -14,8 +13,8 @@ use Rattle.control.specs.Script.{AreAnswered, IsScriptText, RepliesTo, Standing}
 abbrev pub IsReadyAt : Script → Standing → Type 0
 IsReadyAt script now = IsReady script.switch.operator script.switch.workers.items now
 
--- the lines that were read are answered, and of what stands behind them no more is held than tells whether it is too long; the
--- output took their replies since it had what `start` tells, but for those that wait
+-- the whole requests that were read are answered, and of the part of the next one enough is held; the output took the replies after
+-- `start`, except for those that wait
 pub record IsAt (read : List ℕ) (start : Option (List ℕ)) (script : Script) (taken : Option (List ℕ)) (waiting : List ℕ) : Type 0 where
   pub lines : List ℕ
   pub part : List ℕ
@@ -23,12 +22,11 @@ pub record IsAt (read : List ℕ) (start : Option (List ℕ)) (script : Script) 
   pub now : Standing
   pub read_is : read ≡ lines ++ part
   pub answered : AreAnswered lines text now
-  pub no_line : Lacks 10 part
-  pub held : script.held.items ≡ take (suc LINE_LIMIT) part
+  pub holds : Holds part script.held
   pub ready : IsReadyAt script now
   pub written : WritesAllBut waiting start taken text
 
--- of the replies to lines that were read a beginning was written; the failures of the output are so many then
+-- of the replies to requests that were read a beginning was written; the failures of the output are so many then
 pub record IsCutShort (failures : ℕ) (read : List ℕ) (start taken : Option (List ℕ)) : Type 0 where
   pub lines : List ℕ
   pub rest : List ℕ
@@ -41,7 +39,7 @@ pub record IsCutShort (failures : ℕ) (read : List ℕ) (start taken : Option (
   pub beginning : text ≡ told ++ untold
   pub written : WasWritten failures start taken told
 
--- the replies to some first lines that were read were written, or wait
+-- the replies to some first requests that were read were written, or wait
 pub record IsStopped (read : List ℕ) (start taken : Option (List ℕ)) (waiting : List ℕ) : Type 0 where
   pub lines : List ℕ
   pub rest : List ℕ
@@ -86,30 +84,30 @@ Ends failures script taken taken' (Err OutOfMemory) =
     (read : List ℕ) (start : Option (List ℕ)) → IsAt read start script taken [] → IsStopped read start taken' []
 Ends failures script taken taken' (Err ReadFailed) = ⊥
 
--- the line was replied to, and the reply waits as one line behind what waited before, of which a beginning may have been written
-pub record IsReplied (now : Standing) (line : List ℕ) (script' : Script) (taken : Option (List ℕ)) (waiting : List ℕ) (taken' : Option (List ℕ)) (waiting' : List ℕ) : Type 0 where
+-- the request was replied to, and the reply waits as one line after what waited before, of which a beginning may have been written
+pub record IsReplied (now : Standing) (request : List ℕ) (script' : Script) (taken : Option (List ℕ)) (waiting : List ℕ) (taken' : Option (List ℕ)) (waiting' : List ℕ) : Type 0 where
   pub reply : List ℕ
   pub next : Standing
-  pub replies : RepliesTo now line reply next
+  pub replies : RepliesTo now request reply next
   pub ready : IsReadyAt script' next
   pub written : WritesAllBut waiting' taken taken' (waiting ++ (reply ++ 10 ∷ []))
 
 -- of what waits and its reply a beginning was written
-pub record IsReplyCut (failures : ℕ) (now : Standing) (line : List ℕ) (taken : Option (List ℕ)) (waiting : List ℕ) (taken' : Option (List ℕ)) : Type 0 where
+pub record IsReplyCut (failures : ℕ) (now : Standing) (request : List ℕ) (taken : Option (List ℕ)) (waiting : List ℕ) (taken' : Option (List ℕ)) : Type 0 where
   pub reply : List ℕ
   pub next : Standing
   pub told : List ℕ
   pub untold : List ℕ
-  pub replies : RepliesTo now line reply next
+  pub replies : RepliesTo now request reply next
   pub beginning : waiting ++ (reply ++ 10 ∷ []) ≡ told ++ untold
   pub written : WasWritten failures taken taken' told
 
--- what answering the line that is held does
+-- what answering the request that is held does
 abbrev pub AnswersHeld : ℕ → Script → Script → Option (List ℕ) → List ℕ → Option (List ℕ) → List ℕ → Result (Unit {0}) ReplayFault → Type 0
 AnswersHeld failures script script' taken waiting taken' waiting' (Ok done) =
-    (script'.held.items ≡ []) × ((now : Standing) → IsReadyAt script now → IsReplied now script.held.items script' taken waiting taken' waiting')
+    Holds [] script'.held × ((now : Standing) → IsReadyAt script now → IsReplied now script.held.bytes.items script' taken waiting taken' waiting')
 AnswersHeld failures script script' taken waiting taken' waiting' (Err WriteFailed) =
-    (now : Standing) → IsReadyAt script now → IsReplyCut failures now script.held.items taken waiting taken'
+    (now : Standing) → IsReadyAt script now → IsReplyCut failures now script.held.bytes.items taken waiting taken'
 AnswersHeld failures script script' taken waiting taken' waiting' (Err OutOfMemory) = (taken' ≡ taken) × (waiting' ≡ waiting)
 AnswersHeld failures script script' taken waiting taken' waiting' (Err ReadFailed) = ⊥
 

@@ -16,8 +16,8 @@ use Rattle.control_line.specs.declared.reason.Reason.{Reason}
 use Rattle.control_line.specs.declared.reason.Reason.TheVariants as reason
 use Rattle.control_line.specs.declared.reply.LineAnswer.{LineAnswer}
 use Rattle.control_line.specs.declared.reply.LineAnswer.TheVariants as answer
-use Rattle.control_line.specs.Agrees.{Agreeing, AgreesNow, IsLoadedBy, TextConfig}
-use Rattle.control_line.specs.Answer.{Changes, Does, Means, program_in}
+use Rattle.control_line.specs.Agrees.{Agreeing, Agrees, AgreesNow, IsLoadedBy, TextConfig}
+use Rattle.control_line.specs.Answer.{Changes, Does, LeadsTo, Means, PublishesText, Refuses, program_in}
 use Rattle.control_line.specs.Reason.{IsRefusalOfText, reason_of_text}
 use Rattle.control_line.specs.body.Reading.{command_over}
 use Rattle.filter_program.specs.Program.{IsProgramFor, Source}
@@ -59,6 +59,26 @@ pub record IsNext (command : Command ProgramValue) (config next : List Group) : 
 abbrev pub IsRefusedFor : Option Refusal → LineFault → Type 0
 IsRefusedFor first (Refused why) = (refusal : Refusal) × (first ≡ Some refusal) × (why ≡ reason.Command refusal)
 IsRefusedFor first OutOfMemory = Unit {0}
+
+-- a change is done, or refused, for each configuration that agrees with the operator's
+abbrev pub IsChangeDone : Command Source → List Group → List Group → Type 0
+IsChangeDone command config next =
+    (text : TextConfig) → Agrees text config → (after : TextConfig) × LeadsTo text command after × Agrees after next
+
+-- no fault of a publication
+abbrev pub IsOwnFault : Reason → Type 0
+IsOwnFault (reason.Publishing fault) = ⊥
+IsOwnFault _ = Unit {0}
+
+abbrev pub IsChangeFault : Command Source → List Group → LineFault → Type 0
+IsChangeFault command config (Refused why) = IsOwnFault why × ((text : TextConfig) → Agrees text config → Refuses text command why)
+IsChangeFault command config OutOfMemory = Unit {0}
+
+-- a configuration that agrees with one of texts is published, or refused
+pub record IsPublication (next : List Group) (before after : OperatorValue) (answer : LineAnswer) : Type 0 where
+  pub steps : Does answer before after
+  pub text : (config made : TextConfig) → AgreesNow config before.view → Agrees made next →
+      (left : TextConfig) × PublishesText (number_after before.view.log) config made answer left × AgreesNow left after.view
 
 -- a change is answered, for each configuration that agrees with the operator's
 pub record IsChanged (command : Command Source) (before after : OperatorValue) (answer : LineAnswer) : Type 0 where

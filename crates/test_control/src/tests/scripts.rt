@@ -179,9 +179,46 @@ const REPLIES_WITH_LOCKS: &str = "ok version 1\n\
     ok version 7\n\
     refused G7\n";
 
+// Blocks have one reply each. A first line that is no good takes no lines.
+const SCRIPT_WITH_BLOCKS: &str = "all 2\n\
+    add 10.0.0.2:53\n\
+    join 10.0.0.2:53 1 127.0.0.1:9001\n\
+    all 2\n\
+    add 10.0.0.3:53\n\
+    join 10.0.0.2:53 1 127.0.0.1:9002\n\
+    all 02\n\
+    at 1 all 1\n\
+    leave 10.0.0.2:53 1\n\
+    at 1 anew 0\n\
+    packet 4500001d00000000401100000a0000010a000002138800350009000061\n\
+    at 2 anew 0\n\
+    all 2\n\
+    packet 45\n\
+    add 10.0.0.2:53\n\
+    show\n";
+
+const REPLIES_WITH_BLOCKS: &str = "ok version 1\n\
+    refused G4 line 2\n\
+    refused C1\n\
+    ok version 2\n\
+    refused M1 2\n\
+    version 2 nomembers\n\
+    ok version 3\n\
+    refused C1 line 1\n\
+    version 3 groups 0 members 0 charge 2\n";
+
 // Scripts and their replies, whose ends the sessions have too, as one read brings them.
-const IN_PIECES: [(&str, &str); 18] = [
+const IN_PIECES: [(&str, &str); 27] = [
     (SCRIPT, REPLIES),
+    (SCRIPT_WITH_BLOCKS, REPLIES_WITH_BLOCKS),
+    ("all 2\nshow\n\n", "refused C1 line 1\n"),
+    ("all 2\nadd 10.0.0.2:53\nadd 10.0.0.3:53", "ok version 1\n"),
+    ("all 2\nadd 10.0.0.2:53\n", "refused C1\n"),
+    ("all 2\nadd 10.0.0.2:53", "refused C1\n"),
+    ("all 3\nadd 10.0.0.2:53\n\n", "refused C1\n"),
+    ("all 1\n", "refused C1\n"),
+    ("all 1", "refused C1\n"),
+    ("anew 0", "ok version 1\n"),
     ("", ""),
     ("show", "version 0 groups 0 members 0 charge 2\n"),
     ("show\n", "version 0 groups 0 members 0 charge 2\n"),

@@ -11,7 +11,7 @@ returns-in_err-script-clause-text_before_no_memory g c = λ is. nothing_answered
 pub loop-size-init : goal.loop-size-init
 loop-size-init g c =
     let opened = c.in_ok-script.ensures in
-    (replaying_begins (g.R.Input.state c.args.reader.now) (g.W.Output.state c.args.writer.now) c.in_ok-script.script (opened.at_start (g.W.Output.state c.args.writer.now).taken) opened.outside opened.within, refl)
+    (replaying_begins (g.R.Input.state c.args.reader.now) (g.W.Output.state c.args.writer.now) c.in_ok-script.script (opened.at_start (g.W.Output.state c.args.writer.now).taken) opened.outside, refl)
 
 pub returns-in-Err-clause-text_before_failed_read : goal.returns-in-Err-clause-text_before_failed_read
 returns-in-Err-clause-text_before_failed_read g c = λ is.
@@ -42,7 +42,7 @@ pub loop-size-preserved : goal.loop-size-preserved
 loop-size-preserved g c =
     let gave = c.in-Ok.ensures in let took = c.in_ok-take.ensures in let before = c.loop-size.invariant in (
       replaying_on (g.R.Input.state c.args.reader.now) (g.R.Input.state c.loop-size.reader) (g.W.Output.state c.args.writer.now) (g.W.Output.state c.loop-size.writer) c.loop-size.script before.0
-          (g.R.Input.state c.read.new.self) (take c.in-Ok.size c.read.new.buf) gave.gives_next.0 gave.device_failed c.take.new.self (g.W.Output.state c.take.new.writer) took.advances took.outside took.within took.device_failed,
+          (g.R.Input.state c.read.new.self) (take c.in-Ok.size c.read.new.buf) gave.gives_next.0 gave.device_failed c.take.new.self (g.W.Output.state c.take.new.writer) took.advances took.outside took.device_failed,
       took.rest_kept ∙ before.1,
     )
 

@@ -1,4 +1,4 @@
-use Rattle.std.proofs.Common.{ap, rules, sym, ◌∙◌}
+use Rattle.std.proofs.Common.{ap, sym, ◌∙◌}
 use Rattle.std.proofs.lemmas.Bool.{eq-eqb, ne_eqb}
 use Rattle.ipv4_fields.specs.Endpoint.{endpoint_number}
 use Rattle.member_group.specs.Group.{has_key}

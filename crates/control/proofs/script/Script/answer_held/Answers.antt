@@ -18,7 +18,7 @@ returns-in_default-clause-answers g c = λ now ready.
 
 pub returns-clause-answers : goal.returns-clause-answers
 returns-clause-answers g c = (
-  c.clear.ensures.items,
+  c.clear.ensures,
   λ now ready. let said = c.in_ok-reply.ensures.replies now ready in record {
     reply = c.in_ok-reply.reply;
     next = said.0;

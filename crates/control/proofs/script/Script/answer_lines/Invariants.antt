@@ -1,5 +1,4 @@
-use Rattle.std.proofs.Common.{◌≡◌, ◌≤◌, length, suc}
-use Rattle.control_line.specs.declared.TheConstants.{LINE_LIMIT}
+use Rattle.std.proofs.Common.{◌≡◌, length}
 use Rattle.control.specs.body.Ready.{AreOutside}
 use Rattle.control.proofs.TakeLemmas.{IsTakenUpTo}
 use Rattle.control.proofs.script.Script.answer_lines.Given as goal
@@ -7,7 +6,6 @@ use Rattle.control.proofs.script.Script.answer_lines.Given as goal
 abbrev pub invariant-loop-front : goal.invariant-loop-front
 invariant-loop-front g l = IsTakenUpTo l.bytes l.left l.fn.self l.self (g.W.Output.state l.fn.writer).taken l.fn.replies (g.W.Output.state l.writer).taken l.replies
     × AreOutside l.self.switch.operator.table l.self.switch.workers.items
-    × (length l.self.held.items ≤ suc LINE_LIMIT)
     × ((g.W.Output.state l.writer).failures ≡ (g.W.Output.state l.fn.writer).failures)
     × (g.W.Output.rest l.writer ≡ g.W.Output.rest l.fn.writer)
 

@@ -16,6 +16,3 @@ returns-clause-device_failed g c = search rules
 
 pub returns-clause-outside : goal.returns-clause-outside
 returns-clause-outside g c = search rules
-
-pub returns-clause-within : goal.returns-clause-within
-returns-clause-within g c = search rules

@@ -53,7 +53,7 @@ returns c =
             | in-Some-TooLong w ↦
                 subst (λ reply. Replies now text reply after.operator after.workers) (sym w.reply-is)
                 (long_packet_answered before.operator after.operator before.workers.items after.workers text w.refused-reply.result
-                (read _ (w.in-Some-TooLong.is ∙ ap Some w.in-Some-TooLong.field-0-is)) w.refused-reply.ensures (met _ w.self-is) now ready)
+                (read _ (w.in-Some-TooLong.is ∙ ap Some w.in-Some-TooLong.field-0-is)) w.refused-reply.ensures.text (met _ w.self-is) now ready)
             | in-Some-Whole w ↦
                 let here = slice_get_read before.workers.items WORKERS 0 w.index_mut.result.now (sym c.requires.outside.count) (omega arith) w.index_mut.ensures.value in
                 subst (λ reply. Replies now text reply after.operator after.workers) (sym w.reply-is)

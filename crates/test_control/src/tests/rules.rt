@@ -1,0 +1,177 @@
+//! Rules files: which lines count, what they make, and where they are at fault.
+
+use control_line::{RulesFault, fault_column, line_at, rules};
+use std::alloc::{AllocError, Global};
+use std::test::Fail;
+
+// A file, and the groups, members and charge of its configuration (docs/COMMANDS.md, "Rules files"; SWITCH, "Groups and members").
+const MADE: [(&[u8], (usize, usize, u64)); 9] = [
+    (b"", (0, 0, 2)),
+    (b"\n\n", (0, 0, 2)),
+    (b"# nothing", (0, 0, 2)),
+    (b" \t\r\r\n\t # nothing\0\xff\n", (0, 0, 2)),
+    (b"add 10.0.0.2:53", (1, 0, 6)),
+    (b"add 10.0.0.2:53\r", (1, 0, 6)),
+    (
+        b"add 10.0.0.2:53\r\njoin 10.0.0.2:53 1 127.0.0.1:9001\r\n",
+        (1, 1, 10),
+    ),
+    (
+        b"add 10.0.0.2:53\n\n# join 10.0.0.2:53 1 127.0.0.1:9001\nselector 10.0.0.2:53 asm ret #0",
+        (1, 0, 7),
+    ),
+    (b"add 10.0.0.2:53\nremove 10.0.0.2:53\n", (0, 0, 2)),
+];
+
+#[test]
+fn files_make_configurations(rt: HostRuntime) -> Result<(), Fail> {
+    for (text, measures) in MADE {
+        let Ok(config) = rules(rt.alloc(), text) else {
+            return Err(Fail::from("refused"));
+        };
+        let made = (config.groups().len(), config.members(), config.charge());
+        assert_eq!(rt; made, measures, "{text:?}");
+    }
+    Ok(())
+}
+
+// A file, the line that is refused, why, and the column for people.
+const REFUSED: [(&[u8], u32, &str, usize); 16] = [
+    (b"add", 1, "refused C1", 1),
+    (b" add 10.0.0.2:53", 1, "refused C1", 1),
+    (b"\0", 1, "refused C1", 1),
+    (b"add 10.0.0.2:53\0", 1, "refused C1", 1),
+    (b"add 10.0.0.2:53\r\r\n", 1, "refused C1", 1),
+    (b"add 10.0.0.2:53 # a comment\n", 1, "refused C1", 1),
+    (b"# one\n\n show", 3, "refused C1", 1),
+    (b"show\n", 1, "refused C1", 1),
+    (b"sweep\n", 1, "refused C1", 1),
+    (b"all 1\nadd 10.0.0.2:53\n", 1, "refused C1", 1),
+    (b"at 0 add 10.0.0.2:53\n", 1, "refused C1", 1),
+    (
+        b"add 10.0.0.2:53\n\n# again\nadd 10.0.0.2:53\nadd",
+        4,
+        "refused G2",
+        1,
+    ),
+    (
+        b"filter 10.0.0.2:53 1 expr udp dst port 53 or\r\n",
+        1,
+        "refused P1 18",
+        45,
+    ),
+    (
+        b"\r\nselector 10.0.0.2:53 asm ld #1; foo\r\n",
+        2,
+        "refused A1 2",
+        32,
+    ),
+    (b"selector 10.0.0.2:53 asm ld #1", 1, "refused V10", 26),
+    (b"filter 10.0.0.2:53 1 asm ret #0\n", 1, "refused G1", 26),
+];
+
+#[test]
+fn files_are_refused_at_a_line(rt: HostRuntime) -> Result<(), Fail> {
+    for (text, number, why, column) in REFUSED {
+        let Err(
+            RulesFault::Refused {
+                line: Some(line),
+                reason,
+            },
+        ) = rules(rt.alloc(), text)
+        else {
+            return Err(Fail::from("not refused at a line"));
+        };
+        assert_eq!(rt; line, number, "{text:?}");
+        assert_eq!(rt; format!(in rt.alloc(); "{reason}")?.as_str(), why);
+        assert_eq!(rt;
+            fault_column(line_at(text, line), reason),
+            column,
+            "{text:?}"
+        );
+    }
+    Ok(())
+}
+
+const NUMBERED: [(u32, &[u8]); 5] = [
+    (1, b"one"),
+    (2, b""),
+    (3, b"\rthree"),
+    (4, b"four"),
+    (5, b""),
+];
+
+#[test]
+fn lines_by_number(rt: HostRuntime) {
+    for (number, line) in NUMBERED {
+        assert!(rt;
+            line_at(b"one\n\r\n\rthree\r\nfour", number) == line,
+            "{number}"
+        );
+    }
+}
+
+// Whether the whole file is refused, with this text.
+fn is_refused(alloc: Global, text: &[u8], why: &str) -> Result<bool, AllocError> {
+    match rules(alloc, text) {
+        Err(RulesFault::Refused { line: None, reason }) => {
+            Ok(format!(in alloc; "{reason}")?.as_str() == why)
+        }
+        _ => Ok(false),
+    }
+}
+
+fn repeated(alloc: Global, text: &[u8], count: usize) -> Result<Vec<u8>, AllocError> {
+    let mut all = Vec::new(alloc);
+    for _time in 0..count {
+        all.extend_from_slice(text)?;
+    }
+    Ok(all)
+}
+
+const LONGEST: usize = 16_777_216;
+
+#[test]
+fn longest_file(rt: HostRuntime) -> Result<(), Fail> {
+    let mut text = vec![in rt.alloc(); b'#'; LONGEST]?;
+    assert!(rt; rules(rt.alloc(), &text).is_ok());
+    text.extend_from_slice(b"#".as_slice())?;
+    assert!(rt; is_refused(rt.alloc(), &text, "refused C2")?);
+    Ok(())
+}
+
+// Comments do not count; the last line is one too many, and is not looked at.
+#[test]
+fn most_lines(rt: HostRuntime) -> Result<(), Fail> {
+    let mut text = repeated(
+        rt.alloc(),
+        b"add 10.0.0.2:53\n# none\nremove 10.0.0.2:53\n",
+        32_767,
+    )?;
+    text.extend_from_slice(b"add 10.0.0.2:53".as_slice())?;
+    assert!(rt; rules(rt.alloc(), &text).is_ok());
+    text.extend_from_slice(b"\nx".as_slice())?;
+    assert!(rt; is_refused(rt.alloc(), &text, "refused C2")?);
+    Ok(())
+}
+
+// 33 groups of 64 members are charged 2 + 33 * 4 + 2112 * 4 = 8582.
+#[test]
+fn charge_of_the_last_configuration(rt: HostRuntime) -> Result<(), Fail> {
+    let mut text = Vec::new(rt.alloc());
+    for group in 1..34u32 {
+        let line = format!(in rt.alloc(); "add 10.0.0.{group}:53\n")?;
+        text.extend_from_slice(line.as_bytes())?;
+        for member in 0..64u32 {
+            let line = format!(in rt.alloc(); "join 10.0.0.{group}:53 {member} 127.0.0.1:9001\n")?;
+            text.extend_from_slice(line.as_bytes())?;
+        }
+    }
+    assert!(rt; is_refused(rt.alloc(), &text, "refused B1")?);
+    text.extend_from_slice(b"remove 10.0.0.1:53\nremove 10.0.0.2:53\n".as_slice())?;
+    let Ok(config) = rules(rt.alloc(), &text) else {
+        return Err(Fail::from("refused"));
+    };
+    assert_eq!(rt; config.charge(), 2 + 31 * 4 + 1984 * 4);
+    Ok(())
+}
