@@ -9,7 +9,7 @@ abbrev pub Row : Type 0
 Row = List ℕ × List ℕ
 
 -- the codes: of assembly, publishing, texts, failures, compiling, configurations, words of instructions, threads, programs in
--- numbers, captures, counters, opening, expressions, sockets, the verifier, and workers
+-- numbers, captures, versions, counters, opening, expressions, sockets, the verifier, and workers
 abbrev pub codes_explained : List (List ℕ)
 codes_explained =
     codes "A1" ∷ codes "A2" ∷ codes "A3" ∷ codes "A4" ∷ codes "A5" ∷ codes "A6" ∷
@@ -22,6 +22,7 @@ codes_explained =
     codes "J1" ∷ codes "J2" ∷
     codes "K1" ∷ codes "K2" ∷ codes "K3" ∷
     codes "L1" ∷ codes "L2" ∷ codes "L3" ∷ codes "L4" ∷ codes "L5" ∷
+    codes "M1" ∷
     codes "N1" ∷
     codes "O1" ∷ codes "O2" ∷
     codes "P1" ∷ codes "P2" ∷ codes "P3" ∷ codes "P4" ∷ codes "P5" ∷ codes "P6" ∷

@@ -1,16 +1,18 @@
 //! What the codes of the program mean: of a refusal, a failure, or an answer of the libraries (docs/COMMANDS.md, "Failures" and
 //! "Refusals").
 //!
-//! `explanation` finds the text of a code. The codes and texts stand in two tables, in
+//! `explanation` finds the text of a code. `line_fault_text` and `file_fault_text` show people a file that is refused. The codes and texts stand in two tables, in
 //! `table_to_g` and `table_from_i`.
 #![tactic(auto)]
 
 ghost use Rattle.std.specs.Prelude.{◌≡◌, ◌↔◌, Contains, IfSome, IsSome, map, option_map};
 ghost use Rattle.command_explain.specs.Explanation.{Explains, IsExplanation, codes_explained, explanations, explanations_from_i, explanations_to_g, text_beside};
 
+mod file_fault;
 mod table_from_i;
 mod table_to_g;
 
+pub use file_fault::{FaultPlace, SHOWN_LIMIT, file_fault_text, line_fault_text};
 use table_from_i::EXPLANATIONS_FROM_I;
 use table_to_g::EXPLANATIONS_TO_G;
 

@@ -1,7 +1,7 @@
 //! The codes I1 to X2 with their explanations, printed by docs/codes/make. `table_to_g` has the others: a check
 //! computes over the whole of a table.
 
-pub const EXPLANATIONS_FROM_I: [(&str, &str); 36] = [
+pub const EXPLANATIONS_FROM_I: [(&str, &str); 37] = [
     (
         "I1",
         "\
@@ -94,6 +94,16 @@ copy that broke off.
 What to do: take the packets that were printed; NUMBER is the place of the
 record, or of the header, that is cut, counted from 0, and the bytes before it
 are whole.",
+    ),
+    (
+        "M1",
+        "\
+M1: The change is for another version than the current one, whose number
+follows.
+Usual mistake: none in the line: somebody else changed the rules meanwhile, or
+the same change was sent twice.
+What to do: read the rules again, and send the change for the current version
+if it is still wanted.",
     ),
     (
         "N1",

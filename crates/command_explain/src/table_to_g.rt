@@ -85,18 +85,22 @@ of `tcpdump -x`; two spaces in a line, a space at its end, a CR or an LF in a
 control datagram (`echo` adds an LF, `printf` does not), a leading zero as in
 `010.0.0.2:53`, a host name for an address, a line of `tell` without quotes, so
 that each of its words is a line, a comment or an empty line, `packet` sent to
-`serve`, a code in small letters, `--format dd` where a program is read.
+`serve`, `all N` with fewer or more lines than N, a code in small letters,
+`--format dd` where a program is read.
 What to do: write it in the form that `dswitch help COMMAND` shows;
 `dswitch help replay` shows the control lines.",
     ),
     (
         "C2",
         "\
-C2: The line is too long. It has more than 262,144 bytes, or more than 65,507
-where it is told to a running switch.
-Usual mistake: a script without line ends, or a program generated as one huge
-line.
-What to do: end each line with a line feed, and write a long program shorter.",
+C2: The line, the block or the file is too long. A line has more than 262,144
+bytes, or more than 65,507 where it is told to a running switch; the lines of a
+block, or a rules file, have more than 16,777,216; or a rules file has more
+than 65,535 lines that are not skipped.
+Usual mistake: a script without line ends, a program generated as one huge
+line, or a change that fits no datagram.
+What to do: end each line with a line feed, write a long program shorter, and
+split a change; `serve --rules` takes more than a datagram.",
     ),
     (
         "C3",
@@ -110,9 +114,10 @@ tells.",
         "E1",
         "\
 E1: The input could not be read.
-Reading standard input failed, or a script has 2^63 bytes. Standard input is a
-directory, or the file's device failed; give a file or a pipe, as in
-`dswitch replay <FILE`.",
+Reading standard input failed, a script has 2^63 bytes, or the file of
+`--rules` could not be opened or read. The input is a directory, there is no
+such file, the user may not read it, or its device failed; give a file or a
+pipe, as in `dswitch replay <FILE`.",
     ),
     (
         "E2",

@@ -4,4 +4,5 @@ mod LinesLemmas
 mod PrintingLemmas
 mod ExchangeLemmas
 mod TellLemmas
+mod RequestLemmas
 mod StandardFacts

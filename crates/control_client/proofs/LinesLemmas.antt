@@ -1,5 +1,5 @@
--- The first line of a text, and lines that were given one after the other.
-use Rattle.std.proofs.Common.{◌≡◌, ◌∙◌, ◌==◌, ◌++◌, ◌∷◌, Bool, List, None, Option, Some, [], ap, append-nil, append_assoc, eqb-true, false, length, nat_eq, refl, subst, sym, take, true, ℕ, ◌-◌, ◌+◌, arith, length-append}
+-- The first line of a text, the lines of a script, and requests that were given one after the other.
+use Rattle.std.proofs.Common.{◌≡◌, ◌∙◌, ◌==◌, ◌++◌, ◌∷◌, Bool, List, None, Option, Some, [], ap, eqb-true, false, length, nat_eq, refl, subst, sym, take, true, ℕ, ◌-◌, ◌+◌, arith, length-append}
 use Rattle.std.proofs.lemmas.Bool.{both_ways}
 use Rattle.std.proofs.lemmas.Bool.Decides.{Decides-eqb}
 use Rattle.std.proofs.lemmas.Slice.Eq.{ends_is}
@@ -7,35 +7,37 @@ use Rattle.std.specs.List.{ends_with}
 use Rattle.std.specs.Prelude.{IfSome}
 use Rattle.std.specs.Io.BufRead.{DropsThrough, drop_through, take_through}
 use Rattle.std.specs.Io.KnownBytes.{IsAtEnd}
-use Rattle.control_client.specs.Lines.{AreAll, AreFirst, LosesLine, grow_first, lines_in, lines_known}
+use Rattle.control_line.specs.Rules.{grow_first, is_skipped, lines_in, without_return}
+use Rattle.control_client.specs.Lines.{AreAll, AreFirst, AreNone, AreRequests, LosesLine, LosesRequest, lines_known, lines_of_script, next_request, no_request, script_known}
 use Rattle.control_client.specs.body.LineEnd.{without_end}
 
--- these lines were given
+-- these requests were given
 abbrev pub Gave : Option (List (List ℕ)) → Option (List (List ℕ)) → List (List ℕ) → Type 0
-Gave None later lines = Unit {0}
-Gave (Some coming) None lines = ⊥
-Gave (Some coming) (Some later) lines = coming ≡ lines ++ later
+Gave None later requests = Unit {0}
+Gave (Some coming) None requests = ⊥
+Gave (Some coming) (Some later) requests = AreRequests coming later requests
 
 pub gave_nothing : (coming : Option (List (List ℕ))) → Gave coming coming []
 gave_nothing None = tt
-gave_nothing (Some lines) = refl
+gave_nothing (Some lines) = no_request
 
-pub gave_line : (before mid after : Option (List (List ℕ))) (lines : List (List ℕ)) (line : List ℕ) → Gave before mid lines → LosesLine mid after line
-    → Gave before after (lines ++ line ∷ [])
-gave_line None mid after lines line one two = tt
-gave_line (Some a) None after lines line one two = absurd one
-gave_line (Some a) (Some b) None lines line one two = absurd two
-gave_line (Some a) (Some b) (Some c) lines line one two = one ∙ (ap (λ (rest : List (List ℕ)). lines ++ rest) two ∙ sym (append_assoc lines (line ∷ []) c))
+pub gave_request : (before mid after : Option (List (List ℕ))) (requests : List (List ℕ)) (request : List ℕ) → Gave before mid requests → LosesRequest mid after request
+    → Gave before after (requests ++ request ∷ [])
+gave_request None mid after requests request one two = tt
+gave_request (Some a) None after requests request one two = absurd one
+gave_request (Some a) (Some b) None requests request one two = absurd two
+gave_request (Some a) (Some b) (Some c) requests request one two = next_request b c requests request one two
 
-pub gave_all : (before after : Option (List (List ℕ))) (lines : List (List ℕ)) → Gave before after lines → AreAll after [] → AreAll before lines
-gave_all None after lines one none = tt
-gave_all (Some a) None lines one none = absurd one
-gave_all (Some a) (Some b) lines one none = one ∙ (ap (λ (rest : List (List ℕ)). lines ++ rest) none ∙ append-nil lines)
+pub gave_all : (before mid after : Option (List (List ℕ))) (requests : List (List ℕ)) → Gave before mid requests → AreNone mid after → AreAll before requests
+gave_all None mid after requests one none = tt
+gave_all (Some a) None after requests one none = absurd one
+gave_all (Some a) (Some b) None requests one none = absurd none
+gave_all (Some a) (Some b) (Some c) requests one none = subst (λ (left : List (List ℕ)). AreRequests a left requests) none.0 one
 
-pub gave_first : (before after : Option (List (List ℕ))) (lines : List (List ℕ)) → Gave before after lines → AreFirst before lines
-gave_first None after lines one = tt
-gave_first (Some a) None lines one = absurd one
-gave_first (Some a) (Some b) lines one = (b, one)
+pub gave_first : (before after : Option (List (List ℕ))) (requests : List (List ℕ)) → Gave before after requests → AreFirst before requests
+gave_first None after requests one = tt
+gave_first (Some a) None requests one = absurd one
+gave_first (Some a) (Some b) requests one = (b, one)
 
 -- ---- the first line of a text
 
@@ -96,9 +98,76 @@ reads_line (Some (byte ∷ text)) after size held line none bytes rest same some
     (subst (λ (o : Option (List ℕ)). LosesLine (lines_known (Some (byte ∷ text))) (lines_known o) (without_end (take_through 10 (byte ∷ text)))) (sym rest) (first_line byte text))
 
 -- no byte was read
-pub reads_none : (before : Option (List ℕ)) → IsAtEnd before → AreAll (lines_known before) []
-reads_none None at_end = tt
-reads_none (Some text) at_end = ap lines_in at_end
+pub reads_none : (before after : Option (List ℕ)) → IsAtEnd before → DropsThrough before after 10 → AreNone (lines_known before) (lines_known after)
+reads_none None after at_end rest = tt
+reads_none (Some text) None at_end rest = absurd (cc)
+reads_none (Some text) (Some more) at_end rest =
+    let left : more ≡ drop_through 10 text = cc in
+    (ap lines_in at_end, ap lines_in (left ∙ ap (drop_through 10) at_end))
+
+-- ---- the lines of a script
+
+pub script_skips : (before after : Option (List ℕ)) (line : List ℕ) → LosesLine (lines_known before) (lines_known after) line → is_skipped line ≡ true
+    → (before ≡ None → ⊥) → script_known before ≡ script_known after
+script_skips None after line lost skipped known = absurd (known refl)
+script_skips (Some text) None line lost skipped known = absurd lost
+script_skips (Some text) (Some more) line lost skipped known =
+    ap (λ (lines : List (List ℕ)). Some lines) (ap lines_of_script lost ∙ skips line (lines_in more) skipped)
+  where
+    skips : (line : List ℕ) (rest : List (List ℕ)) → is_skipped line ≡ true → lines_of_script (line ∷ rest) ≡ lines_of_script rest
+    skips line rest skipped = simp skipped refl
+
+pub script_tells : (before after : Option (List ℕ)) (line : List ℕ) → LosesLine (lines_known before) (lines_known after) line → is_skipped line ≡ false
+    → LosesLine (script_known before) (script_known after) (without_return line)
+script_tells None after line lost told = tt
+script_tells (Some text) None line lost told = absurd lost
+script_tells (Some text) (Some more) line lost told = ap lines_of_script lost ∙ tells line (lines_in more) told
+  where
+    tells : (line : List ℕ) (rest : List (List ℕ)) → is_skipped line ≡ false → lines_of_script (line ∷ rest) ≡ without_return line ∷ lines_of_script rest
+    tells line rest told = simp told refl
+
+pub script_ends : (before after : Option (List ℕ)) → AreNone (lines_known before) (lines_known after) → AreNone (script_known before) (script_known after)
+script_ends None after none = tt
+script_ends (Some text) None none = absurd none
+script_ends (Some text) (Some more) none = (ap lines_of_script none.0, ap lines_of_script none.1)
+
+-- lines were skipped, if the text is known
+abbrev pub Skips : Option (List ℕ) → Option (List ℕ) → Type 0
+Skips None now = Unit {0}
+Skips (Some text) now = script_known (Some text) ≡ script_known now
+
+pub skips_none : (text : Option (List ℕ)) → Skips text text
+skips_none None = tt
+skips_none (Some text) = refl
+
+pub skips_more : (before now after : Option (List ℕ)) (line : List ℕ) → Skips before now → LosesLine (lines_known now) (lines_known after) line → is_skipped line ≡ true
+    → Skips before after
+skips_more None now after line so_far lost skipped = tt
+skips_more (Some text) None after line so_far lost skipped = absurd (cc)
+skips_more (Some text) (Some more) after line so_far lost skipped = so_far ∙ script_skips (Some more) after line lost skipped (λ none. absurd (cc))
+
+pub skipped_then_told : (before now after : Option (List ℕ)) (line : List ℕ) → Skips before now → LosesLine (lines_known now) (lines_known after) line → is_skipped line ≡ false
+    → LosesLine (script_known before) (script_known after) (without_return line)
+skipped_then_told None now after line so_far lost told = tt
+skipped_then_told (Some text) now after line so_far lost told =
+    subst (λ (lines : Option (List (List ℕ))). LosesLine lines (script_known after) (without_return line)) (sym so_far) (script_tells now after line lost told)
+
+pub skipped_then_none : (before now after : Option (List ℕ)) → Skips before now → AreNone (lines_known now) (lines_known after)
+    → AreNone (script_known before) (script_known after)
+skipped_then_none None now after so_far none = tt
+skipped_then_none (Some text) now after so_far none =
+    subst (λ (lines : Option (List (List ℕ))). AreNone lines (script_known after)) (sym so_far) (script_ends now after none)
+
+-- ---- a line's CR
+
+front_of : (byte : ℕ) (ends : Bool) → (byte == 13) ≡ ends → take (length (without_return (byte ∷ []))) (byte ∷ []) ≡ without_return (byte ∷ [])
+front_of byte true is = simp is refl
+front_of byte false is = simp is refl
+
+pub take-without_return : (line : List ℕ) → take (length (without_return line)) line ≡ without_return line
+take-without_return [] = refl
+take-without_return (byte ∷ []) = front_of byte (byte == 13) refl
+take-without_return (byte ∷ next ∷ rest) = ap (λ (line : List ℕ). byte ∷ line) (take-without_return (next ∷ rest))
 
 -- ---- a line's end, by the test for it
 

@@ -1,7 +1,8 @@
 -- Worked examples of the definitions.
 use Rattle.std.proofs.Common.{[], codes, false, refl, true, ◌∷◌, ◌≡◌}
 use Rattle.control_client.specs.Exchange.{has_refusal, is_refusal, text_of}
-use Rattle.control_client.specs.Lines.{lines_in}
+use Rattle.control_client.specs.Lines.{lines_of_script}
+use Rattle.control_line.specs.Rules.{lines_in}
 
 no_bytes_no_line : lines_in (codes "") ≡ []
 no_bytes_no_line = refl
@@ -14,6 +15,9 @@ all_ended = refl
 
 empty_lines : lines_in (codes "\n\nshow") ≡ [] ∷ [] ∷ codes "show" ∷ []
 empty_lines = refl
+
+comments_and_returns : lines_of_script (lines_in (codes "# rules\r\nshow\r\n \t\r\n  # no rule\nsweep\r")) ≡ codes "show" ∷ codes "sweep" ∷ []
+comments_and_returns = refl
 
 refused_line : is_refusal (codes "refused G3") ≡ true
 refused_line = refl

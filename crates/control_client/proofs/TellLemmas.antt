@@ -1,21 +1,22 @@
--- Lines that are told one after the other.
-use Rattle.std.proofs.Common.{◌≡◌, ◌∙◌, ◌++◌, ◌∷◌, ◌||◌, ◌⊎◌, Bool, List, Option, [], ap, append-nil, false, inl, inr, refl, subst, sym, true, ℕ}
+-- Requests that are told one after the other.
+use Rattle.std.proofs.Common.{◌≡◌, ◌∙◌, ◌++◌, ◌∷◌, ◌||◌, ◌⊎◌, Bool, Err, List, Ok, Option, Result, [], ap, append-nil, false, inl, inr, refl, subst, sym, true, ℕ}
 use Rattle.std.proofs.lemmas.Grind.{flat_map-append}
 use Rattle.std.proofs.lemmas.List.{map-append}
 use Rattle.std.proofs.lemmas.List.Folds.{list_any-append}
 use Rattle.std.specs.Io.KnownBytes.{Appends}
+use Rattle.std.specs.Prelude.{IfErr, IfOk}
 use Rattle.ipv4_fields.specs.declared.endpoint.Endpoint.{Endpoint}
 use Rattle.control_client.specs.declared.fault.TellFault.{TellFault}
 use Rattle.control_client.specs.declared.fault.TellFault.TheVariants.{BindFailed, NoAnswer, OutOfMemory, ReadFailed, WaitFailed, WriteFailed}
 use Rattle.control_client.specs.Exchange.{AreExchanged, Exchange, LineEndsBy, LineTold, has_refusal, is_refusal, lines_of, no_line, one_more, reply_line, text_of}
-use Rattle.control_client.specs.Lines.{AreAll, AreFirst, LosesLine}
-use Rattle.control_client.specs.Tell.{StopsBehind, TellsAll, TellsFirst}
+use Rattle.control_client.specs.Lines.{AreFirst, AreNone, IsChangeOf, LosesRequest}
+use Rattle.control_client.specs.Tell.{ChangeEndsBy, StopsBehind, TellsAll, TellsChange, TellsFirst}
 use Rattle.control_client.specs.Wire.{Event, Logs}
-use Rattle.control_client.proofs.LinesLemmas.{Gave, gave_all, gave_first, gave_line, gave_nothing}
+use Rattle.control_client.proofs.LinesLemmas.{Gave, gave_all, gave_first, gave_nothing, gave_request}
 use Rattle.std.proofs.KnownBytes.{Appends-nil, Appends-trans}
 use Rattle.control_client.proofs.WireLemmas.{logs_more, logs_nothing}
 
--- these lines were given and told so far
+-- these requests were given and told so far
 pub record IsTelling (switch : Endpoint) (coming now : Option (List (List ℕ))) (log log' : Option (List Event)) (out out' : Option (List ℕ)) (refused : Bool) : Type 0 where
   pub told : List Exchange
   pub events : List Event
@@ -68,15 +69,15 @@ stops_without fault switch coming lines log out first (inr is) = subst (λ (f : 
 
 module _ (switch : Endpoint) (coming mid after : Option (List (List ℕ))) (log log' log'' : Option (List Event)) (out out' out'' : Option (List ℕ)) (refused : Bool)
     (so_far : IsTelling switch coming mid log log' out out' refused) where
-  -- a line was given and told
-  pub telling_on : (line : List ℕ) (one : Bool) → LosesLine mid after line → LineTold switch line log' log'' out' out'' one
+  -- a request was given and told
+  pub telling_on : (line : List ℕ) (one : Bool) → LosesRequest mid after line → LineTold switch line log' log'' out' out'' one
       → IsTelling switch coming after log log'' out out'' (refused || one)
   telling_on line one given line_told =
       let last : Exchange = record { line = line; reply = line_told.reply } in
       record {
         told = so_far.told ++ last ∷ [];
         events = so_far.events ++ line_told.events;
-        given = rw (lines_of_more so_far.told last) (gave_line coming mid after (lines_of so_far.told) line so_far.given given);
+        given = rw (lines_of_more so_far.told last) (gave_request coming mid after (lines_of so_far.told) line so_far.given given);
         are_exchanged = one_more so_far.told so_far.events line_told.events line line_told.reply so_far.are_exchanged line_told.is_exchange;
         logged = logs_more log log' log'' so_far.events line_told.events so_far.logged line_told.logged;
         printed = rw (text_of_more so_far.told last) (Appends-trans out out' out'' (text_of so_far.told) (reply_line line_told.reply) so_far.printed line_told.printed);
@@ -84,7 +85,7 @@ module _ (switch : Endpoint) (coming mid after : Option (List (List ℕ))) (log 
       }
 
   -- or it ended by a fault
-  pub stops_in_line : (fault : TellFault) (line : List ℕ) → LosesLine mid after line → LineEndsBy fault switch line log' log'' out' out''
+  pub stops_in_line : (fault : TellFault) (line : List ℕ) → LosesRequest mid after line → LineEndsBy fault switch line log' log'' out' out''
       → TellsFirst fault switch coming log log'' out out''
   stops_in_line fault line given ends = record {
     told = so_far.told;
@@ -95,15 +96,15 @@ module _ (switch : Endpoint) (coming mid after : Option (List (List ℕ))) (log 
     logged = so_far.logged;
     printed = so_far.printed;
     stopped = stops_by fault switch coming (lines_of so_far.told) line log' log'' out' out''
-        (gave_first coming after (lines_of so_far.told ++ line ∷ []) (gave_line coming mid after (lines_of so_far.told) line so_far.given given)) ends;
+        (gave_first coming after (lines_of so_far.told ++ line ∷ []) (gave_request coming mid after (lines_of so_far.told) line so_far.given given)) ends;
   }
 
-  -- or no line was given any more
-  pub tells_all : AreAll mid [] → TellsAll switch coming log log' out out' refused
+  -- or none was given any more
+  pub tells_all : AreNone mid after → TellsAll switch coming log log' out out' refused
   tells_all none = record {
     told = so_far.told;
     events = so_far.events;
-    all_lines = gave_all coming mid (lines_of so_far.told) so_far.given none;
+    all_lines = gave_all coming mid after (lines_of so_far.told) so_far.given none;
     are_exchanged = so_far.are_exchanged;
     logged = so_far.logged;
     printed = so_far.printed;
@@ -127,3 +128,37 @@ module _ (switch : Endpoint) (coming mid after : Option (List (List ℕ))) (log 
 pub stops_at_start : (switch : Endpoint) (coming : Option (List (List ℕ))) (log : Option (List Event)) (out : Option (List ℕ)) (fault : TellFault) → fault ≡ OutOfMemory
     → TellsFirst fault switch coming log log out out
 stops_at_start switch coming log out fault is = stops_between switch coming coming coming log log log out out out false (telling_begins switch coming log out) fault (inr is)
+
+-- ---- all lines as one change
+
+pub change_ends : (fault : TellFault) (switch : Endpoint) (coming : Option (List (List ℕ))) (request : List ℕ) (log log' : Option (List Event)) (out out' : Option (List ℕ))
+    → IsChangeOf coming request → LineEndsBy fault switch request log log' out out' → ChangeEndsBy fault switch coming log log' out out'
+change_ends NoAnswer switch coming request log log' out out' change ends = (request, change, ends)
+change_ends WaitFailed switch coming request log log' out out' change ends = (request, change, ends)
+change_ends WriteFailed switch coming request log log' out out' change ends = (request, change, ends)
+change_ends ReadFailed switch coming request log log' out out' change ends = absurd ends
+change_ends OutOfMemory switch coming request log log' out out' change ends = absurd ends
+change_ends BindFailed switch coming request log log' out out' change ends = absurd ends
+
+pub change_not_made : (fault : TellFault) (switch : Endpoint) (coming : Option (List (List ℕ))) (log : Option (List Event)) (out : Option (List ℕ))
+    → (fault ≡ ReadFailed) ⊎ (fault ≡ OutOfMemory) → ChangeEndsBy fault switch coming log log out out
+change_not_made fault switch coming log out (inl is) = subst (λ (f : TellFault). ChangeEndsBy f switch coming log log out out) (sym is) (refl, refl)
+change_not_made fault switch coming log out (inr is) = subst (λ (f : TellFault). ChangeEndsBy f switch coming log log out out) (sym is) (refl, refl)
+
+module _ (result : Result Bool TellFault) (switch : Endpoint) (coming : Option (List (List ℕ))) (request : List ℕ) (log log' : Option (List Event)) (out out' : Option (List ℕ))
+    (change : IsChangeOf coming request) where
+  pub change_told : IfOk result (LineTold switch request log log' out out') → IfOk result (TellsChange switch coming log log' out out')
+  change_told told = by_result result told
+    where
+      by_result : (r : Result Bool TellFault) → IfOk r (LineTold switch request log log' out out') → IfOk r (TellsChange switch coming log log' out out')
+      by_result (Ok refused) told = record { request = request; is_change = change; told = told }
+      by_result (Err fault) told = tt
+
+  pub change_stopped_in : IfErr result (λ (fault : TellFault). LineEndsBy fault switch request log log' out out')
+      → IfErr result (λ (fault : TellFault). ChangeEndsBy fault switch coming log log' out out')
+  change_stopped_in stopped = by_result result stopped
+    where
+      by_result : (r : Result Bool TellFault) → IfErr r (λ (fault : TellFault). LineEndsBy fault switch request log log' out out')
+          → IfErr r (λ (fault : TellFault). ChangeEndsBy fault switch coming log log' out out')
+      by_result (Ok refused) stopped = tt
+      by_result (Err fault) stopped = change_ends fault switch coming request log log' out out' change stopped

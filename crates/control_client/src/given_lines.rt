@@ -1,10 +1,12 @@
-//! The lines to tell: those of an input, or words that are a line each (docs/COMMANDS.md, "tell").
+//! The lines to tell: those of a script, or words that are a line each (docs/COMMANDS.md, "tell").
 
 ghost use Rattle.std.specs.Prelude.{◌≡◌, ◌⊎◌, IfErr, IfOk, List, Option, Some, map, ℕ};
-ghost use Rattle.control_client.specs.Lines.{GivesNext, lines_known};
+ghost use Rattle.control_client.specs.Lines.{GivesNext, lines_known, script_known};
+ghost use Rattle.control_line.specs.Rules.{without_return};
 ghost use Rattle.control_client.specs.body.LineEnd.{without_end};
 
 use crate::fault::TellFault;
+use control_line::{is_skipped, without_return};
 use std::io::{BufRead, Error, ErrorKind};
 use std::marker::Model;
 
@@ -18,8 +20,8 @@ pub trait Lines {
         ensures faults { IfErr result (λ fault. (fault ≡ TellFault.ReadFailed) ⊎ (fault ≡ TellFault.OutOfMemory)) };
 }
 
-/// The lines of an input. LF ends a line, and what stands behind the last LF is a line too, where it has a byte. A line takes as much
-/// memory as it has bytes.
+/// The lines of a script that are no comments. LF ends a line, and bytes after the last LF are a line too. A line that a rules file
+/// skips is skipped, and the CR at the end of a line is dropped. A line takes as much memory as it has bytes.
 #[derive(Drop)]
 pub struct InputLines<B: BufRead> {
     input: B,
@@ -27,16 +29,16 @@ pub struct InputLines<B: BufRead> {
 
 impl<B: BufRead> Model for InputLines<B> {
     ghost use Rattle.std.specs.Prelude.{List, Option, ℕ};
-    ghost use Rattle.control_client.specs.Lines.{lines_known};
+    ghost use Rattle.control_client.specs.Lines.{script_known};
 
     ghost Value = { Option (List (List ℕ)) };
 
-    ghost view = { λ lines. lines_known (B.remaining lines.input) };
+    ghost view = { λ lines. script_known (B.remaining lines.input) };
 }
 
 impl<B: BufRead> InputLines<B> {
     pub fn new(input: B) -> InputLines<B>
-        ensures lines { result ≡ lines_known (B.remaining input) }
+        ensures lines { result ≡ script_known (B.remaining input) }
     {
         InputLines { input }
     }
@@ -60,19 +62,52 @@ fn read_fault(error: &Error) -> TellFault
     }
 }
 
+// Puts the next line of an input, without LF, in place of what `line` has. False if there is none.
+fn read_line<B: BufRead>(input: &mut B, line: &mut Vec<u8>) -> Result<bool, TellFault>
+    ensures next_line { IfOk result (GivesNext (lines_known (B.remaining input.old)) (lines_known (B.remaining input.new)) line.new.items) }
+    ensures faults { IfErr result (λ fault. (fault ≡ TellFault.ReadFailed) ⊎ (fault ≡ TellFault.OutOfMemory)) }
+{
+    line.clear();
+    match input.read_until(b'\n', line) {
+        Ok(0) => Ok(false),
+        Ok(_) => {
+            drop_end(line);
+            Ok(true)
+        }
+        Err(error) => Err(read_fault(&error)),
+    }
+}
+
+// Takes the CR off the end, if there is one.
+fn drop_return(line: &mut Vec<u8>)
+    ensures { line.new.items ≡ without_return line.old.items }
+{
+    let len = without_return(line.as_slice()).len();
+    line.truncate(len);
+}
+
+// Puts the next line that is told in place of what `line` has. False if there is none.
+fn read_told<B: BufRead>(input: &mut B, line: &mut Vec<u8>) -> Result<bool, TellFault>
+    ensures next_line { IfOk result (GivesNext (script_known (B.remaining input.old)) (script_known (B.remaining input.new)) line.new.items) }
+    ensures faults { IfErr result (λ fault. (fault ≡ TellFault.ReadFailed) ⊎ (fault ≡ TellFault.OutOfMemory)) }
+{
+    for _line in 0..u64::MAX {
+        if !read_line(input, line)? {
+            return Ok(false);
+        }
+        if !is_skipped(line.as_slice()) {
+            drop_return(line);
+            return Ok(true);
+        }
+    }
+    Err(TellFault::ReadFailed)
+}
+
 impl<B: BufRead> Lines for InputLines<B> {
     ghost coming = { λ lines. lines };
 
     fn next(&mut self, line: &mut Vec<u8>) -> Result<bool, TellFault> {
-        line.clear();
-        match self.input.read_until(b'\n', line) {
-            Ok(0) => Ok(false),
-            Ok(_) => {
-                drop_end(line);
-                Ok(true)
-            }
-            Err(error) => Err(read_fault(&error)),
-        }
+        read_told(&mut self.input, line)
     }
 }
 
