@@ -229,16 +229,16 @@ abbrev reads : (most : ℕ) → (text : Text) → value_kinds false (Unsigned 1 
 reads most text none = accepted (Unsigned 1 most) text none
 
 flood_workers : AreRead flood_shape (codes "workers") (IsNumber WORKERS) flood_shape.rules
-flood_workers = (refl, λ same. (refl, reads WORKERS), (refl, λ same. cc, (refl, λ same. cc, tt)))
+flood_workers = (inl refl, λ same. (refl, reads WORKERS), (inl refl, λ same. cc, (inl refl, λ same. cc, tt)))
 
 flood_datagrams : AreRead flood_shape (codes "datagrams") (IsNumber MAX_DATAGRAMS) flood_shape.rules
-flood_datagrams = (refl, λ same. cc, (refl, λ same. (refl, reads MAX_DATAGRAMS), (refl, λ same. cc, tt)))
+flood_datagrams = (inl refl, λ same. cc, (inl refl, λ same. (refl, reads MAX_DATAGRAMS), (inl refl, λ same. cc, tt)))
 
 serve_workers : AreRead serve_shape (codes "workers") (IsNumber WORKERS) serve_shape.rules
-serve_workers = (refl, λ same. cc, (refl, λ same. cc, (refl, λ same. (refl, reads WORKERS), (refl, λ same. cc, tt))))
+serve_workers = (inl refl, λ same. cc, (inl refl, λ same. cc, (inl refl, λ same. (refl, reads WORKERS), (inl refl, λ same. cc, (inl refl, λ same. cc, tt)))))
 
 tell_timeout : AreRead tell_shape (codes "timeout") (IsNumber MAX_TIMEOUT) tell_shape.rules
-tell_timeout = (refl, λ same. cc, (refl, λ same. (refl, reads MAX_TIMEOUT), (refl, λ same. cc, (refl, λ same. cc, tt))))
+tell_timeout = (inl refl, λ same. cc, (inl refl, λ same. (refl, reads MAX_TIMEOUT), (inr refl, λ same. cc, (inl refl, λ same. cc, (inl refl, λ same. cc, tt)))))
 
 -- a number of workers and one of datagrams make a command
 both_numbers : {A B C : Type 0} (f : A → B → C) (a : Option A) (b : Option B) → is_some a ≡ true → is_some b ≡ true

@@ -1,5 +1,5 @@
 -- What `clap` finds in words that are written out.
-use Rattle.std.proofs.Common.{◌≡◌, ◌∷◌, [], Some, codes, false, refl, true}
+use Rattle.std.proofs.Common.{◌≡◌, ◌∷◌, [], None, Some, codes, false, refl, true}
 use Rattle.clap.proofs.OnLiterals.{clap_on_literals}
 use Rattle.clap.specs.declared.error.kind.ErrorKind.TheVariants.{ArgumentConflict, DisplayHelp, DisplayVersion, InvalidSubcommand, MissingRequiredArgument, MissingSubcommand, TooManyValues, UnknownArgument, ValueValidation}
 use Rattle.command_line.specs.CommandLine.{check, command_in, compile, explain, faults_in, flood, judge, replay, returning, run, serve, tell, waiting}
@@ -106,9 +106,14 @@ unfolding clap_on_literals
 in_serve = refl
 
 in_serve_request : command_in (codes "serve" ∷ codes "--front" ∷ codes "0.0.0.0:1" ∷ codes "--control" ∷ codes "0.0.0.0:2" ∷ codes "--workers" ∷ codes "64" ∷ [])
-    ≡ Some (waiting (serve (codes "0.0.0.0:1") (codes "0.0.0.0:2") 64))
+    ≡ Some (waiting (serve (codes "0.0.0.0:1") (codes "0.0.0.0:2") 64 None))
 unfolding clap_on_literals
 in_serve_request = refl
+
+in_serve_with_rules : command_in (codes "serve" ∷ codes "--rules" ∷ codes "r" ∷ codes "--front" ∷ codes "0.0.0.0:1" ∷ codes "--control" ∷ codes "0.0.0.0:2" ∷ codes "--workers" ∷ codes "64" ∷ [])
+    ≡ Some (waiting (serve (codes "0.0.0.0:1") (codes "0.0.0.0:2") 64 (Some (codes "r"))))
+unfolding clap_on_literals
+in_serve_with_rules = refl
 
 in_serve_without_front : faults_in (codes "serve" ∷ codes "--control" ∷ codes "0.0.0.0:2" ∷ codes "--workers" ∷ codes "64" ∷ []) ≡ MissingRequiredArgument ∷ []
 unfolding clap_on_literals
@@ -132,13 +137,17 @@ unfolding clap_on_literals
 in_tell = refl
 
 in_tell_request : command_in (codes "tell" ∷ codes "--control" ∷ codes "0.0.0.0:2" ∷ codes "show" ∷ codes "--timeout" ∷ codes "3600" ∷ codes "--" ∷ codes "-" ∷ [])
-    ≡ Some (waiting (tell (codes "0.0.0.0:2") 3600 (codes "show" ∷ codes "-" ∷ [])))
+    ≡ Some (waiting (tell (codes "0.0.0.0:2") 3600 false (codes "show" ∷ codes "-" ∷ [])))
 unfolding clap_on_literals
 in_tell_request = refl
 
-in_tell_of_no_line : command_in (codes "tell" ∷ codes "--control" ∷ codes "0.0.0.0:2" ∷ []) ≡ Some (waiting (tell (codes "0.0.0.0:2") 1 []))
+in_tell_of_no_line : command_in (codes "tell" ∷ codes "--control" ∷ codes "0.0.0.0:2" ∷ []) ≡ Some (waiting (tell (codes "0.0.0.0:2") 1 false []))
 unfolding clap_on_literals
 in_tell_of_no_line = refl
+
+in_tell_of_one_change : command_in (codes "tell" ∷ codes "--all" ∷ codes "--control" ∷ codes "0.0.0.0:2" ∷ []) ≡ Some (waiting (tell (codes "0.0.0.0:2") 1 true []))
+unfolding clap_on_literals
+in_tell_of_one_change = refl
 
 in_tell_of_no_time : faults_in (codes "tell" ∷ codes "--control" ∷ codes "0.0.0.0:2" ∷ codes "--timeout" ∷ codes "0" ∷ []) ≡ ValueValidation ∷ []
 unfolding clap_on_literals

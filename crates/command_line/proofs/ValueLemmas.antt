@@ -28,7 +28,8 @@ use Rattle.clap.specs.declared.builder.action.ArgAction.TheVariants.{Append, Cou
 use Rattle.clap.specs.declared.builder.value_parser.Reading.{Reading}
 use Rattle.clap.specs.declared.builder.value_parser.ValueParser.{ValueParser}
 use Rattle.clap.specs.declared.error.kind.ErrorKind.TheVariants.{InvalidValue, TooManyValues}
-use Rattle.clap.specs.declared.parser.matches.ValueSource.TheVariants.{CommandLine}
+use Rattle.clap.specs.declared.parser.matches.ValueSource.{ValueSource}
+use Rattle.clap.specs.declared.parser.matches.ValueSource.TheVariants.{CommandLine, DefaultValue}
 
 pub none_of_both : (a b : Kinds) → or_else a b ≡ [] → (a ≡ []) × (b ≡ [])
 none_of_both [] b none = (refl, none)
@@ -65,10 +66,10 @@ module _ (s : Shape) (id : Text) (Passes : Text → Type 0) where
   abbrev Reads : Rule → Type 0
   Reads a = (nat_lt 0 (unwrap_or_range a.range).start_inclusive ≡ true) × ((text : Text) → value_kinds a.ignore_case (parser_of_value a.parser) text ≡ [] → Passes text)
 
-  -- no option has a default, and the option has values, which its parser lets through only if they are so
+  -- the option has no default, and it has values, which its parser lets through only if they are so
   abbrev pub AreRead : List Rule → Type 0
   AreRead [] = Unit {0}
-  AreRead (a ∷ rules) = (a.defaults ≡ []) × (bytes_eq a.id id ≡ true → Reads a) × AreRead rules
+  AreRead (a ∷ rules) = ((a.defaults ≡ []) ⊎ (bytes_eq a.id id ≡ false)) × (bytes_eq a.id id ≡ true → Reads a) × AreRead rules
 
   -- ---- one use
 
@@ -85,16 +86,16 @@ module _ (s : Shape) (id : Text) (Passes : Text → Type 0) where
   without_fine : (name : Text) (rows : List Row) → All Fine rows → All Fine (without name rows)
   without_fine name rows all = at_row_fine name (λ _. []) [] rows (λ r fine. All-nil Fine) (All-nil Fine) all
 
-  with_fine : (name : Text) (how : Reading) (values : List Text) (rows : List Row) → (bytes_eq name id ≡ true → First Passes values) → All Fine rows
-      → All Fine (with_values name how CommandLine values rows)
-  with_fine name how values rows first all =
-      at_row_fine name (more_values CommandLine values) (record { id = name; values = values; count = None; source = Some CommandLine; reading = how } ∷ []) rows
-      (λ r fine. All-cons Fine (record r { values = r.values ++ values; source = Some (stronger r.source CommandLine) }) [] (λ same. first_more Passes r.values values (fine same)) (All-nil Fine))
-      (All-cons Fine (record { id = name; values = values; count = None; source = Some CommandLine; reading = how }) [] first (All-nil Fine)) all
+  with_fine : (name : Text) (how : Reading) (source : ValueSource) (values : List Text) (rows : List Row) → (bytes_eq name id ≡ true → First Passes values) → All Fine rows
+      → All Fine (with_values name how source values rows)
+  with_fine name how source values rows first all =
+      at_row_fine name (more_values source values) (record { id = name; values = values; count = None; source = Some source; reading = how } ∷ []) rows
+      (λ r fine. All-cons Fine (record r { values = r.values ++ values; source = Some (stronger r.source source) }) [] (λ same. first_more Passes r.values values (fine same)) (All-nil Fine))
+      (All-cons Fine (record { id = name; values = values; count = None; source = Some source; reading = how }) [] first (All-nil Fine)) all
 
   set_fine : (name : Text) (how : Reading) (values : List Text) (rows : List Row) → (bytes_eq name id ≡ true → First Passes values) → All Fine rows
       → All Fine (with_values name how CommandLine values (without name rows))
-  set_fine name how values rows first all = with_fine name how values (without name rows) first (without_fine name rows all)
+  set_fine name how values rows first all = with_fine name how CommandLine values (without name rows) first (without_fine name rows all)
 
   first_passes : (a : Rule) (values : List Text) → Reads a → range_kinds (unwrap_or_range a.range).start_inclusive (most_values a) (length values) ≡ []
       → values_fault a (values_or_missing a values) ≡ [] → First Passes (values_or_missing a values)
@@ -126,7 +127,7 @@ module _ (s : Shape) (id : Text) (Passes : Text → Type 0) where
       go Set fault = set fault
       go SetTrue fault = set fault
       go SetFalse fault = set fault
-      go Append fault = with_fine a.id (reading_by a) (values_or_missing a values) rows (λ same. first same fault) all
+      go Append fault = with_fine a.id (reading_by a) CommandLine (values_or_missing a values) rows (λ same. first same fault) all
       go Count fault = counted_fine a (values_or_missing a values) rows reads first fault all
       go Help fault = all
       go HelpShort fault = all
@@ -295,10 +296,11 @@ module _ (s : Shape) (id : Text) (Passes : Text → Type 0) where
     defaults_fine [] rows each all = all
     defaults_fine (a ∷ rules) rows each all = defaults_fine rules (with_default rows a) each.2 (go (has_row a.id rows) a.defaults each.0)
       where
-        go : (b : Bool) (defaults : List Text) → defaults ≡ [] → All Fine (cond b rows (default_rows a.id (reading_by a) defaults rows))
+        go : (b : Bool) (defaults : List Text) → (defaults ≡ []) ⊎ (bytes_eq a.id id ≡ false) → All Fine (cond b rows (default_rows a.id (reading_by a) defaults rows))
         go true defaults bare = all
         go false [] bare = all
-        go false (v ∷ vs) bare = cc
+        go false (v ∷ vs) (inl bare) = cc
+        go false (v ∷ vs) (inr other) = with_fine a.id (reading_by a) DefaultValue (v ∷ vs) rows (λ same. absurd (cc)) all
 
     -- the rows at the end of words without a fault
     pub level_fine : (words : List Text) → level_fault s [] nothing_held words false [] ≡ [] → All Fine (rows_after s.rules [] words)

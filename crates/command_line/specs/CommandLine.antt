@@ -82,21 +82,24 @@ datagrams_argument = record (named_argument (codes "datagrams")) { parser = Some
 abbrev pub flood_line : App
 flood_line = with_rule (with_rule (new_app (codes "flood")) workers_argument) datagrams_argument
 
--- `serve --front A --control A --workers N`
+-- `serve --front A --control A --workers N`, with a rules file or none
 abbrev pub serve_line : App
 serve_line =
     with_rule
+    (with_rule
     (with_rule (with_rule (new_app (codes "serve")) (required_named_argument (codes "front"))) (required_named_argument (codes "control")))
-    workers_argument
+    workers_argument)
+    (named_argument (codes "rules"))
 
 -- `--timeout SECONDS`, from 1 on
 abbrev pub timeout_argument : Rule
 timeout_argument = record (named_argument (codes "timeout")) { parser = Some (Unsigned 1 MAX_TIMEOUT) }
 
--- `tell --control A`, a timeout or none, and lines
+-- `tell --control A`, a timeout or none, its flag or not, and lines
 abbrev pub tell_line : App
 tell_line =
-    with_rule (with_rule (with_rule (new_app (codes "tell")) (required_named_argument (codes "control"))) timeout_argument)
+    with_rule
+    (with_rule (with_rule (with_rule (new_app (codes "tell")) (required_named_argument (codes "control"))) timeout_argument) (flag (codes "all")))
     (any_number_of (codes "LINE"))
 
 abbrev pub bare : Shape
@@ -154,8 +157,8 @@ pub data Request : Type 0 where
 -- a command that may wait: it runs worker threads, or awaits replies
 pub data WaitingRequest : Type 0 where
   flood : (workers datagrams : ℕ) → WaitingRequest
-  serve : (front control : Text) (workers : ℕ) → WaitingRequest
-  tell : (control : Text) (timeout : ℕ) (lines : List Text) → WaitingRequest
+  serve : (front control : Text) (workers : ℕ) (rules_file : Option Text) → WaitingRequest
+  tell : (control : Text) (timeout : ℕ) (all : Bool) (lines : List Text) → WaitingRequest
 
 pub data Command : Type 0 where
   returning : Request → Command
@@ -176,8 +179,8 @@ request_of returned.Packets = packets
 
 abbrev pub waiting_of : Waiting → WaitingRequest
 waiting_of (waited.Flood workers datagrams) = flood workers.count datagrams
-waiting_of (waited.Serve front control workers) = serve front.now control.now workers.count
-waiting_of (waited.Tell control timeout lines) = tell control.now timeout (map (λ line. line.now) lines.items)
+waiting_of (waited.Serve front control workers file) = serve front.now control.now workers.count (option_map (λ name. name.now) file)
+waiting_of (waited.Tell control timeout all lines) = tell control.now timeout all (map (λ line. line.now) lines.items)
 
 abbrev pub command_of : Subcommand → Command
 command_of (subcommand.Returning asked) = returning (request_of asked)
@@ -223,10 +226,15 @@ abbrev pub flood_in : List Row → Option Command
 flood_in rows = option_and_then (λ workers. option_map (λ datagrams. waiting (flood workers datagrams)) (datagrams_in rows)) (workers_in rows)
 
 abbrev pub serve_in : List Row → Option Command
-serve_in rows = option_map (λ workers. waiting (serve (value_in rows (codes "front")) (value_in rows (codes "control")) workers)) (workers_in rows)
+serve_in rows =
+    option_map
+    (λ workers. waiting (serve (value_in rows (codes "front")) (value_in rows (codes "control")) workers (first_of (codes "rules") rows)))
+    (workers_in rows)
 
 abbrev pub tell_in : List Row → Option Command
-tell_in rows = option_map (λ timeout. waiting (tell (value_in rows (codes "control")) timeout (values_in rows (codes "LINE")))) (timeout_in rows)
+tell_in rows =
+    option_map (λ timeout. waiting (tell (value_in rows (codes "control")) timeout (is_set rows (codes "all")) (values_in rows (codes "LINE"))))
+    (timeout_in rows)
 
 abbrev pub command_named : Text → List Row → Option Command
 command_named name rows =

@@ -89,6 +89,17 @@ pub(crate) fn address_argument<'a>(alloc: Global, name: &'a str, help: &'a str) 
         .help(help)
 }
 
+// `--rules FILE`
+pub(crate) fn rules_argument<'a>(alloc: Global) -> Arg<'a>
+    ensures rule { rule_of result ≡ named_argument (codes "rules") }
+    ensures local { result.global ≡ false }
+{
+    Arg::new(alloc, "rules")
+        .long("rules")
+        .value_name("FILE")
+        .help(help::SERVE_RULES)
+}
+
 // `--datagrams D`
 pub(crate) fn datagrams_argument<'a>(alloc: Global) -> Arg<'a>
     ensures rule { rule_of result ≡ datagrams_argument }

@@ -8,7 +8,8 @@ ghost use Rattle.command_line.specs.body.Half.{with_queries};
 
 use crate::arguments::{
     address_argument, datagrams_argument, expression_argument, flag_argument, format_argument,
-    lines_argument, packet_argument, positional_argument, timeout_argument, workers_argument,
+    lines_argument, packet_argument, positional_argument, rules_argument, timeout_argument,
+    workers_argument,
 };
 use crate::help;
 use clap::{Arg, Command};
@@ -104,7 +105,8 @@ fn serve_command<'a>(alloc: Global) -> Result<Command<'a>, AllocError>
     let command = plain_command(alloc, "serve", help::SERVE, help::SERVE_MORE);
     let command = with_argument(Ok(command), front);
     let command = with_argument(command, control);
-    with_argument(command, workers_argument(alloc, help::SERVE_WORKERS))
+    let command = with_argument(command, workers_argument(alloc, help::SERVE_WORKERS));
+    with_argument(command, rules_argument(alloc))
 }
 
 fn tell_command<'a>(alloc: Global) -> Result<Command<'a>, AllocError>
@@ -114,7 +116,9 @@ fn tell_command<'a>(alloc: Global) -> Result<Command<'a>, AllocError>
     let control = address_argument(alloc, "control", help::TELL_CONTROL);
     let command = plain_command(alloc, "tell", help::TELL, help::TELL_MORE);
     let command = with_argument(Ok(command), control);
+    let all = flag_argument(alloc, "all", help::TELL_ALL);
     let command = with_argument(command, timeout_argument(alloc));
+    let command = with_argument(command, all);
     with_argument(command, lines_argument(alloc))
 }
 

@@ -58,15 +58,18 @@ pub enum Waiting<'a> {
         workers: Workers,
         datagrams: usize,
     },
+    /// `rules` is the name of a rules file, if there is one.
     Serve {
         front: &'a str,
         control: &'a str,
         workers: Workers,
+        rules: Option<&'a str>,
     },
-    /// `timeout` is a number of seconds. `lines` are in the order of the words.
+    /// `timeout` is a number of seconds. `all` says whether the lines are one change. `lines` are in the order of the words.
     Tell {
         control: &'a str,
         timeout: u64,
+        all: bool,
         lines: Vec<&'a str>,
     },
 }

@@ -19,6 +19,13 @@ fn value_of<'a>(found: &ArgMatches<'a>, id: &str) -> &'a str
     found.get_str(id).unwrap_or("")
 }
 
+// The value of an argument, if it has one.
+fn given<'a>(found: &ArgMatches<'a>, id: &str) -> Option<&'a str>
+    ensures { option_map (λ value. value.now) result ≡ first_of id.now (rows_of (found_of found.now)) }
+{
+    found.get_str(id)
+}
+
 // The values of an argument that may have any number of them.
 fn values_of<'a>(
     alloc: Global,
@@ -110,6 +117,7 @@ fn serve<'a>(found: &ArgMatches<'a>) -> Option<Subcommand<'a>>
         front: value_of(found, "front"),
         control: value_of(found, "control"),
         workers,
+        rules: given(found, "rules"),
     }))
 }
 
@@ -124,6 +132,7 @@ fn tell<'a>(alloc: Global, found: &ArgMatches<'a>) -> Result<Option<Subcommand<'
     Ok(Some(Subcommand::Waiting(Waiting::Tell {
         control: value_of(found, "control"),
         timeout,
+        all: is_set(found, "all"),
         lines,
     })))
 }

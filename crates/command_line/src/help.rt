@@ -8,7 +8,7 @@ Results go to standard output. Exit status:
   0  done
   1  refused: `refused CODE` or `refused CODE NUMBER` on standard output
   2  wrong arguments: a message on standard error
-  3  failed: one line on standard error, `failed E1` where standard input could not be read,
+  3  failed: one line on standard error, `failed E1` where the input could not be read,
      `failed E2` where results could not be written, `failed E3` where memory ran out,
      `failed E4` where a line had no reply, `failed J1` where a worker's thread could not be
      started, `failed S1` where a socket could not be bound, `failed S2` where waiting for the
@@ -142,7 +142,11 @@ HEX is an IPv4 packet.
   group I, member KEY I                            version N, and a group or a member
   words KEY selector P, words KEY ID P             version N, and words of a program
   sweep                                            reclaimed FIRST COUNT
-A line that is refused prints `refused CODE` or `refused CODE NUMBER` and changes nothing.
+  all N, anew N, and N lines after it              ok version N, one for all of them
+  at V CHANGE                                      as CHANGE if V is current, else `refused M1 N`
+A line that is refused prints `refused CODE` or `refused CODE NUMBER` and changes nothing. The N
+lines after `all N`, N up to 65535, are one change; `anew N` begins without groups. If one of them
+is refused, the reply ends in `line I`, and nothing is changed.
 Without a selector the packet's addresses and ports pick the member. With 2, 4, 8, 16, 32 or 64
 members the source port does not count: all packets of a client to a group go to one member.
 With --summary these lines come after the replies, those whose COUNT is not 0, in rising order of
@@ -200,21 +204,32 @@ pub const SERVE_CONTROL: &str = "Where the control lines come to, as ADDRESS:POR
 
 pub const SERVE_WORKERS: &str = "How many worker threads judge, from 1 to 64";
 
+pub const SERVE_RULES: &str = "A rules file to begin with; without it there are no groups";
+
 pub const SERVE_MORE: &str = "\
 Reads UDP datagrams. Each that comes to FRONT is a whole IPv4 packet: the workers take them in turn,
-and send what is to be delivered to the members. Each that comes to CONTROL is one control line, as
+and send what is to be delivered to the members. Each that comes to CONTROL is one request, as
 `replay` takes them but for `packet`, and is replied to by one datagram. What looks like a reply
 itself is ignored. CONTROL takes two more:
   totals   the line of totals so far
   stop     ok stop, and the workers judge what they were given, and end
 Whoever can send to CONTROL controls the switch: give it one address, and never 0.0.0.0.
-A new switch has no groups. With port 0 the system picks a port. Prints `ready FRONT CONTROL` with
-the bound addresses before it reads, and the line of totals after `stop`, with status 0:
+A new switch has no groups. With --rules it has those of FILE: lines that change the configuration,
+from no groups on, together version 0. Empty lines, and lines that begin with #, are skipped.
+With port 0 the system picks a port. Prints `ready FRONT CONTROL` with the bound addresses before it
+reads, and the line of totals after `stop`, with status 0:
   malformed A nogroup B nomembers C dropped D delivered E sendfailed F receivefailed G
-Else prints `refused C1`, with status 1, where FRONT or CONTROL is no address, or fails with status 3.
+Else prints, with status 1, before a socket is bound:
+  refused C1                   if FRONT or CONTROL is no address
+  refused CODE line I          if line I of FILE is refused, from 1, or
+  refused CODE NUMBER line I   if there is a number; standard error shows the place
+  refused C2, refused B1       if FILE is too long, or its configuration too large
+Or it fails with status 3, and with `failed E1` if FILE cannot be read.
 
-Example:
+Examples:
   $ dswitch serve --front 127.0.0.1:5300 --control 127.0.0.1:5301 --workers 4
+  ready 127.0.0.1:5300 127.0.0.1:5301
+  $ dswitch serve --front 127.0.0.1:5300 --control 127.0.0.1:5301 --workers 4 --rules rules.txt
   ready 127.0.0.1:5300 127.0.0.1:5301";
 
 pub const TELL: &str = "Send control lines to a running switch and print its replies";
@@ -224,12 +239,17 @@ pub const TELL_CONTROL: &str = "The control address of the switch, as ADDRESS:PO
 pub const TELL_TIMEOUT: &str =
     "How many seconds each reply may take, from 1 to 3600; without it one second";
 
+pub const TELL_ALL: &str = "Sends all lines as one change: all of them are done, or none is";
+
 pub const TELL_LINES: &str = "Control lines, each as one argument";
 
 pub const TELL_MORE: &str = "\
-Sends each LINE to the CONTROL of `dswitch serve`, or each line of standard input where there is
-no LINE. Prints the reply to one line before it sends the next. Ends with status 0 where no
-reply is `refused ..` or `failed ..`, else with status 1; it goes on after such a reply.
+Sends each LINE to the CONTROL of `dswitch serve`, or each line of standard input if there is no
+LINE. Of standard input it skips empty lines and lines whose first character is `#`. The line
+`all N` or `anew N` takes the N lines after it with it. Prints the reply to one request before it
+sends the next. Ends with status 0 if no reply is `refused ..` or `failed ..`, else with status 1;
+it goes on after such a reply. With --all it sends all lines as one change, `all N` and the N
+lines, which may have 65507 bytes.
 Prints `refused C1`, with status 1, where CONTROL is no address. Fails with status 3 and
 `failed E4` where a line has no reply; then no later line is sent. The line may be done all the
 same, even later.
@@ -238,4 +258,5 @@ Examples:
   $ dswitch tell --control 127.0.0.1:5301 'add 10.0.0.2:53' show
   ok version 1
   version 1 groups 1 members 0 charge 6
-  $ dswitch tell --control 127.0.0.1:5301 <rules.txt";
+  $ dswitch tell --control 127.0.0.1:5301 --all <rules.txt
+  ok version 2";

@@ -1,5 +1,7 @@
+pub mod Opening
 pub mod Telling
 pub mod Waiting
+pub mod body
 pub use Rattle.control_client.specs.Exchange
 pub use Rattle.control_client.specs.Lines
 pub use Rattle.control_client.specs.Tell

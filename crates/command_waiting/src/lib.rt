@@ -3,14 +3,14 @@
 //! `run_waiting` runs one: `flood` of command_flood, `serve` of serve_udp, or `tell` of control_client.
 #![tactic(auto)]
 
-ghost use Rattle.std.specs.Prelude.{◌≡◌, ◌⊎◌, OnOk, codes};
+ghost use Rattle.std.specs.Prelude.{◌≡◌, ◌⊎◌, None, OnOk, codes, option_map};
 ghost use Rattle.std.specs.Io.KnownBytes.{Appends};
 ghost use Rattle.command_line.specs.CommandLine.{waiting_of};
 ghost use Rattle.command_line.specs.Ending.{AppendsBeginning, line_of};
 ghost use Rattle.command_line.specs.declared.ending.Failure.TheVariants as failure;
-ghost use Rattle.serve_udp.specs.Service.{WritesServed};
-ghost use Rattle.command_waiting.specs.Waiting.{EndsInServeFailure, EndsInWaitingFailure, IsAddress, IsNoAddress, WritesFor, WritesRefusal};
+ghost use Rattle.command_waiting.specs.Waiting.{EndsInServeFailure, EndsInWaitingFailure, HasNoRules, RefusesService, WritesFor, WritesRefusal, WritesService};
 
+mod rules_file;
 mod telling;
 
 use command_flood::run_flood;
@@ -18,8 +18,10 @@ pub use command_flood::{DATAGRAMS, flood};
 use command_line::{Failure, Status, Waiting, Workers};
 use dispatch::OpenGate;
 use ipv4_fields::Endpoint;
-pub use serve_udp::serve;
+use rules_file::opening;
+pub use serve_udp::{serve, serve_with};
 use std::alloc::Global;
+use std::fs::Files;
 use std::io;
 use std::io::{Read, Write};
 use std::net::Net;
@@ -49,24 +51,27 @@ fn refuse_address<W: Write, E: Write>(out: &mut W, errs: &mut E) -> Status
     }
 }
 
-fn run_serve<R: Threads + Wait + Net + Sync, W: Write, E: Write>(
+#[tactic(auto, using(crate::proofs::OpeningLemmas::fails_unread, crate::proofs::OpeningLemmas::fails_serving, crate::proofs::OpeningLemmas::named, crate::proofs::OpeningLemmas::is_given))]
+fn run_serve<R: Threads + Wait + Net + Files + Sync, W: Write, E: Write>(
     rt: &R,
     alloc: Global,
     addresses: (&str, &str),
     workers: Workers,
+    file: Option<&str>,
     out: &mut W,
     errs: &mut E,
 ) -> Status
     ensures done { result ≡ Status.Done
-        → IsAddress addresses.entry.0.now × IsAddress addresses.entry.1.now × WritesServed workers.count (W.contents out.old) (W.contents out.new) }
+        → WritesService addresses.entry.0.now addresses.entry.1.now workers.count (option_map (λ name. name.now) file.entry)
+        (W.contents out.old) (W.contents out.new) }
     ensures refused { result ≡ Status.Refused
-        → (IsNoAddress addresses.entry.0.now ⊎ IsNoAddress addresses.entry.1.now)
-        × Appends (W.contents out.old) (W.contents out.new) (codes "refused C1\n") }
-    ensures no_errors { (result ≡ Status.Done) ⊎ (result ≡ Status.Refused) → errs.new ≡ errs.old }
+        → RefusesService addresses.entry.0.now addresses.entry.1.now (option_map (λ name. name.now) file.entry)
+        (W.contents out.old) (W.contents out.new) }
+    ensures no_errors { (result ≡ Status.Done) ⊎ ((result ≡ Status.Refused) × (file.entry ≡ None)) → errs.new ≡ errs.old }
     ensures never_misused { result ≡ Status.Misused → ⊥ }
     ensures failed { result ≡ Status.Failed
-        → EndsInServeFailure addresses.entry.0.now addresses.entry.1.now (W.contents out.old) (W.contents out.new)
-        (E.contents errs.old) (E.contents errs.new) }
+        → EndsInServeFailure addresses.entry.0.now addresses.entry.1.now (option_map (λ name. name.now) file.entry)
+        (W.contents out.old) (W.contents out.new) (E.contents errs.old) (E.contents errs.new) }
 {
     let Some(front) = Endpoint::from_text(addresses.0.as_bytes()) else {
         return refuse_address(out, errs);
@@ -74,24 +79,26 @@ fn run_serve<R: Threads + Wait + Net + Sync, W: Write, E: Write>(
     let Some(control) = Endpoint::from_text(addresses.1.as_bytes()) else {
         return refuse_address(out, errs);
     };
-    match serve(rt, alloc, front, control, workers.count, &OpenGate, out) {
+    let config = match opening(rt, alloc, file, out, errs) {
+        Ok(config) => config,
+        Err(status) => return status,
+    };
+    match serve_with(rt, config, front, control, workers.count, &OpenGate, out) {
         Ok(()) => Status::Done,
         Err(failure) => failure.report(errs),
     }
 }
 
 /// Runs a command that may wait, and returns its exit status. `tell` without lines reads its lines from the input.
-pub fn run_waiting<R: Threads + Wait + Net + Clock + Sync, I: Read + Drop, W: Write, E: Write>(
-    rt: &R,
-    alloc: Global,
-    command: Waiting<'_>,
-    input: I,
-    out: &mut W,
-    errs: &mut E,
-) -> Status
+pub fn run_waiting<
+    R: Threads + Wait + Net + Clock + Files + Sync,
+    I: Read + Drop,
+    W: Write,
+    E: Write,
+>(rt: &R, alloc: Global, command: Waiting<'_>, input: I, out: &mut W, errs: &mut E) -> Status
     ensures done { result ≡ Status.Done → WritesFor (waiting_of command.entry) (I.remaining input) (W.contents out.old) (W.contents out.new) }
     ensures refused { result ≡ Status.Refused → WritesRefusal (waiting_of command.entry) (I.remaining input) (W.contents out.old) (W.contents out.new) }
-    ensures no_errors { (result ≡ Status.Done) ⊎ (result ≡ Status.Refused) → errs.new ≡ errs.old }
+    ensures no_errors { (result ≡ Status.Done) ⊎ ((result ≡ Status.Refused) × HasNoRules (waiting_of command.entry)) → errs.new ≡ errs.old }
     ensures never_misused { result ≡ Status.Misused → ⊥ }
     ensures failed { result ≡ Status.Failed
         → EndsInWaitingFailure (waiting_of command.entry) (I.remaining input) (W.contents out.old) (W.contents out.new)
@@ -105,15 +112,17 @@ pub fn run_waiting<R: Threads + Wait + Net + Clock + Sync, I: Read + Drop, W: Wr
             front,
             control,
             workers,
-        } => run_serve(rt, alloc, (front, control), workers, out, errs),
+            rules,
+        } => run_serve(rt, alloc, (front, control), workers, rules, out, errs),
         Waiting::Tell {
             control,
             timeout,
+            all,
             lines,
         } => run_tell(
             rt,
             alloc,
-            (control, timeout),
+            (control, timeout, all),
             lines.as_slice(),
             input,
             out,

@@ -27,7 +27,7 @@ module _ {source : Source.Ghosts ChannelSourceValue} {outbox : Outbox.Ghosts Out
     counter_each = omega arith;
     new_devices = no_job (λ job. HasNewDevices job.source job.outbox) jobs none;
     rooms = no_job (λ job. HasRoom (length job.buffer.items) job.limit) jobs none;
-    new_workers = λ versions new. (new, no_job (λ job. IsNewWorker [] versions job.worker) jobs none);
+    new_workers = λ opening versions new. (new, no_job (λ job. IsNewWorker opening versions job.worker) jobs none);
     new_counters = λ table new. (new, no_job (λ job. IsNew table job.counter) jobs none);
   }
 
@@ -62,11 +62,11 @@ module _ {source : Source.Ghosts ChannelSourceValue} {outbox : Outbox.Ghosts Out
         counter_each = omega arith;
         new_devices = all_pushed (λ j. HasNewDevices j.source j.outbox) jobs jobs' job pushed made.new_devices devices;
         rooms = all_pushed (λ j. HasRoom (length j.buffer.items) j.limit) jobs jobs' job pushed made.rooms room;
-        new_workers = λ versions new.
-            let popped = All-pop (IsNewWorker [] versions) left left' (Some worker) taken (made.new_workers versions new).0 in (
+        new_workers = λ opening versions new.
+            let popped = All-pop (IsNewWorker opening versions) left left' (Some worker) taken (made.new_workers opening versions new).0 in (
               popped.0,
-              all_pushed (λ j. IsNewWorker [] versions j.worker) jobs jobs' job pushed (made.new_workers versions new).1
-                  (subst (IsNewWorker [] versions) (sym of_worker) popped.1),
+              all_pushed (λ j. IsNewWorker opening versions j.worker) jobs jobs' job pushed (made.new_workers opening versions new).1
+                  (subst (IsNewWorker opening versions) (sym of_worker) popped.1),
             );
         new_counters = λ table new.
             let popped = All-pop (IsNew table) counters_left counters_left' (Some counter) counted (made.new_counters table new).0 in (

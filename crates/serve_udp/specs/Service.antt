@@ -1,9 +1,10 @@
--- What `serve` writes, and of which jobs its totals tell (docs/COMMANDS.md, "serve").
+-- What `serve` writes, and which jobs its totals count (docs/COMMANDS.md, "serve").
 use Rattle.std.specs.Prelude.{◌≡◌, ◌≢◌, ◌++◌, ◌⊎◌, List, None, Option, [], codes, length, ℕ}
 use Rattle.std.specs.Io.KnownBytes.{Appends}
 use Rattle.std.specs.List.{All}
 use Rattle.command_line.specs.declared.ending.Failure.{Failure}
 use Rattle.command_line.specs.declared.ending.Failure.TheVariants.{NoAnswer, ReadFailed}
+use Rattle.config_image.specs.Image.{Group}
 use Rattle.dispatch.specs.Batch.{Parts}
 use Rattle.dispatch.specs.Device.{OutboxValue}
 use Rattle.dispatch.specs.declared.kind.Totals.{Totals}
@@ -32,9 +33,9 @@ HasSilentDevices start =
 abbrev pub AreServiceStarts : ℕ → List Parts → Type 0
 AreServiceStarts workers starts = (length starts ≡ workers) × All HasSilentDevices starts
 
--- the totals are what such jobs counted in all; their table opened without groups
-abbrev pub IsServed : ℕ → Totals → Type 0
-IsServed workers totals = IsCounted [] LONGEST_DATAGRAM LIMIT (AreServiceStarts workers) totals
+-- the totals are what such jobs counted in all; version 0 of their table is this configuration
+abbrev pub IsServedFrom : List Group → ℕ → Totals → Type 0
+IsServedFrom opening workers totals = IsCounted opening LONGEST_DATAGRAM LIMIT (AreServiceStarts workers) totals
 
 -- `serve` reads no input, and waits for no reply
 abbrev pub IsServeFailure : Failure → Type 0
@@ -52,11 +53,15 @@ abbrev pub WritesReadyOrNothing : Option (List ℕ) → Option (List ℕ) → Ty
 WritesReadyOrNothing before after = (after ≡ before) ⊎ ((front control : Endpoint) × WritesReady front control before after)
 
 -- that line, then the line of such totals, and nothing else
-pub record WritesServed (workers : ℕ) (before after : Option (List ℕ)) : Type 0 where
+pub record WritesServedFrom (opening : List Group) (workers : ℕ) (before after : Option (List ℕ)) : Type 0 where
   pub front : Endpoint
   pub control : Endpoint
   pub totals : Totals
   pub between : Option (List ℕ)
   pub ready : WritesReady front control before between
-  pub is_served : IsServed workers totals
+  pub is_served : IsServedFrom opening workers totals
   pub totals_line : WritesTotals totals between after
+
+-- as a switch does that begins without groups
+abbrev pub WritesServed : ℕ → Option (List ℕ) → Option (List ℕ) → Type 0
+WritesServed workers before after = WritesServedFrom [] workers before after

@@ -5,11 +5,14 @@
 //! itself, by `serve_control`.
 #![tactic(auto)]
 
-ghost use Rattle.std.specs.Prelude.{◌≡◌, ◌≢◌, ◌⊎◌, ◌↔◌, ◌≤◌, Err, IfErr, IfOk, OnOk, vec_len};
-ghost use Rattle.versions.specs.declared.layout.TheConstants.{WORKERS};
+ghost use Rattle.std.specs.Prelude.{◌≡◌, ◌≢◌, ◌⊎◌, ◌↔◌, ◌≤◌, Err, IfErr, IfOk, List, OnOk, vec_len};
+ghost use Rattle.atomic_table.specs.Seated.{TableId};
+ghost use Rattle.config_image.specs.Image.{Group};
+ghost use Rattle.member_group.specs.Charge.{charge_of};
+ghost use Rattle.versions.specs.declared.layout.TheConstants.{CHARGE_LIMIT, WORKERS};
 ghost use Rattle.serve_udp.specs.declared.jobs.TheConstants.{LIMIT};
-ghost use Rattle.serve_udp.specs.Service.{IsServeFailure, IsServed, WritesReadyOrNothing, WritesServed};
-ghost use Rattle.serve_udp.specs.body.Jobs.{AreOpened};
+ghost use Rattle.serve_udp.specs.Service.{IsServeFailure, IsServedFrom, WritesReadyOrNothing, WritesServed, WritesServedFrom};
+ghost use Rattle.serve_udp.specs.body.Jobs.{AreOpened, HaveNewWorkers};
 
 mod jobs;
 mod opening;
@@ -21,6 +24,7 @@ use command_line::Failure;
 use dispatch::{Gate, NamedTally, RunFault, TallyName, Totals, gather, run_counted, write_totals};
 use ipv4_fields::Endpoint;
 use jobs::ServiceJob;
+use member_group::Config;
 use opening::{Service, open_service};
 use read_section::WORKERS;
 use ready::write_ready;
@@ -58,8 +62,9 @@ fn count_served<N: TallyName, R: Threads + Wait + Sync, G: Gate + Sync>(
     gate: &G,
 ) -> Result<Totals, Failure>
     requires named { service.tally.table ≡ N.table }
-    requires opened { AreOpened service.tally.table service.receiver.operator.table service.spare.items jobs.items }
-    ensures totals { IfOk result (IsServed (vec_len jobs.entry)) }
+    requires opened { AreOpened service.tally.table service.spare.items jobs.items }
+    ensures totals { IfOk result (λ totals. (opening : List Group) (versions : TableId) → HaveNewWorkers opening versions jobs.entry.items
+        → IsServedFrom opening (vec_len jobs.entry) totals) }
     ensures bound { IfErr result (λ failure. failure ≢ Failure.BindFailed) }
     ensures no_input { IfErr result IsServeFailure }
 {
@@ -82,12 +87,37 @@ fn count_served<N: TallyName, R: Threads + Wait + Sync, G: Gate + Sync>(
 
 /// Runs the switch on two UDP sockets until a control datagram says `stop`, and then writes the line of the totals.
 ///
-/// A port 0 lets the system pick one. The line `ready FRONT CONTROL` tells the addresses bound, and is flushed before a datagram
-/// is received. The switch opens without groups. Of its workers each receives through a queue, in turn, and sends by a
-/// socket of its own at the front's address.
+/// Version 0 is the configuration. A port 0 lets the system pick one. The line `ready FRONT CONTROL` has the addresses bound, and is
+/// flushed before a datagram is received. Of the switch's workers each receives through a queue, in turn, and sends by a socket
+/// of its own at the front's address.
 ///
-/// All memory but that of the threads, of queued datagrams and of control lines is taken before the line `ready`. It may wait,
-/// since nothing says that it is ever asked to stop.
+/// All memory but that of the threads, of queued datagrams and of control lines is taken before the line `ready`, from the
+/// configuration's allocator. It may wait, since nothing says that it is ever asked to stop.
+pub fn serve_with<R: Threads + Wait + Net + Sync, G: Gate + Sync, W: Write>(
+    rt: &R,
+    config: Config,
+    front: Endpoint,
+    control: Endpoint,
+    workers: usize,
+    gate: &G,
+    out: &mut W,
+) -> Result<(), Failure>
+    requires within { charge_of config ≤ CHARGE_LIMIT }
+    requires at_least_one { 1 ≤ workers }
+    requires at_most { workers ≤ WORKERS }
+    ensures served { OnOk result (WritesServedFrom config workers (W.contents out.old) (W.contents out.new)) }
+    ensures no_input { IfErr result IsServeFailure }
+    ensures not_bound { result ≡ Err Failure.BindFailed → out.new ≡ out.old }
+    ensures ready_or_nothing { IfErr result (λ failure. failure ≢ Failure.WriteFailed → WritesReadyOrNothing (W.contents out.old) (W.contents out.new)) }
+{
+    let alloc = *config.allocator();
+    let (jobs, service) = open_service(rt, config, front, control, workers)?;
+    write_ready(service.front, service.control, out)?;
+    let totals = count_served::<Brand, R, G>(rt, alloc, jobs, service, gate)?;
+    write_totals(&totals, out).map_err(|_| Failure::WriteFailed)
+}
+
+/// Runs the switch, as `serve_with` does, at a configuration without groups.
 pub fn serve<R: Threads + Wait + Net + Sync, G: Gate + Sync, W: Write>(
     rt: &R,
     alloc: Global,
@@ -104,8 +134,6 @@ pub fn serve<R: Threads + Wait + Net + Sync, G: Gate + Sync, W: Write>(
     ensures not_bound { result ≡ Err Failure.BindFailed → out.new ≡ out.old }
     ensures ready_or_nothing { IfErr result (λ failure. failure ≢ Failure.WriteFailed → WritesReadyOrNothing (W.contents out.old) (W.contents out.new)) }
 {
-    let (jobs, service) = open_service(rt, alloc, front, control, workers)?;
-    write_ready(service.front, service.control, out)?;
-    let totals = count_served::<Brand, R, G>(rt, alloc, jobs, service, gate)?;
-    write_totals(&totals, out).map_err(|_| Failure::WriteFailed)
+    let config = Config::new(alloc);
+    serve_with(rt, config, front, control, workers, gate, out)
 }

@@ -1,11 +1,12 @@
 //! The service before it receives: its sockets are bound, and its jobs are made.
 
-ghost use Rattle.std.specs.Prelude.{◌≡◌, ◌<◌, ◌≤◌, IfErr, IfOk, [], vec_len};
+ghost use Rattle.std.specs.Prelude.{◌≡◌, ◌<◌, ◌≤◌, IfErr, IfOk, vec_len};
 ghost use Rattle.std.specs.List.{All};
-ghost use Rattle.versions.specs.declared.layout.TheConstants.{WORKERS};
+ghost use Rattle.member_group.specs.Charge.{charge_of};
+ghost use Rattle.versions.specs.declared.layout.TheConstants.{CHARGE_LIMIT, WORKERS};
 ghost use Rattle.dispatch.specs.Counted.{IsNewWorker};
 ghost use Rattle.serve_udp.specs.Service.{IsServeFailure};
-ghost use Rattle.serve_udp.specs.body.Jobs.{AreMade, AreOpened};
+ghost use Rattle.serve_udp.specs.body.Jobs.{AreMade, AreOpened, HaveNewWorkers};
 
 use crate::jobs::{ServiceJob, jobs};
 use crate::receiving::Receiver;
@@ -34,12 +35,13 @@ pub struct Service {
     pub receiver: Receiver,
 }
 
-// A table without groups, and its workers in the order in which they are to be taken, from the last on.
-fn open_table(alloc: Global) -> Result<(Operator, Vec<Worker>), AllocError>
+// A table with the configuration as version 0, and its workers in the order in which they are to be taken, from the last on.
+fn open_table(config: Config) -> Result<(Operator, Vec<Worker>), AllocError>
+    requires within { charge_of config ≤ CHARGE_LIMIT }
     ensures workers { IfOk result (λ opened. vec_len opened.1 ≡ WORKERS) }
-    ensures opening { IfOk result (λ opened. All (IsNewWorker [] opened.0.table) opened.1.items) }
+    ensures opening { IfOk result (λ opened. All (IsNewWorker config opened.0.table) opened.1.items) }
 {
-    let (operator, mut workers) = open_within(Config::new(alloc))?;
+    let (operator, mut workers) = open_within(config)?;
     spread(&mut workers);
     Ok((operator, workers))
 }
@@ -105,22 +107,24 @@ fn service_of(
 }
 
 /// Binds both sockets, and makes so many jobs and all that they and receiving need. The jobs have new workers of the operator's
-/// table, and new counters of the tally.
+/// table, which opens with the configuration, and new counters of the tally.
 pub fn open_service<'a, R: Wait + Net>(
     rt: &'a R,
-    alloc: Global,
+    config: Config,
     front: Endpoint,
     control: Endpoint,
     workers: usize,
 ) -> Result<(Vec<ServiceJob<'a, R>>, Service), Failure>
+    requires within { charge_of config ≤ CHARGE_LIMIT }
     requires at_least_one { 1 ≤ workers }
     requires at_most { workers ≤ WORKERS }
     ensures one_a_worker { IfOk result (λ opened. vec_len opened.0 ≡ workers) }
-    ensures opened { IfOk result (λ opened. AreOpened opened.1.tally.table opened.1.receiver.operator.table opened.1.spare.items
-        opened.0.items) }
+    ensures new_workers { IfOk result (λ opened. HaveNewWorkers config opened.1.receiver.operator.table opened.0.items) }
+    ensures opened { IfOk result (λ opened. AreOpened opened.1.tally.table opened.1.spare.items opened.0.items) }
     ensures no_input { IfErr result IsServeFailure }
 {
-    let Ok((operator, mut seats)) = open_table(alloc) else {
+    let alloc = *config.allocator();
+    let Ok((operator, mut seats)) = open_table(config) else {
         return Err(Failure::OutOfMemory);
     };
     let Ok((tally, mut spare)) = Tally::open(alloc) else {

@@ -1,6 +1,7 @@
 //! The program's commands over streams in memory: what no session on the built program shows.
 
 mod failures;
+mod file_faults;
 mod flood;
 mod replay;
 mod streams;
@@ -12,6 +13,7 @@ use command_returning::tool;
 use command_waiting::run_waiting;
 use std::alloc::{AllocError, Global};
 use std::fmt::Debug;
+use std::fs::Files;
 use std::io::Read;
 use std::net::Net;
 use std::process::Abort;
@@ -81,7 +83,7 @@ fn told(alloc: Global, words: &[&str], input: &[u8]) -> Result<Outcome, AllocErr
     run_on(alloc, words, input)
 }
 
-fn wait_for<R: Threads + Wait + Net + Clock + Sync + Abort>(
+fn wait_for<R: Threads + Wait + Net + Clock + Files + Sync + Abort>(
     rt: &R,
     alloc: Global,
     words: &[String],
@@ -102,7 +104,7 @@ fn wait_for<R: Threads + Wait + Net + Clock + Sync + Abort>(
 }
 
 /// Runs words that are left to `main`, as it does, with what the command wrote. Before they are left nothing is written.
-fn run_as_main<R: Threads + Wait + Net + Clock + Sync + Abort>(
+fn run_as_main<R: Threads + Wait + Net + Clock + Files + Sync + Abort>(
     rt: &R,
     alloc: Global,
     words: &[&str],

@@ -29,7 +29,7 @@ pub returns-in-Serve-clause-no_errors : goal.returns-in-Serve-clause-no_errors
 returns-in-Serve-clause-no_errors g c = search rules
 
 pub returns-in-Serve-clause-refused : goal.returns-in-Serve-clause-refused
-returns-in-Serve-clause-refused g c = search rules
+returns-in-Serve-clause-refused g c = λ ended. rw c.in-Serve.is (c.run_serve.ensures.refused ended)
 
 pub returns-in-Tell-clause-done : goal.returns-in-Tell-clause-done
 returns-in-Tell-clause-done g c = search rules

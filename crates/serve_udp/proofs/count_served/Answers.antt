@@ -1,4 +1,4 @@
-use Rattle.std.proofs.Common.{◌∙◌, [], ap, subst, sym, vec_len}
+use Rattle.std.proofs.Common.{◌∙◌, ap, subst, sym, vec_len}
 use Rattle.std.proofs.lemmas.List.{length-map}
 use Rattle.std.proofs.lemmas.List.Elements.{All-map, All-weaker}
 use Rattle.dispatch.specs.Tally.{AreCountersOf}
@@ -19,11 +19,11 @@ gather-requires g c =
     }
 
 pub returns-in-Stopped-clause-totals : goal.returns-in-Stopped-clause-totals
-returns-in-Stopped-clause-totals g c =
+returns-in-Stopped-clause-totals g c = λ opening versions new_workers.
     let opened = c.requires.opened in
     counted _ _ c.args.service.tally.table c.args.jobs.items c.args.service.spare.items c.in-Ok.counters.items c.in-Ok.ensures.counters_back
-    opened.new_spare opened.new_counters [] c.args.service.receiver.operator.table LONGEST_DATAGRAM LIMIT (AreServiceStarts (vec_len c.args.jobs))
-    opened.new_workers opened.rooms (
+    opened.new_spare opened.new_counters opening versions LONGEST_DATAGRAM LIMIT (AreServiceStarts (vec_len c.args.jobs))
+    new_workers opened.rooms (
       length-map c.args.jobs.items (parts_of_job _ _) ∙ sym c.args.jobs.ok.0,
       All-map HasSilentDevices (parts_of_job _ _) c.args.jobs.items
           (All-weaker (λ job. HasNewDevices job.source job.outbox) (λ job. HasSilentDevices (parts_of_job _ _ job)) (λ job new. (ap source_of new.0, new.1)) c.args.jobs.items opened.new_devices),

@@ -4,6 +4,7 @@ ghost use Rattle.std.specs.Prelude.{◌≤◌, IfSome, length};
 
 use control_client::{
     Came, InputLines, LONGEST_LINE, Lines, TellFault, Wire, WireFailed, WordLines, tell,
+    tell_change,
 };
 use ipv4_fields::Endpoint;
 use std::alloc::Global;
@@ -78,7 +79,7 @@ struct Row {
     printed: &'static str,
 }
 
-const ROWS: [Row; 8] = [
+const ROWS: [Row; 9] = [
     Row {
         lines: &["add 10.0.0.2:53", "show"],
         arrivals: &[
@@ -95,6 +96,17 @@ const ROWS: [Row; 8] = [
         ended: Ok(true),
         sent: "\nshow\n",
         printed: "refused C1\n\n",
+    },
+    Row {
+        lines: &["all 1", "add 10.0.0.2:53", "# no comment", "all 2", "show"],
+        arrivals: &[
+            Arrival::Answer("ok version 1"),
+            Arrival::Answer("refused C1"),
+            Arrival::Answer("refused C1"),
+        ],
+        ended: Ok(true),
+        sent: "all 1\nadd 10.0.0.2:53\n# no comment\nall 2\nshow\n",
+        printed: "ok version 1\nrefused C1\nrefused C1\n",
     },
     Row {
         lines: &["totals", "stop"],
@@ -181,13 +193,37 @@ fn lines_are_told_in_order(rt: HostRuntime) {
 }
 
 // An input, and the lines that are sent of it.
-const INPUTS: [(&str, &str); 6] = [
+const INPUTS: [(&str, &str); 12] = [
     ("", ""),
-    ("\n", "\n"),
+    ("\n", ""),
     ("show", "show\n"),
     ("show\n", "show\n"),
-    ("show\n\nsweep", "show\n\nsweep\n"),
-    ("show\r\nsweep\n", "show\r\nsweep\n"),
+    ("show\n\nsweep", "show\nsweep\n"),
+    ("show\r\nsweep\n", "show\nsweep\n"),
+    ("show\r\r\n \t\r\n", "show\r\n"),
+    ("# first\n\t # second\r\nshow # third\n", "show # third\n"),
+    (
+        "all 2\nadd 10.0.0.2:53\nremove 10.0.0.2:53\nshow",
+        "all 2\nadd 10.0.0.2:53\nremove 10.0.0.2:53\nshow\n",
+    ),
+    (
+        "at 0 anew 2\r\n# first\nadd 10.0.0.2:53\r\n\nremove 10.0.0.2:53\r\nanew 0\n",
+        "at 0 anew 2\nadd 10.0.0.2:53\nremove 10.0.0.2:53\nanew 0\n",
+    ),
+    // The block has fewer lines than it says; a bad head takes none.
+    ("all 3\nshow\nsweep\n", "all 3\nshow\nsweep\n"),
+    ("all 0\nall 01\n", "all 0\nall 01\n"),
+];
+
+// An input, and the one change that is sent of it.
+const CHANGES: [(&str, &str); 4] = [
+    ("", "all 0\n"),
+    ("# nothing\n\n", "all 0\n"),
+    ("add 10.0.0.2:53", "all 1\nadd 10.0.0.2:53\n"),
+    (
+        "# first\r\nadd 10.0.0.2:53\r\n\nall 2\nremove 10.0.0.2:53",
+        "all 3\nadd 10.0.0.2:53\nall 2\nremove 10.0.0.2:53\n",
+    ),
 ];
 
 const THREE: [Arrival; 3] = [
@@ -220,6 +256,39 @@ fn input_is_cut_into_lines(rt: HostRuntime) {
     for (input, sent) in &INPUTS {
         assert!(rt; sends(rt.alloc(), input.as_bytes(), sent), "{input:?}");
     }
+}
+
+#[test]
+fn input_is_one_change(rt: HostRuntime) -> Result<(), Fail> {
+    for (input, sent) in &CHANGES {
+        let mut wire = MemoryWire {
+            left: &THREE,
+            sent: Vec::new(rt.alloc()),
+        };
+        let mut out = Vec::new(rt.alloc());
+        let reader = BufReader::new(rt.alloc(), input.as_bytes())?;
+        let mut lines = InputLines::new(reader);
+        let ended = tell_change(rt.alloc(), &mut lines, &mut wire, SWITCH, &mut out);
+        assert!(rt; ended == Ok(false), "{input:?}");
+        assert!(rt; wire.sent.as_slice() == sent.as_bytes(), "{input:?}");
+        assert!(rt; out.as_slice() == b"ok\n".as_slice(), "{input:?}");
+    }
+    Ok(())
+}
+
+// Words are told as they are: none is skipped, and no CR is dropped.
+#[test]
+fn words_are_one_change(rt: HostRuntime) -> Result<(), Fail> {
+    let mut wire = MemoryWire {
+        left: &THREE,
+        sent: Vec::new(rt.alloc()),
+    };
+    let mut out = Vec::new(rt.alloc());
+    let mut lines = WordLines::new(&["# first", "add 10.0.0.2:53\r", ""]);
+    let ended = tell_change(rt.alloc(), &mut lines, &mut wire, SWITCH, &mut out);
+    assert!(rt; ended == Ok(false));
+    assert!(rt; wire.sent.as_slice() == b"all 3\n# first\nadd 10.0.0.2:53\r\n\n".as_slice());
+    Ok(())
 }
 
 #[test]

@@ -36,7 +36,7 @@ fn serve_is_left_to_main(rt: HostRuntime) -> Result<(), Fail> {
 }
 
 // With lines, options between them, and none.
-const TELL: [&[&str]; 4] = [
+const TELL: [&[&str]; 5] = [
     &["tell", "--control", "127.0.0.1:5301"],
     &["tell", "--control", "x", "show", ""],
     &[
@@ -49,6 +49,7 @@ const TELL: [&[&str]; 4] = [
         "x",
     ],
     &["tell", "--control", "x", "--timeout", "1", "--", "--", "-x"],
+    &["tell", "--all", "--control", "x", "add 10.0.0.2:53"],
 ];
 
 #[test]

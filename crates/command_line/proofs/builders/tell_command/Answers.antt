@@ -1,6 +1,6 @@
 use Rattle.std.proofs.Common.{codes}
 use Rattle.clap.specs.Words.{App, new_app, with_rule}
-use Rattle.command_line.specs.CommandLine.{any_number_of, required_named_argument, timeout_argument}
+use Rattle.command_line.specs.CommandLine.{any_number_of, flag, required_named_argument, timeout_argument}
 use Rattle.command_line.proofs.builders.tell_command.Goals as goal
 
 pub returns-clause-app : goal.returns-clause-app
@@ -10,10 +10,13 @@ returns-clause-app c =
     let to1 : App = with_rule start (required_named_argument (codes "control")) in
     let made2 = c.with_argument-command-2.ensures.app to1 timeout_argument made1 c.timeout_argument.ensures.rule c.timeout_argument.ensures.local in
     let to2 : App = with_rule to1 timeout_argument in
-    c.with_argument.ensures.app to2 (any_number_of (codes "LINE")) made2 c.lines_argument.ensures.rule c.lines_argument.ensures.local
+    let made3 = c.with_argument-command-3.ensures.app to2 (flag (codes "all")) made2 c.flag_argument-all.ensures.rule c.flag_argument-all.ensures.local in
+    let to3 : App = with_rule to2 (flag (codes "all")) in
+    c.with_argument.ensures.app to3 (any_number_of (codes "LINE")) made3 c.lines_argument.ensures.rule c.lines_argument.ensures.local
 
 pub returns-clause-local : goal.returns-clause-local
 returns-clause-local c =
     let made1 = c.with_argument-command.ensures.local c.plain_command-command.ensures.local c.address_argument-control.ensures.local in
     let made2 = c.with_argument-command-2.ensures.local made1 c.timeout_argument.ensures.local in
-    c.with_argument.ensures.local made2 c.lines_argument.ensures.local
+    let made3 = c.with_argument-command-3.ensures.local made2 c.flag_argument-all.ensures.local in
+    c.with_argument.ensures.local made3 c.lines_argument.ensures.local

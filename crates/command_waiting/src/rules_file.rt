@@ -1,0 +1,186 @@
+//! The rules that a switch begins with (docs/COMMANDS.md, "Rules files").
+
+ghost use Rattle.std.specs.Prelude.{◌≡◌, ◌⊎◌, ◌≤◌, ◌++◌, IfErr, IfOk, IsSome, None, OnOk, length, option_map};
+ghost use Rattle.std.specs.Io.KnownBytes.{Appends};
+ghost use Rattle.member_group.specs.Charge.{charge_of};
+ghost use Rattle.versions.specs.declared.layout.TheConstants.{CHARGE_LIMIT};
+ghost use Rattle.command_line.specs.Ending.{AppendsBeginning, line_of};
+ghost use Rattle.command_line.specs.declared.ending.Failure.TheVariants as failure;
+ghost use Rattle.control_line.specs.Reason.{refusal_text};
+ghost use Rattle.command_waiting.specs.Opening.{EndsUnread, IsMadeFrom, IsOpening, RefusesRules, file_refusal_text, of_line};
+ghost use Rattle.command_waiting.specs.body.Reading.{IsReadOf};
+
+use command_explain::{FaultPlace, file_fault_text, line_fault_text};
+use command_line::{Failure, Status, read_whole, write_whole};
+use control_line::{BLOCK_LIMIT, Reason, Reply, RulesFault, fault_column, line_at, rules};
+use fault_code::Code;
+use member_group::Config;
+use std::alloc::{AllocError, Global};
+use std::fs::{File, Files};
+use std::io;
+use std::io::{ErrorKind, Read, Write};
+
+// The reply to a rules file that is refused.
+fn refusal(line: Option<u32>, reason: Reason) -> Reply
+    ensures text { result ≡ refusal_text reason ++ of_line line }
+    ensures short { length result ≤ 96 }
+{
+    let mut reply = Reply::refused(reason);
+    let Some(number) = line else {
+        return reply;
+    };
+    reply.push(" line ");
+    reply.push_number(number as u64);
+    reply
+}
+
+fn write_file_refusal<W: Write>(line: Option<u32>, reason: Reason, out: &mut W) -> io::Result<()>
+    ensures { OnOk result (Appends (W.contents out.old) (W.contents out.new) (file_refusal_text line reason)) }
+{
+    let mut reply = refusal(line, reason);
+    reply.push("\n");
+    out.write_all(reply.bytes())?;
+    out.flush()
+}
+
+// What people read of a rules file of this name and text that is refused.
+fn fault_text(
+    alloc: Global,
+    source: (&str, &[u8]),
+    line: Option<u32>,
+    reason: Reason,
+) -> Result<Vec<u8>, AllocError> {
+    let (file, text) = source;
+    let code = reason.code();
+    let code = format!(in alloc; "{}", Code::plain(code.letter, code.number))?;
+    let Some(number) = line else {
+        return file_fault_text(alloc, file, code.as_str());
+    };
+    let line = line_at(text, number);
+    let place = FaultPlace {
+        file,
+        number,
+        column: fault_column(line, reason),
+        line,
+    };
+    line_fault_text(alloc, place, code.as_str())
+}
+
+// Shows people why a rules file is refused. If memory or a write fails, that is left out.
+fn show_fault<E: Write>(
+    alloc: Global,
+    source: (&str, &[u8]),
+    line: Option<u32>,
+    reason: Reason,
+    errs: &mut E,
+) {
+    if let Ok(text) = fault_text(alloc, source, line, reason) {
+        let _ = write_whole(&text, errs);
+        let _ = errs.flush();
+    }
+}
+
+// Refuses a rules file of this name and text: a line for programs, and then the place for people.
+fn refuse_file<W: Write, E: Write>(
+    alloc: Global,
+    source: (&str, &[u8]),
+    line: Option<u32>,
+    reason: Reason,
+    out: &mut W,
+    errs: &mut E,
+) -> Status
+    ensures refused { result ≡ Status.Refused → Appends (W.contents out.old) (W.contents out.new) (file_refusal_text line reason) }
+    ensures never_done { result ≡ Status.Done → ⊥ }
+    ensures never_misused { result ≡ Status.Misused → ⊥ }
+    ensures failed { result ≡ Status.Failed → AppendsBeginning (E.contents errs.old) (E.contents errs.new) (line_of failure.WriteFailed) }
+{
+    match write_file_refusal(line, reason, out) {
+        Ok(()) => {
+            show_fault(alloc, source, line, reason, errs);
+            Status::Refused
+        }
+        Err(_) => Failure::WriteFailed.report(errs),
+    }
+}
+
+// Reads a rules file, and one byte more than it may have if it has more.
+#[tactic(auto, using(crate::proofs::OpeningLemmas::read_of))]
+fn read_text<I: Read + Drop>(alloc: Global, input: I) -> Result<Vec<u8>, Failure>
+    ensures text { IfOk result (λ text. IsReadOf (I.remaining input) text.items) }
+    ensures cause { IfErr result (λ failure. (failure ≡ Failure.ReadFailed) ⊎ (failure ≡ Failure.OutOfMemory)) }
+{
+    read_whole(alloc, input.take(BLOCK_LIMIT as u64 + 1))
+}
+
+// The configuration of a rules file of this name. If there is none, the cause is written, and the result is the exit status.
+#[tactic(auto, using(crate::proofs::OpeningLemmas::made_of, crate::proofs::OpeningLemmas::refused_of, crate::proofs::OpeningLemmas::charge_within, crate::proofs::OpeningLemmas::not_read, crate::proofs::OpeningLemmas::not_written))]
+fn load<I: Read + Drop, W: Write, E: Write>(
+    alloc: Global,
+    file: &str,
+    input: I,
+    out: &mut W,
+    errs: &mut E,
+) -> Result<Config, Status>
+    ensures made { IfOk result (λ config. IsMadeFrom (I.remaining input) config) }
+    ensures within { IfOk result (λ config. charge_of config ≤ CHARGE_LIMIT) }
+    ensures unwritten { OnOk result (out.new ≡ out.old) }
+    ensures no_errors { OnOk result (errs.new ≡ errs.old) }
+    ensures refused { IfErr result (λ status. status ≡ Status.Refused
+        → RefusesRules (I.remaining input) (W.contents out.old) (W.contents out.new)) }
+    ensures never_done { IfErr result (λ status. status ≡ Status.Done → ⊥) }
+    ensures never_misused { IfErr result (λ status. status ≡ Status.Misused → ⊥) }
+    ensures failed { IfErr result (λ status. status ≡ Status.Failed
+        → EndsUnread (W.contents out.old) (W.contents out.new) (E.contents errs.old) (E.contents errs.new)) }
+{
+    let text = match read_text(alloc, input) {
+        Ok(text) => text,
+        Err(failure) => return Err(failure.report(errs)),
+    };
+    match rules(alloc, &text) {
+        Ok(config) => Ok(config),
+        Err(RulesFault::Refused { line, reason }) => {
+            let source = (file, text.as_slice());
+            Err(refuse_file(alloc, source, line, reason, out, errs))
+        }
+        Err(RulesFault::OutOfMemory) => Err(Failure::OutOfMemory.report(errs)),
+    }
+}
+
+fn open_failure(error: &io::Error) -> Failure
+    ensures { (result ≡ Failure.ReadFailed) ⊎ (result ≡ Failure.OutOfMemory) }
+{
+    if error.kind() == ErrorKind::OutOfMemory {
+        Failure::OutOfMemory
+    } else {
+        Failure::ReadFailed
+    }
+}
+
+/// The configuration that a switch begins with: that of the rules file of this name, or one without groups. If there is none, the
+/// cause is written, and the result is the exit status.
+pub(crate) fn opening<R: Files, W: Write, E: Write>(
+    rt: &R,
+    alloc: Global,
+    file: Option<&str>,
+    out: &mut W,
+    errs: &mut E,
+) -> Result<Config, Status>
+    ensures made { IfOk result (λ config. IsOpening (option_map (λ name. name.now) file.entry) config) }
+    ensures within { IfOk result (λ config. charge_of config ≤ CHARGE_LIMIT) }
+    ensures unwritten { OnOk result (out.new ≡ out.old) }
+    ensures no_errors { OnOk result (errs.new ≡ errs.old) }
+    ensures refused { IfErr result (λ status. status ≡ Status.Refused
+        → IsSome file.entry × RefusesRules None (W.contents out.old) (W.contents out.new)) }
+    ensures never_done { IfErr result (λ status. status ≡ Status.Done → ⊥) }
+    ensures never_misused { IfErr result (λ status. status ≡ Status.Misused → ⊥) }
+    ensures failed { IfErr result (λ status. status ≡ Status.Failed
+        → IsSome file.entry × EndsUnread (W.contents out.old) (W.contents out.new) (E.contents errs.old) (E.contents errs.new)) }
+{
+    let Some(name) = file else {
+        return Ok(Config::new(alloc));
+    };
+    match File::open(rt, name) {
+        Ok(input) => load(alloc, name, input, out, errs),
+        Err(error) => Err(open_failure(&error).report(errs)),
+    }
+}
