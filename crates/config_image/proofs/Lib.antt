@@ -12,7 +12,7 @@ pub mod RowLemmas
 pub mod PageTableLemmas
 pub mod PartsLemmas
 pub mod PooledLemmas
-pub mod NameLemmas
+pub mod EntryLemmas
 pub mod ProgramLemmas
 pub mod PooledRowLemmas
 pub mod FormLemmas

@@ -46,10 +46,6 @@ part_stands words place part h counted =
 
 -- ---- programs
 
-no_item : {X : Type 0} (xs : List X) (x : X) → slice_get xs 0 ≡ Some x → (rest : List X) × (xs ≡ x ∷ rest)
-no_item [] x e = absurd cc
-no_item (y ∷ ys) x e = let same : y ≡ x = cc in (ys, ap (λ z. z ∷ ys) same)
-
 pub filter_part : (members : List (Member ProgramValue)) (index : ℕ) (member : Member ProgramValue) → slice_get members index ≡ Some member
     → IsPart (filter_words members) (length (filter_words (take index members))) (words_of member.filter)
 filter_part [] index member there = absurd cc

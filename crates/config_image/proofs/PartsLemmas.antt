@@ -1,4 +1,4 @@
--- Words in parts of a page each, and the names of the pages where the parts stand.
+-- Words in parts of a page each, and the page table entries of the parts.
 use Rattle.std.proofs.Common.{◌≡◌, ◌∙◌, ◌∷◌, ◌*◌, ◌+◌, ◌++◌, ◌-◌, ◌<◌, ◌≤◌, List, Some, [], ap, arith, drop, inl, inr, length, map, refl, subst, suc, take, zero, ℕ}
 use Rattle.std.specs.List.{All, flat_map, slice_get, sum_by}
 use Rattle.std.proofs.lemmas.Bool.{cases_lt}
@@ -10,7 +10,7 @@ use Rattle.std.proofs.lemmas.Option.{get_or_from_slice_get, slice_get_within}
 use Rattle.bpf_verify.specs.Program.{ProgramValue}
 use Rattle.config_image.specs.declared.TheConstants.{PAGE_WORDS}
 use Rattle.config_image.specs.PageTable.{entry_word, page_of}
-use Rattle.config_image.specs.Pooled.{IsCut, joined, page_names, pages_for, parts_from, parts_of}
+use Rattle.config_image.specs.Pooled.{IsCut, joined, page_entries, pages_for, parts_from, parts_of}
 use Rattle.config_image.proofs.PageTableLemmas.{page_told}
 use Rattle.config_image.proofs.WordLemmas.{slice_get-append_add, slice_get-append_left}
 
@@ -150,34 +150,34 @@ word_of_part (first ∷ rest) (suc index) k x part there word =
     let place : size_of (first ∷ take index rest) + k ≡ length first + (size_of (take index rest) + k) = omega arith in
     ap (slice_get (first ++ joined rest)) place ∙ slice_get-append_add first (joined rest) (size_of (take index rest) + k) ∙ word_of_part rest index k x part there word
 
--- ---- the names of parts
+-- ---- the entries of parts
 
-pub length-page_names : (place : ℕ) (parts : List (List ℕ)) (pages : List ℕ) → length pages ≡ length parts → length (page_names place parts pages) ≡ length parts
-length-page_names place [] pages counted = refl
-length-page_names place (part ∷ rest) [] counted = absurd (omega arith)
-length-page_names place (part ∷ rest) (page ∷ pages) counted =
-    let more = length-page_names (place + length part) rest pages (omega arith) in omega arith
+pub length-page_entries : (place : ℕ) (parts : List (List ℕ)) (pages : List ℕ) → length pages ≡ length parts → length (page_entries place parts pages) ≡ length parts
+length-page_entries place [] pages counted = refl
+length-page_entries place (part ∷ rest) [] counted = absurd (omega arith)
+length-page_entries place (part ∷ rest) (page ∷ pages) counted =
+    let more = length-page_entries (place + length part) rest pages (omega arith) in omega arith
 
-pub name_at : (place : ℕ) (parts : List (List ℕ)) (pages : List ℕ) (index page : ℕ) → length pages ≡ length parts → slice_get pages index ≡ Some page
-    → slice_get (page_names place parts pages) index ≡ Some (entry_word (place + size_of (take index parts)) page)
-name_at place [] [] index page counted there = absurd cc
-name_at place [] (first ∷ pages) index page counted there = absurd (omega arith)
-name_at place (part ∷ rest) [] index page counted there = absurd cc
-name_at place (part ∷ rest) (first ∷ pages) zero page counted there =
+pub entry_at : (place : ℕ) (parts : List (List ℕ)) (pages : List ℕ) (index page : ℕ) → length pages ≡ length parts → slice_get pages index ≡ Some page
+    → slice_get (page_entries place parts pages) index ≡ Some (entry_word (place + size_of (take index parts)) page)
+entry_at place [] [] index page counted there = absurd cc
+entry_at place [] (first ∷ pages) index page counted there = absurd (omega arith)
+entry_at place (part ∷ rest) [] index page counted there = absurd cc
+entry_at place (part ∷ rest) (first ∷ pages) zero page counted there =
     let same : first ≡ page = cc in
-    let name : entry_word place first ≡ entry_word (place + 0) page = omega arith in ap (λ (n : ℕ). Some n) name
-name_at place (part ∷ rest) (first ∷ pages) (suc index) page counted there =
+    let entry : entry_word place first ≡ entry_word (place + 0) page = omega arith in ap (λ (n : ℕ). Some n) entry
+entry_at place (part ∷ rest) (first ∷ pages) (suc index) page counted there =
     let sum = sum_by-cons (λ (one : List ℕ). length one) part (take index rest) in
-    let name : entry_word (place + length part + size_of (take index rest)) page ≡ entry_word (place + size_of (part ∷ take index rest)) page = omega arith in
-    name_at (place + length part) rest pages index page (omega arith) there ∙ ap (λ (n : ℕ). Some n) name
+    let entry : entry_word (place + length part + size_of (take index rest)) page ≡ entry_word (place + size_of (part ∷ take index rest)) page = omega arith in
+    entry_at (place + length part) rest pages index page (omega arith) there ∙ ap (λ (n : ℕ). Some n) entry
 
 abbrev pub IsPage : ℕ → Type 0
 IsPage page = page < 65536
 
-pub pages-page_names : (place : ℕ) (parts : List (List ℕ)) (pages : List ℕ) → length pages ≡ length parts → All IsPage pages → map page_of (page_names place parts pages) ≡ pages
-pages-page_names place [] [] counted below = refl
-pages-page_names place [] (page ∷ pages) counted below = absurd (omega arith)
-pages-page_names place (part ∷ rest) [] counted below = refl
-pages-page_names place (part ∷ rest) (page ∷ pages) counted below =
-    ap (λ (n : ℕ). n ∷ map page_of (page_names (place + length part) rest pages)) (page_told place page (All-head IsPage page pages below))
-    ∙ ap (λ (ns : List ℕ). page ∷ ns) (pages-page_names (place + length part) rest pages (omega arith) (All-tail IsPage page pages below))
+pub pages-page_entries : (place : ℕ) (parts : List (List ℕ)) (pages : List ℕ) → length pages ≡ length parts → All IsPage pages → map page_of (page_entries place parts pages) ≡ pages
+pages-page_entries place [] [] counted below = refl
+pages-page_entries place [] (page ∷ pages) counted below = absurd (omega arith)
+pages-page_entries place (part ∷ rest) [] counted below = refl
+pages-page_entries place (part ∷ rest) (page ∷ pages) counted below =
+    ap (λ (n : ℕ). n ∷ map page_of (page_entries (place + length part) rest pages)) (page_told place page (All-head IsPage page pages below))
+    ∙ ap (λ (ns : List ℕ). page ∷ ns) (pages-page_entries (place + length part) rest pages (omega arith) (All-tail IsPage page pages below))

@@ -6,17 +6,17 @@ use Rattle.std.proofs.lemmas.List.Elements.{All-cons, All-nil}
 use Rattle.config_image.specs.declared.TheConstants.{ROW_WORDS}
 use Rattle.config_image.specs.Image.{Group, image, programs_begin}
 use Rattle.config_image.specs.PageTable.{entry_word, page_of, start_of}
-use Rattle.config_image.specs.Pooled.{IsPooledForm, form_word, page_names, pages_for, pages_of, parts, parts_of, pooled_row}
+use Rattle.config_image.specs.Pooled.{IsPooledForm, form_word, page_entries, pages_for, pages_of, parts, parts_of, pooled_row}
 
 -- the words of a row before its zeros
 abbrev written : List Group → List ℕ → List ℕ
-written config pages = form_word config ∷ (drop 1 (take (programs_begin config) (image config)) ++ page_names (programs_begin config) (parts config) pages)
+written config pages = form_word config ∷ (drop 1 (take (programs_begin config) (image config)) ++ page_entries (programs_begin config) (parts config) pages)
 
 first_words : (config : List Group) (pages : List ℕ) (n : ℕ) → n ≤ ROW_WORDS → n ≤ length (written config pages) → take n (pooled_row config pages) ≡ take n (written config pages)
 unfolding pooled_row
 first_words config pages n fits inside = take-take n ROW_WORDS (written config pages ++ replicate ROW_WORDS 0) fits ∙ take-append-le n (written config pages) (replicate ROW_WORDS 0) inside
 
--- the name of the part that starts at image place 8191, in page 32767
+-- the entry of the part that starts at image place 8191, in page 32767
 packed_entry : entry_word 8191 32767 ≡ 0x1fff7fff
 packed_entry = refl
 
@@ -87,5 +87,5 @@ no_part : pages_for 0 ≡ 0
 no_part = refl
 
 -- the second of two parts begins 16 words behind the first
-two_names : page_names 6 (parts_of (replicate 17 7)) (5 ∷ 9 ∷ []) ≡ 0x60005 ∷ 0x160009 ∷ []
-two_names = refl
+two_entries : page_entries 6 (parts_of (replicate 17 7)) (5 ∷ 9 ∷ []) ≡ 0x60005 ∷ 0x160009 ∷ []
+two_entries = refl

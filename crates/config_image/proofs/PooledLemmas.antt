@@ -15,11 +15,11 @@ use Rattle.member_group.specs.Group.{IsConfig}
 use Rattle.config_image.specs.declared.TheConstants.{PAGE_LIMIT, ROW_WORDS}
 use Rattle.config_image.specs.Image.{Group, filter_words, group_program_words, image, program_words, programs_begin, words_of}
 use Rattle.config_image.specs.PageTable.{entry_word, header_begin, header_count, header_len, page_of}
-use Rattle.config_image.specs.Pooled.{ArePages, PartsStand, PooledRowTells, RowTellsItsParts, RowTellsItsPartsWithRoom, form_word, joined, page_names, pages_for, pages_of, part_begin, parts, parts_of, pooled_row}
+use Rattle.config_image.specs.Pooled.{ArePages, PartsStand, PooledRowTells, RowTellsItsParts, RowTellsItsPartsWithRoom, form_word, joined, page_entries, pages_for, pages_of, part_begin, parts, parts_of, pooled_row}
 use Rattle.config_image.proofs.ImageLemmas.{before_programs, image-before_programs, length-before_programs}
 use Rattle.config_image.proofs.LengthLemmas.{length_image, members_of-cons, within_charge}
 use Rattle.config_image.proofs.PageTableLemmas.{header_parts}
-use Rattle.config_image.proofs.PartsLemmas.{IsSized, at_least_one, joined-parts_of_all, length-joined, length-page_names, length-parts_of, name_at, pages-page_names, pages_covered, parts_of_all, parts_of_all-sized, part_at, size_before_next, size_of, sized_part, word_of_part, words_of_all}
+use Rattle.config_image.proofs.PartsLemmas.{IsSized, at_least_one, joined-parts_of_all, length-joined, length-page_entries, length-parts_of, entry_at, pages-page_entries, pages_covered, parts_of_all, parts_of_all-sized, part_at, size_before_next, size_of, sized_part, word_of_part, words_of_all}
 use Rattle.config_image.proofs.WordLemmas.{from_item, slice_get-append_add, slice_get-append_left, slice_get-append_right}
 
 -- ---- the parts are the words of the programs
@@ -265,34 +265,34 @@ module _ (config : List Group) where
       omega arith
 
 module _ (config : List Group) (pages : List ℕ) (image_short : length (image config) ≤ ROW_WORDS) (are : ArePages config pages) where
-  abbrev names : List ℕ
-  names = page_names (programs_begin config) (parts config) pages
+  abbrev entries : List ℕ
+  entries = page_entries (programs_begin config) (parts config) pages
 
-  length-names : length names ≡ length (parts config)
-  length-names = length-page_names (programs_begin config) (parts config) pages are.counted
+  length-entries : length entries ≡ length (parts config)
+  length-entries = length-page_entries (programs_begin config) (parts config) pages are.counted
 
-  length-written : length (front config ++ names) ≡ programs_begin config + length (parts config)
-  length-written = let all = length-append (front config) names in let first = length-front config in let rest = length-names in omega arith
+  length-written : length (front config ++ entries) ≡ programs_begin config + length (parts config)
+  length-written = let all = length-append (front config) entries in let first = length-front config in let rest = length-entries in omega arith
 
-  row-padded : pooled_row config pages ≡ (front config ++ names) ++ replicate (ROW_WORDS - length (front config ++ names)) 0
+  row-padded : pooled_row config pages ≡ (front config ++ entries) ++ replicate (ROW_WORDS - length (front config ++ entries)) 0
   unfolding pooled_row
   row-padded =
       let written = length-written in let inside = parts_inside config in
-      padded (front config ++ names) ROW_WORDS (omega arith)
+      padded (front config ++ entries) ROW_WORDS (omega arith)
 
   abbrev zeros_behind : List ℕ
-  zeros_behind = replicate (ROW_WORDS - length (front config ++ names)) 0
+  zeros_behind = replicate (ROW_WORDS - length (front config ++ entries)) 0
 
-  word_written : (i : ℕ) → i < programs_begin config + length (parts config) → slice_get (pooled_row config pages) i ≡ slice_get (front config ++ names) i
+  word_written : (i : ℕ) → i < programs_begin config + length (parts config) → slice_get (pooled_row config pages) i ≡ slice_get (front config ++ entries) i
   word_written i inside =
       let written = length-written in
-      ap (λ (ws : List ℕ). slice_get ws i) row-padded ∙ slice_get-append_left (front config ++ names) zeros_behind i (omega arith)
+      ap (λ (ws : List ℕ). slice_get ws i) row-padded ∙ slice_get-append_left (front config ++ entries) zeros_behind i (omega arith)
 
   row-whole : length (pooled_row config pages) ≡ ROW_WORDS
   row-whole =
       let written = length-written in let inside = parts_inside config in
-      let zeros = length-replicate {A = ℕ} (ROW_WORDS - length (front config ++ names)) 0 in
-      ap length row-padded ∙ length-append (front config ++ names) zeros_behind ∙ omega arith
+      let zeros = length-replicate {A = ℕ} (ROW_WORDS - length (front config ++ entries)) 0 in
+      ap length row-padded ∙ length-append (front config ++ entries) zeros_behind ∙ omega arith
 
   row-form : slice_get (pooled_row config pages) 0 ≡ Some (form_word config)
   row-form = ap (λ (ws : List ℕ). slice_get ws 0) row-padded
@@ -300,29 +300,29 @@ module _ (config : List Group) (pages : List ℕ) (image_short : length (image c
   row-image : (i : ℕ) → 0 < i → i < programs_begin config → slice_get (pooled_row config pages) i ≡ slice_get (image config) i
   row-image i behind before =
       let size = length-front config in
-      word_written i (omega arith) ∙ slice_get-append_left (front config) names i (omega arith) ∙ word_of_front config i behind before
+      word_written i (omega arith) ∙ slice_get-append_left (front config) entries i (omega arith) ∙ word_of_front config i behind before
 
-  row-name : (index page : ℕ) → slice_get pages index ≡ Some page
+  row-entry : (index page : ℕ) → slice_get pages index ≡ Some page
       → slice_get (pooled_row config pages) (programs_begin config + index) ≡ Some (entry_word (part_begin config index) page)
-  row-name index page there =
+  row-entry index page there =
       let inside = slice_get_within pages index page there in
       let counted = are.counted in
       let size = length-front config in
       let place : programs_begin config + index ≡ length (front config) + index = omega arith in
       word_written (programs_begin config + index) (omega arith)
-      ∙ ap (slice_get (front config ++ names)) place
-      ∙ slice_get-append_add (front config) names index
-      ∙ name_at (programs_begin config) (parts config) pages index page counted there
+      ∙ ap (slice_get (front config ++ entries)) place
+      ∙ slice_get-append_add (front config) entries index
+      ∙ entry_at (programs_begin config) (parts config) pages index page counted there
 
   row-zero : (i : ℕ) → programs_begin config + length (parts config) ≤ i → i < ROW_WORDS → slice_get (pooled_row config pages) i ≡ Some 0
   row-zero i behind inside =
       let written = length-written in
-      let zeros = ROW_WORDS - length (front config ++ names) in
-      let place = i - length (front config ++ names) in
+      let zeros = ROW_WORDS - length (front config ++ entries) in
+      let place = i - length (front config ++ entries) in
       let below : place < zeros = omega arith in
       let count = length-replicate {A = ℕ} zeros 0 in
       ap (λ (ws : List ℕ). slice_get ws i) row-padded
-      ∙ slice_get-append_right (front config ++ names) zeros_behind i (omega arith)
+      ∙ slice_get-append_right (front config ++ entries) zeros_behind i (omega arith)
       ∙ slice_get-get_or zeros_behind place 0 (omega arith)
       ∙ ap (λ (n : ℕ). Some n) (get_or-replicate zeros place 0 0 below)
 
@@ -338,14 +338,14 @@ module _ (config : List Group) (pages : List ℕ) (image_short : length (image c
   row-pages =
       let first : slice_index (pooled_row config pages) 0 ≡ form_word config = get_or_from_slice_get (pooled_row config pages) 0 (form_word config) 0 row-form in
       let begin : header_begin (slice_index (pooled_row config pages) 0) ≡ length (front config) = ap header_begin first ∙ form_cut.1 ∙ sym (length-front config) in
-      let count : header_count (slice_index (pooled_row config pages) 0) ≡ length names = ap header_count first ∙ form_cut.2 ∙ sym length-names in
-      let split : pooled_row config pages ≡ front config ++ (names ++ zeros_behind) = row-padded ∙ append_assoc (front config) names zeros_behind in
-      let behind : drop (length (front config)) (pooled_row config pages) ≡ names ++ zeros_behind = ap (drop (length (front config))) split ∙ drop-append_seam (front config) (names ++ zeros_behind) in
-      let named : take (length names) (drop (length (front config)) (pooled_row config pages)) ≡ names = ap (take (length names)) behind ∙ take-append_seam names zeros_behind in
+      let count : header_count (slice_index (pooled_row config pages) 0) ≡ length entries = ap header_count first ∙ form_cut.2 ∙ sym length-entries in
+      let split : pooled_row config pages ≡ front config ++ (entries ++ zeros_behind) = row-padded ∙ append_assoc (front config) entries zeros_behind in
+      let behind : drop (length (front config)) (pooled_row config pages) ≡ entries ++ zeros_behind = ap (drop (length (front config))) split ∙ drop-append_seam (front config) (entries ++ zeros_behind) in
+      let named : take (length entries) (drop (length (front config)) (pooled_row config pages)) ≡ entries = ap (take (length entries)) behind ∙ take-append_seam entries zeros_behind in
       ap (λ (n : ℕ). map page_of (take n (drop (header_begin (slice_index (pooled_row config pages) 0)) (pooled_row config pages)))) count
-      ∙ ap (λ (n : ℕ). map page_of (take (length names) (drop n (pooled_row config pages)))) begin
+      ∙ ap (λ (n : ℕ). map page_of (take (length entries) (drop n (pooled_row config pages)))) begin
       ∙ ap (map page_of) named
-      ∙ pages-page_names (programs_begin config) (parts config) pages are.counted are.below
+      ∙ pages-page_entries (programs_begin config) (parts config) pages are.counted are.below
 
   told : PooledRowTells config pages
   told = record {
@@ -358,7 +358,7 @@ module _ (config : List Group) (pages : List ℕ) (image_short : length (image c
     few = few;
     inside = parts_inside config;
     image_words = row-image;
-    names = row-name;
+    entries = row-entry;
     zeros = row-zero;
     pages_are = row-pages;
     parts_stand = parts_stand config;

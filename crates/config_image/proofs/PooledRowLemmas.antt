@@ -8,13 +8,13 @@ use Rattle.std.proofs.lemmas.List.{get_or-append-add, get_or-replicate, get_or-t
 use Rattle.config_image.specs.declared.TheConstants.{ROW_WORDS}
 use Rattle.config_image.specs.Image.{Group, all_member_records, group_records, image, members_begin, program_words, programs_begin}
 use Rattle.config_image.specs.PageTable.{entry_word}
-use Rattle.config_image.specs.Pooled.{form_word, page_names, parts, parts_of, pooled_row}
+use Rattle.config_image.specs.Pooled.{form_word, page_entries, parts, parts_of, pooled_row}
 use Rattle.config_image.specs.Walk.{words_of_programs}
 use Rattle.config_image.proofs.ImageLemmas.{before_programs, image-before_programs, length-before_programs}
 use Rattle.config_image.proofs.LengthLemmas.{length-all_member_records, length-group_records}
 use Rattle.config_image.proofs.ProgramLemmas.{parts-by_words}
-use Rattle.config_image.proofs.NameLemmas.{name_of_part}
-use Rattle.config_image.proofs.PartsLemmas.{length-page_names, size_of}
+use Rattle.config_image.proofs.EntryLemmas.{entry_of_part}
+use Rattle.config_image.proofs.PartsLemmas.{length-page_entries, size_of}
 
 get_or-zeros : (n i : ℕ) → get_or {A = ℕ} (replicate n 0) i 0 ≡ 0
 get_or-zeros n i = elim (cases_lt i n) [
@@ -23,15 +23,15 @@ get_or-zeros n i = elim (cases_lt i n) [
 ]
 
 module _ (config : List Group) (pages : List ℕ) where
-  abbrev names : List ℕ
-  names = page_names (programs_begin config) (parts config) pages
+  abbrev entries : List ℕ
+  entries = page_entries (programs_begin config) (parts config) pages
 
   abbrev head : List ℕ
   head = form_word config ∷ drop 1 (before_programs config)
 
   -- the words that are not the row's last zeros
   abbrev pub front : List ℕ
-  front = head ++ names
+  front = head ++ entries
 
   before : take (programs_begin config) (image config) ≡ before_programs config
   before =
@@ -41,7 +41,7 @@ module _ (config : List Group) (pages : List ℕ) where
 
   row-front : pooled_row config pages ≡ take ROW_WORDS (front ++ replicate ROW_WORDS 0)
   unfolding pooled_row
-  row-front = ap (λ (ws : List ℕ). take ROW_WORDS (form_word config ∷ (drop 1 ws ++ names ++ replicate ROW_WORDS 0))) before
+  row-front = ap (λ (ws : List ℕ). take ROW_WORDS (form_word config ∷ (drop 1 ws ++ entries ++ replicate ROW_WORDS 0))) before
 
   length-head : length head ≡ programs_begin config
   length-head = length-before_programs config
@@ -49,8 +49,8 @@ module _ (config : List Group) (pages : List ℕ) where
   pub length-front : length pages ≡ length (parts config) → length front ≡ programs_begin config + length (parts config)
   length-front counted =
       let first = length-head in
-      let last = length-page_names (programs_begin config) (parts config) pages counted in
-      let both = length-append head names in omega arith
+      let last = length-page_entries (programs_begin config) (parts config) pages counted in
+      let both = length-append head entries in omega arith
 
   word_of_row : (i : ℕ) → i < ROW_WORDS → get_or (pooled_row config pages) i 0 ≡ get_or (front ++ replicate ROW_WORDS 0) i 0
   word_of_row i inside = ap (λ (ws : List ℕ). get_or ws i 0) row-front ∙ get_or-take ROW_WORDS (front ++ replicate ROW_WORDS 0) i 0 inside
@@ -69,18 +69,18 @@ module _ (config : List Group) (pages : List ℕ) where
   pub record_of_row : (i : ℕ) → 0 < i → i < programs_begin config → i < ROW_WORDS → get_or (pooled_row config pages) i 0 ≡ get_or (image config) i 0
   record_of_row i behind in_head inside =
       let size = length-head in
-      let both = length-append head names in
+      let both = length-append head entries in
       let whole = length-before_programs config in
-      word_of_front i inside (omega arith) ∙ get_or-append head names 0 i (omega arith) ∙ behind_first (form_word config) (before_programs config) i behind
+      word_of_front i inside (omega arith) ∙ get_or-append head entries 0 i (omega arith) ∙ behind_first (form_word config) (before_programs config) i behind
       ∙ sym (get_or-append (before_programs config) (program_words config) 0 i (omega arith)) ∙ ap (λ (ws : List ℕ). get_or ws i 0) (sym (image-before_programs config))
 
-  pub name_of_row : (k : ℕ) → length pages ≡ length (parts config) → k < length (parts config) → programs_begin config + k < ROW_WORDS
+  pub entry_of_row : (k : ℕ) → length pages ≡ length (parts config) → k < length (parts config) → programs_begin config + k < ROW_WORDS
       → get_or (pooled_row config pages) (programs_begin config + k) 0 ≡ entry_word (programs_begin config + size_of (take k (parts config))) (get_or pages k 0)
-  name_of_row k counted is_part inside =
+  entry_of_row k counted is_part inside =
       let size = length-front counted in
       word_of_front (programs_begin config + k) inside (omega arith)
-      ∙ ap (λ (n : ℕ). get_or front (n + k) 0) (sym length-head) ∙ get_or-append-add head names k 0
-      ∙ name_of_part (programs_begin config) (parts config) pages k counted is_part
+      ∙ ap (λ (n : ℕ). get_or front (n + k) 0) (sym length-head) ∙ get_or-append-add head entries k 0
+      ∙ entry_of_part (programs_begin config) (parts config) pages k counted is_part
 
   pub zero_of_row : (i : ℕ) → length pages ≡ length (parts config) → programs_begin config + length (parts config) ≤ i → i < ROW_WORDS → get_or (pooled_row config pages) i 0 ≡ 0
   zero_of_row i counted past inside =
@@ -112,28 +112,28 @@ module _ (config : List Group) (pages : List ℕ) where
   abbrev first_words : List ℕ
   first_words = form_word config ∷ length config ∷ []
 
-  abbrev names_by_words : List ℕ
-  names_by_words = page_names (programs_begin config) (flat_map parts_of (words_of_programs config)) pages
+  abbrev entries_by_words : List ℕ
+  entries_by_words = page_entries (programs_begin config) (flat_map parts_of (words_of_programs config)) pages
 
   pub row_written : (t0 t1 t2 t3 t4 : List ℕ) → length pages ≡ length (parts config) → programs_begin config + length (parts config) ≤ ROW_WORDS
-      → t1 ≡ t0 ++ first_words → t2 ≡ t1 ++ records → t3 ≡ t2 ++ members → t4 ≡ t3 ++ names_by_words
+      → t1 ≡ t0 ++ first_words → t2 ≡ t1 ++ records → t3 ≡ t2 ++ members → t4 ≡ t3 ++ entries_by_words
       → t4 ≡ t0 ++ take (programs_begin config + length (parts config)) (pooled_row config pages)
   row_written t0 t1 t2 t3 t4 counted fits first second third fourth =
-      fourth ∙ ap (λ (all : List (List ℕ)). t3 ++ page_names (programs_begin config) all pages) (sym (parts-by_words config))
-      ∙ ap (λ (ws : List ℕ). ws ++ names)
+      fourth ∙ ap (λ (all : List (List ℕ)). t3 ++ page_entries (programs_begin config) all pages) (sym (parts-by_words config))
+      ∙ ap (λ (ws : List ℕ). ws ++ entries)
       (third ∙ ap (λ (ws : List ℕ). ws ++ members) (second ∙ ap (λ (ws : List ℕ). ws ++ records) first)
       ∙ append_assoc (t0 ++ first_words) records members ∙ append_assoc t0 first_words (records ++ members))
-      ∙ append_assoc t0 (first_words ++ (records ++ members)) names
+      ∙ append_assoc t0 (first_words ++ (records ++ members)) entries
       ∙ ap (λ (ws : List ℕ). t0 ++ ws) (sym (front_of_row counted fits))
 
-  -- the name at a place of the row, by the walk over the programs
-  pub named_word : (walk : List (List ℕ)) (i at part place : ℕ) → length pages ≡ length (parts config) → walk ≡ words_of_programs config → at ≡ programs_begin config
+  -- the entry at a place of the row, by the walk over the programs
+  pub entry_word_at : (walk : List (List ℕ)) (i at part place : ℕ) → length pages ≡ length (parts config) → walk ≡ words_of_programs config → at ≡ programs_begin config
       → part + at ≡ i → part < length pages → i < ROW_WORDS → place ≡ at + size_of (take part (flat_map parts_of walk))
       → entry_word place (get_or pages part 0) ≡ get_or (pooled_row config pages) i 0
-  named_word walk i at part place counted walked begins stands inside in_row ends =
+  entry_word_at walk i at part place counted walked begins stands inside in_row ends =
       let all : flat_map parts_of walk ≡ parts config = ap (λ (some : List (List ℕ)). flat_map parts_of some) walked ∙ sym (parts-by_words config) in
       let before_it = ap (λ (some : List (List ℕ)). size_of (take part some)) all in
       let begin : place ≡ programs_begin config + size_of (take part (parts config)) = omega arith in
       let same : programs_begin config + part ≡ i = omega arith in
       ap (λ (n : ℕ). entry_word n (get_or pages part 0)) begin
-      ∙ sym (name_of_row part counted (omega arith) (omega arith)) ∙ ap (λ (n : ℕ). get_or (pooled_row config pages) n 0) same
+      ∙ sym (entry_of_row part counted (omega arith) (omega arith)) ∙ ap (λ (n : ℕ). get_or (pooled_row config pages) n 0) same

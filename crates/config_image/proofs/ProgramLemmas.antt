@@ -16,7 +16,7 @@ use Rattle.config_image.specs.Image.{Group, filter_words, group_program_words, i
 use Rattle.config_image.specs.Pooled.{parts, parts_of}
 use Rattle.config_image.specs.Walk.{words_of_programs}
 use Rattle.config_image.proofs.LengthLemmas.{length_image, members_limited}
-use Rattle.config_image.proofs.NameLemmas.{no_more_parts_than_words, size_of-append, size_of-cons}
+use Rattle.config_image.proofs.EntryLemmas.{no_more_parts_than_words, size_of-append, size_of-cons}
 use Rattle.config_image.proofs.PartsLemmas.{size_of}
 
 abbrev words_of_program : ProgramValue → List ℕ
@@ -70,9 +70,9 @@ words_of_image (group ∷ rest) =
 pub length-by_words : (config : List Group) → length (image config) ≡ programs_begin config + size_of (words_of_programs config)
 length-by_words config = let size = length_image config in let words = words_of_image config in omega arith
 
--- the names of all parts have room where the programs' words are
-pub names_fit : (config : List Group) → programs_begin config + length (parts config) ≤ length (image config)
-names_fit config =
+-- the entries of all parts have room where the programs' words are
+pub entries_fit : (config : List Group) → programs_begin config + length (parts config) ≤ length (image config)
+entries_fit config =
     let size = length-by_words config in
     let few = no_more_parts_than_words (words_of_programs config) in
     let same = ap (λ (all : List (List ℕ)). length all) (parts-by_words config) in omega arith

@@ -38,7 +38,7 @@ digits_halved (suc most) (suc number) half below some halved =
     let fewer = digits_least (suc most) half (digits most (suc number / 2)) (omega arith) in
     omega arith
 
--- ---- the names that a search asks for
+-- ---- the entries that a search asks for
 
 pub reads_least : (search : Search) (n : ℕ) → unread search < 2 ^ n → reads_left search ≤ n
 unfolding reads_left

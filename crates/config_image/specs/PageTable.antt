@@ -19,7 +19,7 @@ abbrev pub entry_word : ℕ → ℕ → ℕ
 entry_word start page = start * 65536 + page
 
 abbrev pub start_of : ℕ → ℕ
-start_of name = name / 65536
+start_of entry = entry / 65536
 
 abbrev pub page_of : ℕ → ℕ
-page_of name = name % 65536
+page_of entry = entry % 65536

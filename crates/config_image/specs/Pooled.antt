@@ -1,6 +1,6 @@
 -- The words in which the table stores a configuration when programs stand in pages of a pool (docs/SWITCH.md, "The pooled form").
--- A row has a first word of its own, then what the image has before its programs, and in place of the programs the names of the
--- pages where their words stand.
+-- A row has a first word of its own, then what the image has before its programs, and in place of the programs a page table:
+-- an entry for each part of the programs' words, with its page.
 use Rattle.std.specs.Prelude.{◌≡◌, ◌*◌, ◌+◌, ◌-◌, ◌/◌, ◌<◌, ◌≤◌, ◌++◌, ◌∷◌, List, Some, [], drop, flat_map, length, map, replicate, slice_get, slice_index, suc, take, zero, ℕ}
 use Rattle.std.specs.List.{All, sum_by}
 use Rattle.bpf_verify.specs.Program.{ProgramValue}
@@ -28,24 +28,24 @@ parts_of words = parts_from (pages_for (length words)) words
 abbrev pub parts : List Group → List (List ℕ)
 parts config = flat_map (λ (program : ProgramValue). parts_of program.words) (programs_of config)
 
--- the names of parts that stand in these pages; the first part begins at this place
-abbrev pub page_names : ℕ → List (List ℕ) → List ℕ → List ℕ
-page_names place [] pages = []
-page_names place (part ∷ rest) [] = []
-page_names place (part ∷ rest) (page ∷ pages) = entry_word place page ∷ page_names (place + length part) rest pages
+-- the page table entries of parts that are in these pages; the first part begins at this place
+abbrev pub page_entries : ℕ → List (List ℕ) → List ℕ → List ℕ
+page_entries place [] pages = []
+page_entries place (part ∷ rest) [] = []
+page_entries place (part ∷ rest) (page ∷ pages) = entry_word place page ∷ page_entries (place + length part) rest pages
 
 -- the first word of a row: the image's length, where its programs begin, and how many parts there are
 abbrev pub form_word : List Group → ℕ
 form_word config = header_word (length (image config)) (programs_begin config) (length (parts config))
 
--- the row of a configuration whose parts stand in these pages: the first word, the image's words before the programs, the names,
+-- the row of a configuration whose parts stand in these pages: the first word, the image's words before the programs, the entries,
 -- and then zeros
 unfoldable pub pooled_row : List Group → List ℕ → List ℕ
 pooled_row config pages =
     take ROW_WORDS (form_word config ∷ (drop 1 (take (programs_begin config) (image config))
-    ++ page_names (programs_begin config) (parts config) pages ++ replicate ROW_WORDS 0))
+    ++ page_entries (programs_begin config) (parts config) pages ++ replicate ROW_WORDS 0))
 
--- the pages that the words of a row name, in the order of the names
+-- the pages that the words of a row name, in the order of the entries
 abbrev pub pages_of : List ℕ → List ℕ
 pages_of words =
     map page_of (take (header_count (slice_index words 0)) (drop (header_begin (slice_index words 0)) words))
@@ -109,7 +109,7 @@ pub record PooledRowTells (config : List Group) (pages : List ℕ) : Type 0 wher
   pub few : length (parts config) ≤ PAGE_LIMIT
   pub inside : programs_begin config + length (parts config) ≤ length (image config)
   pub image_words : (i : ℕ) → 0 < i → i < programs_begin config → slice_get (pooled_row config pages) i ≡ slice_get (image config) i
-  pub names : (index page : ℕ) → slice_get pages index ≡ Some page
+  pub entries : (index page : ℕ) → slice_get pages index ≡ Some page
       → slice_get (pooled_row config pages) (programs_begin config + index) ≡ Some (entry_word (part_begin config index) page)
   pub zeros : (i : ℕ) → programs_begin config + length (parts config) ≤ i → i < ROW_WORDS → slice_get (pooled_row config pages) i ≡ Some 0
   pub pages_are : pages_of (pooled_row config pages) ≡ pages

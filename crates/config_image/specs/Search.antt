@@ -8,34 +8,34 @@ use Rattle.config_image.specs.PageTable.{entry_word, start_of}
 
 -- a place is not before the first part, and before the end of the last
 abbrev pub IsWithin : List ℕ → ℕ → ℕ → Type 0
-IsWithin names end place = (first : ℕ) × (slice_get names 0 ≡ Some first) × (start_of first ≤ place) × (place < end)
+IsWithin entries end place = (first : ℕ) × (slice_get entries 0 ≡ Some first) × (start_of first ≤ place) × (place < end)
 
 -- a part holds a place: it starts there or before, and what is behind it starts later: the next part, or the end
-pub record HoldsPlace (names : List ℕ) (end place : ℕ) (part : FoundPart) : Type 0 where
-  pub named : slice_get names part.index ≡ Some part.name.0
-  pub from : start_of part.name.0 ≤ place
+pub record HoldsPlace (entries : List ℕ) (end place : ℕ) (part : FoundPart) : Type 0 where
+  pub named : slice_get entries part.index ≡ Some part.entry.0
+  pub from : start_of part.entry.0 ≤ place
   pub to : place < start_of part.next.0
-  pub next : (name : ℕ) → slice_get names (part.index + 1) ≡ Some name → part.next.0 ≡ name
-  pub last : part.index + 1 ≡ length names → part.next.0 ≡ entry_word end 0
+  pub next : (entry : ℕ) → slice_get entries (part.index + 1) ≡ Some entry → part.next.0 ≡ entry
+  pub last : part.index + 1 ≡ length entries → part.next.0 ≡ entry_word end 0
 
 -- the starts rise
 abbrev pub StartsRise : List ℕ → Type 0
-StartsRise names = AllPairs (λ name later. start_of name < start_of later) names
+StartsRise entries = AllPairs (λ entry later. start_of entry < start_of later) entries
 
 -- where the starts rise, one part at most holds a place
 abbrev pub OnePartHolds : Type 0
 OnePartHolds =
-    (names : List ℕ) (end place : ℕ) (part other : FoundPart) → StartsRise names → HoldsPlace names end place part → HoldsPlace names end place other
+    (entries : List ℕ) (end place : ℕ) (part other : FoundPart) → StartsRise entries → HoldsPlace entries end place part → HoldsPlace entries end place other
     → part ≡ other
 
--- the indexes of the names that the search may still ask for, and how many there are
+-- the indexes of the entries that the search may still ask for, and how many there are
 abbrev pub IsOpen : Search → ℕ → Type 0
 IsOpen search index = (search.low ≤ index) × (index < search.high)
 
 abbrev pub unread : Search → ℕ
 unread search = search.high - search.low
 
--- the index of the name that the search asks for, the middle one of these
+-- the index of the entry that the search asks for, the middle one of these
 abbrev pub asked : Search → ℕ
 asked search = search.low + (search.high - search.low) / 2
 
@@ -45,19 +45,19 @@ digits zero number = 0
 digits (suc most) zero = 0
 digits (suc most) (suc number) = suc (digits most (suc number / 2))
 
--- how many names the search still asks for at most: each name that it is told halves those that are left
+-- how many entries the search still asks for at most: each entry that it is given halves those that are left
 unfoldable pub reads_left : Search → ℕ
 reads_left search = digits READ_LIMIT (unread search)
 
--- the search was told names of this list, and looks for the part that holds the place: the name before `low` starts at the place
--- or before it, the name at `high`, or behind all names the end, starts later
-pub record IsSearchOf (names : List ℕ) (end place : ℕ) (search : Search) : Type 0 where
-  pub within : IsWithin names end place
+-- the search was given entries of this list, and looks for the part that holds the place: the entry before `low` starts at the place
+-- or before it; the entry at `high`, or after the last one the end, starts later
+pub record IsSearchOf (entries : List ℕ) (end place : ℕ) (search : Search) : Type 0 where
+  pub within : IsWithin entries end place
   pub greatest : search.greatest ≡ entry_word place 0xffff
-  pub inside : search.high ≤ length names
+  pub inside : search.high ≤ length entries
   pub not_none : 0 < search.high
-  pub named : 0 < search.low → slice_get names (search.low - 1) ≡ Some search.name
-  pub from : 0 < search.low → start_of search.name ≤ place
+  pub named : 0 < search.low → slice_get entries (search.low - 1) ≡ Some search.entry
+  pub from : 0 < search.low → start_of search.entry ≤ place
   pub to : place < start_of search.next
-  pub next : (name : ℕ) → slice_get names search.high ≡ Some name → search.next ≡ name
-  pub last : search.high ≡ length names → search.next ≡ entry_word end 0
+  pub next : (entry : ℕ) → slice_get entries search.high ≡ Some entry → search.next ≡ entry
+  pub last : search.high ≡ length entries → search.next ≡ entry_word end 0

@@ -6,7 +6,7 @@ ghost use Rattle.std.specs.List.{sum_by};
 ghost use Rattle.member_group.specs.Charge.{charge_of};
 ghost use Rattle.member_group.specs.Group.{IsConfig};
 ghost use Rattle.config_image.specs.Image.{members_begin, programs_begin};
-ghost use Rattle.config_image.specs.Pooled.{ArePages, form_word, page_names, pages_for, parts, parts_of, pooled_row};
+ghost use Rattle.config_image.specs.Pooled.{ArePages, form_word, page_entries, pages_for, parts, parts_of, pooled_row};
 
 use crate::pages::{PageEntry, RowHeader, pages_for};
 use crate::size::{members_in, words_in};
@@ -82,8 +82,8 @@ pub fn stored_word<A: Allocator>(config: &Config<A>, pages: &[u32], i: usize) ->
     stored(config.groups(), pages, i)
 }
 
-// Puts the names of one program's parts, the first of which begins at `place`, and gives the pages that are left.
-fn write_program_names<'a, S: WordSink>(
+// Puts the page table entries of one program's parts, the first of which begins at `place`, and returns the pages that are left.
+fn write_program_entries<'a, S: WordSink>(
     words: &[u64],
     place: usize,
     pages: &'a [u32],
@@ -93,7 +93,7 @@ fn write_program_names<'a, S: WordSink>(
     requires limited { place + length words.now ≤ PLACE_LIMIT }
     requires room { pages_for (length words.now) ≤ S.room sink.old }
     ensures left { result.now ≡ drop (pages_for (length words.now)) pages.now }
-    ensures taken { S.taken sink.new ≡ S.taken sink.old ++ page_names place (parts_of words.now) pages.now }
+    ensures taken { S.taken sink.new ≡ S.taken sink.old ++ page_entries place (parts_of words.now) pages.now }
     ensures room { S.room sink.new + pages_for (length words.now) ≡ S.room sink.old }
 {
     let (own, left) = pages.split_at(pages_for(words.len()));
@@ -105,7 +105,7 @@ fn write_program_names<'a, S: WordSink>(
     left
 }
 
-fn write_names<A: Allocator, S: WordSink>(
+fn write_entries<A: Allocator, S: WordSink>(
     programs: Programs<'_, A>,
     programs_at: usize,
     pages: &[u32],
@@ -114,13 +114,13 @@ fn write_names<A: Allocator, S: WordSink>(
     requires pages { length pages.now ≡ length (flat_map parts_of programs) }
     requires limited { programs_at + sum_by (λ (words : List ℕ). length words) programs ≤ PLACE_LIMIT }
     requires room { length pages.now ≤ S.room sink.old }
-    ensures taken { S.taken sink.new ≡ S.taken sink.old ++ page_names programs_at (flat_map parts_of programs.entry) pages.now }
+    ensures taken { S.taken sink.new ≡ S.taken sink.old ++ page_entries programs_at (flat_map parts_of programs.entry) pages.now }
     ensures room { S.room sink.new + length pages.now ≡ S.room sink.old }
 {
     let mut left = pages;
     let mut place = programs_at;
     for words in programs {
-        left = write_program_names(words, place, left, sink);
+        left = write_program_entries(words, place, left, sink);
         place += words.len();
     }
 }
@@ -139,11 +139,11 @@ fn write_row<A: Allocator, S: WordSink>(groups: &[Group<A>], pages: &[u32], sink
     write_words(&[first, groups.len() as u64], sink);
     write_group_records(groups, members_at, programs_at, sink);
     write_members(groups, programs_at, sink);
-    write_names(Programs::of_groups(groups), programs_at, pages, sink);
+    write_entries(Programs::of_groups(groups), programs_at, pages, sink);
 }
 
-/// Puts the words of a row that are not its last zeros into a sink, each once and in order: where the parts of a configuration
-/// stand in these pages, all words before the programs and a name for each part.
+/// Puts the words of a row that are not its last zeros into a sink, each once and in order: all words before the programs, and a page
+/// table entry for each part of a configuration whose parts are in these pages.
 ///
 /// It takes time for each of these words, each group and each member.
 pub fn write_pooled<A: Allocator, S: WordSink>(config: &Config<A>, pages: &[u32], sink: &mut S)

@@ -1,4 +1,4 @@
--- What stands behind a binding, and behind words that were written.
+-- What code keeps when a label is bound, and when words are appended.
 use Rattle.std.proofs.Common.{◌≡◌, ◌+◌, ◌++◌, ◌∷◌, ◌<◌, ◌≤◌, List, Some, [], ap, arith, length, length-append, refl, subst, suc, sym, zero, ℕ, ⊎_elim}
 use Rattle.std.specs.Prelude.{Contains, slice_get}
 use Rattle.std.proofs.lemmas.Bool.{cases_lt}

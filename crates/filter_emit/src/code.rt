@@ -21,8 +21,8 @@ use std::marker::Model;
 
 /// The words of a program, as far as it is written, and where the lists of its labels are allocated.
 ///
-/// Contracts see it as the list of its words. A place is how many words stand before it. After a call that failed, nothing is
-/// said of the code and of the labels that were passed.
+/// Contracts see it as the list of its words. A place is the number of words before it. After a call that failed, nothing is
+/// known of the code and of the labels that were passed.
 #[derive(Drop)]
 pub struct Code<'a, A: Allocator> {
     words: Vec<u64, A>,
@@ -57,7 +57,7 @@ impl<'a, A: Allocator> Code<'a, A> {
         self.words.len() as u32
     }
 
-    /// A label that no jump goes to yet, which will stand at the place `by` at the latest.
+    /// A label without fixups, to be bound at the place `by` or before.
     pub fn label(&self, by: u32) -> Label<'a, A>
         ensures empty { result.fixups ≡ [] }
         ensures by { result.by ≡ by }
@@ -74,7 +74,7 @@ impl<'a, A: Allocator> Code<'a, A> {
         Ok(())
     }
 
-    /// Binds the label to the end: each of its jumps leads there.
+    /// Binds the label to the end of the code: each of its fixups is filled in, so that each of its jumps goes there.
     pub fn bind(&mut self, label: &Label<'a, A>)
         requires open { AreOpen label.now.fixups label.now.by self.old }
         requires by { length self.old ≤ label.now.by }
@@ -84,8 +84,8 @@ impl<'a, A: Allocator> Code<'a, A> {
         fill_all(&mut self.words, label.fixups());
     }
 
-    /// Writes a test: it goes to `yes` where it holds and to `no` where it does not. Where a label can be more than 256 places
-    /// behind it, too far for the jump of a test, it goes there by a JA. Fails where an allocation is refused.
+    /// Writes a test that goes to `yes` if it is true, and to `no` if not. A label that may be bound more than 256 places after the
+    /// test is too far for its jump, and is reached by a JA. Fails if an allocation is refused.
     #[inline(always)]
     pub fn branch(
         &mut self,
@@ -101,7 +101,7 @@ impl<'a, A: Allocator> Code<'a, A> {
         let place = self.len();
         let far_yes = is_far(place, yes.by());
         let far_no = is_far(place, no.by());
-        // Where both are far, the JA of `no` stands behind that of `yes`.
+        // If both are far, the JA to `no` comes after the JA to `yes`.
         let jf = if far_yes && far_no { 1 } else { 0 };
         self.push(Insn::JumpIf(test, operand, Offsets { jt: 0, jf }))?;
         self.note(far_yes, place, Side::WhenTrue, yes)?;
@@ -109,8 +109,8 @@ impl<'a, A: Allocator> Code<'a, A> {
         Ok(())
     }
 
-    /// Writes a test that falls through where it holds, and goes to `no` where it does not: as `branch`, without a label for what
-    /// stands behind it. Fails where an allocation is refused.
+    /// Writes a test that falls through if it is true, and goes to `no` if not: as `branch`, without a label for the code after
+    /// it. Fails if an allocation is refused.
     #[inline(always)]
     pub fn branch_unless(
         &mut self,
@@ -124,14 +124,14 @@ impl<'a, A: Allocator> Code<'a, A> {
     {
         let place = self.len();
         let far = is_far(place, no.by());
-        // Where the label is far, the test leads over the JA to it.
+        // If the label is far, a test that is true skips the JA to it.
         let jt = if far { 1 } else { 0 };
         self.push(Insn::JumpIf(test, operand, Offsets { jt, jf: 0 }))?;
         self.note(far, place, Side::WhenFalse, no)?;
         Ok(())
     }
 
-    /// Writes a test that goes to `yes` where it holds, and falls through where it does not. Fails where an allocation is refused.
+    /// Writes a test that goes to `yes` if it is true, and falls through if not. Fails if an allocation is refused.
     #[inline(always)]
     pub fn branch_if(
         &mut self,
@@ -151,7 +151,7 @@ impl<'a, A: Allocator> Code<'a, A> {
         Ok(())
     }
 
-    /// Writes an instruction that goes to the label always. Fails where an allocation is refused.
+    /// Writes an instruction that always goes to the label. Fails if an allocation is refused.
     pub fn branch_always(&mut self, label: &mut Label<'a, A>) -> Result<(), AllocError>
         requires room { length self.old + 1 ≤ MAX_INSTRUCTIONS }
         ensures writes { OnOk result ((other : LabelValue) → Writes GoesToYes 1 self.old self.new label.old label.new other other) }
@@ -160,7 +160,7 @@ impl<'a, A: Allocator> Code<'a, A> {
         if is_far(place, label.by()) {
             self.jump(label)?;
         } else {
-            // It goes there where A is 0 and where it is not.
+            // The test goes there if A is 0, and if not.
             self.push(Insn::JumpIf(Test::Equal, Operand::K(0), Offsets { jt: 0, jf: 0 }))?;
             label.add(place, Side::WhenTrue)?;
             label.add(place, Side::WhenFalse)?;
@@ -168,7 +168,7 @@ impl<'a, A: Allocator> Code<'a, A> {
         Ok(())
     }
 
-    // Notes a jump of the test at the place, or of a JA that it leads to.
+    // Adds a fixup to the label: of one side of the test at the place, or if the label is far, of a JA that this side leads to.
     #[inline(always)]
     fn note(
         &mut self,
@@ -218,7 +218,7 @@ fn is_far(place: u32, by: u32) -> bool
     by > place + 256
 }
 
-// Fills the jump of a fixup: its bits of the word.
+// Fills in one fixup: the bits of its jump in the word.
 fn fill<A: Allocator>(words: &mut Vec<u64, A>, fixup: Fixup, to: usize)
     requires there { HasJump words.old.items fixup.place fixup.side }
     requires within { fixup.place < length words.old.items }
@@ -265,7 +265,7 @@ fn with_k(word: u64, k: u64) -> u64
     word / (1 << 32) * (1 << 32) + k
 }
 
-// Fills fixups with the end.
+// Fills in fixups with the end of the code.
 fn fill_all<A: Allocator>(words: &mut Vec<u64, A>, fixups: &[Fixup])
     requires there { (fixup : FixupValue) → Contains fixups.now fixup → HasJump words.old.items fixup.place fixup.side }
     requires within { (fixup : FixupValue) → Contains fixups.now fixup → fixup.place < length words.old.items }

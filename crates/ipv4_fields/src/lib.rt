@@ -1,5 +1,6 @@
 //! The header fields of UDP datagrams over IPv4, which packets are dispatched (RFC 791, section 3.1; RFC 768, "Format";
-//! docs/SWITCH.md, "Which packets are dispatched"), and endpoints as texts. No call takes memory.
+//! docs/SWITCH.md, "Which packets are dispatched"); and endpoints as numbers, as socket addresses and as texts, with the decimal
+//! numbers of these texts. No call takes memory.
 #![tactic(auto)]
 
 ghost use Rattle.std.specs.Prelude.{◌≡◌, ◌≤◌, ◌+◌, length};

@@ -1,5 +1,5 @@
 -- The programs of a configuration never get stuck (docs/SWITCH.md, "Verdicts").
-use Rattle.std.specs.Prelude.{◌≡◌, List, Option, Some, ℕ}
+use Rattle.std.specs.Prelude.{◌≡◌, List, Some, ℕ}
 use Rattle.bpf_machine.specs.Meaning.{IsSound}
 use Rattle.bpf_verify.specs.Program.{ProgramValue}
 use Rattle.config_image.specs.Image.{Group}

@@ -2,7 +2,7 @@ mod ListLemmas
 mod VersionsRuleLemmas
 mod HeldLemmas
 mod HeldWordLemmas
-mod PartNameLemmas
+mod PartEntryLemmas
 mod ReadLemmas
 mod SoughtLemmas
 mod RowReadLemmas

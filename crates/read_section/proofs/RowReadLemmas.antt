@@ -21,7 +21,7 @@ use Rattle.read_section.specs.body.Found.{HasPages, IsFormIn, IsFormOf, IsExtent
 use Rattle.read_section.specs.body.Sought.{IsSought}
 use Rattle.read_section.specs.body.Steps.{SeesWord}
 use Rattle.read_section.proofs.HeldWordLemmas.{config_held, held_stage, image_word_held, known_again, known_there, pages_told, extent_in_programs, extent_page, row_place_held, row_place_is, row_word_held, row_word_told, same_version, small_in_row}
-use Rattle.read_section.proofs.PartNameLemmas.{ArePages-table, tells}
+use Rattle.read_section.proofs.PartEntryLemmas.{ArePages-table, tells}
 
 some_heads : (config : List Group) → 0 < programs_begin config
 some_heads config = omega arith

@@ -43,7 +43,7 @@ pub record Reads (most i answer : ℕ) (before after : WorkerValue) : Type 0 whe
   pub each : AreFetchesIn before.view (entry (Fetch before.view.number place) loaded ∷ older)
   pub newest : (read_word n r : ℕ) → before.view.stage ≡ Inside read_word n r → TellsWordAt (slice_index_or before.view.seen n []) r before.view.pages i place loaded answer
 
--- the most fetches that read a word: of the row's first word, of eleven names, and of the word
+-- the most fetches that read a word: of the row's first word, of eleven page table entries, and of the word
 abbrev pub FewFetches : ℕ → ℕ → WorkerValue → WorkerValue → Type 0
 FewFetches = Reads 13
 

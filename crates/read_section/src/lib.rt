@@ -4,7 +4,7 @@
 //!
 //! `open` makes a table at version 0, its operator and its workers. All that they do to the table are the eight kinds of
 //! step of `versions`; the rule on the table says that its words are what a legal trace of such steps left, and contracts say
-//! which steps a call makes. No call but `open` takes memory.
+//! which steps a call makes. Only `open` and `open_within` take memory.
 #![tactic(auto)]
 
 ghost use Rattle.std.specs.Prelude.{◌≡◌, ◌<◌, ◌≤◌, ◌↔◌, Err, IfOk};

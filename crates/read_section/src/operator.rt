@@ -79,7 +79,7 @@ fn zeros_begin(from: usize, place: usize, word: u64) -> usize
     from
 }
 
-// Where the zeros of a row in the pooled form begin, by its first word: behind the names of its pages.
+// Where the zeros of a row in the pooled form begin, by its first word: after its page table.
 fn form_end(form: RowHeader) -> usize
     ensures { result ≡ header_begin form.0 + header_count form.0 }
 {

@@ -10,25 +10,25 @@ ghost use Rattle.read_section.specs.Reads.{FetchedAtMost, FewFetches, Reads};
 ghost use Rattle.read_section.specs.Section.{held_words};
 ghost use Rattle.read_section.specs.Worker.{steps};
 ghost use Rattle.read_section.specs.body.Found.{IsExtentIn, IsFormIn, KnowsRow, row_start};
-ghost use Rattle.read_section.specs.body.Sought.{IsSought, TellsName};
+ghost use Rattle.read_section.specs.body.Sought.{IsSought, TellsEntry};
 ghost use Rattle.read_section.specs.body.Steps.{SeesWord};
 
 use crate::worker::Worker;
 use config_image::{Extent, PageEntry, READ_LIMIT, RowHeader, Search};
 use versions::{page_place, row_begin, row_place};
 
-// Where the page of a name begins in the table.
-fn page_begin(name: PageEntry) -> usize
-    ensures { result ≡ page_begin the_shape (page_of name.0) }
+// The place of the first word of an entry's page in the table.
+fn page_begin(entry: PageEntry) -> usize
+    ensures { result ≡ page_begin the_shape (page_of entry.0) }
 {
-    page_place(name.page(), 0)
+    page_place(entry.page(), 0)
 }
 
-// The name of a part. Behind the last one it is the place where the parts end, in the form of a name of page 0.
-fn read_name(worker: &mut Worker, row: usize, form: RowHeader, index: usize) -> PageEntry
+// The page table entry of a part; after the last one, an entry of page 0 that starts at the end of the parts.
+fn read_entry(worker: &mut Worker, row: usize, form: RowHeader, index: usize) -> PageEntry
     requires row { (i : ℕ) × IsSought worker.old.view row form.0 i }
     requires index { index ≤ header_count form.0 }
-    ensures name { TellsName worker.old.view index result.0 }
+    ensures entry { TellsEntry worker.old.view index result.0 }
     ensures few { FetchedAtMost 1 worker.old worker.new }
 {
     if index < form.entries() {
@@ -38,8 +38,8 @@ fn read_name(worker: &mut Worker, row: usize, form: RowHeader, index: usize) -> 
     }
 }
 
-// An extent that has word i, by a search among the names. It goes on behind the part that was found as long as each part has a whole
-// page of words and the next one stands in the next page: further names are read, unless as many were read as a search may read.
+// An extent that has word i, by a search in the page table. It goes on after the part that was found as long as each part fills its
+// page and the next part is in the next page: further entries are read, up to as many as a search may read.
 fn search_extent(worker: &mut Worker, row: usize, form: RowHeader, i: usize) -> Extent
     requires { IsSought worker.old.view row form.0 i }
     ensures found { IsExtentIn worker.old.view result }
@@ -53,14 +53,14 @@ fn search_extent(worker: &mut Worker, row: usize, form: RowHeader, i: usize) -> 
         reads += 1;
     }
     let found = search.found();
-    let at = found.name.start();
-    let shift = page_begin(found.name) - at;
-    // The index of the part behind the extent, and its name, as `read_name` tells it.
+    let at = found.entry.start();
+    let shift = page_begin(found.entry) - at;
+    // The index of the part after the extent, and its entry, as `read_entry` returns it.
     let mut index = found.index + 1;
     let mut next = found.next;
     while reads < READ_LIMIT && index < form.entries() && page_begin(next) == next.start() + shift {
         index += 1;
-        next = read_name(worker, row, form, index);
+        next = read_entry(worker, row, form, index);
         reads += 1;
     }
     // The cache gives it its version.

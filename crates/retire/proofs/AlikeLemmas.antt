@@ -277,6 +277,6 @@ module _ (config other : List Group) (alike : AreAlike config other) where
         → entry_word (start_of (slice_index (pooled_row other current_pages) (programs_begin config + index))) page ≡ slice_index (pooled_row config pages) (programs_begin config + index)
     same_name index page stood at there low =
         let was : slice_index (pooled_row other current_pages) (programs_begin config + index) ≡ entry_word (part_begin other index) stood =
-        ap (λ (n : ℕ). slice_index (pooled_row other current_pages) (n + index)) same_begin ∙ get_or_from_slice_get (pooled_row other current_pages) (programs_begin other + index) (entry_word (part_begin other index) stood) 0 (others.names index stood there) in
-        let is = get_or_from_slice_get (pooled_row config pages) (programs_begin config + index) (entry_word (part_begin config index) page) 0 (tells.names index page at) in
+        ap (λ (n : ℕ). slice_index (pooled_row other current_pages) (n + index)) same_begin ∙ get_or_from_slice_get (pooled_row other current_pages) (programs_begin other + index) (entry_word (part_begin other index) stood) 0 (others.entries index stood there) in
+        let is = get_or_from_slice_get (pooled_row config pages) (programs_begin config + index) (entry_word (part_begin config index) page) 0 (tells.entries index page at) in
         let begin = same_part_begin index in omega (arith, was, is, begin)

@@ -6,7 +6,7 @@ use lib.ListN.{get_elem?}
 use native.Mathlib.Decide.{dec_le, ℕ_discrete}
 use Rattle.config_image.specs.declared.TheConstants.{PAGE_WORDS, ROW_WORDS}
 use Rattle.config_image.specs.Image.{Group, image, programs_begin}
-use Rattle.config_image.specs.Pooled.{form_word, page_names, parts, pooled_row}
+use Rattle.config_image.specs.Pooled.{form_word, page_entries, parts, pooled_row}
 use Rattle.config_image.proofs.PooledLemmas.{parts_stand}
 use Rattle.std.proofs.lemmas.List.{length-take}
 use Rattle.std.proofs.lemmas.Option.{slice_get_within}
@@ -97,7 +97,7 @@ same_page page k other j small short same = size.same_row PAGE_WORDS page other 
 module _ (found full : OperatorValue) (r : ℕ) (config : List Group) (pages : List ℕ) (h : FillsVersion found full r config pages) (low : r < ROWS) where
   row_short : length (pooled_row config pages) ≤ ROW_WORDS
   unfolding pooled_row
-  row_short = short_take {A = ℕ} ROW_WORDS (form_word config ∷ (drop 1 (take (programs_begin config) (image config)) ++ page_names (programs_begin config) (parts config) pages ++ replicate ROW_WORDS 0))
+  row_short = short_take {A = ℕ} ROW_WORDS (form_word config ∷ (drop 1 (take (programs_begin config) (image config)) ++ page_entries (programs_begin config) (parts config) pages ++ replicate ROW_WORDS 0))
 
   -- all fills are of the pooled form
   form_steps : Fills found full (IsFormFill found.view r config pages)

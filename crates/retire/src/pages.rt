@@ -43,8 +43,8 @@ fn take_for<const N: usize>(
     }
 }
 
-// Chooses pages program by program. Returns a program, and how many pages are before its own, none of which is free: if one program
-// is new, it is that one.
+// Chooses pages program by program, without the diff. Returns the last program before which no free page was allocated, and the
+// number of pages before its own: if one program alone is new, it is that one.
 fn choose_each<'a, const N: usize>(
     operator: &Operator,
     config: &'a Config,
@@ -70,8 +70,8 @@ fn choose_each<'a, const N: usize>(
     first
 }
 
-// Shares the pages of the current version for all programs but one. That one has so many pages before its own, and as many words as
-// the program in its place.
+// Shares all pages of the current version but those of one program, for which `take_for` chooses: its words replace a program of the
+// same length, whose pages begin at index `at`.
 fn replace_one<const N: usize>(
     operator: &Operator,
     current: &mut Current<'_>,
@@ -94,16 +94,17 @@ fn replace_one<const N: usize>(
     allocation.share(&pages[at + pages_for(words.len())..]);
 }
 
-/// What was found where the pages of a version were chosen.
+/// Results of choosing the pages of a version, besides the pages.
 #[derive(Drop)]
 pub(crate) struct Chosen<'a> {
-    /// A program, and how many pages are before its own, of which none is free: where one program is new it is that one.
+    /// A program, and the number of pages before its own, of which none is free. If one program alone is new, it is that one.
     pub(crate) first: Option<(&'a [u64], usize)>,
-    /// The configuration is like the current one.
+    /// The diff found the configuration to be like the current one.
     pub(crate) is_like: bool,
 }
 
-// Chooses pages where the configuration is like the current one, and one program at most has other words. Otherwise nothing is allocated.
+// Chooses pages by the diff, if the configuration is like the current one and at most one program has other words. Otherwise nothing
+// is allocated.
 fn choose_alike<'a, const N: usize>(
     operator: &Operator,
     config: &'a Config,
@@ -134,7 +135,7 @@ fn choose_alike<'a, const N: usize>(
 }
 
 // The pages of the next version's programs: those of equal programs of the current version, else the least free ones, in order. They
-// are put where the caller has room for them: as an answer they would be copied.
+// go into the caller's `allocation`: as a result they would be copied.
 pub(crate) fn choose_pages<'a, const N: usize>(
     operator: &Operator,
     config: &'a Config,

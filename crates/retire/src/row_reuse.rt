@@ -55,7 +55,7 @@ pub(crate) fn copy_front(operator: &mut Operator, row: usize, from: usize, count
     }
 }
 
-// Fills names, which begin at a place of a free row, by those of another row in other pages.
+// Fills page table entries, from a place of a free row on, by those of another row with other pages.
 pub(crate) fn fill_names(
     operator: &mut Operator,
     row: usize,

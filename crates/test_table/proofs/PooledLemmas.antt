@@ -1,4 +1,4 @@
--- A row without names holds a configuration without programs.
+-- A row without page table entries holds a configuration without programs.
 use Rattle.std.proofs.Common.{◌≡◌, ◌∙◌, ◌+◌, ◌*◌, ◌<◌, List, None, Some, [], ap, arith, length, slice_get, slice_index, sym, ℕ}
 use Rattle.config_image.specs.declared.TheConstants.{ROW_WORDS}
 use Rattle.config_image.specs.Image.{Group}

@@ -182,7 +182,7 @@ module _ (config : List Group) (pages : List ℕ) (room : HasRoom config) (are :
   name_is index low = ap (λ l. get_or l index 0) names_are
       ∙ (get_or-take (length (parts config)) (drop (programs_begin config) row_words) index 0 low
       ∙ (get_or-drop (programs_begin config) row_words index 0
-      ∙ get_or_from_slice_get row_words (programs_begin config + index) _ 0 (tells.names index (get_or pages index 0) (slice_get-get_or pages index 0 (omega (arith, are.counted))))))
+      ∙ get_or_from_slice_get row_words (programs_begin config + index) _ 0 (tells.entries index (get_or pages index 0) (slice_get-get_or pages index 0 (omega (arith, are.counted))))))
 
   small : (index : ℕ) → index < length (parts config) → get_or pages index 0 < 65536
   small index low = are.below index 0 (omega (arith, are.counted))

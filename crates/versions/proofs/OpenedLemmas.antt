@@ -9,7 +9,7 @@ use Rattle.config_image.specs.declared.TheConstants.{PAGE_LIMIT, PAGE_WORDS, ROW
 use Rattle.config_image.specs.Image.{Group}
 use Rattle.config_image.specs.Pooled.{ArePages, pages_for, parts, parts_from, parts_of, pooled_row}
 use Rattle.config_image.specs.Walk.{words_of_programs}
-use Rattle.config_image.proofs.NameLemmas.{length-parts_of_all}
+use Rattle.config_image.proofs.EntryLemmas.{length-parts_of_all}
 use Rattle.config_image.proofs.PartsLemmas.{length-parts_of}
 use Rattle.config_image.proofs.PooledLemmas.{few_in_row, row_tells_with_room}
 use Rattle.config_image.proofs.ProgramLemmas.{parts-by_words}

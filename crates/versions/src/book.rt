@@ -90,7 +90,7 @@ impl<A: Allocator> Book<A> {
         self.page_is_free((place - POOL_BEGIN) / PAGE_WORDS)
     }
 
-    /// Counts a publication from a row with these names of pages (`row_names`).
+    /// Counts a publication from a row with these page table entries (`row_names`).
     pub fn count_version(&mut self, row: usize, names: &[u64])
         requires row { row < ROWS }
         requires pages { (index page : ℕ) → slice_get (map page_of names.now) index ≡ Some page → page < PAGES }

@@ -89,7 +89,7 @@ pub(crate) fn is_version_word(words: &[u64], row: usize, place: usize) -> bool
     is_part_word(row_names(row_words), end, at / PAGE_WORDS, at % PAGE_WORDS)
 }
 
-// The pages of the names, where each of them is a page of the pool.
+// The pages of the page table entries, if each of them is a page of the pool.
 fn pages_of_names(names: &[u64]) -> Option<[u32; PAGE_LIMIT]>
     requires { length names.now ≤ PAGE_LIMIT }
     ensures { MatchOption result ((index : ℕ) × (page : ℕ) × (slice_get (map page_of names.now) index ≡ Some page) × (PAGES ≤ page))
@@ -142,7 +142,7 @@ fn part_stands<A: Allocator>(
     true
 }
 
-// Tests the words of all parts, each in the page that its name gives.
+// Tests the words of all parts, each in the page of its entry.
 fn parts_stand<A: Allocator>(words: &[u64], config: &Config<A>, names: &[u64]) -> bool
     requires table { length words.now ≡ TABLE_WORDS }
     requires names { ArePartNames config.now names.now }

@@ -19,13 +19,13 @@ SoughtAt config pages r row form i =
 abbrev pub IsSought : WorkerView (List Group) → ℕ → ℕ → ℕ → Type 0
 IsSought view row form i = (k : ℕ) × (n : ℕ) × (r : ℕ) × (view.stage ≡ Inside k n r) × (n < length view.seen) × SoughtAt (slice_index_or view.seen n []) view.pages r row form i
 
--- the names in a row
-abbrev pub names_of : List Group → List ℕ → List ℕ
-names_of config pages = take (length (parts config)) (drop (programs_begin config) (pooled_row config pages))
+-- the page table entries in a row
+abbrev pub entries_of : List Group → List ℕ → List ℕ
+entries_of config pages = take (length (parts config)) (drop (programs_begin config) (pooled_row config pages))
 
--- the number is the name of a part; or it has the place behind the last part in the place of a start
-abbrev pub IsNameOf : List Group → List ℕ → ℕ → ℕ → Type 0
-IsNameOf config pages index name = (start_of name ≡ part_begin config index) × (index < length (parts config) → page_of name ≡ slice_index pages index)
+-- the number is the page table entry of a part; or its start is the place after the last part
+abbrev pub IsEntryOf : List Group → List ℕ → ℕ → ℕ → Type 0
+IsEntryOf config pages index entry = (start_of entry ≡ part_begin config index) × (index < length (parts config) → page_of entry ≡ slice_index pages index)
 
-abbrev pub TellsName : WorkerView (List Group) → ℕ → ℕ → Type 0
-TellsName view index name = TellsOfHeld (λ config pages. IsNameOf config pages index name) view
+abbrev pub TellsEntry : WorkerView (List Group) → ℕ → ℕ → Type 0
+TellsEntry view index entry = TellsOfHeld (λ config pages. IsEntryOf config pages index entry) view

@@ -147,7 +147,7 @@ fn with_second_member(alloc: Global) -> Result<Config, Fail> {
     )
 }
 
-// The names of 256 pages from place 10 on, and nothing behind them.
+// The page table entries of 256 pages from place 10 on, and zeros after them.
 fn is_long_row(alloc: Global, config: &Config) -> Result<bool, Fail> {
     Ok(
         page_count(config) == 256

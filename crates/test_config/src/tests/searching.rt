@@ -6,20 +6,20 @@ use config_image::{FoundPart, PAGE_LIMIT, PageEntry, Search};
 use std::alloc::Global;
 use std::test::Fail;
 
-// The part that a search finds among names, of parts that end before `end`, and how many names it asks for. `None` is for a place in
+// The part that a search finds among entries, of parts that end before `end`, and how many entries it asks for. `None` is for a place in
 // no part.
-fn found_in(names: &[u64], end: usize, place: usize) -> Option<(FoundPart, usize)>
+fn found_in(entries: &[u64], end: usize, place: usize) -> Option<(FoundPart, usize)>
     requires end_fits { end < 2 ^ 48 }
-    requires names_fit { length names.now ≤ PAGE_LIMIT }
+    requires entries_fit { length entries.now ≤ PAGE_LIMIT }
 {
-    let first = names.first()?;
+    let first = entries.first()?;
     if place < PageEntry(*first).start() || end <= place {
         return None;
     }
-    let mut search = Search::new(names.len(), end, place);
+    let mut search = Search::new(entries.len(), end, place);
     let mut reads = 0;
     while let Some(index) = search.ask() {
-        search.tell(names[index]);
+        search.tell(entries[index]);
         reads += 1;
     }
     Some((search.found(), reads))
@@ -48,9 +48,9 @@ fn three_parts(rt: HostRuntime) {
         let found = found_in(&THREE, THREE_END, place);
         let told = found.map(|(part, _)| (
             part.index,
-            part.name.start(),
+            part.entry.start(),
             part.next.start(),
-            part.name.page(),
+            part.entry.page(),
         ));
         assert!(rt; told == want);
     }
@@ -59,43 +59,43 @@ fn three_parts(rt: HostRuntime) {
 // The place of the first part.
 const FIRST: u64 = 260;
 
-// The names of so many parts of 1 to 16 words, in pages from 65535 down, and the place behind the last part.
+// The page table entries of `count` parts of 1 to 16 words, in pages from 65535 down, and the place after the last part.
 fn row(alloc: Global, count: usize) -> Result<(Vec<u64>, usize), Fail>
     requires { count ≤ PAGE_LIMIT }
-    ensures names { IfOk result (λ row. vec_len row.0 ≡ count) }
+    ensures entries { IfOk result (λ row. vec_len row.0 ≡ count) }
     ensures end { IfOk result (λ row. row.1 < 2 ^ 32) }
 {
-    let mut names = Vec::new(alloc);
+    let mut entries = Vec::new(alloc);
     let mut start = FIRST;
     for i in 0..count as u64 {
-        names.push(start * 65536 + (65535 - i))?;
+        entries.push(start * 65536 + (65535 - i))?;
         start += 1 + i * 7 % 16;
     }
-    Ok((names, start as usize))
+    Ok((entries, start as usize))
 }
 
-// The greatest number of reads of the searches for all places of all parts, where each finds the part whose turn it is, and the
+// The greatest number of reads of the searches for all places of all parts, if each finds the part whose turn it is, and the
 // place before the first is in none.
-fn most_reads(names: &[u64], end: usize) -> Option<usize>
-    requires names_fit { length names.now ≤ PAGE_LIMIT }
+fn most_reads(entries: &[u64], end: usize) -> Option<usize>
+    requires entries_fit { length entries.now ≤ PAGE_LIMIT }
     requires end_fits { end < 2 ^ 32 }
 {
-    if found_in(names, end, FIRST as usize - 1).is_some() {
+    if found_in(entries, end, FIRST as usize - 1).is_some() {
         return None;
     }
     let mut most = 0;
-    for (index, name) in names.iter().enumerate() {
-        let next = match names.get(index + 1) {
+    for (index, entry) in entries.iter().enumerate() {
+        let next = match entries.get(index + 1) {
             Some(next) => *next,
             None => end as u64 * 65536,
         };
         let part = FoundPart {
             index,
-            name: PageEntry(*name),
+            entry: PageEntry(*entry),
             next: PageEntry(next),
         };
-        for place in part.name.start()..part.next.start() {
-            let (found, reads) = found_in(names, end, place)?;
+        for place in part.entry.start()..part.next.start() {
+            let (found, reads) = found_in(entries, end, place)?;
             if found != part {
                 return None;
             }
@@ -107,7 +107,7 @@ fn most_reads(names: &[u64], end: usize) -> Option<usize>
     Some(most)
 }
 
-// Numbers of names, and the greatest number of reads.
+// Numbers of entries, and the greatest number of reads.
 const READS: [(usize, usize); 10] = [
     (0, 0),
     (1, 1),
@@ -125,8 +125,8 @@ const READS: [(usize, usize); 10] = [
 fn each_place_is_found(rt: HostRuntime) -> Result<(), Fail> {
     for (count, want) in READS {
         if count <= PAGE_LIMIT {
-            let (names, end) = row(rt.alloc(), count)?;
-            assert!(rt; most_reads(names.as_slice(), end) == Some(want));
+            let (entries, end) = row(rt.alloc(), count)?;
+            assert!(rt; most_reads(entries.as_slice(), end) == Some(want));
         }
     }
     Ok(())

@@ -207,7 +207,7 @@ fn extents_of_the_version_before_are_forgotten(rt: HostRuntime) -> Result<(), Fa
     })
 }
 
-// Of 34 names a search needs six, or five for some places. The reads that are left of eleven are made for the parts behind.
+// Of 34 entries a search needs six, or five for some places. The reads that are left of eleven are made for the parts behind.
 #[test]
 fn long_program_has_several_extents(rt: HostRuntime) -> Result<(), Fail> {
     on_table(

@@ -245,7 +245,7 @@ fn pages_are_from(operator: &Operator, first: u32, count: usize) -> bool {
     operator.current_pages().len() == count
 }
 
-// Word 0, the filter's first name, behind 6 words of the group and 4 of its member, and its last name.
+// Word 0; the filter's first page table entry, after 6 words of the group and 4 of its member; and its last one.
 const LONG_ROW: [(usize, u64); 4] = [
     (0, 0x100a_000a_0100),
     (10, 0x000a_0000),
@@ -310,7 +310,7 @@ fn takes_the_least_free_pages(
     assert!(rt; (reclaimed.first, reclaimed.count) == (0, 3));
     assert!(rt; is_published(alloc, operator, 4)?);
     assert!(rt; pages_are_from(operator, 0, 256));
-    // The least free row, row 0, has the names of these pages.
+    // The least free row, row 0, has the entries of these pages.
     assert!(rt; operator.row_word(0, 265) == 0x0ffa_00ff);
     Ok(())
 }
@@ -324,8 +324,8 @@ fn new_pages_are_the_least_free_ones(rt: HostRuntime) -> Result<(), Fail> {
     })
 }
 
-// The row after a second member has joined: word 0, the filter's first name, which is behind one member record more, its last name,
-// and the word behind it.
+// The row after a second member has joined: word 0; the filter's first page table entry, after one member record more; its last one;
+// and the next word.
 const JOINED_ROW: [(usize, u64); 4] = [
     (0, 0x100e_000e_0100),
     (14, 0x000e_0000),

@@ -1,5 +1,5 @@
 use Rattle.std.proofs.Common.{◌≡◌, ◌∷◌, arith}
-use Rattle.config_image.proofs.NameLemmas.{first_fits, left_behind, no_part_left, part_fits, place_fits, place_behind, place_in_first, size_step}
+use Rattle.config_image.proofs.EntryLemmas.{first_fits, left_behind, no_part_left, part_fits, place_fits, place_behind, place_in_first, size_step}
 use Rattle.config_image.proofs.pooled.part_place.Goals as goal
 
 pub pages_for-count-requires : goal.pages_for-count-requires

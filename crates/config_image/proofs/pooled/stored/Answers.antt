@@ -5,8 +5,8 @@ use Rattle.member_group.specs.declared.TheConstants.{GROUP_WORDS, HEAD_WORDS, ME
 use Rattle.config_image.specs.Image.{image, programs_begin}
 use Rattle.config_image.specs.Pooled.{parts_of, pooled_row}
 use Rattle.config_image.proofs.PartsLemmas.{size_of}
-use Rattle.config_image.proofs.NameLemmas.{before_part}
-use Rattle.config_image.proofs.PooledRowLemmas.{form_of_row, named_word, record_of_row, zero_of_row}
+use Rattle.config_image.proofs.EntryLemmas.{before_part}
+use Rattle.config_image.proofs.PooledRowLemmas.{form_of_row, entry_word_at, record_of_row, zero_of_row}
 use Rattle.config_image.proofs.ProgramLemmas.{image_limited, length-by_words, parts-by_words}
 use Rattle.config_image.proofs.pooled.stored.Goals as goal
 
@@ -52,7 +52,7 @@ returns-then-part-count g c =
     let part = c.args.i - (HEAD_WORDS + GROUP_WORDS * length c.args.groups.now + MEMBER_WORDS * c.members_in.result) in
     let stands : part + (HEAD_WORDS + GROUP_WORDS * length c.args.groups.now + MEMBER_WORDS * c.members_in.result) ≡ c.args.i = omega arith in
     c.new.ensures
-    ∙ named_word c.args.groups.now c.args.pages.now c.of_groups.result c.args.i _ part c.part_place-place.result c.requires.pages.counted c.of_groups.ensures.all at stands c.if-part-count.true c.requires.inside c.part_place-place.ensures
+    ∙ entry_word_at c.args.groups.now c.args.pages.now c.of_groups.result c.args.i _ part c.part_place-place.result c.requires.pages.counted c.of_groups.ensures.all at stands c.if-part-count.true c.requires.inside c.part_place-place.ensures
 
 pub returns-else-part-count : goal.returns-else-part-count
 returns-else-part-count g c =

@@ -5,7 +5,7 @@ use Rattle.test_config.proofs.tests.searching.found_in.Given as goal
 
 abbrev pub invariant-loop-index : goal.invariant-loop-index
 invariant-loop-index l = record {
-  is_search : IsSearchOf l.names l.end l.place l.search;
+  is_search : IsSearchOf l.entries l.end l.place l.search;
   at_most : l.reads + reads_left l.search ≤ READ_LIMIT;
 }
 

@@ -3,6 +3,6 @@ use Rattle.test_config.proofs.tests.searching.row.Given as goal
 
 abbrev pub invariant-loop-i : goal.invariant-loop-i
 invariant-loop-i l = record {
-  names : vec_len l.names ≡ l.i;
+  entries : vec_len l.entries ≡ l.i;
   start : l.start ≤ 260 + 16 * l.i;
 }

@@ -1,4 +1,4 @@
--- What the names in a row in the pooled form tell of the parts, and what a search among them finds.
+-- What the page table entries of a row in the pooled form say of the parts, and what a search among them finds.
 use Rattle.std.proofs.Common.{◌≡◌, ℕ, suc, zero, ◌+◌, ◌-◌, ◌<◌, ◌≤◌, List, [], Some, ap, arith, drop, get_or, inl, inr, length, length-drop, length-take, slice_get, slice_index, sym, ◌∙◌}
 use Rattle.std.proofs.lemmas.Bool.{cases_lt}
 use Rattle.std.proofs.lemmas.List.{get_or-drop, get_or-take}
@@ -11,7 +11,7 @@ use Rattle.config_image.proofs.PageTableLemmas as entry
 use Rattle.config_image.proofs.PooledLemmas.{row_tells_with_room}
 use Rattle.config_image.specs.declared.pages.search.FoundPart.{FoundPart}
 use Rattle.read_section.specs.body.Found.{HasPages}
-use Rattle.read_section.specs.body.Sought.{names_of}
+use Rattle.read_section.specs.body.Sought.{entries_of}
 use Rattle.config_image.specs.Search.{HoldsPlace, IsWithin}
 
 -- pages of the table have 16 bits
@@ -25,28 +25,28 @@ module _ (config : List Group) (pages : List ℕ) (room : length (image config) 
   abbrev stands : PartsStand config
   stands = tells.parts_stand
 
-  abbrev names : List ℕ
-  names = names_of config pages
+  abbrev entries : List ℕ
+  entries = entries_of config pages
 
-  pub name_word : (index : ℕ) → index < length (parts config)
+  pub entry_word_there : (index : ℕ) → index < length (parts config)
       → slice_get (pooled_row config pages) (programs_begin config + index) ≡ Some (entry_word (part_begin config index) (slice_index pages index))
-  name_word index low = let counted = are.counted in tells.names index (slice_index pages index) (slice_get-get_or pages index 0 (omega arith))
+  entry_word_there index low = let counted = are.counted in tells.entries index (slice_index pages index) (slice_get-get_or pages index 0 (omega arith))
 
-  pub length-names : length names ≡ length (parts config)
-  length-names = let whole = tells.whole in let inside = tells.inside in
+  pub length-entries : length entries ≡ length (parts config)
+  length-entries = let whole = tells.whole in let inside = tells.inside in
       omega (arith, length-take (length (parts config)) (drop (programs_begin config) (pooled_row config pages)), length-drop (programs_begin config) (pooled_row config pages))
 
-  pub name_at : (index : ℕ) → index < length (parts config) → get_or names index 0 ≡ entry_word (part_begin config index) (slice_index pages index)
-  name_at index low = get_or-take (length (parts config)) (drop (programs_begin config) (pooled_row config pages)) index 0 low
-      ∙ (get_or-drop (programs_begin config) (pooled_row config pages) index 0 ∙ get_or_from_slice_get (pooled_row config pages) (programs_begin config + index) (entry_word (part_begin config index) (slice_index pages index)) 0 (name_word index low))
+  pub entry_at : (index : ℕ) → index < length (parts config) → get_or entries index 0 ≡ entry_word (part_begin config index) (slice_index pages index)
+  entry_at index low = get_or-take (length (parts config)) (drop (programs_begin config) (pooled_row config pages)) index 0 low
+      ∙ (get_or-drop (programs_begin config) (pooled_row config pages) index 0 ∙ get_or_from_slice_get (pooled_row config pages) (programs_begin config + index) (entry_word (part_begin config index) (slice_index pages index)) 0 (entry_word_there index low))
 
-  pub name_there : (index : ℕ) → index < length (parts config) → slice_get names index ≡ Some (entry_word (part_begin config index) (slice_index pages index))
-  name_there index low = slice_get-get_or names index 0 (let counted = length-names in omega arith) ∙ ap Some (name_at index low)
+  pub entry_there : (index : ℕ) → index < length (parts config) → slice_get entries index ≡ Some (entry_word (part_begin config index) (slice_index pages index))
+  entry_there index low = slice_get-get_or entries index 0 (let counted = length-entries in omega arith) ∙ ap Some (entry_at index low)
 
   pub page_below : (index : ℕ) → index < length (parts config) → slice_index pages index < 65536
   page_below index low = let counted = are.counted in are.below index 0 (omega arith)
 
-  -- a name tells its part's start and its page
+  -- an entry has its part's start and its page
   pub start_told : (index : ℕ) → index < length (parts config) → start_of (entry_word (part_begin config index) (slice_index pages index)) ≡ part_begin config index
   start_told index low = entry.start_told (part_begin config index) (slice_index pages index) (page_below index low)
 
@@ -54,11 +54,11 @@ module _ (config : List Group) (pages : List ℕ) (room : length (image config) 
   page_told index low = entry.page_told (part_begin config index) (slice_index pages index) (page_below index low)
 
   -- a place of the programs is one that a search may look for
-  pub IsWithin-programs : (i : ℕ) → programs_begin config ≤ i → i < length (image config) → IsWithin names (length (image config)) i
+  pub IsWithin-programs : (i : ℕ) → programs_begin config ≤ i → i < length (image config) → IsWithin entries (length (image config)) i
   IsWithin-programs i from to = let t = stands.covered i from to in let some = t.1 in let first : 0 < length (parts config) = omega arith in
-      (entry_word (part_begin config 0) (slice_index pages 0), name_there 0 first, (let start = start_told 0 first in let begin = stands.first in omega arith), to)
+      (entry_word (part_begin config 0) (slice_index pages 0), entry_there 0 first, (let start = start_told 0 first in let begin = stands.first in omega arith), to)
 
-  -- the name behind the last part has the place where the parts end
+  -- the entry after the last part has the place where the parts end
   pub end_told : start_of (entry_word (length (image config)) 0) ≡ part_begin config (length (parts config))
   end_told = (let g : start_of (entry_word (length (image config)) 0) ≡ length (image config) = omega arith in g) ∙ sym stands.last
 
@@ -95,25 +95,25 @@ module _ (config : List Group) (pages : List ℕ) (room : length (image config) 
   ends_in_image index low = let behind = begins_behind index (length (parts config) - index) (omega arith) in
       let g : index + (length (parts config) - index) ≡ length (parts config) = omega arith in let e = ap (part_begin config) g in let last = stands.last in omega arith
 
-  module _ (i : ℕ) (part : FoundPart) (holds : HoldsPlace names (length (image config)) i part) where
+  module _ (i : ℕ) (part : FoundPart) (holds : HoldsPlace entries (length (image config)) i part) where
     pub index_below : part.index < length (parts config)
-    index_below = let counted = length-names in let within = slice_get_within names part.index part.name.0 holds.named in omega arith
+    index_below = let counted = length-entries in let within = slice_get_within entries part.index part.entry.0 holds.named in omega arith
 
-    name_is : part.name.0 ≡ entry_word (part_begin config part.index) (slice_index pages part.index)
-    name_is = sym (get_or_from_slice_get names part.index part.name.0 0 holds.named) ∙ name_at part.index index_below
+    entry_is : part.entry.0 ≡ entry_word (part_begin config part.index) (slice_index pages part.index)
+    entry_is = sym (get_or_from_slice_get entries part.index part.entry.0 0 holds.named) ∙ entry_at part.index index_below
 
-    pub found_start : start_of part.name.0 ≡ part_begin config part.index
-    found_start = ap start_of name_is ∙ start_told part.index index_below
+    pub found_start : start_of part.entry.0 ≡ part_begin config part.index
+    found_start = ap start_of entry_is ∙ start_told part.index index_below
 
-    pub found_page : page_of part.name.0 ≡ slice_index pages part.index
-    found_page = ap page_of name_is ∙ page_told part.index index_below
+    pub found_page : page_of part.entry.0 ≡ slice_index pages part.index
+    found_page = ap page_of entry_is ∙ page_told part.index index_below
 
     pub found_end : start_of part.next.0 ≡ part_begin config (part.index + 1)
     found_end = elim (cases_lt (part.index + 1) (length (parts config))) [
-      | inl more ↦ ap start_of (holds.next _ (name_there (part.index + 1) more)) ∙ start_told (part.index + 1) more
-      | inr last ↦ let below = index_below in let counted = length-names in let e : part.index + 1 ≡ length (parts config) = omega arith in
+      | inl more ↦ ap start_of (holds.next _ (entry_there (part.index + 1) more)) ∙ start_told (part.index + 1) more
+      | inr last ↦ let below = index_below in let counted = length-entries in let e : part.index + 1 ≡ length (parts config) = omega arith in
           ap start_of (holds.last (omega arith)) ∙ ((let g : start_of (entry_word (length (image config)) 0) ≡ length (image config) = omega arith in g) ∙ (sym stands.last ∙ ap (part_begin config) (sym e)))
     ]
 
     pub found_next_page : part.index + 1 < length (parts config) → page_of part.next.0 ≡ slice_index pages (part.index + 1)
-    found_next_page more = ap page_of (holds.next _ (name_there (part.index + 1) more)) ∙ page_told (part.index + 1) more
+    found_next_page more = ap page_of (holds.next _ (entry_there (part.index + 1) more)) ∙ page_told (part.index + 1) more
