@@ -1,5 +1,5 @@
 -- What is held of a request: all of it, or as much as shows that it is too long.
-use Rattle.std.proofs.Common.{◌≡◌, ◌∙◌, ◌+◌, ◌-◌, ◌<◌, ◌≤◌, ◌++◌, ◌∷◌, ◌⊎◌, ◌==◌, Bool, Err, List, Ok, Result, [], ap, append_assoc, append-nil, arith, drop, false, inl, inr, length, length-append, min, nat_eq, refl, subst, suc, sym, take, true, zero, ℕ}
+use Rattle.std.proofs.Common.{◌≡◌, ◌∙◌, ◌+◌, ◌-◌, ◌<◌, ◌≤◌, ◌++◌, ◌∷◌, ◌⊎◌, ◌==◌, Bool, Err, List, Ok, Result, [], ap, append_assoc, append-nil, arith, drop, false, inl, inr, length, length-append, nat_eq, refl, subst, suc, sym, take, true, zero, ℕ}
 use Rattle.std.specs.List.{All, ends_with}
 use Rattle.std.specs.Prelude.{OnOk}
 use Rattle.std.proofs.lemmas.Bool.{both_ways, cases_lt, eqb-true}
@@ -7,7 +7,7 @@ use Rattle.std.proofs.lemmas.Bool.Decides.{Decides-eqb}
 use Rattle.std.proofs.lemmas.List.{append_cancel_left, length-drop, length-take, length-take-le, length_push, nil_from_length, same_from_push, take-append-drop, take-append-le, take_all, take_at}
 use Rattle.std.proofs.lemmas.List.Elements.{All-nil, All-push}
 use Rattle.std.proofs.lemmas.Slice.Eq.{ends_is}
-use Rattle.std.proofs.Math.Seq.{take-append-add, take-length}
+use Rattle.std.proofs.Math.Seq.{take-length}
 use Rattle.ipv4_fields.specs.Cut.{Lacks}
 use Rattle.ipv4_fields.proofs.TextLemmas.{has_separator, lacks-append}
 use Rattle.control_line.specs.declared.TheConstants.{BLOCK_LIMIT, LINE_LIMIT}
@@ -23,42 +23,6 @@ use Rattle.control.specs.Script.{BeginsRequest, IsRequest, RepliesTo, Standing, 
 use Rattle.control.proofs.EndLemmas.{lf_added, lf_at_end, lf_there}
 use Rattle.control.proofs.HeadLemmas.{lacks-none, no_head, no_head-long, short_head}
 use Rattle.control.proofs.RequestLemmas.{feeds_more, with_lines}
-
--- ---- what is held of a text
-
-take_min : (n : ℕ) (xs : List ℕ) → take (min (length xs) n) xs ≡ take n xs
-take_min n xs = by_length (cases_lt n (length xs))
-  where
-    by_length : (n < length xs) ⊎ (length xs ≤ n) → take (min (length xs) n) xs ≡ take n xs
-    by_length (inl less) = let is : min (length xs) n ≡ n = omega arith in ap (λ k. take k xs) is
-    by_length (inr enough) = let is : min (length xs) n ≡ length xs = omega arith in ap (λ k. take k xs) is ∙ (take-length xs ∙ sym (take_all n xs enough))
-
--- bytes are added as far as there is room
-held_more : (most : ℕ) (held bytes : List ℕ) → length held ≤ most → held ++ take (min (length bytes) (most - length held)) bytes ≡ take most (held ++ bytes)
-held_more most held bytes within =
-    let whole : length held + (most - length held) ≡ most = omega arith in
-    ap (λ rest. held ++ rest) (take_min (most - length held) bytes)
-    ∙ (sym (take-append-add held bytes (most - length held)) ∙ ap (λ n. take n (held ++ bytes)) whole)
-
--- so the front of all is held
-held_of_all : (most : ℕ) (part bytes : List ℕ) → take most (take most part ++ bytes) ≡ take most (part ++ bytes)
-held_of_all zero part bytes = refl
-held_of_all (suc most) [] bytes = refl
-held_of_all (suc most) (x ∷ part) bytes = ap (λ rest. x ∷ rest) (held_of_all most part bytes)
-
-pub held_up_to : (most : ℕ) (text bytes : List ℕ) (held held' : Held) → held'.bytes.items ≡ held.bytes.items ++ take (min (length bytes) held.room) bytes
-    → held'.room ≡ held.room - min (length bytes) held.room → IsHeldUpTo most text held → IsHeldUpTo most (text ++ bytes) held'
-held_up_to most text bytes held held' added less before =
-    let room = before.room in
-    let front = length-take most text in
-    let within : length (take most text) ≤ most = omega (arith, front) in
-    let left : held.room ≡ most - length (take most text) = omega (arith, room, front) in
-    record {
-      bytes = added
-          ∙ (ap (λ front. front ++ take (min (length bytes) held.room) bytes) before.bytes
-          ∙ (ap (λ n. take most text ++ take (min (length bytes) n) bytes) left ∙ (held_more most (take most text) bytes within ∙ held_of_all most text bytes)));
-      room = let len = length-append text bytes in omega (arith, less, room, len);
-    }
 
 -- ---- requests that are too long
 

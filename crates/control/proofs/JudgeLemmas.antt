@@ -10,9 +10,10 @@ use Rattle.ipv4_fields.specs.Dispatchable.{flow_of}
 use Rattle.member_group.specs.declared.member.Member.{Member}
 use Rattle.member_group.specs.Group.{GroupOf, group_of}
 use Rattle.dispatch.specs.Verdict.{choice, flow_verdict, group_verdict, kept, member_verdict, members_verdict, returned, value_of, verdict}
-use Rattle.control_line.specs.Agrees.{Agrees, TextConfig, config_over, group_over, member_over}
+use Rattle.control_line.specs.Agrees.{Agrees, TextConfig}
 use Rattle.control.specs.Script.{text_value}
-use Rattle.control_line.proofs.OverLemmas.{group-over}
+use Rattle.member_group.proofs.OverLemmas.{group-over}
+use Rattle.member_group.specs.Over.{config_over, group_over, member_over}
 
 module _ {P Q : Type 0} (over : P → Q) (f : Q → List ℕ → ℕ) (g : P → List ℕ → ℕ) (packet : List ℕ) (same : (program : P) → f (over program) packet ≡ g program packet) where
   answer-over : (program : Option P) → option_map (λ q. f q packet) (option_map over program) ≡ option_map (λ p. g p packet) program

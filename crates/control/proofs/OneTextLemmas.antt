@@ -9,7 +9,7 @@ use Rattle.control_line.specs.declared.TheConstants.{LINE_LIMIT}
 use Rattle.control_line.specs.declared.reason.Reason.TheVariants.{Publishing}
 use Rattle.control_line.specs.declared.reply.LineAnswer.{LineAnswer}
 use Rattle.control_line.specs.declared.reply.LineAnswer.TheVariants.{GroupRead, LineRefused, MemberRead, Published, Refused, Shown, Swept, WordsRead}
-use Rattle.control_line.specs.Agrees.{Compiler, TextConfig, config_over}
+use Rattle.control_line.specs.Agrees.{Compiler, TextConfig}
 use Rattle.control_line.specs.Answer.{AnswersBy, AreOne, HasOneAnswer, HasOneAnswerBy, HaveSameTexts, IsOperatorsChoice, by_function}
 use Rattle.control_line.specs.Reading.{Reading}
 use Rattle.control_line.specs.Request.{Spells, read}
@@ -21,6 +21,7 @@ use Rattle.control.specs.PacketLine.{HasNoPacket, IsPacketLine}
 use Rattle.control_line.specs.Packet.{IsHex, SpellsPacket, SpellsTooMuch}
 use Rattle.control_line.specs.Reply.{reply_text}
 use Rattle.control.specs.Script.{AreAnsweredBy, BeginsRequest, ComesInScript, HasOneText, HasOneTextBy, IsRequest, IsScriptTextBy, RepliesToBy, Standing, at_start, judged_text, no_request, of_nothing, of_requests, one_more, standing_after, text_value, to_control, to_long_packet, to_packet, with_last_lf}
+use Rattle.member_group.specs.Over.{config_over}
 
 -- ---- lines that have a packet
 

@@ -33,8 +33,8 @@ use Rattle.filter_program.specs.declared.fault.TextFault.TheVariants as text_fau
 use Rattle.control_line.specs.Reason.{IsRefusalOfText, reason_of_text}
 use Rattle.filter_program.specs.Program.{text_charge}
 use Rattle.filter_program.specs.Program.{Source}
-use Rattle.control_line.specs.body.Reading.{command_over}
-use Rattle.control_line.proofs.OverLemmas.{after-over, charge_by-over, first_refusal-over}
+use Rattle.member_group.proofs.OverLemmas.{after-over, charge_by-over, first_refusal-over}
+use Rattle.member_group.specs.Over.{command_over}
 
 -- ---- steps that publish nothing
 

@@ -118,10 +118,6 @@ module _ (line : List ℕ) where
     no_count misspelt start count is same = misspelt count (most_of start count is) (start_parts start count same).1
 
     module _ (count : ℕ) (small : count ≤ MOST_LINES) (spelled : number ≡ decimal count) where
-      pub is_start : (start : Start) → word ≡ start_word start → line ≡ start_text start ++ decimal count
-      is_start start at =
-          cut.whole ∙ ap (λ (w : List ℕ). w ++ 32 ∷ number) at ∙ ap (λ (n : List ℕ). start_word start ++ 32 ∷ n) spelled ∙ sym (start_is start (decimal count))
-
       pub no_start : word ≢ codes "anew" → (word ≡ codes "all" → count ≡ 0) → HasNoStart
       no_start not_anew none Current other is same =
           let at = start_parts Current other same in
@@ -147,14 +143,6 @@ pub lacks-head : (head : Head) → Lacks 10 (head_text head)
 lacks-head head =
     lacks-append 10 (version_prefix head.version) (start_text head.start ++ decimal head.count) (lacks-prefix head.version)
     (lacks-append 10 (start_text head.start) (decimal head.count) (lacks-start_text head.start) (lacks-decimal 10 head.count (inl (omega arith))))
-
--- a line that begins without a version
-pub no_head_start : (line : List ℕ) → HasNoVersion line → HasNoStart line → (head : Head) → IsHead head → line ≢ head_text head
-no_head_start line no_version no_start head is same = by_version head.version same is.version
-  where
-    by_version : (version : Option ℕ) → line ≡ version_prefix version ++ (start_text head.start ++ decimal head.count) → IfSome version (λ v. v ≤ LAST_NUMBER) → ⊥
-    by_version None same small = no_start head.start head.count is.count same
-    by_version (Some v) same small = no_version v (start_text head.start ++ decimal head.count) small same
 
 -- a line that begins with one
 pub no_head_version : (line rest : List ℕ) (v : ℕ) → v ≤ LAST_NUMBER → line ≡ version_prefix (Some v) ++ rest → HasNoStart rest → (head : Head) → IsHead head → line ≢ head_text head

@@ -1,4 +1,5 @@
 mod FindLemmas
+mod WindowLemmas
 mod ShortLemmas
 mod FormLemmas
 mod ReadingLemmas
@@ -6,7 +7,6 @@ mod RequestLemmas
 mod PacketLemmas
 mod LaneLemmas
 mod ProgramLemmas
-pub mod OverLemmas
 pub mod ChangeLemmas
 mod BlockLemmas
 mod HeadLemmas
@@ -18,4 +18,5 @@ mod OneMessageLemmas
 mod OneAnswerLemmas
 mod DigitLemmas
 pub mod RulesLemmas
+mod ColumnLemmas
 mod StandardFacts

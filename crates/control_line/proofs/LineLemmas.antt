@@ -19,7 +19,7 @@ use Rattle.control_line.specs.declared.reason.Reason.TheVariants.{Publishing}
 use Rattle.control_line.specs.declared.reason.Reason.TheVariants as reason
 use Rattle.control_line.specs.declared.reply.LineAnswer.{LineAnswer}
 use Rattle.control_line.specs.declared.reply.LineAnswer.TheVariants.{GroupRead, LineRefused, MemberRead, Published, Refused, Shown, Swept, WordsRead}
-use Rattle.control_line.specs.Agrees.{Agrees, AgreesNow, TextConfig, group_over}
+use Rattle.control_line.specs.Agrees.{Agrees, AgreesNow, TextConfig}
 use Rattle.control_line.specs.Answer.{Answers, Does, DoesNothing, DoesRefused, IsRefusedReply, IsReplyTo, LeavesConfig, PublishesNothing, bad_form, changed, changed_at, charge_of_text, other_version, replied, shown, swept, too_long, was_read}
 use Rattle.control_line.specs.Block.{IsTooLong, Message, SpellsMessage, after_line_feeds, block, for_version, long_block, long_line, single}
 use Rattle.control_line.specs.body.Heads.{HasNoHead, IsShortForVersion}
@@ -35,7 +35,8 @@ use Rattle.control_line.specs.Reading.{Reading, reading_answer}
 use Rattle.control_line.proofs.ReadBackLemmas.{does_nothing_read, read_alike}
 use Rattle.filter_program.specs.Program.{Source}
 use Rattle.control_line.proofs.ChangeLemmas.{agrees_with, charged_alike, scanned_keeps, still_agrees}
-use Rattle.control_line.proofs.OverLemmas.{members_of-over}
+use Rattle.member_group.proofs.OverLemmas.{members_of-over}
+use Rattle.member_group.specs.Over.{group_over}
 use Rattle.control_line.proofs.FormLemmas.{differ}
 
 -- ---- lines

@@ -18,7 +18,7 @@ use Rattle.control_line.specs.declared.reply.LineAnswer.{LineAnswer}
 use Rattle.control_line.specs.declared.reply.LineAnswer.TheVariants.{LineRefused, Published, Refused, Shown, Swept}
 use Rattle.control_line.specs.declared.reason.Reason.TheVariants.{Publishing}
 use Rattle.filter_tree.specs.Tree.{Tree}
-use Rattle.control_line.specs.Agrees.{AreWordsOf, Compiler, IsLoadedBy, LoadedProgram, TextConfig, config_over, group_over, member_over}
+use Rattle.control_line.specs.Agrees.{AreWordsOf, Compiler, IsLoadedBy, LoadedProgram, TextConfig}
 use Rattle.control_line.specs.Reading.{Reading, reading_answer}
 use Rattle.control_line.specs.Answer.{AnswersBy, AnswersMessageBy, AreOne, ChangesBy, ChangesTogetherBy, HasOneAnswer, HasOneAnswerBy, IsDoneBy, IsOperatorsChoice, LeadBy, LeadsToBy, MeansBy, NumberedLine, PublishesText, RefusesBy, RefusesLineBy, all_made, bad_change, bad_form, bad_text, busy, by_function, changed, changed_at, changed_together, charge_of_text, config_at, exhausted, line_refused, is_made, long, no_change, no_line, not_made, numbered, one_more, other_version, program_in, published, refused, replied, shown, swept, too_big, too_long, was_read}
 use Rattle.control_line.specs.Block.{Message, SpellsMessage}
@@ -29,10 +29,10 @@ use Rattle.filter_program.specs.Program.{IsMeaningOf, IsProgramFor, TextProgram,
 use Rattle.filter_program.specs.Program.{Source}
 use Rattle.control_line.specs.Request.{Spells, change, read}
 use Rattle.filter_program.specs.Fault.{HasNotBoth, HasOneFault, HasOneProgram}
-use Rattle.control_line.specs.body.Reading.{command_over}
 use Rattle.control_line.proofs.OneLineLemmas.{one_thing}
 use Rattle.control_line.proofs.OneMessageLemmas.{one_message}
-use Rattle.control_line.proofs.OverLemmas.{after-over, charge_by-over, first_refusal-over, members_of-over}
+use Rattle.member_group.proofs.OverLemmas.{after-over, charge_by-over, first_refusal-over, members_of-over}
+use Rattle.member_group.specs.Over.{command_over, config_over, group_over, member_over}
 
 -- ---- texts
 
@@ -114,9 +114,6 @@ module _ (laws : TextLaws) {V : Type 0} (view : LoadedProgram → V) (weight : V
           ∙ ap (after (command_over view other.made)) alike
           ∙ after-over view other.made config'
           ∙ ap (config_over view) (sym other.is)
-
-      one_charge : (next also : TextConfig) → LeadsToBy by config command next → LeadsToBy by' config' command also → charge_of_text next ≡ charge_of_text also
-      one_charge next also leads other = same_charge next also (one_next next also leads other)
 
       first_not_refused : (made : Command LoadedProgram) (refusal : Refusal) (next : TextConfig) → MeansBy by command made → first_refusal made config ≡ Some refusal → LeadsToBy by' config' command next → ⊥
       first_not_refused made refusal next means first leads =

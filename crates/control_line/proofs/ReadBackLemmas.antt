@@ -11,12 +11,13 @@ use Rattle.member_group.specs.declared.refusal.Refusal.{Refusal}
 use Rattle.member_group.specs.declared.refusal.Refusal.TheVariants.{NoGroup, NoMember, NoProgram}
 use Rattle.control_line.specs.declared.reason.Reason.TheVariants.{Command}
 use Rattle.read_section.specs.Operator.{OperatorValue}
-use Rattle.control_line.specs.Agrees.{Agrees, TextConfig, config_over, group_over, member_over}
+use Rattle.control_line.specs.Agrees.{Agrees, TextConfig}
 use Rattle.control_line.specs.Answer.{Does}
 use Rattle.control_line.specs.Reading.{Reading, count_of, filter_words, group_answer, group_at, member_answer, member_at, or_refused, reading_answer, selector_words, window, words_answer}
 use Rattle.control_line.specs.declared.reply.LineAnswer.{LineAnswer}
 use Rattle.control_line.specs.declared.reply.LineAnswer.TheVariants.{GroupRead, MemberRead, Refused, WordsRead}
-use Rattle.control_line.proofs.OverLemmas.{group-over, member-over}
+use Rattle.member_group.proofs.OverLemmas.{group-over, member-over}
+use Rattle.member_group.specs.Over.{config_over, group_over, member_over}
 
 -- programs of two kinds that have the same words
 module _ {P Q : Type 0} (over : P → Q) (words_of : Q → List ℕ) (others_of : P → List ℕ) (same : (program : P) → words_of (over program) ≡ others_of program) (version : ℕ) where

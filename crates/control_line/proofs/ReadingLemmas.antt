@@ -1,5 +1,5 @@
 -- Lines that read a part of the configuration, field by field.
-use Rattle.std.proofs.Common.{◌≡◌, ◌≢◌, ◌∙◌, ◌^◌, ◌<◌, ◌≤◌, ◌∷◌, ◌++◌, ◌⊎◌, List, None, [], ap, arith, codes, decimal, inl, inr, refl, subst, sym, ℕ}
+use Rattle.std.proofs.Common.{◌≡◌, ◌≢◌, ◌∙◌, ◌^◌, ◌<◌, ◌≤◌, ◌∷◌, ◌++◌, ◌⊎◌, List, None, ap, arith, codes, decimal, inl, inr, refl, subst, sym, ℕ}
 use Rattle.std.proofs.lemmas.Fmt.{decimal_injective}
 use Rattle.std.proofs.lemmas.List.{append_cancel_left}
 use Rattle.ipv4_fields.specs.declared.endpoint.Endpoint.{Endpoint}
@@ -119,17 +119,6 @@ abbrev IsNoEndpoint : List ℕ → Type 0
 IsNoEndpoint field = (endpoint : Endpoint) → IsEndpoint endpoint → field ≢ endpoint_text endpoint
 
 module _ (fields : List ℕ) where
-  pub none_groups : IsMisspelt fields → IsNoReading (codes "group " ++ fields)
-  none_groups misspelt (group_at index) spells =
-      let at = at_reading (codes "group") fields (group_at index) (lacks-test 32 (codes "group") refl) spells in
-      let small = spells.2.0 in misspelt index (omega arith) at.1
-  none_groups misspelt (member_at key index) spells = differ 0 (at_reading (codes "group") fields (member_at key index) (lacks-test 32 (codes "group") refl) spells).0 refl
-  none_groups misspelt (selector_words key place) spells = differ 0 (at_reading (codes "group") fields (selector_words key place) (lacks-test 32 (codes "group") refl) spells).0 refl
-  none_groups misspelt (filter_words key id place) spells = differ 0 (at_reading (codes "group") fields (filter_words key id place) (lacks-test 32 (codes "group") refl) spells).0 refl
-
-  pub group_spelled : (index : ℕ) → index ≤ 4294967295 → fields ≡ decimal index → Spells (codes "group " ++ fields) (read (group_at index))
-  group_spelled index small is = (codes "group" ∷ decimal index ∷ [], ap (λ text. codes "group " ++ text) is, (omega arith, refl))
-
   -- what the fields of a member are
   abbrev IsOfMember : Type 0
   IsOfMember = (key : Endpoint) × IsEndpoint key × (index : ℕ) × (index ≤ 4294967295) × (fields ≡ endpoint_text key ++ 32 ∷ decimal index)
@@ -196,13 +185,6 @@ module _ (fields : List ℕ) where
     pub none_placed_members : IsMisspelt rest → IsNoReading (codes "member " ++ fields)
     none_placed_members misspelt reading spells = let at = member_fields reading spells in misspelt at.2 at.3 (at_member reading spells).1
 
-    pub member_spelled : (endpoint : Endpoint) (index : ℕ) → IsEndpoint endpoint → key ≡ endpoint_text endpoint → index ≤ 4294967295 → rest ≡ decimal index → Spells (codes "member " ++ fields) (read (member_at endpoint index))
-    member_spelled endpoint index range key_is small rest_is = (
-      codes "member" ∷ endpoint_text endpoint ∷ decimal index ∷ [],
-      ap (λ text. codes "member " ++ text) (cut.whole ∙ ap (λ k. k ++ 32 ∷ rest) key_is ∙ ap (λ r. endpoint_text endpoint ++ 32 ∷ r) rest_is),
-      (range, omega arith, refl),
-    )
-
     at_words : (reading : Reading) → (spells : Spells (codes "words " ++ fields) (read reading)) → let at = words_fields reading spells in (key ≡ endpoint_text at.0) × (rest ≡ at.2 ++ 32 ∷ decimal at.4)
     at_words reading spells =
         let at = words_fields reading spells in
@@ -231,28 +213,6 @@ module _ (fields : List ℕ) where
           by_program : (named : List ℕ) → program ≡ named → (named ≡ codes "selector") ⊎ ((id : ℕ) × (id ≤ 4294967295) × (named ≡ decimal id)) → ⊥
           by_program named is (inl selector) = other (is ∙ selector)
           by_program named is (inr (id, small, number)) = misspelt id small (is ∙ number)
-
-      fields_are : (endpoint : Endpoint) (named : List ℕ) (number : ℕ) → key ≡ endpoint_text endpoint → program ≡ named → place ≡ decimal number → fields ≡ endpoint_text endpoint ++ 32 ∷ (named ++ 32 ∷ decimal number)
-      fields_are endpoint named number key_is program_is place_is =
-          cut.whole
-          ∙ ap (λ k. k ++ 32 ∷ rest) key_is
-          ∙ ap (λ r. endpoint_text endpoint ++ 32 ∷ r) (again.whole ∙ ap (λ p. p ++ 32 ∷ place) program_is ∙ ap (λ n. named ++ 32 ∷ n) place_is)
-
-      pub selector_words_spelled : (endpoint : Endpoint) (number : ℕ) → IsEndpoint endpoint → key ≡ endpoint_text endpoint → program ≡ codes "selector" → number ≤ 4294967295 → place ≡ decimal number
-          → Spells (codes "words " ++ fields) (read (selector_words endpoint number))
-      selector_words_spelled endpoint number range key_is program_is small place_is = (
-        codes "words" ∷ endpoint_text endpoint ∷ codes "selector" ∷ decimal number ∷ [],
-        ap (λ text. codes "words " ++ text) (fields_are endpoint (codes "selector") number key_is program_is place_is),
-        (range, omega arith, refl),
-      )
-
-      pub filter_words_spelled : (endpoint : Endpoint) (id number : ℕ) → IsEndpoint endpoint → key ≡ endpoint_text endpoint → id ≤ 4294967295 → program ≡ decimal id → number ≤ 4294967295 → place ≡ decimal number
-          → Spells (codes "words " ++ fields) (read (filter_words endpoint id number))
-      filter_words_spelled endpoint id number range key_is low program_is small place_is = (
-        codes "words" ∷ endpoint_text endpoint ∷ decimal id ∷ decimal number ∷ [],
-        ap (λ text. codes "words " ++ text) (fields_are endpoint (decimal id) number key_is program_is place_is),
-        (range, omega arith, omega arith, refl),
-      )
 
 -- ---- lines by their first word
 

@@ -1,6 +1,6 @@
 -- Rules files: their lines, and what the lines make one after the other.
 use Rattle.std.proofs.Common.{◌≡◌, ◌∙◌, ◌==◌, ◌+◌, ◌-◌, ◌<◌, ◌≤◌, ◌++◌, ◌∷◌, Bool, List, None, Some, [], ap, append-nil, append_assoc, arith, false, length, length-append, refl, subst, suc, sym, true, ℕ}
-use Rattle.std.proofs.lemmas.Bool.{both_ways, le-ltb, lt-ltb, ne_eqb}
+use Rattle.std.proofs.lemmas.Bool.{both_ways, lt-ltb, ne_eqb}
 use Rattle.config_image.specs.Image.{Group}
 use Rattle.filter_program.specs.Program.{IsProgramFor}
 use Rattle.ipv4_fields.specs.Cut.{IsSplitAt, Lacks}
@@ -15,7 +15,7 @@ use Rattle.control_line.specs.declared.rules_file.RulesFault.{RulesFault}
 use Rattle.control_line.specs.declared.rules_file.RulesFault.TheVariants.{OutOfMemory, Refused}
 use Rattle.control_line.specs.Agrees.{Agrees, Compiler, TextConfig}
 use Rattle.control_line.specs.Answer.{IsDoneBy, LeadBy, NumberedLine, no_line, one_more}
-use Rattle.control_line.specs.Rules.{IsConfigOf, IsFaultOfFile, IsShortFile, RefusesFileBy, bad_line, grow_first, is_blank, is_skipped, line_numbered, lines_in, rule_of, rules_from, rules_in, too_big, without_return}
+use Rattle.control_line.specs.Rules.{IsConfigOf, IsFaultOfFile, IsShortFile, RefusesFileBy, bad_line, grow_first, is_skipped, line_numbered, lines_in, rule_of, rules_from, rules_in, too_big, without_return}
 use Rattle.control_line.specs.body.Blocks.{IsDone, IsLineFault}
 use Rattle.control_line.specs.body.Rules.{AreRulesDone, IsFileFaultAt, IsFirstLine, IsLineDone, IsLineFaultAt}
 
@@ -51,12 +51,6 @@ first_line_last (x ∷ line) rest some lacks none = record {
 }
 
 -- ---- which lines count
-
-pub skipped-blank : (byte : ℕ) (rest : List ℕ) → is_blank byte ≡ true → is_skipped (byte ∷ rest) ≡ is_skipped rest
-skipped-blank byte rest blank = simp blank refl
-
-pub skipped-other : (byte : ℕ) (rest : List ℕ) → is_blank byte ≡ false → is_skipped (byte ∷ rest) ≡ (byte == 35)
-skipped-other byte rest other = simp other refl
 
 pub rule_of-skipped : (number : ℕ) (line : List ℕ) → is_skipped line ≡ true → rule_of number line ≡ []
 rule_of-skipped number line skipped = simp skipped refl
@@ -252,9 +246,6 @@ file_made text config short (made, lead, agrees) small =
 pub line_later : (number : ℕ) (text line rest : List ℕ) → IsFirstLine text line rest → 1 < number
     → line_numbered number (lines_in text) ≡ line_numbered (number - 1) (lines_in rest)
 line_later number text line rest first later = ap (line_numbered number) first.lines ∙ simp (lt-ltb 1 number later) refl
-
-pub line_here : (number : ℕ) (text line rest : List ℕ) → IsFirstLine text line rest → number ≤ 1 → line_numbered number (lines_in text) ≡ line
-line_here number text line rest first here = ap (line_numbered number) first.lines ∙ simp (le-ltb 1 number here) refl
 
 pub line_none : (number : ℕ) (text : List ℕ) → text ≡ [] → line_numbered number (lines_in text) ≡ []
 line_none number text none = ap (λ (t : List ℕ). line_numbered number (lines_in t)) none

@@ -1,11 +1,11 @@
 -- Configurations over the programs of texts, and when one agrees with the operator's.
-use Rattle.std.specs.Prelude.{◌≡◌, List, map, option_map, ℕ}
+use Rattle.std.specs.Prelude.{◌≡◌, List, ℕ}
 use Rattle.bpf_machine.specs.Meaning.{ending_of}
 use Rattle.bpf_verify.specs.Program.{ProgramValue}
 use Rattle.filter_compile.specs.Answer.{IsPacket}
 use Rattle.config_image.specs.Image.{Group}
 use Rattle.member_group.specs.Group.{GroupOf}
-use Rattle.member_group.specs.declared.member.Member.{Member}
+use Rattle.member_group.specs.Over.{config_over}
 use Rattle.versions.specs.declared.view.OperatorView.{OperatorView}
 use Rattle.read_section.specs.Operator.{IsCurrent}
 use Rattle.filter_tree.specs.Tree.{Tree}
@@ -32,17 +32,6 @@ pub record IsLoadedBy (by : Compiler) (source : Source) (program : LoadedProgram
 
 abbrev pub TextConfig : Type 0
 TextConfig = List (GroupOf LoadedProgram)
-
--- a member, a group and a configuration with another kind of programs
-abbrev pub member_over : {P Q : Type 0} → (P → Q) → Member P → Member Q
-member_over over member = record { id = member.id; to = member.to; filter = option_map over member.filter; locked = member.locked }
-
-abbrev pub group_over : {P Q : Type 0} → (P → Q) → GroupOf P → GroupOf Q
-group_over over group =
-    record { key = group.key; selector = option_map over group.selector; members = map (member_over over) group.members }
-
-abbrev pub config_over : {P Q : Type 0} → (P → Q) → List (GroupOf P) → List (GroupOf Q)
-config_over over config = map (group_over over) config
 
 -- a program of the operator's is the loaded one: the same words, the charge of the text, and its ending on every packet
 pub record Agreeing : Type 0 where

@@ -6,6 +6,7 @@ use Rattle.member_group.specs.Refusal.{first_refusal}
 use Rattle.member_group.specs.declared.command.Command.{Command}
 use Rattle.member_group.specs.declared.command.Command.TheVariants.{AddGroup, ClearFilter, ClearSelector, Join, Leave, LockFilter, RemoveGroup, SetFilter, SetSelector}
 use Rattle.member_group.specs.declared.refusal.Refusal.{Refusal}
+use Rattle.member_group.specs.Over.{config_over}
 use Rattle.config_image.specs.Image.{Group}
 use Rattle.versions.specs.Free.{number_after}
 use Rattle.versions.specs.declared.layout.TheConstants.{CHARGE_LIMIT, LAST_NUMBER}
@@ -26,7 +27,7 @@ use Rattle.control_line.specs.declared.reason.Reason.TheVariants.{BadForm, LineT
 use Rattle.control_line.specs.declared.reason.Reason.TheVariants as reason
 use Rattle.control_line.specs.declared.reply.LineAnswer.{LineAnswer}
 use Rattle.control_line.specs.declared.reply.LineAnswer.TheVariants.{GroupRead, LineRefused, MemberRead, Published, Refused, Shown, Swept, WordsRead}
-use Rattle.control_line.specs.Agrees.{AgreesNow, Compiler, IsLoadedBy, LoadedProgram, TextConfig, config_over}
+use Rattle.control_line.specs.Agrees.{AgreesNow, Compiler, IsLoadedBy, LoadedProgram, TextConfig}
 use Rattle.control_line.specs.Block.{IsTooLong, Message, SpellsMessage, block, for_version, single, wanted_version}
 use Rattle.control_line.specs.Reading.{Reading, reading_answer}
 use Rattle.control_line.specs.Reply.{reply_text}

@@ -6,6 +6,7 @@ pub mod Reply
 pub mod Agrees
 pub mod Answer
 pub mod Rules
+pub mod Column
 pub mod Packet
 pub mod body
 pub use Rattle.ipv4_fields.specs.Endpoint

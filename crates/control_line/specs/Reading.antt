@@ -1,11 +1,12 @@
 -- Lines that read the configuration back, and what they are answered (docs/COMMANDS.md, "Control lines").
-use Rattle.std.specs.Prelude.{◌+◌, ◌∷◌, List, None, Option, Some, [], length, slice_get, slice_index_or, ℕ}
+use Rattle.std.specs.Prelude.{◌++◌, List, None, Option, Some, drop, length, replicate, slice_get, take, ℕ}
 use Rattle.ipv4_fields.specs.declared.endpoint.Endpoint.{Endpoint}
 use Rattle.member_group.specs.Group.{GroupOf, group_of, member_of}
 use Rattle.member_group.specs.declared.member.Member.{Member}
 use Rattle.member_group.specs.declared.refusal.Refusal.{Refusal}
 use Rattle.member_group.specs.declared.refusal.Refusal.TheVariants.{NoGroup, NoMember, NoProgram}
 use Rattle.control_line.specs.declared.reason.Reason.TheVariants.{Command}
+use Rattle.control_line.specs.declared.reply.TheConstants.{WINDOW}
 use Rattle.control_line.specs.declared.reply.LineAnswer.{LineAnswer}
 use Rattle.control_line.specs.declared.reply.LineAnswer.TheVariants.{GroupRead, MemberRead, Refused, WordsRead}
 
@@ -21,11 +22,9 @@ abbrev pub or_refused : {A : Type 0} → Refusal → (A → LineAnswer) → Opti
 or_refused refusal answer None = Refused (Command refusal)
 or_refused refusal answer (Some found) = answer found
 
--- five words from a place on, with 0 for each that is not there
+-- five words from a place on; after the last word come zeros
 abbrev pub window : List ℕ → ℕ → List ℕ
-window words place =
-    slice_index_or words place 0 ∷ slice_index_or words (place + 1) 0 ∷ slice_index_or words (place + 2) 0
-    ∷ slice_index_or words (place + 3) 0 ∷ slice_index_or words (place + 4) 0 ∷ []
+window words place = take WINDOW (drop place words ++ replicate WINDOW 0)
 
 -- how many instructions a program has; none has 0
 abbrev pub count_of : {P : Type 0} → (P → List ℕ) → Option P → ℕ

@@ -2,9 +2,10 @@
 
 ghost use Rattle.std.specs.Prelude.{IfOk, MatchResult};
 ghost use Rattle.member_group.specs.Refusal.{first_refusal};
+ghost use Rattle.member_group.specs.Over.{command_over};
 ghost use Rattle.control_line.specs.body.Blocks.{IsDone, IsLineFault};
 ghost use Rattle.control_line.specs.body.Making.{IsChangeDone, IsChangeFault, IsChanged, IsNext, IsOutcome, IsPublication, IsRefusedFor, IsShort};
-ghost use Rattle.control_line.specs.body.Reading.{command_over, source_of};
+ghost use Rattle.control_line.specs.body.Reading.{source_of};
 
 use crate::LINE_LIMIT;
 use crate::program::{LineFault, command_of};

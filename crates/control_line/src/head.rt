@@ -59,7 +59,8 @@ fn number_of(field: &[u8]) -> Option<u64>
     Some(number)
 }
 
-fn read_version(field: &[u8]) -> Option<u64>
+/// Reads the number of a version, decimal and without leading zeros.
+pub fn read_version(field: &[u8]) -> Option<u64>
     ensures { MatchOption result
         ((version : ℕ) → version ≤ LAST_NUMBER → field.now ≢ decimal version)
         (λ version. (version ≤ LAST_NUMBER) × (field.now ≡ decimal version)) }

@@ -35,7 +35,7 @@ mod rules_file;
 use block::answer_block;
 use change::publish_change;
 pub use column::fault_column;
-pub use head::{Head, Start, read_head};
+pub use head::{Head, Start, read_head, read_version};
 use head::{split_head, split_version};
 pub use packet::{packet_of_hex, read_packet};
 use program::LineFault;

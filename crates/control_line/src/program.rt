@@ -2,8 +2,9 @@
 
 ghost use Rattle.std.specs.Prelude.{◌≡◌, MatchResult};
 ghost use Rattle.control_line.specs.body.Making.{IsLineFaultOf, IsLineFaultOfCommand, IsMade, IsMadeCommand, line_fault_of};
-ghost use Rattle.control_line.specs.body.Reading.{command_over, source_of};
+ghost use Rattle.control_line.specs.body.Reading.{source_of};
 ghost use Rattle.control_line.specs.declared.program.LineFault.TheVariants.{OutOfMemory};
+ghost use Rattle.member_group.specs.Over.{command_over};
 
 use crate::reason::Reason;
 use crate::request::ProgramText;

@@ -3,7 +3,7 @@ use Rattle.std.specs.Prelude.{◌≡◌, ◌≢◌, ◌++◌, ◌⊎◌, List, N
 use Rattle.std.specs.Io.KnownBytes.{Appends}
 use Rattle.std.specs.List.{All}
 use Rattle.command_line.specs.declared.ending.Failure.{Failure}
-use Rattle.command_line.specs.declared.ending.Failure.TheVariants.{NoAnswer, ReadFailed}
+use Rattle.command_line.specs.declared.ending.Failure.TheVariants.{NoAnswer, ReadFailed, RulesChanged}
 use Rattle.config_image.specs.Image.{Group}
 use Rattle.dispatch.specs.Batch.{Parts}
 use Rattle.dispatch.specs.Device.{OutboxValue}
@@ -37,9 +37,9 @@ AreServiceStarts workers starts = (length starts ≡ workers) × All HasSilentDe
 abbrev pub IsServedFrom : List Group → ℕ → Totals → Type 0
 IsServedFrom opening workers totals = IsCounted opening LONGEST_DATAGRAM LIMIT (AreServiceStarts workers) totals
 
--- `serve` reads no input, and waits for no reply
+-- `serve` reads no input, waits for no reply, and reads no rules of a switch
 abbrev pub IsServeFailure : Failure → Type 0
-IsServeFailure failure = (failure ≢ ReadFailed) × (failure ≢ NoAnswer)
+IsServeFailure failure = (failure ≢ ReadFailed) × (failure ≢ NoAnswer) × (failure ≢ RulesChanged)
 
 -- the line that tells that the service is ready
 abbrev pub ready_text : Endpoint → Endpoint → List ℕ

@@ -2,9 +2,10 @@ use Rattle.std.proofs.Common.{sym, ◌∙◌, subst}
 use Rattle.control_line.specs.Answer.{IsAnswered}
 use Rattle.control_line.specs.declared.reason.Reason.TheVariants.{OtherVersion}
 use Rattle.control_line.specs.declared.reply.LineAnswer.TheVariants.{Refused}
-use Rattle.control_line.specs.body.Reading.{command_over, source_of}
+use Rattle.control_line.specs.body.Reading.{source_of}
 use Rattle.control_line.proofs.LineLemmas.{asked, at_answered, at_asks, at_bad_form, at_other}
 use Rattle.control_line.proofs.answer_at.Goals as goal
+use Rattle.member_group.specs.Over.{command_over}
 
 pub returns-in_default-clause-answered : goal.returns-in_default-clause-answered
 returns-in_default-clause-answered c = λ text is. at_bad_form text c.args.version c.args.line.now is c.requires c.args.operator.now c.in_default.ensures

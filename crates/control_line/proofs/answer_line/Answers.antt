@@ -1,9 +1,10 @@
 use Rattle.std.proofs.Common.{rules, subst}
 use Rattle.control_line.specs.Block.{single}
 use Rattle.control_line.specs.Request.{Spells, change}
-use Rattle.control_line.specs.body.Reading.{command_over, reading_of, request_of, source_of}
+use Rattle.control_line.specs.body.Reading.{reading_of, request_of, source_of}
 use Rattle.control_line.proofs.LineLemmas.{asked, change_answered, is_bad_form, is_read, is_shown, is_swept, is_too_long}
 use Rattle.control_line.proofs.answer_line.Goals as goal
+use Rattle.member_group.specs.Over.{command_over}
 
 pub returns-then-text-gt-LINE_LIMIT-clause-answered : goal.returns-then-text-gt-LINE_LIMIT-clause-answered
 returns-then-text-gt-LINE_LIMIT-clause-answered c = is_too_long c.args.text.now c.args.operator.now c.requires c.if-text-gt-LINE_LIMIT.true

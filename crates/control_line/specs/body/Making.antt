@@ -7,6 +7,7 @@ use Rattle.member_group.specs.Command.{after}
 use Rattle.member_group.specs.Refusal.{first_refusal}
 use Rattle.member_group.specs.declared.command.Command.{Command}
 use Rattle.member_group.specs.declared.refusal.Refusal.{Refusal}
+use Rattle.member_group.specs.Over.{command_over}
 use Rattle.versions.specs.Free.{number_after}
 use Rattle.versions.specs.declared.view.OperatorView.{OperatorView}
 use Rattle.read_section.specs.Operator.{IsCurrent, OperatorValue}
@@ -19,7 +20,6 @@ use Rattle.control_line.specs.declared.reply.LineAnswer.TheVariants as answer
 use Rattle.control_line.specs.Agrees.{Agreeing, Agrees, AgreesNow, IsLoadedBy, TextConfig}
 use Rattle.control_line.specs.Answer.{Changes, Does, LeadsTo, Means, PublishesText, Refuses, program_in}
 use Rattle.control_line.specs.Reason.{IsRefusalOfText, reason_of_text}
-use Rattle.control_line.specs.body.Reading.{command_over}
 use Rattle.filter_program.specs.Program.{IsProgramFor, Source}
 use Rattle.filter_program.specs.declared.fault.TextFault.{TextFault}
 

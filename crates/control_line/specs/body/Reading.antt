@@ -1,8 +1,8 @@
 -- What the steps of reading a line give.
 use Rattle.std.specs.Prelude.{◌≢◌, ◌∷◌, List, MatchOption, None, Option, Some, [], codes, ℕ}
 use Rattle.ipv4_fields.specs.Cut.{Lacks}
+use Rattle.member_group.specs.Over.{command_over}
 use Rattle.member_group.specs.declared.command.Command.{Command}
-use Rattle.member_group.specs.declared.command.Command.TheVariants.{AddGroup, ClearFilter, ClearSelector, Join, Leave, LockFilter, RemoveGroup, SetFilter, SetSelector}
 use Rattle.filter_program.specs.Program.{Source, assembly, expression}
 use Rattle.control_line.specs.declared.request.ProgramText.{ProgramText as LentText}
 use Rattle.control_line.specs.declared.request.ProgramText.TheVariants as lent
@@ -23,18 +23,6 @@ program_fields (Some (expression text)) = codes "expr" ∷ text ∷ []
 abbrev pub source_of : LentText → Source
 source_of (lent.Assembly text) = assembly text.now
 source_of (lent.Expression text) = expression text.now
-
--- a command with another kind of programs
-abbrev pub command_over : {P Q : Type 0} → (P → Q) → Command P → Command Q
-command_over over (AddGroup key) = AddGroup key
-command_over over (RemoveGroup key) = RemoveGroup key
-command_over over (Join key id to) = Join key id to
-command_over over (Leave key id) = Leave key id
-command_over over (SetSelector key program) = SetSelector key (over program)
-command_over over (ClearSelector key) = ClearSelector key
-command_over over (SetFilter key id program) = SetFilter key id (over program)
-command_over over (ClearFilter key id) = ClearFilter key id
-command_over over (LockFilter key id) = LockFilter key id
 
 abbrev pub reading_of : LentReading → Reading
 reading_of (lent_reading.Group index) = group_at index

@@ -1,7 +1,8 @@
 use Rattle.std.proofs.Common.{◌≡◌, Err, rules}
-use Rattle.control_line.specs.body.Reading.{command_over, source_of}
+use Rattle.control_line.specs.body.Reading.{source_of}
 use Rattle.control_line.proofs.ChangeLemmas.{change_result, no_command}
 use Rattle.control_line.proofs.change.changed.Goals as goal
+use Rattle.member_group.specs.Over.{command_over}
 
 pub returns-in_err-command : goal.returns-in_err-command
 returns-in_err-command c =

@@ -1,7 +1,8 @@
 use Rattle.control_line.specs.Answer.{long, no_change}
-use Rattle.control_line.specs.body.Reading.{command_over, source_of}
+use Rattle.control_line.specs.body.Reading.{source_of}
 use Rattle.control_line.proofs.BlockLemmas.{line_result}
 use Rattle.control_line.proofs.change.line_done.Goals as goal
+use Rattle.member_group.specs.Over.{command_over}
 
 pub returns-then-line-gt-LINE_LIMIT : goal.returns-then-line-gt-LINE_LIMIT
 returns-then-line-gt-LINE_LIMIT c = λ text agrees. long c.if-line-gt-LINE_LIMIT.true
