@@ -28,7 +28,7 @@ uint64_t measured_line(const uint8_t *script, size_t length, const uint8_t *text
                        uint64_t rounds);
 uint64_t measured_change(const uint8_t *script, size_t length, uint64_t publishes, uint64_t rounds);
 
-enum { MOST = 4096, PACKET = 60, PACKETS = 256, CONTESTANTS = 4, SCRIPT = 1 << 20 };
+enum { MOST = 4096, PACKET = 60, PACKETS = 256, CONTESTANTS = 4, SCRIPT = 1 << 20, LINES = 1000, FEW_LINES = 100 };
 
 /* A call that is timed: it makes so many rounds over what `about` points to. */
 typedef void rounds_fn(const void *about, uint64_t rounds);
@@ -450,6 +450,53 @@ static void filters(const uint8_t *packet) {
     }
 }
 
+/* `join` and `leave` of one member by turns: line by line, in blocks of FEW_LINES lines, and in one block of LINES. */
+struct lines {
+    struct table single, few, many;
+};
+
+static void lines_single(const void *about, uint64_t rounds) {
+    lines_ours(&((const struct lines *)about)->single, rounds * LINES);
+}
+
+static void lines_in_few(const void *about, uint64_t rounds) {
+    line_ours(&((const struct lines *)about)->few, rounds * (LINES / FEW_LINES));
+}
+
+static void lines_in_many(const void *about, uint64_t rounds) {
+    line_ours(&((const struct lines *)about)->many, rounds);
+}
+
+/* Writes a block of the table's two lines by turns. */
+static void block(char *text, const struct table *t, int count) {
+    text += sprintf(text, "all %d", count);
+    for (int i = 0; i < count; i++)
+        text += sprintf(text, "\n%s", i % 2 == 0 ? t->line : t->other);
+}
+
+static void blocks(void) {
+    static const struct contestant list[] = {{"one by one", lines_single, NULL}, {"ten blocks", lines_in_few, NULL}, {"one block", lines_in_many, NULL}};
+    static const struct {
+        const char *name;
+        int groups;
+        bool programs;
+    } shapes[] = {{"lines: 1000, 1 group", 1, false}, {"lines: 1000, 16 groups", 16, false}, {"lines: 1000, 64 groups with programs", 64, true}};
+    static struct lines l;
+    static char few[FEW_LINES * 64], many[LINES * 64];
+    l.single.line = "join 10.0.0.2:53 2 127.0.0.1:9002";
+    l.single.other = "leave 10.0.0.2:53 2";
+    block(few, &l.single, FEW_LINES);
+    block(many, &l.single, LINES);
+    l.few.line = few;
+    l.many.line = many;
+    for (size_t s = 0; s < sizeof shapes / sizeof *shapes; s++) {
+        groups(&l.single, shapes[s].groups, shapes[s].programs);
+        groups(&l.few, shapes[s].groups, shapes[s].programs);
+        groups(&l.many, shapes[s].groups, shapes[s].programs);
+        measure(shapes[s].name, list, 3, &l);
+    }
+}
+
 static void tables(void) {
     static struct table t;
     static uint8_t packet[PACKET] = {0x45, 0, 0, PACKET, 0, 0, 0, 0, 64, 17, 0, 0, 10, 0, 0, 1, 10, 0, 0, 2, 0x13, 0x88, 0, 53, 0, 40, 0, 0};
@@ -480,6 +527,7 @@ static void tables(void) {
     t.other = "filter 10.0.31.2:53 1 asm ldb [9]; jeq #6,0,1; ret #65535; ret #0";
     struct contestant change[] = {{"C: 8192 stores", fill_limit, NULL}, {"a control line that changes it", lines_ours, NULL}};
     measure("publish: one of 128 programs", change, 2, &t);
+    blocks();
 }
 
 int main(int argc, char **argv) {
