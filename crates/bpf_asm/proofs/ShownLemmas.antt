@@ -1,21 +1,25 @@
 -- Printed texts: their tokens, and that no byte of them ends a line.
-use Rattle.std.proofs.Common.{◌≡◌, ◌==◌, ◌∙◌, ◌++◌, ◌<◌, ◌≤◌, ◌^◌, ◌⊎◌, List, [], ap, arith, inl, inr, length, not, refl, subst, true, ◌∷◌, ℕ}
+use Rattle.std.proofs.Common.{◌&&◌, ◌≡◌, ◌==◌, ◌∙◌, ◌++◌, ◌<◌, ◌≤◌, ◌^◌, ◌⊎◌, List, [], ap, arith, inl, inr, length, not, nat_le, refl, subst, true, ◌∷◌, Bool, ℕ}
 use Rattle.std.specs.Char.{is_ascii_alphanumeric, is_ascii_digit}
 use Rattle.std.specs.Fmt.{decimal}
 use Rattle.std.specs.Int.{is_in_range}
 use Rattle.std.specs.List.{list_all}
 use Rattle.std.specs.Str.{all_ascii_digits}
-use Rattle.std.proofs.lemmas.Bool.{and_from, and_parts, cond-false, eqb-true, false_from_ne_true, leb-true, not-true, or_cases}
+use Rattle.std.proofs.lemmas.Bool.{and_from, and_parts, cond-false, eqb-true, false_from_ne_true, le-leb, leb-true, not-true, or_cases}
 use Rattle.std.proofs.lemmas.Fmt.{decimal_nonempty, digits_decimal}
 use Rattle.std.proofs.lemmas.List.{append-nil}
 use Rattle.std.proofs.lemmas.Str.Parse.{numerals_by_value, tells_all_ascii_digits}
 use Rattle.bpf_asm.proofs.TokenLemmas.{is_ascii_alphanumeric-first}
 use Rattle.bpf_asm.specs.Line.{ends_line, lines_of, with_front}
+use Rattle.bpf_asm.specs.Text.{IsPrintable}
 use Rattle.bpf_asm.specs.Token.{BeginsWith, IsTokens, SpellsNumber, Token, begins_word, is_in_word, is_mark, mark, number, word}
 
--- no byte of a text ends a line
+-- a byte that does not end a line, and is no control character
+abbrev pub is_on_line : ℕ → Bool
+is_on_line b = not (ends_line b) && nat_le 32 b
+
 abbrev pub StaysOnLine : List ℕ → Type 0
-StaysOnLine text = list_all (λ b. not (ends_line b)) text ≡ true
+StaysOnLine text = list_all is_on_line text ≡ true
 
 -- a text on one line is these tokens
 pub record Shows (text : List ℕ) (tokens : List Token) : Type 0 where
@@ -25,19 +29,22 @@ pub record Shows (text : List ℕ) (tokens : List Token) : Type 0 where
 stays-append : (left right : List ℕ) → StaysOnLine left → StaysOnLine right → StaysOnLine (left ++ right)
 stays-append [] right here later = later
 stays-append (b ∷ left) right here later =
-    let both = and_parts (not (ends_line b)) (list_all (λ it. not (ends_line it)) left) here in
-    and_from (not (ends_line b)) (list_all (λ it. not (ends_line it)) (left ++ right)) both.0 (stays-append left right both.1 later)
+    let both = and_parts (is_on_line b) (list_all is_on_line left) here in
+    and_from (is_on_line b) (list_all is_on_line (left ++ right)) both.0 (stays-append left right both.1 later)
 
 -- ---- digits
 
 range : (low high b : ℕ) → is_in_range low high b ≡ true → (low ≤ b) × (b ≤ high)
 range low high b is = let both = and_parts _ _ is in (leb-true low b both.0, leb-true b high both.1)
 
-digit_stays : (b : ℕ) → is_ascii_digit b ≡ true → not (ends_line b) ≡ true
-digit_stays b digit = ap not (false_from_ne_true (ends_line b) (λ ends. by_end (or_cases (b == 10) (b == 59) ends))) where
-  by_end : ((b == 10) ≡ true) ⊎ ((b == 59) ≡ true) → ⊥
-  by_end (inl same) = let at = range 48 57 b digit in let it = eqb-true b 10 same in absurd (omega arith)
-  by_end (inr same) = let at = range 48 57 b digit in let it = eqb-true b 59 same in absurd (omega arith)
+digit_stays : (b : ℕ) → is_ascii_digit b ≡ true → is_on_line b ≡ true
+digit_stays b digit =
+    let at = range 48 57 b digit in
+    and_from (not (ends_line b)) (nat_le 32 b) (ap not (false_from_ne_true (ends_line b) (λ ends. by_end (or_cases (b == 10) (b == 59) ends)))) (le-leb 32 b (omega arith))
+  where
+    by_end : ((b == 10) ≡ true) ⊎ ((b == 59) ≡ true) → ⊥
+    by_end (inl same) = let at = range 48 57 b digit in let it = eqb-true b 10 same in absurd (omega arith)
+    by_end (inr same) = let at = range 48 57 b digit in let it = eqb-true b 59 same in absurd (omega arith)
 
 -- digits alone are letters and digits, and stay on the line
 abbrev pub AreDigits : List ℕ → Type 0
@@ -49,7 +56,7 @@ digits_are (b ∷ digits) all =
     let both = and_parts (is_ascii_digit b) (all_ascii_digits digits) all in
     let later = digits_are digits both.1 in (
       and_from (is_ascii_alphanumeric b) (list_all is_ascii_alphanumeric digits) (is_ascii_alphanumeric-first b both.0) later.0,
-      and_from (not (ends_line b)) (list_all (λ it. not (ends_line it)) digits) (digit_stays b both.0) later.1,
+      and_from (is_on_line b) (list_all is_on_line digits) (digit_stays b both.0) later.1,
     )
 
 begins_with_digit : (digits : List ℕ) → 0 < length digits → all_ascii_digits digits ≡ true → BeginsWith is_ascii_digit digits
@@ -77,10 +84,10 @@ gap_shown text (token ∷ tokens) shown = behind_gap shown.tokens_are where
     on_line = shown.on_line;
   }
 
-pub mark_shown : (b : ℕ) (text : List ℕ) (tokens : List Token) → is_mark b ≡ true → not (ends_line b) ≡ true → Shows text tokens → Shows (b ∷ text) (mark b ∷ tokens)
+pub mark_shown : (b : ℕ) (text : List ℕ) (tokens : List Token) → is_mark b ≡ true → is_on_line b ≡ true → Shows text tokens → Shows (b ∷ text) (mark b ∷ tokens)
 mark_shown b text tokens is stays shown = record {
   tokens_are = ([], b ∷ [], text, refl, refl, (refl, is), shown.tokens_are);
-  on_line = and_from (not (ends_line b)) (list_all (λ it. not (ends_line it)) text) stays shown.on_line;
+  on_line = and_from (is_on_line b) (list_all is_on_line text) stays shown.on_line;
 }
 
 -- a name is a word that stays on the line
@@ -111,9 +118,30 @@ last_decimal_shown n small =
 
 -- ---- the lines of a printed text
 
-pub lines_of-line : (line text : List ℕ) → StaysOnLine line → lines_of (line ++ 10 ∷ text) ≡ line ∷ lines_of text
-lines_of-line [] text stays = refl
-lines_of-line (b ∷ line) text stays =
-    let both = and_parts (not (ends_line b)) (list_all (λ it. not (ends_line it)) line) stays in
-    cond-false (ends_line b) ([] ∷ lines_of (line ++ 10 ∷ text)) (with_front b (lines_of (line ++ 10 ∷ text))) (not-true (ends_line b) both.0)
-    ∙ ap (with_front b) (lines_of-line line text both.1)
+-- a byte that ends a line
+module _ (end : ℕ) (ends : ends_line end ≡ true) where
+  pub lines_of-line : (line text : List ℕ) → StaysOnLine line → lines_of (line ++ end ∷ text) ≡ line ∷ lines_of text
+  lines_of-line [] text stays = rw ends refl
+  lines_of-line (b ∷ line) text stays =
+      let both = and_parts (is_on_line b) (list_all is_on_line line) stays in
+      cond-false (ends_line b) ([] ∷ lines_of (line ++ end ∷ text)) (with_front b (lines_of (line ++ end ∷ text))) (not-true (ends_line b) (and_parts (not (ends_line b)) (nat_le 32 b) both.0).0)
+      ∙ ap (with_front b) (lines_of-line line text both.1)
+
+pub lines_of-last : (line : List ℕ) → StaysOnLine line → lines_of line ≡ line ∷ []
+lines_of-last [] stays = refl
+lines_of-last (b ∷ line) stays =
+    let both = and_parts (is_on_line b) (list_all is_on_line line) stays in
+    cond-false (ends_line b) ([] ∷ lines_of line) (with_front b (lines_of line)) (not-true (ends_line b) (and_parts (not (ends_line b)) (nat_le 32 b) both.0).0)
+    ∙ ap (with_front b) (lines_of-last line both.1)
+
+pub printable-append : (left right : List ℕ) → IsPrintable left → IsPrintable right → IsPrintable (left ++ right)
+printable-append [] right here later = later
+printable-append (b ∷ left) right here later =
+    let both = and_parts (nat_le 32 b) (list_all (λ it. nat_le 32 it) left) here in
+    and_from (nat_le 32 b) (list_all (λ it. nat_le 32 it) (left ++ right)) both.0 (printable-append left right both.1 later)
+
+pub printable : (text : List ℕ) → StaysOnLine text → IsPrintable text
+printable [] stays = refl
+printable (b ∷ text) stays =
+    let both = and_parts (is_on_line b) (list_all is_on_line text) stays in
+    and_from (nat_le 32 b) (list_all (λ it. nat_le 32 it) text) (and_parts (not (ends_line b)) (nat_le 32 b) both.0).1 (printable text both.1)

@@ -1,7 +1,7 @@
 -- How a program is printed (docs/MACHINE.md, "How a program is printed").
-use Rattle.std.specs.Prelude.{◌∷◌, ◌++◌, Err, List, Ok, Result, [], codes, ℕ}
+use Rattle.std.specs.Prelude.{◌≡◌, ◌∷◌, ◌++◌, Err, List, Ok, Result, [], codes, nat_le, true, ℕ}
 use Rattle.std.specs.Fmt.{decimal}
-use Rattle.std.specs.List.{flat_map}
+use Rattle.std.specs.List.{flat_map, list_all}
 use Rattle.bpf_insn.specs.declared.instruction.Insn.{Insn}
 use Rattle.bpf_insn.specs.declared.instruction.Insn.TheVariants.{Alu, CopyFromX, CopyToX, Jump, JumpIf, LoadAbsolute, LoadCell, LoadConstant, LoadIndexed, LoadLength, LoadXCell, LoadXConstant, LoadXHeader, LoadXLength, Negate, ReturnA, ReturnConstant, Store, StoreX}
 use Rattle.bpf_insn.specs.declared.instruction.Operand.{Operand}
@@ -43,6 +43,24 @@ abbrev pub printed_line : Result Insn WordFault → List ℕ
 printed_line (Ok insn) = printed_insn insn ++ 10 ∷ []
 printed_line (Err fault) = []
 
+-- an instruction after `; `, which ends the line before it
+abbrev pub printed_after : Result Insn WordFault → List ℕ
+printed_after (Ok insn) = codes "; " ++ printed_insn insn
+printed_after (Err fault) = []
+
+abbrev pub printed_first : Result Insn WordFault → List ℕ
+printed_first (Ok insn) = printed_insn insn
+printed_first (Err fault) = []
+
 -- the one spelling of a program
 abbrev pub printed : List ℕ → List ℕ
 printed words = flat_map (λ word. printed_line (instruction_of word)) words
+
+-- the same on one line, with `; ` between two instructions
+abbrev pub printed_in_line : List ℕ → List ℕ
+printed_in_line [] = []
+printed_in_line (word ∷ words) = printed_first (instruction_of word) ++ flat_map (λ next. printed_after (instruction_of next)) words
+
+-- no byte of a text is a control character: LF, CR or another below the space, which is 32
+abbrev pub IsPrintable : List ℕ → Type 0
+IsPrintable text = list_all (λ byte. nat_le 32 byte) text ≡ true

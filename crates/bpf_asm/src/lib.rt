@@ -1,8 +1,8 @@
 //! The assembly text of classic BPF programs, both ways: bpf_asm's notation with labels (networking/filter.rst;
 //! docs/MACHINE.md, "Assembly text").
 //!
-//! `assemble` reads a text of any length, exactly in the notation, and `print` writes the one spelling of a program, which
-//! `assemble` reads back. Both take any allocator.
+//! `assemble` reads a text of any length, exactly in the notation. `print` writes the one spelling of a program, and `print_in_line`
+//! the same on one line; `assemble` reads both back. All take any allocator.
 #![tactic(auto)]
 
 ghost use Rattle.std.specs.Prelude.{◌≡◌, ◌⊎◌, Err, IfErr, IfOk, IsOk, List, ℕ};
@@ -21,7 +21,7 @@ mod token;
 
 pub use bpf_verify::OutOfMemory;
 pub use fault::AsmFault;
-pub use printing::print;
+pub use printing::{print, print_in_line};
 use std::alloc::Allocator;
 
 /// Assembles a text to words, which need not be a program: their number and what they do is `bpf_verify`'s matter.

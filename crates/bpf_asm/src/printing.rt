@@ -3,7 +3,7 @@
 ghost use Rattle.std.specs.Prelude.{◌≡◌, ◌++◌, ◌∷◌, [], IfOk, OnOk, codes, decimal, string_bytes};
 ghost use Rattle.bpf_asm.specs.Assembly.{Assembles};
 ghost use Rattle.bpf_asm.specs.Statement.{load_name, operation_name, test_name};
-ghost use Rattle.bpf_asm.specs.Text.{printed, printed_insn, printed_operand};
+ghost use Rattle.bpf_asm.specs.Text.{IsPrintable, printed, printed_in_line, printed_insn, printed_operand};
 ghost use Rattle.bpf_insn.specs.declared.instruction.Insn.TheVariants.{Alu, JumpIf};
 
 use bpf_insn::{Insn, Offsets, Operand, Operation, Size, Test};
@@ -154,6 +154,27 @@ pub fn print<A: Allocator, B: Allocator>(
     for word in program.words() {
         print_insn(&mut text, Insn::from_instruction_word(*word))?;
         text.push_str("\n")?;
+    }
+    Ok(text)
+}
+
+/// Prints a program on one line, as `print` does but with `; ` between two instructions in place of LF behind each.
+pub fn print_in_line<A: Allocator, B: Allocator>(
+    alloc: A,
+    program: &Program<B>,
+) -> Result<String<A>, OutOfMemory>
+    ensures printed { IfOk result (λ text. string_bytes text ≡ printed_in_line program.now.words) }
+    ensures reads_back { IfOk result (λ text. Assembles (string_bytes text) program.now.words) }
+    ensures printable { IfOk result (λ text. IsPrintable (string_bytes text)) }
+{
+    let mut text = String::new(alloc);
+    let Some((first, others)) = program.words().split_first() else {
+        return Ok(text);
+    };
+    print_insn(&mut text, Insn::from_instruction_word(*first))?;
+    for word in others {
+        text.push_str("; ")?;
+        print_insn(&mut text, Insn::from_instruction_word(*word))?;
     }
     Ok(text)
 }

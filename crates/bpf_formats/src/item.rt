@@ -58,8 +58,8 @@ pub(crate) fn read_fields(item: &[u8]) -> Option<u64>
     Some(word(code, jt, jf, read_number(0xffff_ffff, k)?))
 }
 
-/// Reads the word that an item spells by sixteen hexadecimal digits.
-pub(crate) fn read_digits(item: &[u8]) -> Option<u64>
+/// Reads the word that an item spells by sixteen hexadecimal digits, of either case.
+pub fn read_digits(item: &[u8]) -> Option<u64>
     ensures { MatchOption result ((word : ℕ) → SpellsDigits item.now word → ⊥) (λ word. SpellsDigits item.now word) }
 {
     if item.len() != 16 || item[0] == b'+' {

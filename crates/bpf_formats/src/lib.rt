@@ -2,7 +2,7 @@
 //!
 //! `read_ddd` reads what `tcpdump -ddd` prints, also on one line with commas, and `read_hex` words of sixteen hexadecimal
 //! digits; `print_ddd` and `print_hex` write one spelling of a program, which is read back. `print_dd` writes what
-//! `tcpdump -dd` prints, for programs in C. All take any allocator.
+//! `tcpdump -dd` prints, for programs in C. All take any allocator. `read_digits` reads one word.
 #![tactic(auto)]
 
 ghost use Rattle.std.specs.Prelude.{◌≡◌, ◌⊎◌, Err, IfErr, IfOk, IsOk, List, ℕ};
@@ -19,6 +19,7 @@ pub use bpf_verify::OutOfMemory;
 pub use fault::FormatFault;
 use ipv4_fields::read_number;
 use item::first_item;
+pub use item::read_digits;
 pub use printing::{print_dd, print_ddd, print_hex};
 use reading::{Form, read_words};
 use std::alloc::Allocator;
