@@ -6,3 +6,4 @@ pub mod ConfigLemmas
 pub mod ChargeLemmas
 pub mod StandardFacts
 pub mod MapLemmas
+pub mod OverLemmas

@@ -5,6 +5,7 @@ pub mod Charge
 pub mod Command
 pub mod Refusal
 pub mod Map
+pub mod Over
 pub mod body
 pub use Rattle.bpf_verify.specs.Path
 pub use Rattle.bpf_verify.specs.Accepted

@@ -1,0 +1,13 @@
+pub mod LeadLemmas
+pub mod NumberedLemmas
+pub mod StepLemmas
+pub mod MembersLemmas
+pub mod ShapeLemmas
+pub mod GroupsLemmas
+pub mod ChangesLemmas
+pub mod UntouchedLemmas
+pub mod BeginningLemmas
+pub mod BodyLemmas
+pub mod StayLemmas
+pub mod WholeLemmas
+pub mod StandardFacts

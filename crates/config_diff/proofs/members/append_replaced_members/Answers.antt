@@ -1,0 +1,5 @@
+use Rattle.config_diff.proofs.BodyLemmas.{more_of_both}
+use Rattle.config_diff.proofs.members.append_replaced_members.Goals as goal
+
+pub returns : goal.returns
+returns g c = record { appended = more_of_both _ _ _ _ _ c.in_ok-append_leaves.ensures.appended c.in_ok-append_joins.ensures.appended }
