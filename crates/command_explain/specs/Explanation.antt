@@ -15,7 +15,7 @@ codes_explained =
     codes "A1" ∷ codes "A2" ∷ codes "A3" ∷ codes "A4" ∷ codes "A5" ∷ codes "A6" ∷
     codes "B1" ∷ codes "B2" ∷ codes "B3" ∷
     codes "C1" ∷ codes "C2" ∷ codes "C3" ∷
-    codes "E1" ∷ codes "E2" ∷ codes "E3" ∷ codes "E4" ∷
+    codes "E1" ∷ codes "E2" ∷ codes "E3" ∷ codes "E4" ∷ codes "E5" ∷
     codes "F1" ∷ codes "F2" ∷ codes "F3" ∷
     codes "G1" ∷ codes "G2" ∷ codes "G3" ∷ codes "G4" ∷ codes "G5" ∷ codes "G6" ∷ codes "G7" ∷ codes "G8" ∷ codes "G9" ∷
     codes "I1" ∷ codes "I2" ∷

@@ -1,7 +1,7 @@
 //! The codes A1 to G9 with their explanations, printed by docs/codes/make. `table_from_i` has the others: a check
 //! computes over the whole of a table.
 
-pub const EXPLANATIONS_TO_G: [(&str, &str); 28] = [
+pub const EXPLANATIONS_TO_G: [(&str, &str); 29] = [
     (
         "A1",
         "\
@@ -94,7 +94,7 @@ What to do: write it in the form that `dswitch help COMMAND` shows;
         "C2",
         "\
 C2: The line, the block or the file is too long. A line has more than 262,144
-bytes, or more than 65,507 where it is told to a running switch; the lines of a
+bytes, or more than 65,507 if it is sent to a running switch; the lines of a
 block, or a rules file, have more than 16,777,216; or a rules file has more
 than 65,535 lines that are not skipped.
 Usual mistake: a script without line ends, a program generated as one huge
@@ -115,9 +115,9 @@ tells.",
         "\
 E1: The input could not be read.
 Reading standard input failed, a script has 2^63 bytes, or the file of
-`--rules` could not be opened or read. The input is a directory, there is no
-such file, the user may not read it, or its device failed; give a file or a
-pipe, as in `dswitch replay <FILE`.",
+`--rules` or of `load` could not be opened or read. The input is a directory,
+there is no such file, the user may not read it, or its device failed; give a
+file or a pipe, as in `dswitch replay <FILE`.",
     ),
     (
         "E2",
@@ -145,7 +145,19 @@ replies from another address (on its machine give 127.0.0.1), a firewall drops
 the datagrams, or the switch is busy; start it, correct the address, or raise
 `--timeout`. The line may be done all the same, even after `tell` has ended.
 Before it is sent again, send `show` until a reply comes: by then the line is
-done, or it was lost.",
+done, or it was lost. After `load`, `load` again: it does nothing if the change
+was made.",
+    ),
+    (
+        "E5",
+        "\
+E5: The rules of the switch changed while they were read.
+`rules` and `load` read the rules by many requests, and start again if the
+version has changed meanwhile, or if another change came between reading and
+replacing; after 16 more attempts they give up. Another program changes the
+rules all the time, readers held all rows (B2) each time, or a reply was none
+to its line, as when a network delivers one twice. Find who changes the rules,
+and run the command again when they rest.",
     ),
     (
         "F1",
@@ -187,9 +199,11 @@ What to do: go on where the group is as it is to be; else `remove` it first.",
     (
         "G3",
         "\
-G3: The group has no member with this number.
-Usual mistake: the member left before, or belongs to another group.
-What to do: `join` the member first, or name the group that it belongs to.",
+G3: The group has no member with this number, or at this index.
+Usual mistake: the member left before, or belongs to another group; an index
+counted from 1.
+What to do: `join` the member first, or name the group that it belongs to; an
+index counts from 0.",
     ),
     (
         "G4",

@@ -1,7 +1,7 @@
 -- How the command `flood` fails (docs/COMMANDS.md, "flood").
 use Rattle.std.specs.Prelude.{◌≡◌, ◌≢◌, ◌⊎◌, List, Option, ℕ}
 use Rattle.command_line.specs.declared.ending.Failure.{Failure}
-use Rattle.command_line.specs.declared.ending.Failure.TheVariants.{BindFailed, NoAnswer, OutOfMemory, PollFailed, ReadFailed, SpawnFailed, WriteFailed}
+use Rattle.command_line.specs.declared.ending.Failure.TheVariants.{BindFailed, NoAnswer, OutOfMemory, PollFailed, ReadFailed, RulesChanged, SpawnFailed, WriteFailed}
 use Rattle.command_line.specs.Ending.{AppendsBeginning, line_of}
 
 -- jobs have no results: a thread could not be started, or memory was refused
@@ -15,5 +15,6 @@ pub record EndsInFloodFailure (before after told_before told_after : Option (Lis
   pub no_read : failure ≢ ReadFailed
   pub no_socket : (failure ≢ BindFailed) × (failure ≢ PollFailed)
   pub no_reply_awaited : failure ≢ NoAnswer
+  pub no_rules_read : failure ≢ RulesChanged
   pub written : failure ≢ WriteFailed → after ≡ before
   pub told : AppendsBeginning told_before told_after (line_of failure)

@@ -94,7 +94,7 @@ pub fn flood<R: Threads + Wait + Sync, G: Gate + Sync, W: Write>(
     requires at_most { workers ≤ WORKERS }
     ensures totals_line { OnOk result (WritesFlood workers datagrams (W.contents out.old) (W.contents out.new)) }
     ensures nothing_written { IfErr result (λ failure. failure ≢ Failure.WriteFailed → out.new ≡ out.old) }
-    ensures no_input { IfErr result (λ failure. (failure ≢ Failure.ReadFailed) × (failure ≢ Failure.NoAnswer)) }
+    ensures no_input { IfErr result (λ failure. (failure ≢ Failure.ReadFailed) × (failure ≢ Failure.NoAnswer) × (failure ≢ Failure.RulesChanged)) }
     ensures no_socket { IfErr result (λ failure. (failure ≢ Failure.BindFailed) × (failure ≢ Failure.PollFailed)) }
 {
     let totals = count_all(rt, alloc, workers, datagrams, gate)?;

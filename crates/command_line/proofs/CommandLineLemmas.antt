@@ -118,10 +118,10 @@ top = (built command_line).top
 
 -- the commands, and behind them `clap`'s own, `help`
 abbrev commands : List Shape
-commands = take 10 (built command_line).subs
+commands = take 12 (built command_line).subs
 
 abbrev help_command : Shape
-help_command = slice_index_or (built command_line).subs 10 top
+help_command = slice_index_or (built command_line).subs 12 top
 
 has_met : (rows : List Row) (has : Bool) → check_fault top rows has ≡ [] → has ≡ true
 has_met rows true none = refl
@@ -213,6 +213,12 @@ serve_shape = slice_index_or commands 8 top
 abbrev tell_shape : Shape
 tell_shape = slice_index_or commands 9 top
 
+abbrev rules_shape : Shape
+rules_shape = slice_index_or commands 10 top
+
+abbrev load_shape : Shape
+load_shape = slice_index_or commands 11 top
+
 -- the checks at the end of a level
 abbrev rows_of_command : Shape → List Text → List Row
 rows_of_command s words = rows_after s.rules [] words
@@ -239,6 +245,12 @@ serve_workers = (inl refl, λ same. cc, (inl refl, λ same. cc, (inl refl, λ sa
 
 tell_timeout : AreRead tell_shape (codes "timeout") (IsNumber MAX_TIMEOUT) tell_shape.rules
 tell_timeout = (inl refl, λ same. cc, (inl refl, λ same. (refl, reads MAX_TIMEOUT), (inr refl, λ same. cc, (inl refl, λ same. cc, (inl refl, λ same. cc, tt)))))
+
+rules_timeout : AreRead rules_shape (codes "timeout") (IsNumber MAX_TIMEOUT) rules_shape.rules
+rules_timeout = (inl refl, λ same. cc, (inl refl, λ same. (refl, reads MAX_TIMEOUT), (inl refl, λ same. cc, tt)))
+
+load_timeout : AreRead load_shape (codes "timeout") (IsNumber MAX_TIMEOUT) load_shape.rules
+load_timeout = (inl refl, λ same. cc, (inl refl, λ same. (refl, reads MAX_TIMEOUT), (inr refl, λ same. cc, (inr refl, λ same. cc, (inl refl, λ same. cc, (inl refl, λ same. cc, tt))))))
 
 -- a number of workers and one of datagrams make a command
 both_numbers : {A B C : Type 0} (f : A → B → C) (a : Option A) (b : Option B) → is_some a ≡ true → is_some b ≡ true
@@ -272,8 +284,20 @@ is_tell words none =
     let timeout = value_passes tell_shape (codes "timeout") (IsNumber MAX_TIMEOUT) rows (codes "1") (level_fine tell_shape (codes "timeout") (IsNumber MAX_TIMEOUT) tell_timeout words none) (inr refl) in
     one_number _ (timeout_in rows) (is_number MAX_TIMEOUT (unwrap_or (first_of (codes "timeout") rows) (codes "1")) timeout)
 
+is_rules : IsCommand rules_shape
+is_rules words none =
+    let rows = rows_of_command rules_shape words in
+    let timeout = value_passes rules_shape (codes "timeout") (IsNumber MAX_TIMEOUT) rows (codes "1") (level_fine rules_shape (codes "timeout") (IsNumber MAX_TIMEOUT) rules_timeout words none) (inr refl) in
+    one_number _ (timeout_in rows) (is_number MAX_TIMEOUT (unwrap_or (first_of (codes "timeout") rows) (codes "1")) timeout)
+
+is_load : IsCommand load_shape
+is_load words none =
+    let rows = rows_of_command load_shape words in
+    let timeout = value_passes load_shape (codes "timeout") (IsNumber MAX_TIMEOUT) rows (codes "1") (level_fine load_shape (codes "timeout") (IsNumber MAX_TIMEOUT) load_timeout words none) (inr refl) in
+    one_number _ (timeout_in rows) (is_number MAX_TIMEOUT (unwrap_or (first_of (codes "timeout") rows) (codes "1")) timeout)
+
 are_commands : AreCommands commands
-are_commands = ((λ words none. refl), ((λ words none. refl), ((λ words none. refl), ((λ words none. refl), ((λ words none. refl), ((λ words none. refl), ((λ words none. refl), (is_flood, (is_serve, (is_tell, tt))))))))))
+are_commands = ((λ words none. refl), ((λ words none. refl), ((λ words none. refl), ((λ words none. refl), ((λ words none. refl), ((λ words none. refl), ((λ words none. refl), (is_flood, (is_serve, (is_tell, (is_rules, (is_load, tt))))))))))))
 
 entered_command : (stop : Stop) → IsNoHelp top stop → entered_fault (built command_line) stop ≡ [] → is_some (entered (built command_line) stop) ≡ true
     → is_some (command_met (entered (built command_line) stop)) ≡ true

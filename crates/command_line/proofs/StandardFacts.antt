@@ -2,7 +2,7 @@
 use Rattle.std.proofs.Common.{◌≡◌, ◌∷◌, [], None, Some, codes, false, refl, true}
 use Rattle.clap.proofs.OnLiterals.{clap_on_literals}
 use Rattle.clap.specs.declared.error.kind.ErrorKind.TheVariants.{ArgumentConflict, DisplayHelp, DisplayVersion, InvalidSubcommand, MissingRequiredArgument, MissingSubcommand, TooManyValues, UnknownArgument, ValueValidation}
-use Rattle.command_line.specs.CommandLine.{check, command_in, compile, explain, faults_in, flood, judge, replay, returning, run, serve, tell, waiting}
+use Rattle.command_line.specs.CommandLine.{check, command_in, compile, explain, faults_in, flood, judge, load, replay, returning, rules, run, serve, tell, waiting}
 
 in_first : faults_in (codes "first" ∷ []) ≡ []
 unfolding clap_on_literals
@@ -180,3 +180,28 @@ in_run_of_a_format = refl
 in_judge_of_a_format : command_in (codes "run" ∷ codes "--packet" ∷ codes "45" ∷ codes "--expr" ∷ codes "udp" ∷ codes "--format" ∷ codes "hex" ∷ []) ≡ Some (returning (judge (codes "45") (codes "udp")))
 unfolding clap_on_literals
 in_judge_of_a_format = refl
+
+in_rules : command_in (codes "rules" ∷ codes "--control" ∷ codes "A" ∷ []) ≡ Some (waiting (rules (codes "A") 1))
+unfolding clap_on_literals
+in_rules = refl
+
+in_rules_alone : faults_in (codes "rules" ∷ []) ≡ MissingRequiredArgument ∷ []
+unfolding clap_on_literals
+in_rules_alone = refl
+
+in_load : command_in (codes "load" ∷ codes "--control" ∷ codes "A" ∷ codes "F" ∷ []) ≡ Some (waiting (load (Some (codes "A")) 1 (codes "F") false false))
+unfolding clap_on_literals
+in_load = refl
+
+in_load_that_checks : command_in (codes "load" ∷ codes "--check" ∷ codes "F" ∷ []) ≡ Some (waiting (load None 1 (codes "F") true false))
+unfolding clap_on_literals
+in_load_that_checks = refl
+
+in_load_that_shows : command_in (codes "load" ∷ codes "F" ∷ codes "--diff" ∷ codes "--control" ∷ codes "A" ∷ codes "--timeout" ∷ codes "9" ∷ [])
+    ≡ Some (waiting (load (Some (codes "A")) 9 (codes "F") false true))
+unfolding clap_on_literals
+in_load_that_shows = refl
+
+in_load_of_no_file : faults_in (codes "load" ∷ codes "--control" ∷ codes "A" ∷ []) ≡ MissingRequiredArgument ∷ []
+unfolding clap_on_literals
+in_load_of_no_file = refl

@@ -102,6 +102,19 @@ tell_line =
     (with_rule (with_rule (with_rule (new_app (codes "tell")) (required_named_argument (codes "control"))) timeout_argument) (flag (codes "all")))
     (any_number_of (codes "LINE"))
 
+-- `rules --control A`, with a timeout or none
+abbrev pub rules_line : App
+rules_line = with_rule (with_rule (new_app (codes "rules")) (required_named_argument (codes "control"))) timeout_argument
+
+-- `load FILE`, with an address or none, a timeout or none, and each of its flags or without
+abbrev pub load_line : App
+load_line =
+    with_rule
+    (with_rule
+    (with_rule (with_rule (with_rule (new_app (codes "load")) (named_argument (codes "control"))) timeout_argument) (flag (codes "check")))
+    (flag (codes "diff")))
+    (required_argument (codes "FILE"))
+
 abbrev pub bare : Shape
 bare = (new_app (codes "dswitch")).top
 
@@ -120,6 +133,8 @@ command_line =
     (with_subcommand
     (with_subcommand
     (with_subcommand
+    (with_subcommand
+    (with_subcommand
     (with_subcommand (with_subcommand (with_subcommand (with_subcommand without_commands first_line.top) check_line.top) compile_line.top)
     run_line.top)
     explain_line.top)
@@ -127,7 +142,9 @@ command_line =
     packets_line.top)
     flood_line.top)
     serve_line.top)
-    tell_line.top
+    tell_line.top)
+    rules_line.top)
+    load_line.top
 
 -- what `clap` finds in the words after the program's name: nothing, where they name a command
 abbrev pub faults_in : List Text → Kinds
@@ -159,6 +176,8 @@ pub data WaitingRequest : Type 0 where
   flood : (workers datagrams : ℕ) → WaitingRequest
   serve : (front control : Text) (workers : ℕ) (rules_file : Option Text) → WaitingRequest
   tell : (control : Text) (timeout : ℕ) (all : Bool) (lines : List Text) → WaitingRequest
+  rules : (control : Text) (timeout : ℕ) → WaitingRequest
+  load : (control : Option Text) (timeout : ℕ) (rules_file : Text) (only_check only_diff : Bool) → WaitingRequest
 
 pub data Command : Type 0 where
   returning : Request → Command
@@ -181,6 +200,9 @@ abbrev pub waiting_of : Waiting → WaitingRequest
 waiting_of (waited.Flood workers datagrams) = flood workers.count datagrams
 waiting_of (waited.Serve front control workers file) = serve front.now control.now workers.count (option_map (λ name. name.now) file)
 waiting_of (waited.Tell control timeout all lines) = tell control.now timeout all (map (λ line. line.now) lines.items)
+waiting_of (waited.Rules control timeout) = rules control.now timeout
+waiting_of (waited.Load control timeout file only_check only_diff) =
+    load (option_map (λ address. address.now) control) timeout file.now only_check only_diff
 
 abbrev pub command_of : Subcommand → Command
 command_of (subcommand.Returning asked) = returning (request_of asked)
@@ -236,6 +258,15 @@ tell_in rows =
     option_map (λ timeout. waiting (tell (value_in rows (codes "control")) timeout (is_set rows (codes "all")) (values_in rows (codes "LINE"))))
     (timeout_in rows)
 
+abbrev pub rules_in : List Row → Option Command
+rules_in rows = option_map (λ timeout. waiting (rules (value_in rows (codes "control")) timeout)) (timeout_in rows)
+
+abbrev pub load_in : List Row → Option Command
+load_in rows =
+    option_map
+    (λ timeout. waiting (load (first_of (codes "control") rows) timeout (value_in rows (codes "FILE")) (is_set rows (codes "check")) (is_set rows (codes "diff"))))
+    (timeout_in rows)
+
 abbrev pub command_named : Text → List Row → Option Command
 command_named name rows =
     if bytes_eq name (codes "first")
@@ -258,6 +289,10 @@ command_named name rows =
     then serve_in rows
     else if bytes_eq name (codes "tell")
     then tell_in rows
+    else if bytes_eq name (codes "rules")
+    then rules_in rows
+    else if bytes_eq name (codes "load")
+    then load_in rows
     else None
 
 -- the command that the words name, with the values that they give its arguments

@@ -89,6 +89,17 @@ pub(crate) fn address_argument<'a>(alloc: Global, name: &'a str, help: &'a str) 
         .help(help)
 }
 
+// `--control A`, if there is one.
+pub(crate) fn control_argument<'a>(alloc: Global) -> Arg<'a>
+    ensures rule { rule_of result ≡ named_argument (codes "control") }
+    ensures local { result.global ≡ false }
+{
+    Arg::new(alloc, "control")
+        .long("control")
+        .value_name("A")
+        .help(help::LOAD_CONTROL)
+}
+
 // `--rules FILE`
 pub(crate) fn rules_argument<'a>(alloc: Global) -> Arg<'a>
     ensures rule { rule_of result ≡ named_argument (codes "rules") }

@@ -3,13 +3,13 @@
 ghost use Rattle.std.specs.Prelude.{◌≡◌, IfOk, false};
 ghost use Rattle.clap.specs.Words.{App, Rule, app_of, new_app, rule_of, with_rule, with_subcommand};
 ghost use Rattle.clap.specs.declared.builder.command.Command.TheViews.{out-Command};
-ghost use Rattle.command_line.specs.CommandLine.{check_line, command_line, compile_line, explain_line, flood_line, replay_line, run_line, serve_line, tell_line, without_commands};
-ghost use Rattle.command_line.specs.body.Half.{with_queries};
+ghost use Rattle.command_line.specs.CommandLine.{check_line, command_line, compile_line, explain_line, flood_line, load_line, replay_line, rules_line, run_line, serve_line, tell_line, without_commands};
+ghost use Rattle.command_line.specs.body.Half.{with_queries, with_workers};
 
 use crate::arguments::{
-    address_argument, datagrams_argument, expression_argument, flag_argument, format_argument,
-    lines_argument, packet_argument, positional_argument, rules_argument, timeout_argument,
-    workers_argument,
+    address_argument, control_argument, datagrams_argument, expression_argument, flag_argument,
+    format_argument, lines_argument, packet_argument, positional_argument, rules_argument,
+    timeout_argument, workers_argument,
 };
 use crate::help;
 use clap::{Arg, Command};
@@ -122,6 +122,31 @@ fn tell_command<'a>(alloc: Global) -> Result<Command<'a>, AllocError>
     with_argument(command, lines_argument(alloc))
 }
 
+fn rules_command<'a>(alloc: Global) -> Result<Command<'a>, AllocError>
+    ensures app { IfOk result (λ command. app_of command ≡ rules_line) }
+    ensures local { IfOk result (λ command. (out-Command command).has_globals ≡ false) }
+{
+    let control = address_argument(alloc, "control", help::TELL_CONTROL);
+    let command = plain_command(alloc, "rules", help::RULES, help::RULES_MORE);
+    let command = with_argument(Ok(command), control);
+    with_argument(command, timeout_argument(alloc))
+}
+
+fn load_command<'a>(alloc: Global) -> Result<Command<'a>, AllocError>
+    ensures app { IfOk result (λ command. app_of command ≡ load_line) }
+    ensures local { IfOk result (λ command. (out-Command command).has_globals ≡ false) }
+{
+    let check = flag_argument(alloc, "check", help::LOAD_CHECK);
+    let diff = flag_argument(alloc, "diff", help::LOAD_DIFF);
+    let file = positional_argument(alloc, "FILE", help::LOAD_FILE);
+    let command = plain_command(alloc, "load", help::LOAD, help::LOAD_MORE);
+    let command = with_argument(Ok(command), control_argument(alloc));
+    let command = with_argument(command, timeout_argument(alloc));
+    let command = with_argument(command, check);
+    let command = with_argument(command, diff);
+    with_argument(command, file)
+}
+
 // The program before its commands.
 fn without_commands<'a>(alloc: Global) -> Result<Command<'a>, AllocError>
     ensures { IfOk result (λ program. app_of program ≡ without_commands) }
@@ -162,13 +187,21 @@ fn with_queries<'a>(alloc: Global) -> Result<Command<'a>, AllocError>
     with_command(program, explain_command(alloc))
 }
 
-pub(crate) fn program<'a>(alloc: Global) -> Result<Command<'a>, AllocError>
-    ensures { IfOk result (λ program. app_of program ≡ command_line) }
+// The program with its commands up to `serve`.
+fn with_workers<'a>(alloc: Global) -> Result<Command<'a>, AllocError>
+    ensures { IfOk result (λ program. app_of program ≡ with_workers) }
 {
     let program = with_command(with_queries(alloc), replay_command(alloc));
     let packets = plain_command(alloc, "packets", help::PACKETS, help::PACKETS_MORE);
     let program = with_command(program, Ok(packets));
     let program = with_command(program, flood_command(alloc));
-    let program = with_command(program, serve_command(alloc));
-    with_command(program, tell_command(alloc))
+    with_command(program, serve_command(alloc))
+}
+
+pub(crate) fn program<'a>(alloc: Global) -> Result<Command<'a>, AllocError>
+    ensures { IfOk result (λ program. app_of program ≡ command_line) }
+{
+    let program = with_command(with_workers(alloc), tell_command(alloc));
+    let program = with_command(program, rules_command(alloc));
+    with_command(program, load_command(alloc))
 }

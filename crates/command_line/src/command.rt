@@ -72,6 +72,18 @@ pub enum Waiting<'a> {
         all: bool,
         lines: Vec<&'a str>,
     },
+    Rules {
+        control: &'a str,
+        timeout: u64,
+    },
+    /// `file` is the name of a rules file. `check` and `diff` say which of the two flags are given.
+    Load {
+        control: Option<&'a str>,
+        timeout: u64,
+        file: &'a str,
+        check: bool,
+        diff: bool,
+    },
 }
 
 /// A command of the program, with its arguments.

@@ -36,6 +36,8 @@ pub enum Failure {
     PollFailed,
     /// A line had no reply.
     NoAnswer,
+    /// The rules of a switch changed while they were read, each time.
+    RulesChanged,
 }
 
 impl Failure {
@@ -50,6 +52,7 @@ impl Failure {
             Failure::BindFailed => "failed S1\n",
             Failure::PollFailed => "failed S2\n",
             Failure::NoAnswer => "failed E4\n",
+            Failure::RulesChanged => "failed E5\n",
         }
     }
 

@@ -4,7 +4,7 @@ ghost use Rattle.std.specs.Prelude.{◌≡◌, ◌≤◌, IfOk, IfSome, Some, co
 ghost use Rattle.std.specs.Option.{option_map};
 ghost use Rattle.clap.specs.Walk.{first_of};
 ghost use Rattle.clap.specs.Words.{FailsBy, found_of, rows_of};
-ghost use Rattle.command_line.specs.CommandLine.{command_in, command_named, command_of, datagrams_in, faults_in, flood_in, format_in, is_set, number_in, query_request, request_of, returning, run_or_judge, serve_in, tell_in, timeout_in, value_in, values_in, workers_in};
+ghost use Rattle.command_line.specs.CommandLine.{command_in, command_named, command_of, datagrams_in, faults_in, flood_in, format_in, is_set, load_in, number_in, query_request, request_of, returning, rules_in, run_or_judge, serve_in, tell_in, timeout_in, value_in, values_in, workers_in};
 
 use crate::builders::program;
 use crate::command::{MAX_DATAGRAMS, MAX_TIMEOUT, Query, Returning, Subcommand, Waiting, Workers};
@@ -121,6 +121,29 @@ fn serve<'a>(found: &ArgMatches<'a>) -> Option<Subcommand<'a>>
     }))
 }
 
+fn rules<'a>(found: &ArgMatches<'a>) -> Option<Subcommand<'a>>
+    ensures { option_map command_of result ≡ rules_in (rows_of (found_of found.now)) }
+{
+    let timeout = timeout_of(found)?;
+    Some(Subcommand::Waiting(Waiting::Rules {
+        control: value_of(found, "control"),
+        timeout,
+    }))
+}
+
+fn load<'a>(found: &ArgMatches<'a>) -> Option<Subcommand<'a>>
+    ensures { option_map command_of result ≡ load_in (rows_of (found_of found.now)) }
+{
+    let timeout = timeout_of(found)?;
+    Some(Subcommand::Waiting(Waiting::Load {
+        control: given(found, "control"),
+        timeout,
+        file: value_of(found, "FILE"),
+        check: is_set(found, "check"),
+        diff: is_set(found, "diff"),
+    }))
+}
+
 // The only command whose arguments take memory.
 fn tell<'a>(alloc: Global, found: &ArgMatches<'a>) -> Result<Option<Subcommand<'a>>, AllocError>
     ensures { IfOk result (λ command. option_map command_of command ≡ tell_in (rows_of (found_of found.now))) }
@@ -172,6 +195,8 @@ fn subcommand_of<'a>(
         "flood" => Ok(flood(found)),
         "serve" => Ok(serve(found)),
         "tell" => tell(alloc, found),
+        "rules" => Ok(rules(found)),
+        "load" => Ok(load(found)),
         _ => Ok(None),
     }
 }

@@ -10,9 +10,9 @@ Results go to standard output. Exit status:
   2  wrong arguments: a message on standard error
   3  failed: one line on standard error, `failed E1` where the input could not be read,
      `failed E2` where results could not be written, `failed E3` where memory ran out,
-     `failed E4` where a line had no reply, `failed J1` where a worker's thread could not be
-     started, `failed S1` where a socket could not be bound, `failed S2` where waiting for the
-     sockets failed
+     `failed E4` where a line had no reply, `failed E5` if the rules of a switch changed while they
+     were read, `failed J1` where a worker's thread could not be started, `failed S1` where a socket
+     could not be bound, `failed S2` where waiting for the sockets failed
 
 `dswitch help COMMAND` says what a command reads and prints, and gives an example.
 `dswitch explain CODE` says what a code means, and what to do.";
@@ -116,9 +116,11 @@ Else prints `refused C1`, with status 1, where CODE is no code; `g3` is none.
 
 Example:
   $ dswitch explain G3
-  G3: The group has no member with this number.
-  Usual mistake: the member left before, or belongs to another group.
-  What to do: `join` the member first, or name the group that it belongs to.";
+  G3: The group has no member with this number, or at this index.
+  Usual mistake: the member left before, or belongs to another group; an index
+  counted from 1.
+  What to do: `join` the member first, or name the group that it belongs to; an
+  index counts from 0.";
 
 pub const REPLAY: &str = "Answer a script of control lines and packets";
 
@@ -260,3 +262,60 @@ Examples:
   version 1 groups 1 members 0 charge 6
   $ dswitch tell --control 127.0.0.1:5301 --all <rules.txt
   ok version 2";
+
+pub const RULES: &str = "Print the rules of a running switch, as a rules file";
+
+pub const RULES_MORE: &str = "\
+Reads no input. Prints a rules file that makes the configuration of the switch at CONTROL: a comment
+with its version, then for each group `add`, its selector if it has one, and for each member `join`,
+its filter if it has one, and `lock` if it is locked. Programs are printed as assembly. Save the
+output to a file, and `load` it, or start a switch with it by `serve --rules`.
+If the rules change meanwhile, it starts again, at most 16 times.
+Prints `refused C1`, with status 1, if CONTROL is no address. Fails with status 3: with `failed E4`
+if a line has no reply, and with `failed E5` if the rules changed each time.
+
+Example:
+  $ dswitch rules --control 127.0.0.1:5301
+  # version 2 groups 1 members 1 charge 10
+  add 10.0.0.2:53
+  join 10.0.0.2:53 1 127.0.0.1:9001";
+
+pub const LOAD: &str = "Replace the rules of a running switch by those of a file";
+
+pub const LOAD_CONTROL: &str =
+    "The control address of the switch, as ADDRESS:PORT; only --check does without it";
+
+pub const LOAD_CHECK: &str = "Only reads FILE, and prints its measures";
+
+pub const LOAD_DIFF: &str = "Only prints the lines that would make the change; sends none of them";
+
+pub const LOAD_FILE: &str = "The rules file";
+
+pub const LOAD_MORE: &str = "\
+Reads FILE, a rules file, and makes the configuration of the switch at CONTROL that of FILE, as one
+version: `at N anew K` with the K lines of FILE, if the switch has version N. Prints one line:
+  version N unchanged   if the switch has these rules; nothing was sent
+  version V             if it has them now, as version V
+With --diff it changes nothing, and prints the lines that lead from the rules of the switch to those
+of FILE. Give them to `tell --all`. With --check it does not ask a switch, and prints the measures
+of FILE; --diff changes nothing then:
+  groups G members M charge C
+If the rules change meanwhile (M1), or readers hold all rows (B2), it tries again, at most 16 times.
+Else prints, with status 1:
+  refused C1                   if CONTROL is no address, or is not given
+  refused CODE line I          if line I of FILE is refused, from 1, or
+  refused CODE NUMBER line I   if there is a number; standard error shows the place
+  refused C2, refused B1       if FILE is too long, or its configuration too large; C2 also if its
+                               lines fit no datagram
+  the switch's reply           if it refuses the change
+Or it fails with status 3: with `failed E1` if FILE cannot be read, with `failed E4` if a line has no
+reply, and with `failed E5` if the rules changed each time. After E4 the change may have been made:
+`load` again.
+
+Examples:
+  $ dswitch load --control 127.0.0.1:5301 --diff rules.txt
+  leave 10.0.0.2:53 1
+  $ dswitch load --control 127.0.0.1:5301 rules.txt
+  version 3
+  $ dswitch load --check rules.txt
+  groups 1 members 0 charge 6";

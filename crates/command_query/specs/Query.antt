@@ -9,7 +9,7 @@ use Rattle.control_line.specs.declared.reason.Reason.TheVariants.{BadForm}
 use Rattle.command_query.specs.declared.command_result.CommandResult.{CommandResult}
 use Rattle.command_query.specs.declared.command_result.CommandResult.TheVariants.{Versions}
 use Rattle.command_line.specs.declared.ending.Failure.{Failure}
-use Rattle.command_line.specs.declared.ending.Failure.TheVariants.{BindFailed, NoAnswer, OutOfMemory, PollFailed, ReadFailed, SpawnFailed, WriteFailed}
+use Rattle.command_line.specs.declared.ending.Failure.TheVariants.{BindFailed, NoAnswer, OutOfMemory, PollFailed, ReadFailed, RulesChanged, SpawnFailed, WriteFailed}
 use Rattle.command_line.specs.declared.ending.Status.{Status}
 use Rattle.command_line.specs.declared.ending.Status.TheVariants.{Done, Refused}
 use Rattle.command_query.specs.declared.stop.Stop.{Stop}
@@ -93,6 +93,7 @@ IsFailureOf request SpawnFailed = ⊥
 IsFailureOf request BindFailed = ⊥
 IsFailureOf request PollFailed = ⊥
 IsFailureOf request NoAnswer = ⊥
+IsFailureOf request RulesChanged = ⊥
 
 -- ---- the same of an input of which the bytes may be known
 
@@ -135,6 +136,7 @@ MayFail request SpawnFailed = ⊥
 MayFail request BindFailed = ⊥
 MayFail request PollFailed = ⊥
 MayFail request NoAnswer = ⊥
+MayFail request RulesChanged = ⊥
 
 -- what a command with one result has written before each failure: nothing, but of a failed write nothing is promised
 abbrev pub QueryWritesBefore : Failure → Option (List ℕ) → Option (List ℕ) → Type 0

@@ -13,7 +13,7 @@ use Rattle.command_line.specs.declared.ending.Status.TheVariants.{Done, Failed, 
 use Rattle.command_line.specs.declared.command.Query.{Query}
 use Rattle.command_line.specs.declared.command.Query.TheVariants as query
 use Rattle.command_line.specs.declared.ending.Failure.{Failure}
-use Rattle.command_line.specs.declared.ending.Failure.TheVariants.{BindFailed, NoAnswer, OutOfMemory, PollFailed, ReadFailed, SpawnFailed, WriteFailed}
+use Rattle.command_line.specs.declared.ending.Failure.TheVariants.{BindFailed, NoAnswer, OutOfMemory, PollFailed, ReadFailed, RulesChanged, SpawnFailed, WriteFailed}
 use Rattle.command_query.specs.Query.{MayFail, QueryWritesBefore}
 use Rattle.command_replay.specs.Replaying.{ReplayMayFail}
 use Rattle.command_replay.proofs.RepliesLemmas.{begins_with_none}
@@ -27,6 +27,7 @@ text_may_fail words fault SpawnFailed kinds either memory = elim either [ inl e 
 text_may_fail words fault BindFailed kinds either memory = elim either [ inl e ↦ cc | inr e ↦ cc ]
 text_may_fail words fault PollFailed kinds either memory = elim either [ inl e ↦ cc | inr e ↦ cc ]
 text_may_fail words fault NoAnswer kinds either memory = elim either [ inl e ↦ cc | inr e ↦ cc ]
+text_may_fail words fault RulesChanged kinds either memory = elim either [ inl e ↦ cc | inr e ↦ cc ]
 text_may_fail words fault OutOfMemory kinds either memory = tt
 text_may_fail words fault WriteFailed kinds either memory = λ ask. elim kinds [
   | inl no_memory ↦ let bad : ◌≡◌ {A = Failure} WriteFailed OutOfMemory = memory no_memory in cc
@@ -80,6 +81,7 @@ replay_fails summary quiet (Err SpawnFailed) may = may
 replay_fails summary quiet (Err BindFailed) may = may
 replay_fails summary quiet (Err PollFailed) may = may
 replay_fails summary quiet (Err NoAnswer) may = may
+replay_fails summary quiet (Err RulesChanged) may = may
 
 before_anything : (request : Request) (known before : Option (List ℕ)) → WritesBefore request OutOfMemory known before before
 before_anything first known before = refl
@@ -133,6 +135,7 @@ may_fail_by words request SpawnFailed is may = may
 may_fail_by words request BindFailed is may = may
 may_fail_by words request PollFailed is may = may
 may_fail_by words request NoAnswer is may = may
+may_fail_by words request RulesChanged is may = may
 
 pub command_failed : {X : Type 0} (errors : X → Option (List ℕ)) (errs mid : X) (words : List Text) (request : Request) (ended : Result Status Failure) (status : Status)
     (known before after told_after : Option (List ℕ))

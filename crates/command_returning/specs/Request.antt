@@ -4,7 +4,7 @@
 use Rattle.std.specs.Prelude.{◌≡◌, ◌⊎◌, List, Option, Some, [], ℕ}
 use Rattle.clap.specs.Words.{Text}
 use Rattle.command_line.specs.declared.ending.Failure.{Failure}
-use Rattle.command_line.specs.declared.ending.Failure.TheVariants.{BindFailed, NoAnswer, OutOfMemory, PollFailed, ReadFailed, SpawnFailed, WriteFailed}
+use Rattle.command_line.specs.declared.ending.Failure.TheVariants.{BindFailed, NoAnswer, OutOfMemory, PollFailed, ReadFailed, RulesChanged, SpawnFailed, WriteFailed}
 use Rattle.command_line.specs.declared.ending.Status.{Status}
 use Rattle.command_line.specs.CommandLine.{Request, WaitingRequest, command_in, faults_in, packets, replay, returning, waiting}
 use Rattle.command_line.specs.Ending.{AppendsBeginning, line_of}
@@ -46,6 +46,7 @@ MayFailBy words SpawnFailed = ⊥
 MayFailBy words BindFailed = ⊥
 MayFailBy words PollFailed = ⊥
 MayFailBy words NoAnswer = ⊥
+MayFailBy words RulesChanged = ⊥
 
 -- ---- what a command that failed has written
 

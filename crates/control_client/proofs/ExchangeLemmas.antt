@@ -8,10 +8,10 @@ use Rattle.ipv4_fields.specs.declared.endpoint.Endpoint.{Endpoint}
 use Rattle.control_client.specs.declared.asking.TheConstants.{FOREIGN_LIMIT, LONGEST_LINE}
 use Rattle.control_client.specs.declared.device.Came.{Came}
 use Rattle.control_client.specs.declared.device.WireFailed.{WireFailed}
-use Rattle.control_client.specs.declared.fault.TellFault.{TellFault}
-use Rattle.control_client.specs.declared.fault.TellFault.TheVariants.{NoAnswer, WriteFailed}
+use Rattle.command_line.specs.declared.ending.Failure.{Failure}
+use Rattle.command_line.specs.declared.ending.Failure.TheVariants.{NoAnswer, WriteFailed}
 use Rattle.command_line.specs.Ending.{AppendsBeginning}
-use Rattle.control_client.specs.Exchange.{IsExchange, IsForeign, LineEndsBy, LineTold, LineUnprinted, answered, is_refusal, not_sent, outnumbered, reply_line, timed_out}
+use Rattle.control_client.specs.Exchange.{Asks, IsExchange, IsForeign, LineEndsBy, LineTold, LineUnprinted, answered, is_refusal, not_sent, outnumbered, reply_line, timed_out}
 use Rattle.control_client.specs.Wire.{Event, Logs, came, came_by, none_came, sent, sent_by}
 use Rattle.control_client.specs.body.Asking.{Hears, HearsNone, Passes, broken, out_of_time, too_many}
 use Rattle.control_client.proofs.WireLemmas.{logs_more, logs_nothing}
@@ -28,15 +28,15 @@ passes_more switch from bytes passed before mid after so_far foreign logged = re
 
 -- the line was sent, and then an answer was heard
 pub exchanged : (switch : Endpoint) (line reply : List ℕ) (before mid after : Option (List Event)) → length line ≤ LONGEST_LINE → Logs before mid (sent switch line ∷ [])
-    → Hears switch reply mid after → (events : List Event) × IsExchange switch line reply events × Logs before after events
-exchanged switch line reply before mid after short was_sent heard = (
-  sent switch line ∷ (heard.passed ++ came switch reply ∷ []),
-  answered reply (sent switch line ∷ (heard.passed ++ came switch reply ∷ [])) short (record { passed = heard.passed; are_foreign = heard.are_foreign; few = heard.few; events_are = refl }),
-  logs_more before mid after (sent switch line ∷ []) (heard.passed ++ came switch reply ∷ []) was_sent heard.logged,
-)
+    → Hears switch reply mid after → Asks switch line reply before after
+exchanged switch line reply before mid after short was_sent heard = record {
+  events = sent switch line ∷ (heard.passed ++ came switch reply ∷ []);
+  is_exchange = answered reply (sent switch line ∷ (heard.passed ++ came switch reply ∷ [])) short (record { passed = heard.passed; are_foreign = heard.are_foreign; few = heard.few; events_are = refl });
+  logged = logs_more before mid after (sent switch line ∷ []) (heard.passed ++ came switch reply ∷ []) was_sent heard.logged;
+}
 
 -- or none
-pub unheard : (fault : TellFault) (switch : Endpoint) (line : List ℕ) (before mid after : Option (List Event)) (out : Option (List ℕ)) → Logs before mid (sent switch line ∷ [])
+pub unheard : (fault : Failure) (switch : Endpoint) (line : List ℕ) (before mid after : Option (List Event)) (out : Option (List ℕ)) → Logs before mid (sent switch line ∷ [])
     → HearsNone fault switch mid after → LineEndsBy fault switch line before after out out
 unheard _ switch line before mid after out was_sent (out_of_time _ _ _ passed foreign few logged) = record {
   events = sent switch line ∷ (passed ++ none_came ∷ []);
@@ -57,6 +57,18 @@ unheard _ switch line before mid after out was_sent (broken _ _ _ passed foreign
   not_printed = refl;
 }
 
+-- the same of a line that was sent, whichever way its wait ended
+module _ (switch : Endpoint) (line : List ℕ) (before mid after : Option (List Event)) (was_sent : Logs before mid (sent switch line ∷ [])) where
+  pub asks_heard : (room : List ℕ) → length line ≤ LONGEST_LINE → (result : Result ℕ Failure) → IfOk result (λ (size : ℕ). Hears switch (take size room) mid after)
+      → IfOk result (λ (size : ℕ). Asks switch line (take size room) before after)
+  asks_heard room short (Ok size) heard = exchanged switch line (take size room) before mid after short was_sent heard
+  asks_heard room short (Err fault) heard = tt
+
+  pub asks_unheard : (result : Result ℕ Failure) → IfErr result (λ (fault : Failure). HearsNone fault switch mid after)
+      → IfErr result (λ (fault : Failure). (out : Option (List ℕ)) → LineEndsBy fault switch line before after out out)
+  asks_unheard (Ok size) not_heard = tt
+  asks_unheard (Err fault) not_heard = λ out. unheard fault switch line before mid after out was_sent not_heard
+
 -- a send that failed logged nothing, and another the line
 pub sent_nothing : {E : Type 0} (result : Result (Unit {0}) E) (to : Endpoint) (bytes : List ℕ) (log log' : Option (List Event)) → is_err result ≡ true
     → Logs log log' (sent_by result to bytes) → Logs log log' []
@@ -74,17 +86,17 @@ unsent switch line log log' out logged = record { events = []; is_last = not_sen
 -- a line was exchanged, and its reply is printed, or a beginning of it
 module _ (switch : Endpoint) (line reply : List ℕ) (events : List Event) (log log' : Option (List Event)) (out out' : Option (List ℕ)) (exchange : IsExchange switch line reply events)
     (logged : Logs log log' events) where
-  pub line_told : (result : Result Bool TellFault) → OnOk result (Appends out out' (reply_line reply)) → IfOk result (λ (refused : Bool). refused ≡ is_refusal reply)
+  pub line_told : (result : Result Bool Failure) → OnOk result (Appends out out' (reply_line reply)) → IfOk result (λ (refused : Bool). refused ≡ is_refusal reply)
       → IfOk result (LineTold switch line log log' out out')
   line_told (Ok refused) printed is = record { reply = reply; events = events; is_exchange = exchange; logged = logged; printed = printed; refused_is = is }
   line_told (Err fault) printed is = tt
 
-  pub line_unprinted : (result : Result Bool TellFault) → OnErr result (AppendsBeginning out out' (reply_line reply)) → IfErr result (λ (fault : TellFault). fault ≡ WriteFailed)
-      → IfErr result (λ (fault : TellFault). LineEndsBy fault switch line log log' out out')
+  pub line_unprinted : (result : Result Bool Failure) → OnErr result (AppendsBeginning out out' (reply_line reply)) → IfErr result (λ (fault : Failure). fault ≡ WriteFailed)
+      → IfErr result (λ (fault : Failure). LineEndsBy fault switch line log log' out out')
   line_unprinted (Ok refused) begun is = tt
   line_unprinted (Err fault) begun is =
       let unprinted : LineUnprinted switch line log log' out out' = record { reply = reply; events = events; is_exchange = exchange; logged = logged; printed = begun } in
-      subst (λ (f : TellFault). LineEndsBy f switch line log log' out out') (sym is) unprinted
+      subst (λ (f : Failure). LineEndsBy f switch line log log' out out') (sym is) unprinted
 
 -- ---- a datagram and where it came from
 

@@ -1,5 +1,5 @@
 mod ResultLemmas
-mod WireLemmas
+pub mod WireLemmas
 mod LinesLemmas
 mod PrintingLemmas
 mod ExchangeLemmas

@@ -3,7 +3,7 @@ use Rattle.std.proofs.Common.{◌≡◌, ◌∙◌, ◌+◌, ◌<◌, ◌++◌, 
 use Rattle.std.proofs.lemmas.Grind.{flat_map-append}
 use Rattle.control_line.specs.Block.{IsHead, after_line_feeds, head_text}
 use Rattle.control_line.specs.declared.head.Head.{Head}
-use Rattle.control_client.specs.Lines.{AreNone, IsChangeOf, IsNextRequest, IsNoHead, LosesLine, LosesRequest, block, cut, single}
+use Rattle.control_client.specs.Lines.{AreNone, IsBlockOf, IsNextRequest, IsNoHead, LosesLine, LosesRequest, block, cut, single}
 use Rattle.control_client.specs.body.Collecting.{Adds, AddsAll, AddsLine, AddsUpTo}
 
 pub adds_nothing : (coming : Option (List (List ℕ))) (text : List ℕ) → Adds 0 coming coming text text
@@ -94,11 +94,11 @@ block_request (Some a) (Some b) (Some c) head line request given is_head is (lin
     (cut head lines is_head few)))
 
 -- all lines, after the first line of their block
-pub change_of : (before : Option (List (List ℕ))) (count : ℕ) (start head text request : List ℕ) → start ≡ [] → AddsAll count before start text
-    → head ≡ codes "all " ++ decimal count → request ≡ head ++ text → IsChangeOf before request
-change_of None count start head text request empty added is whole = tt
-change_of (Some lines) count start head text request empty (all, count_is) is whole =
+pub block_of_lines : (front : List ℕ) (before : Option (List (List ℕ))) (count : ℕ) (start head text request : List ℕ) → start ≡ [] → AddsAll count before start text
+    → head ≡ front ++ decimal count → request ≡ head ++ text → IsBlockOf front before request
+block_of_lines front None count start head text request empty added is whole = tt
+block_of_lines front (Some lines) count start head text request empty (all, count_is) is whole =
     whole
-    ∙ ap (λ (h : List ℕ). h ++ text) (is ∙ ap (λ (n : ℕ). codes "all " ++ decimal n) (sym count_is))
-    ∙ append_assoc (codes "all ") (decimal (length lines)) text
-    ∙ ap (λ (t : List ℕ). codes "all " ++ (decimal (length lines) ++ t)) (all ∙ ap (λ (s : List ℕ). s ++ after_line_feeds lines) empty)
+    ∙ ap (λ (h : List ℕ). h ++ text) (is ∙ ap (λ (n : ℕ). front ++ decimal n) (sym count_is))
+    ∙ append_assoc front (decimal (length lines)) text
+    ∙ ap (λ (t : List ℕ). front ++ (decimal (length lines) ++ t)) (all ∙ ap (λ (s : List ℕ). s ++ after_line_feeds lines) empty)

@@ -6,8 +6,8 @@ use Rattle.std.proofs.lemmas.List.Folds.{list_any-append}
 use Rattle.std.specs.Io.KnownBytes.{Appends}
 use Rattle.std.specs.Prelude.{IfErr, IfOk}
 use Rattle.ipv4_fields.specs.declared.endpoint.Endpoint.{Endpoint}
-use Rattle.control_client.specs.declared.fault.TellFault.{TellFault}
-use Rattle.control_client.specs.declared.fault.TellFault.TheVariants.{BindFailed, NoAnswer, OutOfMemory, ReadFailed, WaitFailed, WriteFailed}
+use Rattle.command_line.specs.declared.ending.Failure.{Failure}
+use Rattle.command_line.specs.declared.ending.Failure.TheVariants.{BindFailed, NoAnswer, OutOfMemory, PollFailed, ReadFailed, RulesChanged, SpawnFailed, WriteFailed}
 use Rattle.control_client.specs.Exchange.{AreExchanged, Exchange, LineEndsBy, LineTold, has_refusal, is_refusal, lines_of, no_line, one_more, reply_line, text_of}
 use Rattle.control_client.specs.Lines.{AreFirst, AreNone, IsChangeOf, LosesRequest}
 use Rattle.control_client.specs.Tell.{ChangeEndsBy, StopsBehind, TellsAll, TellsChange, TellsFirst}
@@ -53,19 +53,21 @@ has_refusal_more told one =
     list_any-append (λ (each : Exchange). is_refusal each.reply) told (one ∷ []) ∙ ap (λ (b : Bool). has_refusal told || b) (or_false (is_refusal one.reply))
 
 -- how it stops in a line, by the line's fault
-stops_by : (fault : TellFault) (switch : Endpoint) (coming : Option (List (List ℕ))) (lines : List (List ℕ)) (line : List ℕ) (log log' : Option (List Event)) (out out' : Option (List ℕ))
+stops_by : (fault : Failure) (switch : Endpoint) (coming : Option (List (List ℕ))) (lines : List (List ℕ)) (line : List ℕ) (log log' : Option (List Event)) (out out' : Option (List ℕ))
     → AreFirst coming (lines ++ line ∷ []) → LineEndsBy fault switch line log log' out out' → StopsBehind fault switch coming lines log log' out out'
 stops_by NoAnswer switch coming lines line log log' out out' first ends = (line, first, ends)
-stops_by WaitFailed switch coming lines line log log' out out' first ends = (line, first, ends)
+stops_by PollFailed switch coming lines line log log' out out' first ends = (line, first, ends)
 stops_by WriteFailed switch coming lines line log log' out out' first ends = (line, first, ends)
 stops_by ReadFailed switch coming lines line log log' out out' first ends = absurd ends
 stops_by OutOfMemory switch coming lines line log log' out out' first ends = absurd ends
 stops_by BindFailed switch coming lines line log log' out out' first ends = absurd ends
+stops_by SpawnFailed switch coming lines line log log' out out' first ends = absurd ends
+stops_by RulesChanged switch coming lines line log log' out out' first ends = absurd ends
 
-stops_without : (fault : TellFault) (switch : Endpoint) (coming : Option (List (List ℕ))) (lines : List (List ℕ)) (log : Option (List Event)) (out : Option (List ℕ))
+stops_without : (fault : Failure) (switch : Endpoint) (coming : Option (List (List ℕ))) (lines : List (List ℕ)) (log : Option (List Event)) (out : Option (List ℕ))
     → AreFirst coming lines → (fault ≡ ReadFailed) ⊎ (fault ≡ OutOfMemory) → StopsBehind fault switch coming lines log log out out
-stops_without fault switch coming lines log out first (inl is) = subst (λ (f : TellFault). StopsBehind f switch coming lines log log out out) (sym is) (first, refl, refl)
-stops_without fault switch coming lines log out first (inr is) = subst (λ (f : TellFault). StopsBehind f switch coming lines log log out out) (sym is) (first, refl, refl)
+stops_without fault switch coming lines log out first (inl is) = subst (λ (f : Failure). StopsBehind f switch coming lines log log out out) (sym is) (first, refl, refl)
+stops_without fault switch coming lines log out first (inr is) = subst (λ (f : Failure). StopsBehind f switch coming lines log log out out) (sym is) (first, refl, refl)
 
 module _ (switch : Endpoint) (coming mid after : Option (List (List ℕ))) (log log' log'' : Option (List Event)) (out out' out'' : Option (List ℕ)) (refused : Bool)
     (so_far : IsTelling switch coming mid log log' out out' refused) where
@@ -85,7 +87,7 @@ module _ (switch : Endpoint) (coming mid after : Option (List (List ℕ))) (log 
       }
 
   -- or it ended by a fault
-  pub stops_in_line : (fault : TellFault) (line : List ℕ) → LosesRequest mid after line → LineEndsBy fault switch line log' log'' out' out''
+  pub stops_in_line : (fault : Failure) (line : List ℕ) → LosesRequest mid after line → LineEndsBy fault switch line log' log'' out' out''
       → TellsFirst fault switch coming log log'' out out''
   stops_in_line fault line given ends = record {
     told = so_far.told;
@@ -112,7 +114,7 @@ module _ (switch : Endpoint) (coming mid after : Option (List (List ℕ))) (log 
   }
 
   -- or the next was not to be had
-  pub stops_between : (fault : TellFault) → (fault ≡ ReadFailed) ⊎ (fault ≡ OutOfMemory) → TellsFirst fault switch coming log log' out out'
+  pub stops_between : (fault : Failure) → (fault ≡ ReadFailed) ⊎ (fault ≡ OutOfMemory) → TellsFirst fault switch coming log log' out out'
   stops_between fault why = record {
     told = so_far.told;
     events = so_far.events;
@@ -125,40 +127,42 @@ module _ (switch : Endpoint) (coming mid after : Option (List (List ℕ))) (log 
   }
 
 -- memory for the answers was not to be had
-pub stops_at_start : (switch : Endpoint) (coming : Option (List (List ℕ))) (log : Option (List Event)) (out : Option (List ℕ)) (fault : TellFault) → fault ≡ OutOfMemory
+pub stops_at_start : (switch : Endpoint) (coming : Option (List (List ℕ))) (log : Option (List Event)) (out : Option (List ℕ)) (fault : Failure) → fault ≡ OutOfMemory
     → TellsFirst fault switch coming log log out out
 stops_at_start switch coming log out fault is = stops_between switch coming coming coming log log log out out out false (telling_begins switch coming log out) fault (inr is)
 
 -- ---- all lines as one change
 
-pub change_ends : (fault : TellFault) (switch : Endpoint) (coming : Option (List (List ℕ))) (request : List ℕ) (log log' : Option (List Event)) (out out' : Option (List ℕ))
+pub change_ends : (fault : Failure) (switch : Endpoint) (coming : Option (List (List ℕ))) (request : List ℕ) (log log' : Option (List Event)) (out out' : Option (List ℕ))
     → IsChangeOf coming request → LineEndsBy fault switch request log log' out out' → ChangeEndsBy fault switch coming log log' out out'
 change_ends NoAnswer switch coming request log log' out out' change ends = (request, change, ends)
-change_ends WaitFailed switch coming request log log' out out' change ends = (request, change, ends)
+change_ends PollFailed switch coming request log log' out out' change ends = (request, change, ends)
 change_ends WriteFailed switch coming request log log' out out' change ends = (request, change, ends)
 change_ends ReadFailed switch coming request log log' out out' change ends = absurd ends
 change_ends OutOfMemory switch coming request log log' out out' change ends = absurd ends
 change_ends BindFailed switch coming request log log' out out' change ends = absurd ends
+change_ends SpawnFailed switch coming request log log' out out' change ends = absurd ends
+change_ends RulesChanged switch coming request log log' out out' change ends = absurd ends
 
-pub change_not_made : (fault : TellFault) (switch : Endpoint) (coming : Option (List (List ℕ))) (log : Option (List Event)) (out : Option (List ℕ))
+pub change_not_made : (fault : Failure) (switch : Endpoint) (coming : Option (List (List ℕ))) (log : Option (List Event)) (out : Option (List ℕ))
     → (fault ≡ ReadFailed) ⊎ (fault ≡ OutOfMemory) → ChangeEndsBy fault switch coming log log out out
-change_not_made fault switch coming log out (inl is) = subst (λ (f : TellFault). ChangeEndsBy f switch coming log log out out) (sym is) (refl, refl)
-change_not_made fault switch coming log out (inr is) = subst (λ (f : TellFault). ChangeEndsBy f switch coming log log out out) (sym is) (refl, refl)
+change_not_made fault switch coming log out (inl is) = subst (λ (f : Failure). ChangeEndsBy f switch coming log log out out) (sym is) (refl, refl)
+change_not_made fault switch coming log out (inr is) = subst (λ (f : Failure). ChangeEndsBy f switch coming log log out out) (sym is) (refl, refl)
 
-module _ (result : Result Bool TellFault) (switch : Endpoint) (coming : Option (List (List ℕ))) (request : List ℕ) (log log' : Option (List Event)) (out out' : Option (List ℕ))
+module _ (result : Result Bool Failure) (switch : Endpoint) (coming : Option (List (List ℕ))) (request : List ℕ) (log log' : Option (List Event)) (out out' : Option (List ℕ))
     (change : IsChangeOf coming request) where
   pub change_told : IfOk result (LineTold switch request log log' out out') → IfOk result (TellsChange switch coming log log' out out')
   change_told told = by_result result told
     where
-      by_result : (r : Result Bool TellFault) → IfOk r (LineTold switch request log log' out out') → IfOk r (TellsChange switch coming log log' out out')
+      by_result : (r : Result Bool Failure) → IfOk r (LineTold switch request log log' out out') → IfOk r (TellsChange switch coming log log' out out')
       by_result (Ok refused) told = record { request = request; is_change = change; told = told }
       by_result (Err fault) told = tt
 
-  pub change_stopped_in : IfErr result (λ (fault : TellFault). LineEndsBy fault switch request log log' out out')
-      → IfErr result (λ (fault : TellFault). ChangeEndsBy fault switch coming log log' out out')
+  pub change_stopped_in : IfErr result (λ (fault : Failure). LineEndsBy fault switch request log log' out out')
+      → IfErr result (λ (fault : Failure). ChangeEndsBy fault switch coming log log' out out')
   change_stopped_in stopped = by_result result stopped
     where
-      by_result : (r : Result Bool TellFault) → IfErr r (λ (fault : TellFault). LineEndsBy fault switch request log log' out out')
-          → IfErr r (λ (fault : TellFault). ChangeEndsBy fault switch coming log log' out out')
+      by_result : (r : Result Bool Failure) → IfErr r (λ (fault : Failure). LineEndsBy fault switch request log log' out out')
+          → IfErr r (λ (fault : Failure). ChangeEndsBy fault switch coming log log' out out')
       by_result (Ok refused) stopped = tt
       by_result (Err fault) stopped = change_ends fault switch coming request log log' out out' change stopped

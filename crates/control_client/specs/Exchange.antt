@@ -5,8 +5,8 @@ use Rattle.std.specs.Io.KnownBytes.{Appends}
 use Rattle.ipv4_fields.specs.declared.endpoint.Endpoint.{Endpoint}
 use Rattle.command_line.specs.Ending.{AppendsBeginning}
 use Rattle.control_client.specs.declared.asking.TheConstants.{FOREIGN_LIMIT, LONGEST_LINE}
-use Rattle.control_client.specs.declared.fault.TellFault.{TellFault}
-use Rattle.control_client.specs.declared.fault.TellFault.TheVariants.{BindFailed, NoAnswer, OutOfMemory, ReadFailed, WaitFailed, WriteFailed}
+use Rattle.command_line.specs.declared.ending.Failure.{Failure}
+use Rattle.command_line.specs.declared.ending.Failure.TheVariants.{BindFailed, NoAnswer, OutOfMemory, PollFailed, ReadFailed, RulesChanged, SpawnFailed, WriteFailed}
 use Rattle.control_client.specs.Wire.{Event, Logs, came, none_came, sent}
 
 -- a line, and what it was replied
@@ -32,6 +32,12 @@ pub data IsExchange (switch : Endpoint) (line : List ℕ) : List ℕ → List Ev
   too_long : LONGEST_LINE < length line → IsExchange switch line (codes "refused C2") []
   answered : (reply : List ℕ) (events : List Event) → length line ≤ LONGEST_LINE → IsAnswered switch line reply events →
       IsExchange switch line reply events
+
+-- a line and its reply are all that happened on the wire
+pub record Asks (switch : Endpoint) (line reply : List ℕ) (log log' : Option (List Event)) : Type 0 where
+  pub events : List Event
+  pub is_exchange : IsExchange switch line reply events
+  pub logged : Logs log log' events
 
 -- the lines were exchanged one after the other
 pub data AreExchanged (switch : Endpoint) : List Exchange → List Event → Type 0 where
@@ -100,10 +106,12 @@ pub record LineUnprinted (switch : Endpoint) (line : List ℕ) (log log' : Optio
   pub printed : AppendsBeginning out out' (reply_line reply)
 
 -- how a line ends by a fault
-abbrev pub LineEndsBy : TellFault → Endpoint → List ℕ → Option (List Event) → Option (List Event) → Option (List ℕ) → Option (List ℕ) → Type 0
+abbrev pub LineEndsBy : Failure → Endpoint → List ℕ → Option (List Event) → Option (List Event) → Option (List ℕ) → Option (List ℕ) → Type 0
 LineEndsBy NoAnswer switch line log log' out out' = LineUnheard (IsUnanswered switch line) log log' out out'
-LineEndsBy WaitFailed switch line log log' out out' = LineUnheard (IsCutOff switch line) log log' out out'
+LineEndsBy PollFailed switch line log log' out out' = LineUnheard (IsCutOff switch line) log log' out out'
 LineEndsBy WriteFailed switch line log log' out out' = LineUnprinted switch line log log' out out'
 LineEndsBy ReadFailed switch line log log' out out' = ⊥
 LineEndsBy OutOfMemory switch line log log' out out' = ⊥
 LineEndsBy BindFailed switch line log log' out out' = ⊥
+LineEndsBy SpawnFailed switch line log log' out out' = ⊥
+LineEndsBy RulesChanged switch line log log' out out' = ⊥

@@ -77,7 +77,11 @@ abbrev pub GivesRequest : Option (List (List ℕ)) → Option (List (List ℕ)) 
 GivesRequest before after request true = LosesRequest before after request
 GivesRequest before after request false = AreNone before after
 
--- the request is all lines that were known, as one change
+-- the request is a block of all lines that were known: its first line up to their number, their number, and the lines
+abbrev pub IsBlockOf : List ℕ → Option (List (List ℕ)) → List ℕ → Type 0
+IsBlockOf front None request = Unit {0}
+IsBlockOf front (Some lines) request = request ≡ front ++ (decimal (length lines) ++ after_line_feeds lines)
+
+-- all lines that were known, as one change
 abbrev pub IsChangeOf : Option (List (List ℕ)) → List ℕ → Type 0
-IsChangeOf None request = Unit {0}
-IsChangeOf (Some lines) request = request ≡ codes "all " ++ (decimal (length lines) ++ after_line_feeds lines)
+IsChangeOf lines request = IsBlockOf (codes "all ") lines request

@@ -5,7 +5,7 @@ ghost use Rattle.control_client.specs.Lines.{GivesNext, lines_known, script_know
 ghost use Rattle.control_line.specs.Rules.{without_return};
 ghost use Rattle.control_client.specs.body.LineEnd.{without_end};
 
-use crate::fault::TellFault;
+use command_line::Failure;
 use control_line::{is_skipped, without_return};
 use std::io::{BufRead, Error, ErrorKind};
 use std::marker::Model;
@@ -15,9 +15,9 @@ pub trait Lines {
     ghost coming: { Self → Option (List (List ℕ)) };
 
     /// Puts the next line, without LF, in place of what `line` has. False where there is none.
-    fn next(&mut self, line: &mut Vec<u8>) -> Result<bool, TellFault>
+    fn next(&mut self, line: &mut Vec<u8>) -> Result<bool, Failure>
         ensures next_line { IfOk result (GivesNext (coming self.old) (coming self.new) line.new.items) }
-        ensures faults { IfErr result (λ fault. (fault ≡ TellFault.ReadFailed) ⊎ (fault ≡ TellFault.OutOfMemory)) };
+        ensures faults { IfErr result (λ fault. (fault ≡ Failure.ReadFailed) ⊎ (fault ≡ Failure.OutOfMemory)) };
 }
 
 /// The lines of a script that are no comments. LF ends a line, and bytes after the last LF are a line too. A line that a rules file
@@ -53,19 +53,19 @@ fn drop_end(line: &mut Vec<u8>)
     }
 }
 
-fn read_fault(error: &Error) -> TellFault
-    ensures { (result ≡ TellFault.ReadFailed) ⊎ (result ≡ TellFault.OutOfMemory) }
+fn read_fault(error: &Error) -> Failure
+    ensures { (result ≡ Failure.ReadFailed) ⊎ (result ≡ Failure.OutOfMemory) }
 {
     match error.kind() {
-        ErrorKind::OutOfMemory => TellFault::OutOfMemory,
-        _ => TellFault::ReadFailed,
+        ErrorKind::OutOfMemory => Failure::OutOfMemory,
+        _ => Failure::ReadFailed,
     }
 }
 
 // Puts the next line of an input, without LF, in place of what `line` has. False if there is none.
-fn read_line<B: BufRead>(input: &mut B, line: &mut Vec<u8>) -> Result<bool, TellFault>
+fn read_line<B: BufRead>(input: &mut B, line: &mut Vec<u8>) -> Result<bool, Failure>
     ensures next_line { IfOk result (GivesNext (lines_known (B.remaining input.old)) (lines_known (B.remaining input.new)) line.new.items) }
-    ensures faults { IfErr result (λ fault. (fault ≡ TellFault.ReadFailed) ⊎ (fault ≡ TellFault.OutOfMemory)) }
+    ensures faults { IfErr result (λ fault. (fault ≡ Failure.ReadFailed) ⊎ (fault ≡ Failure.OutOfMemory)) }
 {
     line.clear();
     match input.read_until(b'\n', line) {
@@ -87,9 +87,9 @@ fn drop_return(line: &mut Vec<u8>)
 }
 
 // Puts the next line that is told in place of what `line` has. False if there is none.
-fn read_told<B: BufRead>(input: &mut B, line: &mut Vec<u8>) -> Result<bool, TellFault>
+fn read_told<B: BufRead>(input: &mut B, line: &mut Vec<u8>) -> Result<bool, Failure>
     ensures next_line { IfOk result (GivesNext (script_known (B.remaining input.old)) (script_known (B.remaining input.new)) line.new.items) }
-    ensures faults { IfErr result (λ fault. (fault ≡ TellFault.ReadFailed) ⊎ (fault ≡ TellFault.OutOfMemory)) }
+    ensures faults { IfErr result (λ fault. (fault ≡ Failure.ReadFailed) ⊎ (fault ≡ Failure.OutOfMemory)) }
 {
     for _line in 0..u64::MAX {
         if !read_line(input, line)? {
@@ -100,13 +100,13 @@ fn read_told<B: BufRead>(input: &mut B, line: &mut Vec<u8>) -> Result<bool, Tell
             return Ok(true);
         }
     }
-    Err(TellFault::ReadFailed)
+    Err(Failure::ReadFailed)
 }
 
 impl<B: BufRead> Lines for InputLines<B> {
     ghost coming = { λ lines. lines };
 
-    fn next(&mut self, line: &mut Vec<u8>) -> Result<bool, TellFault> {
+    fn next(&mut self, line: &mut Vec<u8>) -> Result<bool, Failure> {
         read_told(&mut self.input, line)
     }
 }
@@ -137,7 +137,7 @@ impl<'a> WordLines<'a> {
 impl Lines for WordLines<'_> {
     ghost coming = { λ lines. Some lines };
 
-    fn next(&mut self, line: &mut Vec<u8>) -> Result<bool, TellFault> {
+    fn next(&mut self, line: &mut Vec<u8>) -> Result<bool, Failure> {
         let Some(word) = self.words.get(self.given) else {
             return Ok(false);
         };

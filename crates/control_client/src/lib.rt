@@ -9,24 +9,28 @@ ghost use Rattle.control_client.specs.Tell.{ChangeEndsBy, ChangeStopsOverSocket,
 
 mod asking;
 mod device;
-mod fault;
 mod given_lines;
 mod printing;
 mod request;
 mod udp_device;
 
-pub use asking::{FOREIGN_LIMIT, LONGEST_LINE};
-use asking::{LONGEST_DATAGRAM, exchange};
+use asking::exchange;
+pub use asking::{FOREIGN_LIMIT, LONGEST_DATAGRAM, LONGEST_LINE, ask};
+use command_line::Failure;
 pub use device::{Came, Wire, WireFailed};
-pub use fault::TellFault;
 pub use given_lines::{InputLines, Lines, WordLines};
 use ipv4_fields::Endpoint;
-use request::{change_request, next_request};
+pub use printing::is_refusal;
+pub use request::block_of;
+use request::next_request;
 use std::alloc::Global;
 use std::io::Write;
 use std::net::Net;
 use std::time::Clock;
 pub use udp_device::UdpWire;
+
+// How the first line of a change begins.
+const CHANGE: &[u8] = b"all ";
 
 /// Law: the limits, as numbers. It runs nothing.
 pub fn limits_as_numbers()
@@ -46,7 +50,7 @@ pub fn tell<L: Lines, D: Wire, W: Write>(
     wire: &mut D,
     switch: Endpoint,
     out: &mut W,
-) -> Result<bool, TellFault>
+) -> Result<bool, Failure>
     ensures all_told { IfOk result (TellsAll switch (L.coming lines.old) (D.log wire.old) (D.log wire.new) (W.contents out.old) (W.contents out.new)) }
     ensures first_told { IfErr result (λ fault.
         TellsFirst fault switch (L.coming lines.old) (D.log wire.old) (D.log wire.new) (W.contents out.old) (W.contents out.new)) }
@@ -63,7 +67,7 @@ pub fn tell<L: Lines, D: Wire, W: Write>(
             refused = true;
         }
     }
-    Err(TellFault::ReadFailed)
+    Err(Failure::ReadFailed)
 }
 
 /// Tells the lines over a UDP socket of its own, with so many seconds for each answer.
@@ -74,7 +78,7 @@ pub fn tell_over_udp<R: Clock + Net, L: Lines, W: Write>(
     lines: &mut L,
     switch: Endpoint,
     out: &mut W,
-) -> Result<bool, TellFault>
+) -> Result<bool, Failure>
     ensures all_told { IfOk result (TellsAll switch (L.coming lines.old) None None (W.contents out.old) (W.contents out.new)) }
     ensures first_told { IfErr result (λ fault.
         StopsOverSocket fault switch (L.coming lines.old) (W.contents out.old) (W.contents out.new)) }
@@ -93,12 +97,12 @@ pub fn tell_change<L: Lines, D: Wire, W: Write>(
     wire: &mut D,
     switch: Endpoint,
     out: &mut W,
-) -> Result<bool, TellFault>
+) -> Result<bool, Failure>
     ensures change_told { IfOk result (TellsChange switch (L.coming lines.old) (D.log wire.old) (D.log wire.new) (W.contents out.old) (W.contents out.new)) }
     ensures change_ended { IfErr result (λ fault.
         ChangeEndsBy fault switch (L.coming lines.old) (D.log wire.old) (D.log wire.new) (W.contents out.old) (W.contents out.new)) }
 {
-    let request = change_request(alloc, lines)?;
+    let request = block_of(alloc, CHANGE, lines)?;
     let mut room = vec![in alloc; 0; LONGEST_DATAGRAM]?;
     exchange(wire, switch, &request, &mut room, out)
 }
@@ -111,7 +115,7 @@ pub fn tell_change_over_udp<R: Clock + Net, L: Lines, W: Write>(
     lines: &mut L,
     switch: Endpoint,
     out: &mut W,
-) -> Result<bool, TellFault>
+) -> Result<bool, Failure>
     ensures change_told { IfOk result (TellsChange switch (L.coming lines.old) None None (W.contents out.old) (W.contents out.new)) }
     ensures change_ended { IfErr result (λ fault.
         ChangeStopsOverSocket fault switch (L.coming lines.old) (W.contents out.old) (W.contents out.new)) }

@@ -5,28 +5,27 @@ ghost use Rattle.std.specs.Io.KnownBytes.{Appends};
 ghost use Rattle.command_line.specs.Ending.{AppendsBeginning};
 ghost use Rattle.control_client.specs.Exchange.{is_refusal, reply_line};
 
-use crate::fault::TellFault;
-use command_line::write_whole;
+use command_line::{Failure, write_whole};
 use std::io::Write;
 
-// The reply tells that its line was not done.
-fn is_refusal(reply: &[u8]) -> bool
+/// Tests whether a reply says that its request was not done.
+pub fn is_refusal(reply: &[u8]) -> bool
     ensures { result ≡ is_refusal reply.now }
 {
     reply.starts_with(b"refused ".as_slice()) || reply.starts_with(b"failed ".as_slice())
 }
 
 /// Prints the reply with LF, and flushes it. True where it is a refusal.
-pub(crate) fn print_reply<W: Write>(reply: &[u8], out: &mut W) -> Result<bool, TellFault>
+pub(crate) fn print_reply<W: Write>(reply: &[u8], out: &mut W) -> Result<bool, Failure>
     ensures printed { OnOk result (Appends (W.contents out.old) (W.contents out.new) (reply_line reply.now)) }
     ensures refused { IfOk result (λ refused. refused ≡ is_refusal reply.now) }
     ensures beginning { OnErr result (AppendsBeginning (W.contents out.old) (W.contents out.new) (reply_line reply.now)) }
-    ensures fault { IfErr result (λ fault. fault ≡ TellFault.WriteFailed) }
+    ensures fault { IfErr result (λ fault. fault ≡ Failure.WriteFailed) }
 {
-    write_whole(reply, out).map_err(|_| TellFault::WriteFailed)?;
-    write_whole(b"\n".as_slice(), out).map_err(|_| TellFault::WriteFailed)?;
+    write_whole(reply, out)?;
+    write_whole(b"\n".as_slice(), out)?;
     match out.flush() {
         Ok(()) => Ok(is_refusal(reply)),
-        Err(_) => Err(TellFault::WriteFailed),
+        Err(_) => Err(Failure::WriteFailed),
     }
 }

@@ -4,7 +4,7 @@ ghost use Rattle.std.specs.Prelude.{IfErr};
 ghost use Rattle.control_client.specs.Tell.{IsMakingFault};
 
 use crate::device::{Came, Wire, WireFailed};
-use crate::fault::TellFault;
+use command_line::Failure;
 use ipv4_fields::Endpoint;
 use mio::net::UdpSocket;
 use mio::{Events, Interest, Poll, Token};
@@ -33,21 +33,21 @@ pub struct UdpWire<'a, R: Clock> {
 
 impl<'a, R: Clock + Net> UdpWire<'a, R> {
     /// Binds a socket by which a line is given so many seconds for its answer.
-    pub fn bind(rt: &'a R, alloc: Global, seconds: u64) -> Result<UdpWire<'a, R>, TellFault>
+    pub fn bind(rt: &'a R, alloc: Global, seconds: u64) -> Result<UdpWire<'a, R>, Failure>
         ensures faults { IfErr result IsMakingFault }
     {
         let events = Events::with_capacity(alloc, 1)?;
         let Ok(mut socket) = UdpSocket::bind(rt, ANY_PORT.socket_address()) else {
-            return Err(TellFault::BindFailed);
+            return Err(Failure::BindFailed);
         };
         let Ok(poll) = Poll::new(rt) else {
-            return Err(TellFault::WaitFailed);
+            return Err(Failure::PollFailed);
         };
         let registered = poll
             .registry()
             .register(&mut socket, Token(0), Interest::READABLE);
         if registered.is_err() {
-            return Err(TellFault::WaitFailed);
+            return Err(Failure::PollFailed);
         }
         Ok(UdpWire {
             clock: rt,

@@ -1,6 +1,6 @@
 -- The program with some of its commands.
 use Rattle.clap.specs.Words.{App, with_subcommand}
-use Rattle.command_line.specs.CommandLine.{check_line, compile_line, explain_line, first_line, run_line, without_commands}
+use Rattle.command_line.specs.CommandLine.{check_line, compile_line, explain_line, first_line, flood_line, packets_line, replay_line, run_line, serve_line, without_commands}
 
 -- those up to `explain`
 abbrev pub with_queries : App
@@ -10,3 +10,8 @@ with_queries =
     (with_subcommand (with_subcommand (with_subcommand without_commands first_line.top) check_line.top) compile_line.top)
     run_line.top)
     explain_line.top
+
+-- those up to `serve`
+abbrev pub with_workers : App
+with_workers =
+    with_subcommand (with_subcommand (with_subcommand (with_subcommand with_queries replay_line.top) packets_line.top) flood_line.top) serve_line.top

@@ -1,8 +1,8 @@
 use Rattle.std.proofs.Common.{Bool, List, ap, inl, refl, subst, sym, ◌≡◌, ◌||◌, ◌∙◌, ℕ, rules}
 use Rattle.std.proofs.lemmas.Bool.{or_right}
 use Rattle.control_client.specs.Lines.{GivesRequest, LosesRequest}
-use Rattle.control_client.specs.declared.fault.TellFault.{TellFault}
-use Rattle.control_client.specs.declared.fault.TellFault.TheVariants.{OutOfMemory, ReadFailed}
+use Rattle.command_line.specs.declared.ending.Failure.{Failure}
+use Rattle.command_line.specs.declared.ending.Failure.TheVariants.{OutOfMemory, ReadFailed}
 use Rattle.control_client.specs.Tell.{TellsFirst}
 use Rattle.control_client.proofs.ResultLemmas.{if_err}
 use Rattle.control_client.proofs.TellLemmas.{IsTelling, or_false, stops_at_start, stops_between, stops_in_line, telling_begins, telling_on, tells_all}
@@ -12,7 +12,7 @@ use Rattle.control_client.proofs.tell.Goals.{else-branch, then-branch}
 pub returns-in_err-room-clause-first_told : goal.returns-in_err-room-clause-first_told
 returns-in_err-room-clause-first_told g c =
     let coming = g.L.Lines.coming c.args.lines.now in let log = g.D.Wire.log c.args.wire.now in let out = g.W.Write.contents c.args.out.now in
-    if_err c.from_residual.result OutOfMemory (λ (f : TellFault). TellsFirst f c.args.switch coming log log out out) c.from_residual.ensures.1
+    if_err c.from_residual.result OutOfMemory (λ (f : Failure). TellsFirst f c.args.switch coming log log out out) c.from_residual.ensures.1
     (stops_at_start c.args.switch coming log out OutOfMemory refl)
 
 pub loop-request-init : goal.loop-request-init
@@ -24,7 +24,7 @@ returns-in_err-next_request-clause-first_told g c =
     let log = g.D.Wire.log c.args.wire.now in let log' = g.D.Wire.log c.loop-request.wire in
     let out = g.W.Write.contents c.args.out.now in let out' = g.W.Write.contents c.loop-request.out in
     let fault = c.in_err-next_request.field-0.0 in
-    if_err c.from_residual-in_err-next_request.result fault (λ (f : TellFault). TellsFirst f c.args.switch coming log log' out out') c.from_residual-in_err-next_request.ensures.1
+    if_err c.from_residual-in_err-next_request.result fault (λ (f : Failure). TellsFirst f c.args.switch coming log log' out out') c.from_residual-in_err-next_request.ensures.1
     (stops_between c.args.switch coming mid mid log log' log' out out' out' c.loop-request.refused c.loop-request.invariant fault c.in_err-next_request.ensures.faults)
 
 pub returns-then-not-branch-clause-all_told : goal.returns-then-not-branch-clause-all_told
@@ -44,7 +44,7 @@ returns-in_err-exchange-clause-first_told g c =
     let given : LosesRequest mid after c.deref.result.now =
     subst (λ (l : List ℕ). LosesRequest mid after l) (sym c.deref.ensures.value)
     (subst (λ (some : Bool). GivesRequest mid after c.next_request.new.request.items some) c.if-not-branch.false c.in_ok-next_request.ensures.next) in
-    if_err c.from_residual-in_err-exchange.result fault (λ (f : TellFault). TellsFirst f c.args.switch coming log log'' out out'') c.from_residual-in_err-exchange.ensures.1
+    if_err c.from_residual-in_err-exchange.result fault (λ (f : Failure). TellsFirst f c.args.switch coming log log'' out out'') c.from_residual-in_err-exchange.ensures.1
     (stops_in_line c.args.switch coming mid after log log' log'' out out' out'' c.loop-request.refused c.loop-request.invariant fault c.deref.result.now given c.in_err-exchange.ensures.stopped)
 
 pub loop-request-preserved : goal.loop-request-preserved

@@ -1,6 +1,6 @@
 use Rattle.std.proofs.Common.{inr, refl}
-use Rattle.control_client.specs.declared.fault.TellFault.{TellFault}
-use Rattle.control_client.specs.declared.fault.TellFault.TheVariants.{OutOfMemory}
+use Rattle.command_line.specs.declared.ending.Failure.{Failure}
+use Rattle.command_line.specs.declared.ending.Failure.TheVariants.{OutOfMemory}
 use Rattle.control_client.specs.Tell.{ChangeEndsBy}
 use Rattle.control_client.proofs.ResultLemmas.{if_err}
 use Rattle.control_client.proofs.TellLemmas.{change_not_made, change_stopped_in, change_told}
@@ -10,21 +10,21 @@ pub returns-in_err-request-clause-change_ended : goal.returns-in_err-request-cla
 returns-in_err-request-clause-change_ended g c =
     let coming = g.L.Lines.coming c.args.lines.now in let log = g.D.Wire.log c.args.wire.now in let out = g.W.Write.contents c.args.out.now in
     let fault = c.in_err-request.field-0.0 in
-    if_err c.from_residual.result fault (λ (f : TellFault). ChangeEndsBy f c.args.switch coming log log out out) c.from_residual.ensures.1
+    if_err c.from_residual.result fault (λ (f : Failure). ChangeEndsBy f c.args.switch coming log log out out) c.from_residual.ensures.1
     (change_not_made fault c.args.switch coming log out c.in_err-request.ensures.faults)
 
 pub returns-in_err-room-clause-change_ended : goal.returns-in_err-room-clause-change_ended
 returns-in_err-room-clause-change_ended g c =
     let coming = g.L.Lines.coming c.args.lines.now in let log = g.D.Wire.log c.args.wire.now in let out = g.W.Write.contents c.args.out.now in
-    if_err c.from_residual-in_err-room.result OutOfMemory (λ (f : TellFault). ChangeEndsBy f c.args.switch coming log log out out) c.from_residual-in_err-room.ensures.1
+    if_err c.from_residual-in_err-room.result OutOfMemory (λ (f : Failure). ChangeEndsBy f c.args.switch coming log log out out) c.from_residual-in_err-room.ensures.1
     (change_not_made OutOfMemory c.args.switch coming log out (inr refl))
 
 pub returns-clause-change_told : goal.returns-clause-change_told
 returns-clause-change_told g c =
     change_told c.exchange.result c.args.switch (g.L.Lines.coming c.args.lines.now) c.deref.result.now (g.D.Wire.log c.args.wire.now) (g.D.Wire.log c.exchange.new.wire)
-    (g.W.Write.contents c.args.out.now) (g.W.Write.contents c.exchange.new.out) (rw c.deref.ensures.value c.in_ok-request.ensures.change) c.exchange.ensures.told
+    (g.W.Write.contents c.args.out.now) (g.W.Write.contents c.exchange.new.out) (rw c.deref.ensures.value c.in_ok-request.ensures.block) c.exchange.ensures.told
 
 pub returns-clause-change_ended : goal.returns-clause-change_ended
 returns-clause-change_ended g c =
     change_stopped_in c.exchange.result c.args.switch (g.L.Lines.coming c.args.lines.now) c.deref.result.now (g.D.Wire.log c.args.wire.now) (g.D.Wire.log c.exchange.new.wire)
-    (g.W.Write.contents c.args.out.now) (g.W.Write.contents c.exchange.new.out) (rw c.deref.ensures.value c.in_ok-request.ensures.change) c.exchange.ensures.stopped
+    (g.W.Write.contents c.args.out.now) (g.W.Write.contents c.exchange.new.out) (rw c.deref.ensures.value c.in_ok-request.ensures.block) c.exchange.ensures.stopped

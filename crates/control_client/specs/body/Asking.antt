@@ -3,8 +3,8 @@ use Rattle.std.specs.Prelude.{◌≡◌, ◌<◌, ◌++◌, ◌∷◌, List, Opt
 use Rattle.std.specs.List.{All}
 use Rattle.ipv4_fields.specs.declared.endpoint.Endpoint.{Endpoint}
 use Rattle.control_client.specs.declared.asking.TheConstants.{FOREIGN_LIMIT}
-use Rattle.control_client.specs.declared.fault.TellFault.{TellFault}
-use Rattle.control_client.specs.declared.fault.TellFault.TheVariants.{NoAnswer, WaitFailed}
+use Rattle.command_line.specs.declared.ending.Failure.{Failure}
+use Rattle.command_line.specs.declared.ending.Failure.TheVariants.{NoAnswer, PollFailed}
 use Rattle.control_client.specs.Exchange.{IsForeign}
 use Rattle.control_client.specs.Wire.{Event, Logs, came, none_came}
 
@@ -21,10 +21,10 @@ pub record Hears (switch : Endpoint) (reply : List ℕ) (log log' : Option (List
   pub logged : Logs log log' (passed ++ came switch reply ∷ [])
 
 -- then none came in time, or those were too many
-pub data HearsNone : TellFault → (switch : Endpoint) → (log log' : Option (List Event)) → Type 0 where
+pub data HearsNone : Failure → (switch : Endpoint) → (log log' : Option (List Event)) → Type 0 where
   out_of_time : (switch : Endpoint) (log log' : Option (List Event)) (passed : List Event) → All (IsForeign switch) passed →
       length passed < FOREIGN_LIMIT → Logs log log' (passed ++ none_came ∷ []) → HearsNone NoAnswer switch log log'
   too_many : (switch : Endpoint) (log log' : Option (List Event)) (passed : List Event) → All (IsForeign switch) passed →
       length passed ≡ FOREIGN_LIMIT → Logs log log' passed → HearsNone NoAnswer switch log log'
   broken : (switch : Endpoint) (log log' : Option (List Event)) (passed : List Event) → All (IsForeign switch) passed →
-      length passed < FOREIGN_LIMIT → Logs log log' passed → HearsNone WaitFailed switch log log'
+      length passed < FOREIGN_LIMIT → Logs log log' passed → HearsNone PollFailed switch log log'

@@ -1,20 +1,14 @@
 use Rattle.clap.specs.Words.{App}
-use Rattle.command_line.specs.CommandLine.{flood_line, packets_line, replay_line, serve_line, tell_line}
-use Rattle.command_line.specs.body.Half.{with_queries}
+use Rattle.command_line.specs.CommandLine.{load_line, rules_line, tell_line}
+use Rattle.command_line.specs.body.Half.{with_workers}
 use Rattle.command_line.proofs.BuilderLemmas.{and, both}
 use Rattle.command_line.proofs.builders.program.Goals as goal
 
 pub returns : goal.returns
 returns c =
-    let replay = c.replay_command.ensures in
-    let packets = c.plain_command-packets.ensures in
-    let flood = c.flood_command.ensures in let serve = c.serve_command.ensures in let tell = c.tell_command.ensures in
-    let to_replay : App = and replay_line with_queries in
-    let to_packets : App = and packets_line to_replay in
-    let to_flood : App = and flood_line to_packets in
-    let to_serve : App = and serve_line to_flood in
-    let with_replay = c.with_command-program.ensures with_queries replay_line c.with_queries.ensures (both c.replay_command.result replay_line replay.app replay.local) in
-    let with_packets = c.with_command-program-2.ensures to_replay packets_line with_replay (packets.app, packets.local) in
-    let with_flood = c.with_command-program-3.ensures to_packets flood_line with_packets (both c.flood_command.result flood_line flood.app flood.local) in
-    let with_serve = c.with_command-program-4.ensures to_flood serve_line with_flood (both c.serve_command.result serve_line serve.app serve.local) in
-    c.with_command.ensures to_serve tell_line with_serve (both c.tell_command.result tell_line tell.app tell.local)
+    let tell = c.tell_command.ensures in let rules = c.rules_command.ensures in let load = c.load_command.ensures in
+    let to_tell : App = and tell_line with_workers in
+    let to_rules : App = and rules_line to_tell in
+    let with_tell = c.with_command-program.ensures with_workers tell_line c.with_workers.ensures (both c.tell_command.result tell_line tell.app tell.local) in
+    let with_rules = c.with_command-program-2.ensures to_tell rules_line with_tell (both c.rules_command.result rules_line rules.app rules.local) in
+    c.with_command.ensures to_rules load_line with_rules (both c.load_command.result load_line load.app load.local)

@@ -30,3 +30,9 @@ returns-in-serve c = search rules
 
 pub returns-in-tell : goal.returns-in-tell
 returns-in-tell c = search rules
+
+pub returns-in-rules : goal.returns-in-rules
+returns-in-rules c = search rules
+
+pub returns-in-load : goal.returns-in-load
+returns-in-load c = search rules

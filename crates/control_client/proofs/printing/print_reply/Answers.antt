@@ -7,15 +7,15 @@ use Rattle.control_client.proofs.PrintingLemmas.{begins_first, begins_then, begi
 use Rattle.control_client.proofs.ResultLemmas.{on_err}
 use Rattle.control_client.proofs.printing.print_reply.Goals as goal
 
-pub returns-in_err-map_err-clause-beginning : goal.returns-in_err-map_err-clause-beginning
-returns-in_err-map_err-clause-beginning g c =
+pub returns-in_err-write_whole-clause-beginning : goal.returns-in_err-write_whole-clause-beginning
+returns-in_err-write_whole-clause-beginning g c =
     let start = g.W.Write.contents c.args.out.now in let end = g.W.Write.contents c.write_whole.new.out in let reply = c.args.reply.now in
     on_err c.from_residual.result (AppendsBeginning start end (reply_line reply)) (begins_first start end reply (10 ∷ []) c.write_whole.ensures.beginning)
 
-pub returns-in_err-map_err-2-clause-beginning : goal.returns-in_err-map_err-2-clause-beginning
-returns-in_err-map_err-2-clause-beginning g c =
+pub returns-in_err-write_whole-2-clause-beginning : goal.returns-in_err-write_whole-2-clause-beginning
+returns-in_err-write_whole-2-clause-beginning g c =
     let start = g.W.Write.contents c.args.out.now in let mid = g.W.Write.contents c.write_whole.new.out in let end = g.W.Write.contents c.write_whole-2.new.out in let reply = c.args.reply.now in
-    on_err c.from_residual-in_err-map_err-2.result (AppendsBeginning start end (reply_line reply))
+    on_err c.from_residual-in_err-write_whole-2.result (AppendsBeginning start end (reply_line reply))
     (begins_then start mid end reply (10 ∷ []) (search rules) (rw c.as_slice.ensures at c.write_whole-2.ensures.beginning))
 
 pub returns-in-Err-clause-beginning : goal.returns-in-Err-clause-beginning

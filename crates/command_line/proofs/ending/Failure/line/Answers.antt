@@ -16,6 +16,9 @@ returns-in-PollFailed c = search rules
 pub returns-in-ReadFailed : goal.returns-in-ReadFailed
 returns-in-ReadFailed c = search rules
 
+pub returns-in-RulesChanged : goal.returns-in-RulesChanged
+returns-in-RulesChanged c = search rules
+
 pub returns-in-SpawnFailed : goal.returns-in-SpawnFailed
 returns-in-SpawnFailed c = search rules
 
