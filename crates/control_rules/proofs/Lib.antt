@@ -1,0 +1,15 @@
+mod FieldLemmas
+mod LineLemmas
+mod LearnLemmas
+mod WordLemmas
+mod ReplyLemmas
+mod ResultLemmas
+mod FoundLemmas
+mod ShownLemmas
+mod AddedLemmas
+mod FileLemmas
+mod TextLemmas
+mod LengthLemmas
+mod LeadLemmas
+mod MeaningLemmas
+mod AttemptLemmas

@@ -1,0 +1,12 @@
+use Rattle.std.proofs.Common.{codes, refl, subst, inl}
+use Rattle.std.specs.Prelude.{IfSome}
+use Rattle.control_rules.specs.body.Replies.{IsShownReply}
+use Rattle.control_rules.proofs.LearnLemmas.{if_some_all, learns_asked}
+use Rattle.control_rules.proofs.ShownLemmas.{shown_true}
+use Rattle.control_rules.proofs.asking.ask_shown.Goals as goal
+
+pub returns : goal.returns
+returns g c =
+    let reply = c.in_ok-reply.reply.items in
+    learns_asked c.args.client.now c.ask.new.self (codes "show") reply _ c.ask.ensures.switch (inl refl) c.in_ok-reply.ensures.asked
+    (λ history are true. if_some_all (IsShownReply reply) _ (λ shown it. shown_true history are (codes "show") reply true shown it refl) c.read_shown.result (subst (λ text. IfSome c.read_shown.result (IsShownReply text)) c.deref.ensures.value c.read_shown.ensures))

@@ -1,0 +1,17 @@
+use Rattle.std.proofs.Common.{Some}
+use Rattle.control_rules.specs.body.Added.{HasWordsOf}
+use Rattle.control_rules.proofs.AddedLemmas.{filter_none, filter_some}
+use Rattle.control_rules.proofs.FoundLemmas.{some_holds}
+use Rattle.control_rules.proofs.LearnLemmas.{learns_nothing, learns_weaker}
+use Rattle.control_rules.proofs.reading.push_filter.Goals as goal
+
+pub returns-then-count-eq0 : goal.returns-then-count-eq0
+returns-then-count-eq0 g c =
+    learns_nothing c.args.client.now _ (λ history are done. filter_none (history c.args.version) (are c.args.version) c.args.owner.0 c.args.owner.1 c.args.count c.args.text.now.items c.if-count-eq0.true)
+
+pub returns : goal.returns
+returns g c =
+    learns_weaker c.args.client.now c.read_program.new.client _ _
+    (λ history are has done. filter_some (history c.args.version) (are c.args.version) c.args.owner.0 c.args.owner.1 c.args.count c.in-Some.program.words c.args.text.now.items c.push_change.new.text.items c.if-count-eq0.false
+    (some_holds (λ it. HasWordsOf (history c.args.version) c.args.owner.0 (Some c.args.owner.1) c.args.count it.words) _ c.in-Some.program has c.in-Some.is) c.in_ok-push_change.ensures)
+    c.in_ok-program.ensures

@@ -1,0 +1,27 @@
+use Rattle.std.proofs.Common.{arith}
+use Rattle.std.proofs.lemmas.Bool.{false≢true}
+use Rattle.control_rules.proofs.AddedLemmas.{groups_begin, groups_end, groups_more}
+use Rattle.control_rules.proofs.LearnLemmas.{learns_nothing, learns_then, learns_weaker}
+use Rattle.control_rules.proofs.reading.push_groups.Goals as goal
+
+pub loop-index-init : goal.loop-index-init
+loop-index-init g c = learns_nothing c.args.client.now _ (λ history are. groups_begin (history c.args.version) (are c.args.version) c.args.groups c.args.text.now.items)
+
+pub returns-then-not-branch : goal.returns-then-not-branch
+returns-then-not-branch g c =
+    learns_weaker c.args.client.now c.push_group.new.client _ _ (λ history are both done. absurd (false≢true done))
+    (learns_then c.args.client.now c.loop-index.client c.push_group.new.client _ _ c.loop-index.invariant c.in_ok-push_group.ensures)
+
+pub loop-index-preserved : goal.loop-index-preserved
+loop-index-preserved g c =
+    learns_weaker c.args.client.now c.push_group.new.client _ _
+    (λ history are both. groups_more (history c.args.version) (are c.args.version) c.args.groups c.loop-index.index c.args.text.now.items c.loop-index.text.items c.push_group.new.text.items
+    c.loop-index-test.true both.0 (both.1 c.if-not-branch.false))
+    (learns_then c.args.client.now c.loop-index.client c.push_group.new.client _ _ c.loop-index.invariant c.in_ok-push_group.ensures)
+
+pub returns : goal.returns
+returns g c =
+    learns_weaker c.args.client.now c.loop-index.client _ _
+    (λ history are first done. groups_end (history c.args.version) (are c.args.version) c.args.groups c.loop-index.index c.args.text.now.items c.loop-index.text.items
+    (omega (arith, c.loop-index-test.false, c.loop-index.auto.index-end)) first)
+    c.loop-index.invariant

@@ -1,0 +1,6 @@
+pub mod Fields
+pub mod Text
+pub mod History
+pub mod Rules
+pub mod Load
+pub mod body

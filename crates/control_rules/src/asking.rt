@@ -1,0 +1,122 @@
+//! Lines that read, sent to a switch, and what their replies show. None if a reply shows nothing, as a refusal.
+
+ghost use Rattle.std.specs.Prelude.{◌≡◌, ◌≤◌, ◌<◌, ◌++◌, ◌^◌, IfOk, IfSome, codes, length, take};
+ghost use Rattle.ipv4_fields.specs.Endpoint.{IsEndpoint};
+ghost use Rattle.control_line.specs.Request.{Spells, read};
+ghost use Rattle.control_line.specs.Reading.{group_at, member_at};
+ghost use Rattle.control_rules.specs.History.{Learns};
+ghost use Rattle.control_rules.specs.body.Shown.{AreWordsAt, IsGroupAt, IsMemberAt, IsShownOf};
+ghost use Rattle.control_rules.specs.body.Lines.{owner_text, words_reading};
+
+use crate::client::Client;
+use crate::replies::{
+    GroupShown, MemberShown, Shown, WordsShown, read_group, read_member, read_shown, read_words,
+};
+use command_line::Failure;
+use control_client::Wire;
+use control_line::Reply;
+use ipv4_fields::Endpoint;
+
+const SHOW: &[u8] = b"show";
+
+/// Asks for the measures of the configuration.
+pub(crate) fn ask_shown<D: Wire + Drop>(client: &mut Client<D>) -> Result<Option<Shown>, Failure>
+    ensures { IfOk result (λ answer. Learns client.old client.new (λ history.
+        IfSome answer (λ shown. IsShownOf (history shown.version) shown))) }
+{
+    let reply = client.ask(SHOW)?;
+    Ok(read_shown(&reply))
+}
+
+fn group_line(index: u32) -> Reply
+    ensures spelled { Spells result (read (group_at index)) }
+    ensures short { length result ≤ 128 }
+{
+    let mut line = Reply::empty();
+    line.push("group ");
+    line.push_number(u64::from(index));
+    line
+}
+
+/// Asks for the group at a place.
+pub(crate) fn ask_group<D: Wire + Drop>(
+    client: &mut Client<D>,
+    index: u32,
+) -> Result<Option<GroupShown>, Failure>
+    ensures { IfOk result (λ answer. Learns client.old client.new (λ history.
+        IfSome answer (λ shown. IsGroupAt (history shown.version) index shown))) }
+{
+    let line = group_line(index);
+    let reply = client.ask(line.bytes())?;
+    Ok(read_group(&reply))
+}
+
+fn member_line(key: Endpoint, index: u32) -> Reply
+    requires { IsEndpoint key }
+    ensures spelled { Spells result (read (member_at key index)) }
+    ensures short { length result ≤ 128 }
+{
+    let mut line = Reply::empty();
+    line.push("member ");
+    key.append_to(&mut line);
+    line.push(" ");
+    line.push_number(u64::from(index));
+    line
+}
+
+/// Asks for the member at an index of a group.
+pub(crate) fn ask_member<D: Wire + Drop>(
+    client: &mut Client<D>,
+    key: Endpoint,
+    index: u32,
+) -> Result<Option<MemberShown>, Failure>
+    requires { IsEndpoint key }
+    ensures { IfOk result (λ answer. Learns client.old client.new (λ history.
+        IfSome answer (λ shown. IsMemberAt (history shown.version) key index shown))) }
+{
+    let line = member_line(key, index);
+    let reply = client.ask(line.bytes())?;
+    Ok(read_member(&reply))
+}
+
+// Appends the field that names the program: `selector`, or the number of the member.
+fn push_owner(line: &mut Reply, owner: Option<u32>)
+    requires { length line.old ≤ 64 }
+    ensures text { line.new ≡ line.old ++ owner_text owner }
+    ensures short { length line.new ≤ 96 }
+{
+    match owner {
+        None => line.push("selector"),
+        Some(member) => line.push_number(u64::from(member)),
+    }
+}
+
+fn words_line(key: Endpoint, owner: Option<u32>, place: u32) -> Reply
+    requires { IsEndpoint key }
+    ensures spelled { Spells result (read (words_reading key owner place)) }
+    ensures short { length result ≤ 128 }
+{
+    let mut line = Reply::empty();
+    line.push("words ");
+    key.append_to(&mut line);
+    line.push(" ");
+    push_owner(&mut line, owner);
+    line.push(" ");
+    line.push_number(u64::from(place));
+    line
+}
+
+/// Asks for words of a group's selector, or of the filter of a member, from a place on.
+pub(crate) fn ask_words<D: Wire + Drop>(
+    client: &mut Client<D>,
+    program: (Endpoint, Option<u32>),
+    place: u32,
+) -> Result<Option<WordsShown>, Failure>
+    requires { IsEndpoint program.0 }
+    ensures { IfOk result (λ answer. Learns client.old client.new (λ history.
+        IfSome answer (λ shown. AreWordsAt (history shown.version) program.0 program.1 place shown))) }
+{
+    let line = words_line(program.0, program.1, place);
+    let reply = client.ask(line.bytes())?;
+    Ok(read_words(client.allocator(), &reply)?)
+}

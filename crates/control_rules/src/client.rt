@@ -1,0 +1,58 @@
+//! A client of a switch: it sends lines, and receives their replies.
+
+ghost use Rattle.std.specs.Prelude.{◌≡◌, ◌≤◌, IfOk, length};
+ghost use Rattle.control_client.specs.Exchange.{Asks};
+ghost use Rattle.control_client.specs.declared.asking.TheConstants.{LONGEST_LINE};
+
+use command_line::Failure;
+use control_client::{LONGEST_DATAGRAM, Wire, ask};
+use ipv4_fields::Endpoint;
+use std::alloc::Global;
+use std::marker::Model;
+
+/// A client of the switch at an endpoint, over a wire.
+#[derive(Drop)]
+pub struct Client<D: Wire + Drop> {
+    wire: D,
+    switch: Endpoint,
+    // Room for a reply.
+    room: Vec<u8>,
+    alloc: Global,
+}
+
+impl<D: Wire + Drop> Model for Client<D> {
+    ghost use Rattle.control_rules.specs.History.{ClientValue};
+
+    ghost Value = { ClientValue };
+
+    ghost view = { λ client. record { switch = client.switch; log = D.log client.wire } };
+}
+
+impl<D: Wire + Drop> Client<D> {
+    pub fn new(alloc: Global, wire: D, switch: Endpoint) -> Result<Client<D>, Failure>
+        ensures switch { IfOk result (λ client. client.switch ≡ switch) }
+        ensures log { IfOk result (λ client. client.log ≡ D.log wire) }
+    {
+        Ok(Client {
+            wire,
+            switch,
+            room: vec![in alloc; 0; LONGEST_DATAGRAM]?,
+            alloc,
+        })
+    }
+
+    /// The allocator that replies are kept in.
+    pub(crate) fn allocator(&self) -> Global {
+        self.alloc
+    }
+
+    /// Sends a line, and returns its reply.
+    pub(crate) fn ask(&mut self, line: &[u8]) -> Result<Vec<u8>, Failure>
+        requires { length line.now ≤ LONGEST_LINE }
+        ensures switch { self.new.switch ≡ self.old.switch }
+        ensures asked { IfOk result (λ reply. Asks self.old.switch line.now reply.items self.old.log self.new.log) }
+    {
+        let size = ask(&mut self.wire, self.switch, line, &mut self.room)?;
+        Ok(Vec::from_slice(self.alloc, &self.room[..size])?)
+    }
+}

@@ -1,0 +1,28 @@
+//! The rules of a running switch: read back, written as a rules file, and replaced (docs/COMMANDS.md, "rules", "load").
+#![tactic(auto)]
+
+ghost use Rattle.control_rules.specs.Rules.{RulesMakeNothingElse, RulesMakeTheirConfig};
+
+mod asking;
+mod change_text;
+mod client;
+mod fields;
+mod loading;
+mod reading;
+mod replies;
+
+pub use change_text::changes_text;
+pub use client::Client;
+pub use loading::{Loaded, differences, load};
+pub use reading::{AGAIN, RulesRead, read_rules};
+
+/// Law: the rules that are read of a configuration, as a rules file, make the same configuration, by the words of their programs, and
+/// no other. It runs nothing.
+#[tactic(auto, using(crate::proofs::MeaningLemmas::rules_make))]
+pub fn rules_make_their_configuration()
+    ensures made { RulesMakeTheirConfig }
+    ensures nothing_else { RulesMakeNothingElse }
+{
+    control_line::one_request();
+    bpf_asm::one_value();
+}
