@@ -1,2 +1,3 @@
+mod ShowingLemmas
 mod TellingLemmas
 mod OpeningLemmas

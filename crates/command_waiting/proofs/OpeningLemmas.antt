@@ -10,7 +10,7 @@ use Rattle.clap.specs.Words.{Text}
 use Rattle.command_line.specs.Ending.{AppendsBeginning, line_of}
 use Rattle.command_line.specs.Input.{IsInput}
 use Rattle.command_line.specs.declared.ending.Failure.{Failure}
-use Rattle.command_line.specs.declared.ending.Failure.TheVariants.{BindFailed, NoAnswer, OutOfMemory, ReadFailed, WriteFailed}
+use Rattle.command_line.specs.declared.ending.Failure.TheVariants.{BindFailed, NoAnswer, OutOfMemory, ReadFailed, RulesChanged, WriteFailed}
 use Rattle.config_image.specs.Image.{Group}
 use Rattle.member_group.specs.Charge.{charge_of}
 use Rattle.versions.specs.declared.layout.TheConstants.{CHARGE_LIMIT}
@@ -132,6 +132,11 @@ no_silence_unread failure (inl is) same = cc
 no_silence_unread failure (inr (inl is)) same = cc
 no_silence_unread failure (inr (inr is)) same = cc
 
+no_rules_unread : (failure : Failure) → IsUnreadCause failure → failure ≡ RulesChanged → ⊥
+no_rules_unread failure (inl is) same = cc
+no_rules_unread failure (inr (inl is)) same = cc
+no_rules_unread failure (inr (inr is)) same = cc
+
 no_bind_unread : (failure : Failure) → IsUnreadCause failure → failure ≡ BindFailed → ⊥
 no_bind_unread failure (inl is) same = cc
 no_bind_unread failure (inr (inl is)) same = cc
@@ -149,6 +154,7 @@ module _ (front control : Text) (file : Option Text) (before after told_before t
     failure = unread.failure;
     no_read = λ none. absurd (given none);
     no_silence = no_silence_unread unread.failure unread.cause;
+    no_rules_read = no_rules_unread unread.failure unread.cause;
     written = λ other. inl (unread.unwritten other);
     not_bound = λ is. absurd (no_bind_unread unread.failure unread.cause is);
     not_read = λ is. unread.unwritten (no_write_unread unread.failure is);
@@ -164,6 +170,7 @@ module _ (front control : Text) (file : Option Text) (before after told_before t
     failure = failure;
     no_read = λ none. of_serve.0;
     no_silence = of_serve.1;
+    no_rules_read = of_serve.2;
     written = written;
     not_bound = not_bound;
     not_read = λ is. absurd (of_serve.0 is);
@@ -178,6 +185,7 @@ fails_unwritten front control file before after told_before told_after told = re
   failure = WriteFailed;
   no_read = λ none is. cc;
   no_silence = λ is. cc;
+  no_rules_read = λ is. cc;
   written = λ other. absurd (other refl);
   not_bound = λ is. absurd (no_bind_write is);
   not_read = λ is. absurd (no_write_unread WriteFailed is refl);

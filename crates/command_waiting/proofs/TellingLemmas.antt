@@ -3,21 +3,21 @@ use Rattle.std.proofs.Common.{◌≡◌, Bool, List, None, Option, Result, false
 use Rattle.std.specs.Prelude.{IfErr, IfOk}
 use Rattle.clap.specs.Words.{Text}
 use Rattle.control_client.specs.Tell.{ChangeStopsOverSocket, StopsOverSocket, TellsAll, TellsChange}
-use Rattle.control_client.specs.declared.fault.TellFault.{TellFault}
+use Rattle.command_line.specs.declared.ending.Failure.{Failure}
 use Rattle.ipv4_fields.specs.declared.endpoint.Endpoint.{Endpoint}
 use Rattle.command_waiting.specs.Telling.{StopsTelling, Tells}
 
-module _ (all : Bool) (switch : Endpoint) (lines : Option (List Text)) (before after : Option (List ℕ)) (result : Result Bool TellFault) where
+module _ (all : Bool) (switch : Endpoint) (lines : Option (List Text)) (before after : Option (List ℕ)) (result : Result Bool Failure) where
   pub tells_change : all ≡ true → IfOk result (TellsChange switch lines None None before after) → IfOk result (Tells all switch lines before after)
   tells_change is told = subst (λ (b : Bool). IfOk result (Tells b switch lines before after)) (sym is) told
 
   pub tells_lines : all ≡ false → IfOk result (TellsAll switch lines None None before after) → IfOk result (Tells all switch lines before after)
   tells_lines is told = subst (λ (b : Bool). IfOk result (Tells b switch lines before after)) (sym is) told
 
-  pub stops_change : all ≡ true → IfErr result (λ (fault : TellFault). ChangeStopsOverSocket fault switch lines before after)
-      → IfErr result (λ (fault : TellFault). StopsTelling all fault switch lines before after)
-  stops_change is stopped = subst (λ (b : Bool). IfErr result (λ (fault : TellFault). StopsTelling b fault switch lines before after)) (sym is) stopped
+  pub stops_change : all ≡ true → IfErr result (λ (fault : Failure). ChangeStopsOverSocket fault switch lines before after)
+      → IfErr result (λ (fault : Failure). StopsTelling all fault switch lines before after)
+  stops_change is stopped = subst (λ (b : Bool). IfErr result (λ (fault : Failure). StopsTelling b fault switch lines before after)) (sym is) stopped
 
-  pub stops_lines : all ≡ false → IfErr result (λ (fault : TellFault). StopsOverSocket fault switch lines before after)
-      → IfErr result (λ (fault : TellFault). StopsTelling all fault switch lines before after)
-  stops_lines is stopped = subst (λ (b : Bool). IfErr result (λ (fault : TellFault). StopsTelling b fault switch lines before after)) (sym is) stopped
+  pub stops_lines : all ≡ false → IfErr result (λ (fault : Failure). StopsOverSocket fault switch lines before after)
+      → IfErr result (λ (fault : Failure). StopsTelling all fault switch lines before after)
+  stops_lines is stopped = subst (λ (b : Bool). IfErr result (λ (fault : Failure). StopsTelling b fault switch lines before after)) (sym is) stopped

@@ -1,4 +1,5 @@
 pub mod Opening
+pub mod Showing
 pub mod Telling
 pub mod Waiting
 pub mod body
@@ -6,6 +7,9 @@ pub use Rattle.control_client.specs.Exchange
 pub use Rattle.control_client.specs.Lines
 pub use Rattle.control_client.specs.Tell
 pub use Rattle.control_client.specs.Wire
+pub use Rattle.control_rules.specs.History
+pub use Rattle.control_rules.specs.Load
+pub use Rattle.control_rules.specs.Rules
 pub use Rattle.dispatch.specs.Counted
 pub use Rattle.dispatch.specs.Totals
 pub use Rattle.command_flood.specs.Failing

@@ -6,19 +6,8 @@ use Rattle.command_line.specs.declared.ending.Failure.{Failure}
 use Rattle.command_line.specs.declared.ending.Failure.TheVariants as failure
 use Rattle.control_client.specs.Lines.{script_known}
 use Rattle.control_client.specs.Tell.{ChangeStopsOverSocket, StopsOverSocket, TellsAll, TellsChange}
-use Rattle.control_client.specs.declared.fault.TellFault.{TellFault}
-use Rattle.control_client.specs.declared.fault.TellFault.TheVariants as fault
 use Rattle.ipv4_fields.specs.Endpoint.{IsEndpoint, endpoint_text}
 use Rattle.ipv4_fields.specs.declared.endpoint.Endpoint.{Endpoint}
-
--- the failure that a fault is told as
-abbrev pub failure_of : TellFault → Failure
-failure_of fault.ReadFailed = failure.ReadFailed
-failure_of fault.WriteFailed = failure.WriteFailed
-failure_of fault.OutOfMemory = failure.OutOfMemory
-failure_of fault.NoAnswer = failure.NoAnswer
-failure_of fault.BindFailed = failure.BindFailed
-failure_of fault.WaitFailed = failure.PollFailed
 
 -- the lines to tell: the words, or those of a script if there are none
 abbrev pub lines_told : List Text → Option (List ℕ) → Option (List Text)
@@ -31,7 +20,7 @@ Tells false switch lines before after refused = TellsAll switch lines None None 
 Tells true switch lines before after refused = TellsChange switch lines None None before after refused
 
 -- or it ended by a fault
-abbrev pub StopsTelling : Bool → TellFault → Endpoint → Option (List Text) → Option (List ℕ) → Option (List ℕ) → Type 0
+abbrev pub StopsTelling : Bool → Failure → Endpoint → Option (List Text) → Option (List ℕ) → Option (List ℕ) → Type 0
 StopsTelling false why switch lines before after = StopsOverSocket why switch lines before after
 StopsTelling true why switch lines before after = ChangeStopsOverSocket why switch lines before after
 
@@ -46,6 +35,6 @@ pub record WritesReplies (control : Text) (all : Bool) (words : List Text) (inpu
 pub data EndsInTellFailure (control : Text) (all : Bool) (words : List Text) (input before after told_before told_after : Option (List ℕ)) : Type 0 where
   unwritten_refusal : ((endpoint : Endpoint) → IsEndpoint endpoint → control ≢ endpoint_text endpoint) →
       AppendsBeginning told_before told_after (line_of failure.WriteFailed) → EndsInTellFailure control all words input before after told_before told_after
-  stopped : (switch : Endpoint) (why : TellFault) → IsEndpoint switch → control ≡ endpoint_text switch →
-      StopsTelling all why switch (lines_told words input) before after → AppendsBeginning told_before told_after (line_of (failure_of why)) →
+  stopped : (switch : Endpoint) (why : Failure) → IsEndpoint switch → control ≡ endpoint_text switch →
+      StopsTelling all why switch (lines_told words input) before after → AppendsBeginning told_before told_after (line_of why) →
       EndsInTellFailure control all words input before after told_before told_after

@@ -1,11 +1,11 @@
--- What the commands that may wait write (docs/COMMANDS.md, "flood", "serve", "tell").
+-- What the commands that may wait write (docs/COMMANDS.md, "flood", "serve", "tell", "rules", "load").
 use Rattle.std.specs.Prelude.{◌≡◌, ◌≢◌, ◌⊎◌, Bool, List, None, Option, Some, codes, false, true, ℕ}
 use Rattle.std.specs.Io.KnownBytes.{Appends}
 use Rattle.clap.specs.Words.{Text}
 use Rattle.config_image.specs.Image.{Group}
 use Rattle.command_line.specs.declared.ending.Failure.{Failure}
-use Rattle.command_line.specs.declared.ending.Failure.TheVariants.{BindFailed, NoAnswer, OutOfMemory, ReadFailed, WriteFailed}
-use Rattle.command_line.specs.CommandLine.{WaitingRequest, flood, serve, tell}
+use Rattle.command_line.specs.declared.ending.Failure.TheVariants.{BindFailed, NoAnswer, OutOfMemory, ReadFailed, RulesChanged, WriteFailed}
+use Rattle.command_line.specs.CommandLine.{WaitingRequest, flood, load, rules, serve, tell}
 use Rattle.command_line.specs.Ending.{AppendsBeginning, line_of}
 use Rattle.ipv4_fields.specs.Endpoint.{IsEndpoint, endpoint_text}
 use Rattle.ipv4_fields.specs.declared.endpoint.Endpoint.{Endpoint}
@@ -13,6 +13,7 @@ use Rattle.serve_udp.specs.Service.{WritesReadyOrNothing, WritesServedFrom}
 use Rattle.command_flood.specs.Failing.{EndsInFloodFailure}
 use Rattle.command_flood.specs.Flood.{WritesFlood}
 use Rattle.command_waiting.specs.Opening.{IsOpening, RefusesRules}
+use Rattle.command_waiting.specs.Showing.{EndsInRulesFailure, RefusesLoad, WritesLoad, WritesRules}
 use Rattle.command_waiting.specs.Telling.{EndsInTellFailure, WritesReplies}
 
 -- the text is an endpoint's, or none's
@@ -35,6 +36,8 @@ abbrev pub WritesFor : WaitingRequest → Option (List ℕ) → Option (List ℕ
 WritesFor (flood workers datagrams) input before after = WritesFlood workers datagrams before after
 WritesFor (serve front control workers file) input before after = WritesService front control workers file before after
 WritesFor (tell control timeout all lines) input before after = WritesReplies control all lines input before after false
+WritesFor (rules control timeout) input before after = WritesRules control before after
+WritesFor (load control timeout file only_check only_diff) input before after = WritesLoad control before after only_check only_diff
 
 -- `tell` is given a text that is no endpoint's, and the refusal of that was written; or a reply is a refusal, and all replies were
 -- written
@@ -54,12 +57,16 @@ abbrev pub HasNoRules : WaitingRequest → Type 0
 HasNoRules (flood workers datagrams) = Unit {0}
 HasNoRules (serve front control workers file) = file ≡ None
 HasNoRules (tell control timeout all lines) = Unit {0}
+HasNoRules (rules control timeout) = Unit {0}
+HasNoRules (load control timeout file only_check only_diff) = ⊥
 
 -- what was refused is written
 abbrev pub WritesRefusal : WaitingRequest → Option (List ℕ) → Option (List ℕ) → Option (List ℕ) → Type 0
 WritesRefusal (flood workers datagrams) input before after = ⊥
 WritesRefusal (serve front control workers file) input before after = RefusesService front control file before after
 WritesRefusal (tell control timeout all lines) input before after = IsToldRefusal control all lines input before after
+WritesRefusal (rules control timeout) input before after = IsNoAddress control × Appends before after (codes "refused C1\n")
+WritesRefusal (load control timeout file only_check only_diff) input before after = RefusesLoad control before after only_check only_diff
 
 -- `serve` for these addresses failed so; if no write failed the line `ready` was written or nothing, and nothing if a socket was
 -- not bound or the rules file could not be read; but for writes and memory it fails only if both addresses are endpoints
@@ -67,6 +74,7 @@ pub record EndsInServeFailure (front control : Text) (file : Option Text) (befor
   pub failure : Failure
   pub no_read : file ≡ None → failure ≢ ReadFailed
   pub no_silence : failure ≢ NoAnswer
+  pub no_rules_read : failure ≢ RulesChanged
   pub written : failure ≢ WriteFailed → WritesReadyOrNothing before after
   pub not_bound : failure ≡ BindFailed → after ≡ before
   pub not_read : failure ≡ ReadFailed → after ≡ before
@@ -80,3 +88,6 @@ EndsInWaitingFailure (serve front control workers file) input before after told_
     EndsInServeFailure front control file before after told_before told_after
 EndsInWaitingFailure (tell control timeout all lines) input before after told_before told_after =
     EndsInTellFailure control all lines input before after told_before told_after
+EndsInWaitingFailure (rules control timeout) input before after told_before told_after = EndsInRulesFailure before after told_before told_after
+EndsInWaitingFailure (load control timeout file only_check only_diff) input before after told_before told_after =
+    EndsInRulesFailure before after told_before told_after

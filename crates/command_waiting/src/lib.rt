@@ -1,6 +1,8 @@
-//! The commands that run worker threads or await replies, so that they may wait (docs/COMMANDS.md, "flood", "serve", "tell").
+//! The commands that run worker threads or await replies, so that they may wait (docs/COMMANDS.md, "flood", "serve", "tell",
+//! "rules", "load").
 //!
-//! `run_waiting` runs one: `flood` of command_flood, `serve` of serve_udp, or `tell` of control_client.
+//! `run_waiting` runs one: `flood` of command_flood, `serve` of serve_udp, `tell` of control_client, or `rules` or `load` of
+//! control_rules.
 #![tactic(auto)]
 
 ghost use Rattle.std.specs.Prelude.{◌≡◌, ◌⊎◌, None, OnOk, codes, option_map};
@@ -10,7 +12,10 @@ ghost use Rattle.command_line.specs.Ending.{AppendsBeginning, line_of};
 ghost use Rattle.command_line.specs.declared.ending.Failure.TheVariants as failure;
 ghost use Rattle.command_waiting.specs.Waiting.{EndsInServeFailure, EndsInWaitingFailure, HasNoRules, RefusesService, WritesFor, WritesRefusal, WritesService};
 
+mod loading;
+mod printing;
 mod rules_file;
+mod showing;
 mod telling;
 
 use command_flood::run_flood;
@@ -18,8 +23,10 @@ pub use command_flood::{DATAGRAMS, flood};
 use command_line::{Failure, Status, Waiting, Workers};
 use dispatch::OpenGate;
 use ipv4_fields::Endpoint;
+use loading::{Loading, run_load};
 use rules_file::opening;
 pub use serve_udp::{serve, serve_with};
+use showing::run_rules;
 use std::alloc::Global;
 use std::fs::Files;
 use std::io;
@@ -128,5 +135,22 @@ pub fn run_waiting<
             out,
             errs,
         ),
+        Waiting::Rules { control, timeout } => run_rules(rt, alloc, control, timeout, out, errs),
+        Waiting::Load {
+            control,
+            timeout,
+            file,
+            check,
+            diff,
+        } => {
+            let loading = Loading {
+                control,
+                timeout,
+                file,
+                check,
+                diff,
+            };
+            run_load(rt, alloc, loading, out, errs)
+        }
     }
 }

@@ -7,6 +7,7 @@ ghost use Rattle.versions.specs.declared.layout.TheConstants.{CHARGE_LIMIT};
 ghost use Rattle.command_line.specs.Ending.{AppendsBeginning, line_of};
 ghost use Rattle.command_line.specs.declared.ending.Failure.TheVariants as failure;
 ghost use Rattle.control_line.specs.Reason.{refusal_text};
+ghost use Rattle.control_line.specs.Rules.{IsConfigOf};
 ghost use Rattle.command_waiting.specs.Opening.{EndsUnread, IsMadeFrom, IsOpening, RefusesRules, file_refusal_text, of_line};
 ghost use Rattle.command_waiting.specs.body.Reading.{IsReadOf};
 
@@ -19,6 +20,13 @@ use std::alloc::{AllocError, Global};
 use std::fs::{File, Files};
 use std::io;
 use std::io::{ErrorKind, Read, Write};
+
+/// A rules file that was read, and the configuration that it makes.
+#[derive(Drop)]
+pub(crate) struct RulesFile {
+    pub(crate) text: Vec<u8>,
+    pub(crate) config: Config,
+}
 
 // The reply to a rules file that is refused.
 fn refusal(line: Option<u32>, reason: Reason) -> Reply
@@ -112,17 +120,18 @@ fn read_text<I: Read + Drop>(alloc: Global, input: I) -> Result<Vec<u8>, Failure
     read_whole(alloc, input.take(BLOCK_LIMIT as u64 + 1))
 }
 
-// The configuration of a rules file of this name. If there is none, the cause is written, and the result is the exit status.
+// A rules file of this name. If it makes no configuration, the cause is written, and the result is the exit status.
 #[tactic(auto, using(crate::proofs::OpeningLemmas::made_of, crate::proofs::OpeningLemmas::refused_of, crate::proofs::OpeningLemmas::charge_within, crate::proofs::OpeningLemmas::not_read, crate::proofs::OpeningLemmas::not_written))]
-fn load<I: Read + Drop, W: Write, E: Write>(
+fn file_of<I: Read + Drop, W: Write, E: Write>(
     alloc: Global,
     file: &str,
     input: I,
     out: &mut W,
     errs: &mut E,
-) -> Result<Config, Status>
-    ensures made { IfOk result (λ config. IsMadeFrom (I.remaining input) config) }
-    ensures within { IfOk result (λ config. charge_of config ≤ CHARGE_LIMIT) }
+) -> Result<RulesFile, Status>
+    ensures made { IfOk result (λ file. IsMadeFrom (I.remaining input) file.config) }
+    ensures of_text { IfOk result (λ file. IsConfigOf file.text.items file.config) }
+    ensures within { IfOk result (λ file. charge_of file.config ≤ CHARGE_LIMIT) }
     ensures unwritten { OnOk result (out.new ≡ out.old) }
     ensures no_errors { OnOk result (errs.new ≡ errs.old) }
     ensures refused { IfErr result (λ status. status ≡ Status.Refused
@@ -137,7 +146,7 @@ fn load<I: Read + Drop, W: Write, E: Write>(
         Err(failure) => return Err(failure.report(errs)),
     };
     match rules(alloc, &text) {
-        Ok(config) => Ok(config),
+        Ok(config) => Ok(RulesFile { text, config }),
         Err(RulesFault::Refused { line, reason }) => {
             let source = (file, text.as_slice());
             Err(refuse_file(alloc, source, line, reason, out, errs))
@@ -153,6 +162,30 @@ fn open_failure(error: &io::Error) -> Failure
         Failure::OutOfMemory
     } else {
         Failure::ReadFailed
+    }
+}
+
+/// Opens and reads a rules file of this name. If it makes no configuration, the cause is written, and the result is the exit status.
+pub(crate) fn open_file<R: Files, W: Write, E: Write>(
+    rt: &R,
+    alloc: Global,
+    name: &str,
+    out: &mut W,
+    errs: &mut E,
+) -> Result<RulesFile, Status>
+    ensures of_text { IfOk result (λ file. IsConfigOf file.text.items file.config) }
+    ensures within { IfOk result (λ file. charge_of file.config ≤ CHARGE_LIMIT) }
+    ensures unwritten { OnOk result (out.new ≡ out.old) }
+    ensures no_errors { OnOk result (errs.new ≡ errs.old) }
+    ensures refused { IfErr result (λ status. status ≡ Status.Refused → RefusesRules None (W.contents out.old) (W.contents out.new)) }
+    ensures never_done { IfErr result (λ status. status ≡ Status.Done → ⊥) }
+    ensures never_misused { IfErr result (λ status. status ≡ Status.Misused → ⊥) }
+    ensures failed { IfErr result (λ status. status ≡ Status.Failed
+        → EndsUnread (W.contents out.old) (W.contents out.new) (E.contents errs.old) (E.contents errs.new)) }
+{
+    match File::open(rt, name) {
+        Ok(input) => file_of(alloc, name, input, out, errs),
+        Err(error) => Err(open_failure(&error).report(errs)),
     }
 }
 
@@ -179,8 +212,8 @@ pub(crate) fn opening<R: Files, W: Write, E: Write>(
     let Some(name) = file else {
         return Ok(Config::new(alloc));
     };
-    match File::open(rt, name) {
-        Ok(input) => load(alloc, name, input, out, errs),
-        Err(error) => Err(open_failure(&error).report(errs)),
+    match open_file(rt, alloc, name, out, errs) {
+        Ok(file) => Ok(file.config),
+        Err(status) => Err(status),
     }
 }

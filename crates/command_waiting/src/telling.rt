@@ -1,32 +1,17 @@
 //! The command `tell`: control lines to a running switch (docs/COMMANDS.md, "tell").
 
 ghost use Rattle.std.specs.Prelude.{◌≡◌, ◌⊎◌, IfErr, IfOk, false, map};
-ghost use Rattle.command_waiting.specs.Telling.{EndsInTellFailure, StopsTelling, Tells, WritesReplies, failure_of, lines_told};
+ghost use Rattle.command_waiting.specs.Telling.{EndsInTellFailure, StopsTelling, Tells, WritesReplies, lines_told};
 ghost use Rattle.command_waiting.specs.Waiting.{IsToldRefusal};
 
 use crate::refuse_address;
 use command_line::{Failure, Status};
-use control_client::{
-    InputLines, Lines, TellFault, WordLines, tell_change_over_udp, tell_over_udp,
-};
+use control_client::{InputLines, Lines, WordLines, tell_change_over_udp, tell_over_udp};
 use ipv4_fields::Endpoint;
 use std::alloc::Global;
 use std::io::{BufReader, Read, Write};
 use std::net::Net;
 use std::time::Clock;
-
-fn failure_of(fault: TellFault) -> Failure
-    ensures { result ≡ failure_of fault }
-{
-    match fault {
-        TellFault::ReadFailed => Failure::ReadFailed,
-        TellFault::WriteFailed => Failure::WriteFailed,
-        TellFault::OutOfMemory => Failure::OutOfMemory,
-        TellFault::NoAnswer => Failure::NoAnswer,
-        TellFault::BindFailed => Failure::BindFailed,
-        TellFault::WaitFailed => Failure::PollFailed,
-    }
-}
 
 // Tells lines in so many seconds for each answer, all as one change or not.
 #[tactic(auto, using(crate::proofs::TellingLemmas::tells_change, crate::proofs::TellingLemmas::tells_lines, crate::proofs::TellingLemmas::stops_change, crate::proofs::TellingLemmas::stops_lines))]
@@ -37,7 +22,7 @@ fn tell_lines<R: Net + Clock, L: Lines, W: Write>(
     switch: Endpoint,
     lines: &mut L,
     out: &mut W,
-) -> Result<bool, TellFault>
+) -> Result<bool, Failure>
     ensures told { IfOk result (Tells way.1 switch (L.coming lines.old) (W.contents out.old) (W.contents out.new)) }
     ensures stopped { IfErr result (λ fault.
         StopsTelling way.1 fault switch (L.coming lines.old) (W.contents out.old) (W.contents out.new)) }
@@ -58,7 +43,7 @@ fn tell_words_or_input<R: Net + Clock, I: Read + Drop, W: Write>(
     words: &[&str],
     input: I,
     out: &mut W,
-) -> Result<bool, TellFault>
+) -> Result<bool, Failure>
     ensures told { IfOk result
         (Tells way.1 switch (lines_told (map (λ word. word.now) words.now) (I.remaining input)) (W.contents out.old) (W.contents out.new)) }
     ensures stopped { IfErr result (λ fault.
@@ -68,7 +53,7 @@ fn tell_words_or_input<R: Net + Clock, I: Read + Drop, W: Write>(
         return tell_lines(rt, alloc, way, switch, &mut WordLines::new(words), out);
     }
     let Ok(input) = BufReader::new(alloc, input) else {
-        return Err(TellFault::OutOfMemory);
+        return Err(Failure::OutOfMemory);
     };
     tell_lines(rt, alloc, way, switch, &mut InputLines::new(input), out)
 }
@@ -103,6 +88,6 @@ pub(crate) fn run_tell<R: Net + Clock, I: Read + Drop, W: Write, E: Write>(
     match tell_words_or_input(rt, alloc, (seconds, all), switch, words, input, out) {
         Ok(false) => Status::Done,
         Ok(true) => Status::Refused,
-        Err(fault) => failure_of(fault).report(errs),
+        Err(fault) => fault.report(errs),
     }
 }

@@ -2,9 +2,9 @@
 
 ghost use Rattle.std.specs.Prelude.{◌≤◌, IfSome, length};
 
+use command_line::Failure;
 use control_client::{
-    Came, InputLines, LONGEST_LINE, Lines, TellFault, Wire, WireFailed, WordLines, tell,
-    tell_change,
+    Came, InputLines, LONGEST_LINE, Lines, Wire, WireFailed, WordLines, tell, tell_change,
 };
 use ipv4_fields::Endpoint;
 use std::alloc::Global;
@@ -74,7 +74,7 @@ impl Wire for MemoryWire {
 struct Row {
     lines: &'static [&'static str],
     arrivals: &'static [Arrival],
-    ended: Result<bool, TellFault>,
+    ended: Result<bool, Failure>,
     sent: &'static str,
     printed: &'static str,
 }
@@ -133,21 +133,21 @@ const ROWS: [Row; 9] = [
             Arrival::Silence,
             Arrival::Answer("version 1 groups 1 members 0 charge 6"),
         ],
-        ended: Err(TellFault::NoAnswer),
+        ended: Err(Failure::NoAnswer),
         sent: "add 10.0.0.2:53\nshow\n",
         printed: "ok version 1\n",
     },
     Row {
         lines: &["show", "sweep"],
         arrivals: &[Arrival::Foreign("ok stop"), Arrival::Silence],
-        ended: Err(TellFault::NoAnswer),
+        ended: Err(Failure::NoAnswer),
         sent: "show\n",
         printed: "",
     },
     Row {
         lines: &["show", "sweep"],
         arrivals: &[Arrival::Answer("reclaimed 0 0"), Arrival::Broken],
-        ended: Err(TellFault::WaitFailed),
+        ended: Err(Failure::PollFailed),
         sent: "show\nsweep\n",
         printed: "reclaimed 0 0\n",
     },
@@ -164,7 +164,7 @@ fn is_told<L: Lines>(
     alloc: Global,
     lines: &mut L,
     arrivals: &'static [Arrival],
-    ended: Result<bool, TellFault>,
+    ended: Result<bool, Failure>,
     texts: (&str, &str),
 ) -> bool {
     let mut wire = MemoryWire {

@@ -1,14 +1,11 @@
-use Rattle.std.proofs.Common.{rules, subst, sym, ◌∙◌}
-use Rattle.command_line.specs.Ending.{AppendsBeginning, line_of}
-use Rattle.command_line.specs.declared.ending.Failure.{Failure}
+use Rattle.std.proofs.Common.{rules, sym, ◌∙◌}
 use Rattle.command_waiting.specs.Telling.{stopped}
 use Rattle.command_waiting.proofs.telling.run_tell.Goals as goal
 
 pub returns-in-Err-clause-failed : goal.returns-in-Err-clause-failed
 returns-in-Err-clause-failed g c = λ is.
     let switch = c.in-Some in
-    stopped switch.switch c.in-Err.fault switch.ensures.0 (sym c.as_bytes.ensures.value ∙ switch.ensures.1) c.in-Err.ensures.stopped
-    (subst (λ (f : Failure). AppendsBeginning (g.E.Write.contents c.args.errs.now) (g.E.Write.contents c.report.new.errs) (line_of f)) c.failure_of.ensures c.report.ensures.told)
+    stopped switch.switch c.in-Err.fault switch.ensures.0 (sym c.as_bytes.ensures.value ∙ switch.ensures.1) c.in-Err.ensures.stopped c.report.ensures.told
 
 pub returns-in-Err-clause-done : goal.returns-in-Err-clause-done
 returns-in-Err-clause-done g c = search rules

@@ -1,7 +1,7 @@
 use Rattle.std.proofs.Common.{inr, refl}
 use Rattle.command_line.specs.declared.ending.Failure.TheVariants.{OutOfMemory}
 use Rattle.command_waiting.proofs.OpeningLemmas.{charge_within, not_read}
-use Rattle.command_waiting.proofs.rules_file.load.Goals as goal
+use Rattle.command_waiting.proofs.rules_file.file_of.Goals as goal
 
 pub returns-in-Ok-rules-clause-within : goal.returns-in-Ok-rules-clause-within
 returns-in-Ok-rules-clause-within g c = charge_within _ c.in-Ok-rules.config c.in-Ok-rules.ensures

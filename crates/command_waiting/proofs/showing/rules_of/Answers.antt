@@ -1,0 +1,7 @@
+use Rattle.command_waiting.proofs.ShowingLemmas.{rules_learned}
+use Rattle.command_waiting.proofs.showing.rules_of.Goals as goal
+
+pub returns-in-Some : goal.returns-in-Some
+returns-in-Some g c =
+    let read = rw c.in-Some.is at c.in_ok-rules.ensures.read in
+    rules_learned _ _ c.args.switch c.in-Some.rules.version c.in-Some.rules.text.items c.in_ok-client.ensures.switch read

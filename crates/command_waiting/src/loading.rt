@@ -1,0 +1,238 @@
+//! The command `load`: the rules of a file for a running switch (docs/COMMANDS.md, "load").
+
+ghost use Rattle.std.specs.Prelude.{◌≡◌, ◌≢◌, ◌≤◌, ◌⊎◌, ◌++◌, IfErr, IfOk, List, MatchOption, None, OnOk, codes, length, option_map, ℕ};
+ghost use Rattle.std.specs.Io.KnownBytes.{Appends};
+ghost use Rattle.config_image.specs.Image.{Group};
+ghost use Rattle.control_line.specs.Rules.{IsConfigOf};
+ghost use Rattle.command_line.specs.declared.ending.Failure.TheVariants as failure;
+ghost use Rattle.command_waiting.specs.Opening.{RefusesRules};
+ghost use Rattle.command_waiting.specs.Showing.{AreChangesTo, EndsInRulesFailure, IsNoSwitch, IsSwitch, LoadsInto, RefusesLoad, WritesLoad, loaded_line, loaded_status, measures_line, version_line};
+
+use crate::printing::{print_line, print_text};
+use crate::refuse_address;
+use crate::rules_file::{RulesFile, open_file};
+use command_line::{Failure, Status, reported};
+use control_client::UdpWire;
+use control_line::Reply;
+use control_rules::{Client, Loaded, differences, load};
+use ipv4_fields::Endpoint;
+use member_group::Config;
+use std::alloc::Global;
+use std::fs::Files;
+use std::io::Write;
+use std::net::Net;
+use std::time::Clock;
+
+/// The arguments of `load`.
+#[derive(Clone, Copy)]
+pub(crate) struct Loading<'a> {
+    /// The text of the switch's address.
+    pub(crate) control: Option<&'a str>,
+    /// The seconds for a reply.
+    pub(crate) timeout: u64,
+    pub(crate) file: &'a str,
+    pub(crate) check: bool,
+    pub(crate) diff: bool,
+}
+
+fn switch_of(control: Option<&str>) -> Option<Endpoint>
+    ensures { MatchOption result (IsNoSwitch (option_map (λ address. address.now) control.entry))
+        (IsSwitch (option_map (λ address. address.now) control.entry)) }
+{
+    Endpoint::from_text(control?.as_bytes())
+}
+
+fn measures(config: &Config) -> Reply
+    ensures { result ≡ measures_line config.now }
+{
+    let mut line = Reply::empty();
+    line.push("groups ");
+    line.push_number(config.groups().len() as u64);
+    line.push(" members ");
+    line.push_number(config.members() as u64);
+    line.push(" charge ");
+    line.push_number(config.charge());
+    line
+}
+
+fn version_line(version: u64, rest: &str) -> Reply
+    requires { length rest.now ≤ 16 }
+    ensures { result ≡ version_line version rest.now }
+{
+    let mut line = Reply::empty();
+    line.push("version ");
+    line.push_number(version);
+    line.push(rest);
+    line
+}
+
+// Prints the lines that lead from the rules of a switch to a configuration.
+fn print_changes<R: Net + Clock, W: Write>(
+    rt: &R,
+    alloc: Global,
+    seconds: u64,
+    switch: Endpoint,
+    config: &Config,
+    out: &mut W,
+) -> Result<Status, Failure>
+    ensures done { IfOk result (λ status. status ≡ Status.Done) }
+    ensures shown { OnOk result ((changes : List ℕ) × AreChangesTo switch config.now changes
+        × Appends (W.contents out.old) (W.contents out.new) changes) }
+    ensures unwritten { IfErr result (λ failure. failure ≢ Failure.WriteFailed → out.new ≡ out.old) }
+{
+    let wire = UdpWire::bind(rt, alloc, seconds)?;
+    let mut client = Client::new(alloc, wire, switch)?;
+    let Some(changes) = differences(&mut client, config)? else {
+        return Err(Failure::RulesChanged);
+    };
+    print_text(&changes, out)?;
+    Ok(Status::Done)
+}
+
+fn show_changes<R: Net + Clock, W: Write, E: Write>(
+    rt: &R,
+    alloc: Global,
+    seconds: u64,
+    switch: Endpoint,
+    config: &Config,
+    out: &mut W,
+    errs: &mut E,
+) -> Status
+    ensures done { result ≡ Status.Done → (changes : List ℕ) × AreChangesTo switch config.now changes
+        × Appends (W.contents out.old) (W.contents out.new) changes }
+    ensures done_or_failed { (result ≡ Status.Done) ⊎ (result ≡ Status.Failed) }
+    ensures no_errors { result ≡ Status.Done → errs.new ≡ errs.old }
+    ensures failed { result ≡ Status.Failed
+        → EndsInRulesFailure (W.contents out.old) (W.contents out.new) (E.contents errs.old) (E.contents errs.new) }
+{
+    let ended = print_changes(rt, alloc, seconds, switch, config, out);
+    reported(ended, errs)
+}
+
+// Prints how the replacing of the rules ended.
+fn print_loaded<W: Write>(loaded: &Loaded, out: &mut W) -> Result<Status, Failure>
+    ensures status { IfOk result (λ status. status ≡ loaded_status loaded.now) }
+    ensures done_or_refused { IfOk result (λ status. (status ≡ Status.Done) ⊎ (status ≡ Status.Refused)) }
+    ensures printed { OnOk result (Appends (W.contents out.old) (W.contents out.new) (loaded_line loaded.now ++ codes "\n")) }
+    ensures unwritten { IfErr result (λ failure. failure ≢ Failure.WriteFailed → out.new ≡ out.old) }
+{
+    match loaded {
+        Loaded::Unchanged { version } => {
+            print_line(version_line(*version, " unchanged").bytes(), out)?;
+            Ok(Status::Done)
+        }
+        Loaded::Published { version } => {
+            print_line(version_line(*version, "").bytes(), out)?;
+            Ok(Status::Done)
+        }
+        Loaded::Refused(reply) => {
+            print_line(reply, out)?;
+            Ok(Status::Refused)
+        }
+        Loaded::Changed => Err(Failure::RulesChanged),
+    }
+}
+
+// Makes the rules of a switch those of the file, and prints how that ended.
+fn print_replaced<R: Net + Clock, W: Write>(
+    rt: &R,
+    alloc: Global,
+    seconds: u64,
+    switch: Endpoint,
+    file: &RulesFile,
+    out: &mut W,
+) -> Result<Status, Failure>
+    requires { IsConfigOf file.now.text.items file.now.config }
+    ensures printed { IfOk result (λ status. (loaded : Loaded) × (status ≡ loaded_status loaded)
+        × LoadsInto switch file.now.text.items file.now.config loaded
+        × Appends (W.contents out.old) (W.contents out.new) (loaded_line loaded ++ codes "\n")) }
+    ensures done_or_refused { IfOk result (λ status. (status ≡ Status.Done) ⊎ (status ≡ Status.Refused)) }
+    ensures unwritten { IfErr result (λ failure. failure ≢ Failure.WriteFailed → out.new ≡ out.old) }
+{
+    let wire = UdpWire::bind(rt, alloc, seconds)?;
+    let mut client = Client::new(alloc, wire, switch)?;
+    let loaded = load(rt, &mut client, &file.text, &file.config)?;
+    print_loaded(&loaded, out)
+}
+
+fn replace<R: Net + Clock, W: Write, E: Write>(
+    rt: &R,
+    alloc: Global,
+    seconds: u64,
+    switch: Endpoint,
+    file: &RulesFile,
+    out: &mut W,
+    errs: &mut E,
+) -> Status
+    requires { IsConfigOf file.now.text.items file.now.config }
+    ensures printed { (result ≡ Status.Failed → ⊥) → (loaded : Loaded) × (result ≡ loaded_status loaded)
+        × LoadsInto switch file.now.text.items file.now.config loaded
+        × Appends (W.contents out.old) (W.contents out.new) (loaded_line loaded ++ codes "\n") }
+    ensures no_errors { result ≡ Status.Done → errs.new ≡ errs.old }
+    ensures never_misused { result ≡ Status.Misused → ⊥ }
+    ensures failed { result ≡ Status.Failed
+        → EndsInRulesFailure (W.contents out.old) (W.contents out.new) (E.contents errs.old) (E.contents errs.new) }
+{
+    let ended = print_replaced(rt, alloc, seconds, switch, file, out);
+    reported(ended, errs)
+}
+
+// Prints the measures of a file, and asks no switch.
+fn check_file<R: Files, W: Write, E: Write>(
+    rt: &R,
+    alloc: Global,
+    name: &str,
+    out: &mut W,
+    errs: &mut E,
+) -> Status
+    ensures done { result ≡ Status.Done → (text : List ℕ) × (config : List Group) × IsConfigOf text config
+        × Appends (W.contents out.old) (W.contents out.new) (measures_line config ++ codes "\n") }
+    ensures refused { result ≡ Status.Refused → RefusesRules None (W.contents out.old) (W.contents out.new) }
+    ensures no_errors { result ≡ Status.Done → errs.new ≡ errs.old }
+    ensures never_misused { result ≡ Status.Misused → ⊥ }
+    ensures failed { result ≡ Status.Failed
+        → EndsInRulesFailure (W.contents out.old) (W.contents out.new) (E.contents errs.old) (E.contents errs.new) }
+{
+    let file = match open_file(rt, alloc, name, out, errs) {
+        Ok(file) => file,
+        Err(status) => return status,
+    };
+    match print_line(measures(&file.config).bytes(), out) {
+        Ok(()) => Status::Done,
+        Err(failure) => failure.report(errs),
+    }
+}
+
+/// Runs `load`.
+pub(crate) fn run_load<R: Net + Clock + Files, W: Write, E: Write>(
+    rt: &R,
+    alloc: Global,
+    loading: Loading<'_>,
+    out: &mut W,
+    errs: &mut E,
+) -> Status
+    ensures done { result ≡ Status.Done → WritesLoad (option_map (λ address. address.now) loading.entry.control)
+        (W.contents out.old) (W.contents out.new) loading.entry.check loading.entry.diff }
+    ensures refused { result ≡ Status.Refused → RefusesLoad (option_map (λ address. address.now) loading.entry.control)
+        (W.contents out.old) (W.contents out.new) loading.entry.check loading.entry.diff }
+    ensures no_errors { result ≡ Status.Done → errs.new ≡ errs.old }
+    ensures never_misused { result ≡ Status.Misused → ⊥ }
+    ensures failed { result ≡ Status.Failed
+        → EndsInRulesFailure (W.contents out.old) (W.contents out.new) (E.contents errs.old) (E.contents errs.new) }
+{
+    if loading.check {
+        return check_file(rt, alloc, loading.file, out, errs);
+    }
+    let Some(switch) = switch_of(loading.control) else {
+        return refuse_address(out, errs);
+    };
+    let file = match open_file(rt, alloc, loading.file, out, errs) {
+        Ok(file) => file,
+        Err(status) => return status,
+    };
+    if loading.diff {
+        let config = &file.config;
+        return show_changes(rt, alloc, loading.timeout, switch, config, out, errs);
+    }
+    replace(rt, alloc, loading.timeout, switch, &file, out, errs)
+}
