@@ -1,8 +1,9 @@
 //! What people read of a file that is refused: the place, the meaning of the code, and the line (docs/COMMANDS.md, "Rules files").
 
-ghost use Rattle.std.specs.Prelude.{◌≤◌, ◌<◌, length};
+ghost use Rattle.std.specs.Prelude.{◌≤◌, length};
 
 use crate::explanation;
+use crate::shown::push_shown;
 use std::alloc::{AllocError, Global};
 
 /// The most bytes of a line that are shown.
@@ -46,30 +47,6 @@ fn push_meaning(text: &mut Vec<u8>, code: &str) -> Result<(), AllocError> {
     };
     text.extend_from_slice(&meaning[..sentence_length(meaning)])?;
     text.extend_from_slice(b"\n".as_slice())
-}
-
-fn hex_digit(value: u8) -> u8
-    requires { value < 16 }
-{
-    if value < 10 {
-        b'0' + value
-    } else {
-        b'a' + (value - 10)
-    }
-}
-
-// Appends bytes of a line as they are shown: `\xNN` for each that is outside 0x20 to 0x7e.
-fn push_shown(text: &mut Vec<u8>, bytes: &[u8]) -> Result<(), AllocError> {
-    for byte in bytes {
-        let byte = *byte;
-        if (b' '..=b'~').contains(&byte) {
-            text.extend_from_slice([byte].as_slice())?;
-        } else {
-            let digits = [b'\\', b'x', hex_digit(byte / 16), hex_digit(byte % 16)];
-            text.extend_from_slice(digits.as_slice())?;
-        }
-    }
-    Ok(())
 }
 
 // Where the part of a line that is shown begins, with this place in its middle if there is more on both sides.

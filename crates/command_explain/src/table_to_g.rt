@@ -78,8 +78,8 @@ What to do: restart the switch, and send its rules again.",
         "\
 C1: The text is not one that was asked for. HEX has an odd number of digits or
 another character; a control line is none of its table; an address is no
-`a.b.c.d:p`; the CODE of `explain` is none of this page; the NAME of `--format`
-is none of the command's.
+`a.b.c.d:p`, and that of control no `unix:PATH`; the CODE of `explain` is none
+of this page; the NAME of `--format` is none of the command's.
 Usual mistake: `0x` before HEX, a digit lost in copying, or HEX with the spaces
 of `tcpdump -x`; two spaces in a line, a space at its end, a CR or an LF in a
 control datagram (`echo` adds an LF, `printf` does not), a leading zero as in
@@ -94,13 +94,14 @@ What to do: write it in the form that `dswitch help COMMAND` shows;
         "C2",
         "\
 C2: The line, the block or the file is too long. A line has more than 262,144
-bytes, or more than 65,507 if it is sent to a running switch; the lines of a
-block, or a rules file, have more than 16,777,216; or a rules file has more
-than 65,535 lines that are not skipped.
+bytes, or more than 65,507 if it is sent to a running switch over UDP; the
+lines of a block, or a rules file, have more than 16,777,216; or a rules file
+has more than 65,535 lines that are not skipped.
 Usual mistake: a script without line ends, a program generated as one huge
 line, or a change that fits no datagram.
 What to do: end each line with a line feed, write a long program shorter, and
-split a change; `serve --rules` takes more than a datagram.",
+split a change; `--control unix:PATH` and `serve --rules` take more than a
+datagram.",
     ),
     (
         "C3",
@@ -138,15 +139,16 @@ raise it (`ulimit -v`), or make the input shorter, and try again.",
         "E4",
         "\
 E4: A line had no reply.
-No reply came in the seconds of `--timeout`, the line could not be sent, or
-4096 datagrams came from elsewhere first. `tell` sent no later line. No switch
-runs at that address (`ss -ulpn` shows who listens), it is bound to 0.0.0.0 and
-replies from another address (on its machine give 127.0.0.1), a firewall drops
-the datagrams, or the switch is busy; start it, correct the address, or raise
-`--timeout`. The line may be done all the same, even after `tell` has ended.
-Before it is sent again, send `show` until a reply comes: by then the line is
-done, or it was lost. After `load`, `load` again: it does nothing if the change
-was made.",
+No reply came in the seconds of `--timeout`, the line could not be sent, the
+switch closed the connection, or 4096 datagrams came from elsewhere first.
+`tell` sent no later line. No switch runs at that address (`ss -ulpn` shows who
+listens, `ss -xlp` at a `unix:PATH`), the user may not write to its socket
+file, it is bound to 0.0.0.0 and replies from another address (on its machine
+give 127.0.0.1), a firewall drops the datagrams, or the switch is busy; start
+it, correct the address, or raise `--timeout`. The line may be done all the
+same, even after `tell` has ended. Before it is sent again, send `show` until a
+reply comes: by then the line is done, or it was lost. After `load`, `load`
+again: it does nothing if the change was made.",
     ),
     (
         "E5",

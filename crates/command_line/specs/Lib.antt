@@ -1,4 +1,6 @@
+pub mod ControlAddress
 pub mod CommandLine
 pub mod Ending
 pub mod Input
 pub mod body
+pub mod Words

@@ -202,7 +202,7 @@ pub const SERVE: &str = "Judge datagrams that come over UDP in worker threads, u
 
 pub const SERVE_FRONT: &str = "Where the datagrams come to, as ADDRESS:PORT";
 
-pub const SERVE_CONTROL: &str = "Where the control lines come to, as ADDRESS:PORT";
+pub const SERVE_CONTROL: &str = "Where the control requests come to, as unix:PATH or ADDRESS:PORT";
 
 pub const SERVE_WORKERS: &str = "How many worker threads judge, from 1 to 64";
 
@@ -210,12 +210,13 @@ pub const SERVE_RULES: &str = "A rules file to begin with; without it there are 
 
 pub const SERVE_MORE: &str = "\
 Reads UDP datagrams. Each that comes to FRONT is a whole IPv4 packet: the workers take them in turn,
-and send what is to be delivered to the members. Each that comes to CONTROL is one request, as
-`replay` takes them but for `packet`, and is replied to by one datagram. What looks like a reply
-itself is ignored. CONTROL takes two more:
+and send what is to be delivered to the members. Requests come to CONTROL, as `replay` takes them
+but for `packet`, and each has one reply. CONTROL takes two more:
   totals   the line of totals so far
   stop     ok stop, and the workers judge what they were given, and end
-Whoever can send to CONTROL controls the switch: give it one address, and never 0.0.0.0.
+CONTROL is the socket file unix:PATH, or a UDP address. Whoever may enter the folder of PATH
+controls the switch. A UDP address takes requests from everybody who can send to it: give it one
+address, and never 0.0.0.0. What looks like a reply itself is ignored there.
 A new switch has no groups. With --rules it has those of FILE: lines that change the configuration,
 from no groups on, together version 0. Empty lines, and lines that begin with #, are skipped.
 With port 0 the system picks a port. Prints `ready FRONT CONTROL` with the bound addresses before it
@@ -226,17 +227,19 @@ Else prints, with status 1, before a socket is bound:
   refused CODE line I          if line I of FILE is refused, from 1, or
   refused CODE NUMBER line I   if there is a number; standard error shows the place
   refused C2, refused B1       if FILE is too long, or its configuration too large
-Or it fails with status 3, and with `failed E1` if FILE cannot be read.
+Or it fails with status 3: with `failed E1` if FILE cannot be read, and with `failed S1` if a socket
+cannot be bound; a line before that says which one, and why.
+Without --control the environment's DSWITCH_CONTROL is taken.
 
 Examples:
-  $ dswitch serve --front 127.0.0.1:5300 --control 127.0.0.1:5301 --workers 4
-  ready 127.0.0.1:5300 127.0.0.1:5301
+  $ dswitch serve --front 127.0.0.1:5300 --control unix:/run/dswitch/control --workers 4
+  ready 127.0.0.1:5300 unix:/run/dswitch/control
   $ dswitch serve --front 127.0.0.1:5300 --control 127.0.0.1:5301 --workers 4 --rules rules.txt
   ready 127.0.0.1:5300 127.0.0.1:5301";
 
 pub const TELL: &str = "Send control lines to a running switch and print its replies";
 
-pub const TELL_CONTROL: &str = "The control address of the switch, as ADDRESS:PORT";
+pub const TELL_CONTROL: &str = "The control address of the switch, as unix:PATH or ADDRESS:PORT";
 
 pub const TELL_TIMEOUT: &str =
     "How many seconds each reply may take, from 1 to 3600; without it one second";
@@ -251,7 +254,7 @@ LINE. Of standard input it skips empty lines and lines whose first character is 
 `all N` or `anew N` takes the N lines after it with it. Prints the reply to one request before it
 sends the next. Ends with status 0 if no reply is `refused ..` or `failed ..`, else with status 1;
 it goes on after such a reply. With --all it sends all lines as one change, `all N` and the N
-lines, which may have 65507 bytes.
+lines, which may have 65507 bytes if CONTROL is ADDRESS:PORT.
 Prints `refused C1`, with status 1, where CONTROL is no address. Fails with status 3 and
 `failed E4` where a line has no reply; then no later line is sent. The line may be done all the
 same, even later.
@@ -283,7 +286,7 @@ Example:
 pub const LOAD: &str = "Replace the rules of a running switch by those of a file";
 
 pub const LOAD_CONTROL: &str =
-    "The control address of the switch, as ADDRESS:PORT; only --check does without it";
+    "The control address of the switch, as unix:PATH or ADDRESS:PORT; only --check does without it";
 
 pub const LOAD_CHECK: &str = "Only reads FILE, and prints its measures";
 
@@ -306,7 +309,7 @@ Else prints, with status 1:
   refused CODE line I          if line I of FILE is refused, from 1, or
   refused CODE NUMBER line I   if there is a number; standard error shows the place
   refused C2, refused B1       if FILE is too long, or its configuration too large; C2 also if its
-                               lines fit no datagram
+                               lines fit no datagram, and CONTROL is ADDRESS:PORT
   the switch's reply           if it refuses the change
 Or it fails with status 3: with `failed E1` if FILE cannot be read, with `failed E4` if a line has no
 reply, and with `failed E5` if the rules changed each time. After E4 the change may have been made:

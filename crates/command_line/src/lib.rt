@@ -9,17 +9,21 @@ ghost use Rattle.std.specs.Prelude.{◌≡◌};
 mod arguments;
 mod builders;
 mod command;
+mod control_address;
 mod ending;
 mod found;
 mod help;
 mod input;
 mod sample;
+mod words;
 
 pub use command::{MAX_DATAGRAMS, MAX_TIMEOUT, Query, Returning, Subcommand, Waiting, Workers};
+pub use control_address::ControlAddress;
 pub use ending::{Failure, Status, refuse_arguments, reported, write_whole};
 pub use found::read_words;
 pub use input::read_whole;
 pub use sample::{SAMPLE_GROUP, SAMPLE_PACKET, applied, program};
+pub use words::with_control;
 
 /// Law: the limits, as numbers. It runs nothing.
 pub fn limits_as_numbers()

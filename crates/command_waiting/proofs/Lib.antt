@@ -1,3 +1,5 @@
 mod ShowingLemmas
 mod TellingLemmas
 mod OpeningLemmas
+mod ReportLemmas
+mod ServeLemmas

@@ -22,7 +22,8 @@ use Rattle.control_line.specs.Rules.{IsConfigOf, IsFaultOfFile, RefusesFileBy, b
 use Rattle.control_line.proofs.ChangeLemmas.{charged_alike}
 use Rattle.serve_udp.specs.Service.{IsServeFailure, WritesReadyOrNothing}
 use Rattle.command_waiting.specs.Opening.{EndsUnread, IsMadeFrom, RefusesRules, file_refusal_text}
-use Rattle.command_waiting.specs.Waiting.{EndsInServeFailure, IsAddress}
+use Rattle.command_waiting.specs.Serving.{FailsServing, told_alone}
+use Rattle.command_waiting.specs.Waiting.{EndsInServeFailure, IsAddress, IsControl}
 use Rattle.command_waiting.specs.body.Reading.{IsReadOf}
 
 -- all of a list was taken, or a list that is too long, too
@@ -146,7 +147,7 @@ no_write_unread : (failure : Failure) → failure ≡ ReadFailed → failure ≡
 no_write_unread failure is same = cc
 
 module _ (front control : Text) (file : Option Text) (before after told_before told_after : Option (List ℕ))
-    (is_front : IsAddress front) (is_control : IsAddress control) where
+    (is_front : IsAddress front) (is_control : IsControl control) where
   -- there is no configuration to begin with
   pub fails_unread : (file ≡ None → ⊥) → EndsUnread before after told_before told_after
       → EndsInServeFailure front control file before after told_before told_after
@@ -159,23 +160,21 @@ module _ (front control : Text) (file : Option Text) (before after told_before t
     not_bound = λ is. absurd (no_bind_unread unread.failure unread.cause is);
     not_read = λ is. unread.unwritten (no_write_unread unread.failure is);
     are_addresses = λ other more. (is_front, is_control);
-    told = unread.told;
+    told = told_alone unread.told;
   }
 
   -- or the switch ends with a failure
-  pub fails_serving : (failure : Failure) → IsServeFailure failure → (failure ≢ WriteFailed → WritesReadyOrNothing before after)
-      → (failure ≡ BindFailed → after ≡ before) → AppendsBeginning told_before told_after (line_of failure)
-      → EndsInServeFailure front control file before after told_before told_after
-  fails_serving failure of_serve written not_bound told = record {
-    failure = failure;
-    no_read = λ none. of_serve.0;
-    no_silence = of_serve.1;
-    no_rules_read = of_serve.2;
-    written = written;
-    not_bound = not_bound;
-    not_read = λ is. absurd (of_serve.0 is);
+  pub fails_serving : FailsServing before after told_before told_after → EndsInServeFailure front control file before after told_before told_after
+  fails_serving fails = record {
+    failure = fails.failure;
+    no_read = λ none. fails.of_serve.0;
+    no_silence = fails.of_serve.1;
+    no_rules_read = fails.of_serve.2;
+    written = fails.written;
+    not_bound = fails.not_bound;
+    not_read = λ is. absurd (fails.of_serve.0 is);
     are_addresses = λ other more. (is_front, is_control);
-    told = told;
+    told = fails.told;
   }
 
 -- the refusal of an address could not be written
@@ -190,7 +189,7 @@ fails_unwritten front control file before after told_before told_after told = re
   not_bound = λ is. absurd (no_bind_write is);
   not_read = λ is. absurd (no_write_unread WriteFailed is refl);
   are_addresses = λ other more. absurd (other refl);
-  told = told;
+  told = told_alone told;
 }
   where
     no_bind_write : ◌≡◌ {A = Failure} WriteFailed BindFailed → ⊥

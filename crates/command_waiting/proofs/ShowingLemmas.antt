@@ -1,5 +1,5 @@
 -- What is learned of a switch, and how the commands about its rules fail.
-use Rattle.std.proofs.Common.{◌≡◌, ◌≢◌, ◌∙◌, ◌⊎◌, ◌++◌, Bool, Err, List, Ok, Option, Result, ap, codes, false, inl, inr, refl, subst, sym, true, ℕ}
+use Rattle.std.proofs.Common.{◌≡◌, ◌≢◌, ◌∙◌, ◌⊎◌, ◌++◌, Bool, Err, List, None, Ok, Option, Result, Some, ap, codes, false, inl, inr, refl, subst, sym, true, ℕ}
 use Rattle.std.specs.Prelude.{IfErr, IfOk, OnErr, OnOk}
 use Rattle.std.specs.Io.KnownBytes.{Appends}
 use Rattle.clap.specs.Words.{Text}
@@ -16,51 +16,74 @@ use Rattle.control_rules.specs.History.{ClientValue, Learns}
 use Rattle.config_diff.specs.Words.{words_config}
 use Rattle.control_rules.specs.Load.{IsDifference, Loads}
 use Rattle.control_rules.specs.Rules.{rules_file}
-use Rattle.ipv4_fields.specs.declared.endpoint.Endpoint.{Endpoint}
+use Rattle.control_client.specs.declared.device.Peer.{Peer}
+use Rattle.command_waiting.specs.Reported.{IsTold, told_after_trouble, told_alone}
+use Rattle.command_line.specs.ControlAddress.{IsNoControlAddress, SpellsControlAddress}
+use Rattle.command_line.specs.declared.control_address.ControlAddress.{ControlAddress}
+use Rattle.command_line.specs.declared.control_address.ControlAddress.TheVariants as address_of
+use Rattle.control_client.specs.Wire.{peer_of}
+use Rattle.command_waiting.specs.body.Asked.{IsAsked}
 use Rattle.command_waiting.specs.Opening.{EndsUnread}
 use Rattle.command_waiting.specs.Showing.{AreChangesTo, EndsInRulesFailure, IsNoSwitch, IsRulesOf, IsSwitch, LoadsInto, RefusesLoad, WritesLoad, change_refused, checked, loaded_line, loaded_status, measures_line, no_switch, replaced, shown}
 
 -- the text of a version's rules
-pub rules_learned : (before after : ClientValue) (switch : Endpoint) (version : ℕ) (text : List ℕ) → before.switch ≡ switch
+pub rules_learned : (before after : ClientValue) (switch : Peer) (version : ℕ) (text : List ℕ) → before.switch ≡ switch
     → Learns before after (λ history. text ≡ rules_file version (history version)) → IsRulesOf switch text
 rules_learned before after switch version text is learns = record {
   told = learns.told;
   events = learns.events;
-  are_exchanged = subst (λ (s : Endpoint). AreExchanged s learns.told learns.events) is learns.are_exchanged;
+  are_exchanged = subst (λ (s : Peer). AreExchanged s learns.told learns.events) is learns.are_exchanged;
   holds = λ history configs true_to. (version, learns.holds history configs true_to);
 }
 
 -- the lines of a diff
-pub changes_learned : (before after : ClientValue) (switch : Endpoint) (config : List Group) (text : List ℕ) → before.switch ≡ switch
+pub changes_learned : (before after : ClientValue) (switch : Peer) (config : List Group) (text : List ℕ) → before.switch ≡ switch
     → Learns before after (λ history. IsDifference history (words_config config) text) → AreChangesTo switch config text
 changes_learned before after switch config text is learns = record {
   told = learns.told;
   events = learns.events;
-  are_exchanged = subst (λ (s : Endpoint). AreExchanged s learns.told learns.events) is learns.are_exchanged;
+  are_exchanged = subst (λ (s : Peer). AreExchanged s learns.told learns.events) is learns.are_exchanged;
   holds = learns.holds;
 }
 
 -- what came of a file
-pub loaded_into : (before after : ClientValue) (switch : Endpoint) (text : List ℕ) (config : List Group) (loaded : Loaded) → before.switch ≡ switch
+pub loaded_into : (before after : ClientValue) (switch : Peer) (text : List ℕ) (config : List Group) (loaded : Loaded) → before.switch ≡ switch
     → Loads text (words_config config) before after loaded → LoadsInto switch text config loaded
 loaded_into before after switch text config loaded is loads = record { before = before; after = after; is_client = is; loads = loads }
 
-module _ (before after told_before told_after : Option (List ℕ)) where
+module _ (control : Option Text) (before after told_before told_after : Option (List ℕ)) where
   -- no configuration
-  pub fails_unread : EndsUnread before after told_before told_after → EndsInRulesFailure before after told_before told_after
-  fails_unread unread = record { failure = unread.failure; unwritten = unread.unwritten; told = unread.told }
+  pub fails_unread : EndsUnread before after told_before told_after → EndsInRulesFailure control before after told_before told_after
+  fails_unread unread = record { failure = unread.failure; unwritten = unread.unwritten; told = told_alone unread.told }
 
-  pub fails_so : (failure : Failure) → (failure ≢ WriteFailed → after ≡ before) → AppendsBeginning told_before told_after (line_of failure)
-      → EndsInRulesFailure before after told_before told_after
+  pub fails_so : (failure : Failure) → (failure ≢ WriteFailed → after ≡ before) → IsTold control failure told_before told_after
+      → EndsInRulesFailure control before after told_before told_after
   fails_so failure unwritten told = record { failure = failure; unwritten = unwritten; told = told }
 
-  pub fails_writing : AppendsBeginning told_before told_after (line_of WriteFailed) → EndsInRulesFailure before after told_before told_after
-  fails_writing told = record { failure = WriteFailed; unwritten = λ other. absurd (other refl); told = told }
+  pub fails_writing : AppendsBeginning told_before told_after (line_of WriteFailed) → EndsInRulesFailure control before after told_before told_after
+  fails_writing told = record { failure = WriteFailed; unwritten = λ other. absurd (other refl); told = told_alone told }
+
+-- the switch that is asked
+pub is_switch : (control : Option Text) (text : Text) (address : ControlAddress) → IsAsked control text address → IsSwitch control (peer_of address)
+is_switch control text address asked = subst (λ (c : Option Text). IsSwitch c (peer_of address)) (sym asked.given) (address, asked.is_address, refl)
+
+pub fails_asked : (control : Option Text) (text : Text) (address : ControlAddress) (before after told_before told_after : Option (List ℕ)) → IsAsked control text address
+    → EndsInRulesFailure (Some text) before after told_before told_after → EndsInRulesFailure control before after told_before told_after
+fails_asked control text address before after told_before told_after asked fails =
+    subst (λ (c : Option Text). EndsInRulesFailure c before after told_before told_after) (sym asked.given) fails
+
+pub no_address : (control : Option Text) → ((text : Text) → control ≡ Some text → IsNoControlAddress text) → IsNoSwitch control
+no_address None none switch is = is
+no_address (Some text) none switch (address, spells, is) = spells_none text address (none text refl) spells
+  where
+    spells_none : (text : Text) (address : ControlAddress) → IsNoControlAddress text → SpellsControlAddress text address → ⊥
+    spells_none text (address_of.Udp endpoint) none spells = none.no_endpoint endpoint spells.0 spells.1
+    spells_none text (address_of.Unix path) none spells = none.no_path path.now spells.0 spells.1
 
 -- ---- how a command ended that is reported
 
 -- the replacing of the rules printed how it ended
-abbrev pub IsReplacedAs : Endpoint → List ℕ → List Group → Option (List ℕ) → Option (List ℕ) → Status → Type 0
+abbrev pub IsReplacedAs : Peer → List ℕ → List Group → Option (List ℕ) → Option (List ℕ) → Status → Type 0
 IsReplacedAs switch text config before after status =
     (loaded : Loaded) × (status ≡ loaded_status loaded) × LoadsInto switch text config loaded × Appends before after (loaded_line loaded ++ codes "\n")
 
@@ -71,23 +94,23 @@ never_failed : (status : Status) → IsDoneOrRefused status → status ≡ Faile
 never_failed status (inl is) failed = cc
 never_failed status (inr is) failed = cc
 
-pub replaced_as : (switch : Endpoint) (text : List ℕ) (config : List Group) (loaded : Loaded) (before after : Option (List ℕ)) (ended : Result Status Failure)
+pub replaced_as : (switch : Peer) (text : List ℕ) (config : List Group) (loaded : Loaded) (before after : Option (List ℕ)) (ended : Result Status Failure)
     → IfOk ended (λ status. status ≡ loaded_status loaded) → OnOk ended (Appends before after (loaded_line loaded ++ codes "\n")) → LoadsInto switch text config loaded
     → IfOk ended (IsReplacedAs switch text config before after)
 replaced_as switch text config loaded before after (Ok given) status printed loads = (loaded, status, loads, printed)
 replaced_as switch text config loaded before after (Err why) status printed loads = tt
 
-pub ended_replaced : (switch : Endpoint) (text : List ℕ) (config : List Group) (before after : Option (List ℕ)) (ended : Result Status Failure) (status : Status) → IfOk ended (λ given. status ≡ given) → OnErr ended (status ≡ Failed)
+pub ended_replaced : (switch : Peer) (text : List ℕ) (config : List Group) (before after : Option (List ℕ)) (ended : Result Status Failure) (status : Status) → IfOk ended (λ given. status ≡ given) → OnErr ended (status ≡ Failed)
     → IfOk ended (IsReplacedAs switch text config before after) → (status ≡ Failed → ⊥) → IsReplacedAs switch text config before after status
 ended_replaced switch text config before after (Ok given) status is failed printed never = (printed.0, is ∙ printed.1, printed.2, printed.3)
 ended_replaced switch text config before after (Err why) status is failed printed never = absurd (never failed)
 
-pub ended_failed : {X : Type 0} (contents : X → Option (List ℕ)) (old new : X) (told_before told_after : Option (List ℕ)) (ended : Result Status Failure) (status : Status)
+pub ended_failed : {X : Type 0} (control : Option Text) (contents : X → Option (List ℕ)) (old new : X) (told_before told_after : Option (List ℕ)) (ended : Result Status Failure) (status : Status)
     → IfOk ended (λ given. status ≡ given) → IfOk ended IsDoneOrRefused → IfErr ended (λ failure. failure ≢ WriteFailed → new ≡ old)
-    → IfErr ended (λ failure. AppendsBeginning told_before told_after (line_of failure)) → status ≡ Failed
-    → EndsInRulesFailure (contents old) (contents new) told_before told_after
-ended_failed contents old new told_before told_after (Ok given) status is good unwritten told failed = absurd (never_failed given good (sym is ∙ failed))
-ended_failed contents old new told_before told_after (Err why) status is good unwritten told failed = record {
+    → IfErr ended (λ failure. IsTold control failure told_before told_after) → status ≡ Failed
+    → EndsInRulesFailure control (contents old) (contents new) told_before told_after
+ended_failed control contents old new told_before told_after (Ok given) status is good unwritten told failed = absurd (never_failed given good (sym is ∙ failed))
+ended_failed control contents old new told_before told_after (Err why) status is good unwritten told failed = record {
   failure = why;
   unwritten = λ other. ap contents (unwritten other);
   told = told;
@@ -107,7 +130,7 @@ module _ (control : Option Text) (before after : Option (List ℕ)) (only_check 
   pub refuses_switch : only_check ≡ false → IsNoSwitch control → Appends before after (codes "refused C1\n") → RefusesLoad control before after only_check only_diff
   refuses_switch is none written = subst (λ (b : Bool). RefusesLoad control before after b only_diff) (sym is) (no_switch only_diff none written)
 
-  module _ (no_check : only_check ≡ false) (switch : Endpoint) (is_switch : IsSwitch control switch) (text : List ℕ) (config : List Group) (made : IsConfigOf text config) where
+  module _ (no_check : only_check ≡ false) (switch : Peer) (is_switch : IsSwitch control switch) (text : List ℕ) (config : List Group) (made : IsConfigOf text config) where
     pub shows : only_diff ≡ true → (changes : List ℕ) × AreChangesTo switch config changes × Appends before after changes → WritesLoad control before after only_check only_diff
     shows is done =
         subst (λ (b : Bool). WritesLoad control before after b only_diff) (sym no_check)

@@ -4,10 +4,10 @@ use Rattle.std.specs.Prelude.{IfErr, IfOk}
 use Rattle.clap.specs.Words.{Text}
 use Rattle.control_client.specs.Tell.{ChangeStopsOverSocket, StopsOverSocket, TellsAll, TellsChange}
 use Rattle.command_line.specs.declared.ending.Failure.{Failure}
-use Rattle.ipv4_fields.specs.declared.endpoint.Endpoint.{Endpoint}
+use Rattle.control_client.specs.declared.device.Peer.{Peer}
 use Rattle.command_waiting.specs.Telling.{StopsTelling, Tells}
 
-module _ (all : Bool) (switch : Endpoint) (lines : Option (List Text)) (before after : Option (List ℕ)) (result : Result Bool Failure) where
+module _ (all : Bool) (switch : Peer) (lines : Option (List Text)) (before after : Option (List ℕ)) (result : Result Bool Failure) where
   pub tells_change : all ≡ true → IfOk result (TellsChange switch lines None None before after) → IfOk result (Tells all switch lines before after)
   tells_change is told = subst (λ (b : Bool). IfOk result (Tells b switch lines before after)) (sym is) told
 

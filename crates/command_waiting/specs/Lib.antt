@@ -1,11 +1,15 @@
 pub mod Opening
+pub mod Reported
 pub mod Showing
 pub mod Telling
 pub mod Waiting
 pub mod body
+pub use Rattle.command_line.specs.ControlAddress
+pub use Rattle.control_client.specs.Carried
 pub use Rattle.control_client.specs.Exchange
 pub use Rattle.control_client.specs.Lines
 pub use Rattle.control_client.specs.Tell
+pub use Rattle.control_client.specs.Trouble
 pub use Rattle.control_client.specs.Wire
 pub use Rattle.control_rules.specs.History
 pub use Rattle.control_rules.specs.Load
@@ -16,3 +20,4 @@ pub use Rattle.command_flood.specs.Failing
 pub use Rattle.command_flood.specs.Flood
 pub use Rattle.command_flood.specs.FloodVersions
 pub use Rattle.command_flood.specs.Traffic
+pub mod Serving

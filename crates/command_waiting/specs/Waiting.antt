@@ -6,6 +6,8 @@ use Rattle.config_image.specs.Image.{Group}
 use Rattle.command_line.specs.declared.ending.Failure.{Failure}
 use Rattle.command_line.specs.declared.ending.Failure.TheVariants.{BindFailed, NoAnswer, OutOfMemory, ReadFailed, RulesChanged, WriteFailed}
 use Rattle.command_line.specs.CommandLine.{WaitingRequest, flood, load, rules, serve, tell}
+use Rattle.command_line.specs.ControlAddress.{IsNoControlAddress, SpellsControlAddress}
+use Rattle.command_line.specs.declared.control_address.ControlAddress.{ControlAddress}
 use Rattle.command_line.specs.Ending.{AppendsBeginning, line_of}
 use Rattle.ipv4_fields.specs.Endpoint.{IsEndpoint, endpoint_text}
 use Rattle.ipv4_fields.specs.declared.endpoint.Endpoint.{Endpoint}
@@ -13,6 +15,7 @@ use Rattle.serve_udp.specs.Service.{WritesReadyOrNothing, WritesServedFrom}
 use Rattle.command_flood.specs.Failing.{EndsInFloodFailure}
 use Rattle.command_flood.specs.Flood.{WritesFlood}
 use Rattle.command_waiting.specs.Opening.{IsOpening, RefusesRules}
+use Rattle.command_waiting.specs.Serving.{IsServeTold}
 use Rattle.command_waiting.specs.Showing.{EndsInRulesFailure, RefusesLoad, WritesLoad, WritesRules}
 use Rattle.command_waiting.specs.Telling.{EndsInTellFailure, WritesReplies}
 
@@ -23,10 +26,14 @@ IsAddress text = (endpoint : Endpoint) × IsEndpoint endpoint × (text ≡ endpo
 abbrev pub IsNoAddress : Text → Type 0
 IsNoAddress text = (endpoint : Endpoint) → IsEndpoint endpoint → text ≢ endpoint_text endpoint
 
+-- the text is an address of control
+abbrev pub IsControl : Text → Type 0
+IsControl text = (address : ControlAddress) × SpellsControlAddress text address
+
 -- `serve` wrote what it writes, as a switch that begins with the rules of the file, or without groups
 pub record WritesService (front control : Text) (workers : ℕ) (file : Option Text) (before after : Option (List ℕ)) : Type 0 where
   pub is_front : IsAddress front
-  pub is_control : IsAddress control
+  pub is_control : IsControl control
   pub config : List Group
   pub opening : IsOpening file config
   pub served : WritesServedFrom config workers before after
@@ -39,17 +46,17 @@ WritesFor (tell control timeout all lines) input before after = WritesReplies co
 WritesFor (rules control timeout) input before after = WritesRules control before after
 WritesFor (load control timeout file only_check only_diff) input before after = WritesLoad control before after only_check only_diff
 
--- `tell` is given a text that is no endpoint's, and the refusal of that was written; or a reply is a refusal, and all replies were
+-- `tell` is given a text that is no address, and the refusal of that was written; or a reply is a refusal, and all replies were
 -- written
 pub data IsToldRefusal (control : Text) (all : Bool) (lines : List Text) (input before after : Option (List ℕ)) : Type 0 where
-  no_switch : IsNoAddress control → Appends before after (codes "refused C1\n") → IsToldRefusal control all lines input before after
+  no_switch : IsNoControlAddress control → Appends before after (codes "refused C1\n") → IsToldRefusal control all lines input before after
   line_refused : WritesReplies control all lines input before after true → IsToldRefusal control all lines input before after
 
--- `serve` is given a text for a socket that is no endpoint's, or a rules file that is refused, and the refusal was written
+-- `serve` is given a text for a socket that is no address, or a rules file that is refused, and the refusal was written
 pub data RefusesService (front control : Text) (file : Option Text) (before after : Option (List ℕ)) : Type 0 where
-  no_address : IsNoAddress front ⊎ IsNoAddress control → Appends before after (codes "refused C1\n") →
+  no_address : IsNoAddress front ⊎ IsNoControlAddress control → Appends before after (codes "refused C1\n") →
       RefusesService front control file before after
-  no_rules : (name : Text) → file ≡ Some name → IsAddress front → IsAddress control → RefusesRules None before after →
+  no_rules : (name : Text) → file ≡ Some name → IsAddress front → IsControl control → RefusesRules None before after →
       RefusesService front control file before after
 
 -- a command that is given no rules file
@@ -65,11 +72,11 @@ abbrev pub WritesRefusal : WaitingRequest → Option (List ℕ) → Option (List
 WritesRefusal (flood workers datagrams) input before after = ⊥
 WritesRefusal (serve front control workers file) input before after = RefusesService front control file before after
 WritesRefusal (tell control timeout all lines) input before after = IsToldRefusal control all lines input before after
-WritesRefusal (rules control timeout) input before after = IsNoAddress control × Appends before after (codes "refused C1\n")
+WritesRefusal (rules control timeout) input before after = IsNoControlAddress control × Appends before after (codes "refused C1\n")
 WritesRefusal (load control timeout file only_check only_diff) input before after = RefusesLoad control before after only_check only_diff
 
 -- `serve` for these addresses failed so; if no write failed the line `ready` was written or nothing, and nothing if a socket was
--- not bound or the rules file could not be read; but for writes and memory it fails only if both addresses are endpoints
+-- not bound or the rules file could not be read; but for writes and memory it fails only if both texts are addresses
 pub record EndsInServeFailure (front control : Text) (file : Option Text) (before after told_before told_after : Option (List ℕ)) : Type 0 where
   pub failure : Failure
   pub no_read : file ≡ None → failure ≢ ReadFailed
@@ -78,8 +85,8 @@ pub record EndsInServeFailure (front control : Text) (file : Option Text) (befor
   pub written : failure ≢ WriteFailed → WritesReadyOrNothing before after
   pub not_bound : failure ≡ BindFailed → after ≡ before
   pub not_read : failure ≡ ReadFailed → after ≡ before
-  pub are_addresses : failure ≢ WriteFailed → failure ≢ OutOfMemory → IsAddress front × IsAddress control
-  pub told : AppendsBeginning told_before told_after (line_of failure)
+  pub are_addresses : failure ≢ WriteFailed → failure ≢ OutOfMemory → IsAddress front × IsControl control
+  pub told : IsServeTold failure told_before told_after
 
 -- the command failed
 abbrev pub EndsInWaitingFailure : WaitingRequest → (input before after told_before told_after : Option (List ℕ)) → Type 0
@@ -88,6 +95,6 @@ EndsInWaitingFailure (serve front control workers file) input before after told_
     EndsInServeFailure front control file before after told_before told_after
 EndsInWaitingFailure (tell control timeout all lines) input before after told_before told_after =
     EndsInTellFailure control all lines input before after told_before told_after
-EndsInWaitingFailure (rules control timeout) input before after told_before told_after = EndsInRulesFailure before after told_before told_after
+EndsInWaitingFailure (rules control timeout) input before after told_before told_after = EndsInRulesFailure (Some control) before after told_before told_after
 EndsInWaitingFailure (load control timeout file only_check only_diff) input before after told_before told_after =
-    EndsInRulesFailure before after told_before told_after
+    EndsInRulesFailure control before after told_before told_after

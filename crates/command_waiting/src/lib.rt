@@ -10,22 +10,22 @@ ghost use Rattle.std.specs.Io.KnownBytes.{Appends};
 ghost use Rattle.command_line.specs.CommandLine.{waiting_of};
 ghost use Rattle.command_line.specs.Ending.{AppendsBeginning, line_of};
 ghost use Rattle.command_line.specs.declared.ending.Failure.TheVariants as failure;
-ghost use Rattle.command_waiting.specs.Waiting.{EndsInServeFailure, EndsInWaitingFailure, HasNoRules, RefusesService, WritesFor, WritesRefusal, WritesService};
+ghost use Rattle.command_waiting.specs.Waiting.{EndsInWaitingFailure, HasNoRules, WritesFor, WritesRefusal};
 
 mod loading;
 mod printing;
+mod reporting;
 mod rules_file;
+mod serving;
 mod showing;
 mod telling;
 
 use command_flood::run_flood;
 pub use command_flood::{DATAGRAMS, flood};
-use command_line::{Failure, Status, Waiting, Workers};
-use dispatch::OpenGate;
-use ipv4_fields::Endpoint;
+use command_line::{Failure, Status, Waiting};
 use loading::{Loading, run_load};
-use rules_file::opening;
 pub use serve_udp::{serve, serve_with};
+use serving::run_serve;
 use showing::run_rules;
 use std::alloc::Global;
 use std::fs::Files;
@@ -44,7 +44,7 @@ fn write_refusal<W: Write>(out: &mut W) -> io::Result<()>
     out.flush()
 }
 
-// An address is no endpoint.
+// A text is no address.
 fn refuse_address<W: Write, E: Write>(out: &mut W, errs: &mut E) -> Status
     ensures refused { result ≡ Status.Refused → Appends (W.contents out.old) (W.contents out.new) (codes "refused C1\n") }
     ensures no_errors { result ≡ Status.Refused → errs.new ≡ errs.old }
@@ -55,44 +55,6 @@ fn refuse_address<W: Write, E: Write>(out: &mut W, errs: &mut E) -> Status
     match write_refusal(out) {
         Ok(()) => Status::Refused,
         Err(_) => Failure::WriteFailed.report(errs),
-    }
-}
-
-#[tactic(auto, using(crate::proofs::OpeningLemmas::fails_unread, crate::proofs::OpeningLemmas::fails_serving, crate::proofs::OpeningLemmas::named, crate::proofs::OpeningLemmas::is_given))]
-fn run_serve<R: Threads + Wait + Net + Files + Sync, W: Write, E: Write>(
-    rt: &R,
-    alloc: Global,
-    addresses: (&str, &str),
-    workers: Workers,
-    file: Option<&str>,
-    out: &mut W,
-    errs: &mut E,
-) -> Status
-    ensures done { result ≡ Status.Done
-        → WritesService addresses.entry.0.now addresses.entry.1.now workers.count (option_map (λ name. name.now) file.entry)
-        (W.contents out.old) (W.contents out.new) }
-    ensures refused { result ≡ Status.Refused
-        → RefusesService addresses.entry.0.now addresses.entry.1.now (option_map (λ name. name.now) file.entry)
-        (W.contents out.old) (W.contents out.new) }
-    ensures no_errors { (result ≡ Status.Done) ⊎ ((result ≡ Status.Refused) × (file.entry ≡ None)) → errs.new ≡ errs.old }
-    ensures never_misused { result ≡ Status.Misused → ⊥ }
-    ensures failed { result ≡ Status.Failed
-        → EndsInServeFailure addresses.entry.0.now addresses.entry.1.now (option_map (λ name. name.now) file.entry)
-        (W.contents out.old) (W.contents out.new) (E.contents errs.old) (E.contents errs.new) }
-{
-    let Some(front) = Endpoint::from_text(addresses.0.as_bytes()) else {
-        return refuse_address(out, errs);
-    };
-    let Some(control) = Endpoint::from_text(addresses.1.as_bytes()) else {
-        return refuse_address(out, errs);
-    };
-    let config = match opening(rt, alloc, file, out, errs) {
-        Ok(config) => config,
-        Err(status) => return status,
-    };
-    match serve_with(rt, config, front, control, workers.count, &OpenGate, out) {
-        Ok(()) => Status::Done,
-        Err(failure) => failure.report(errs),
     }
 }
 

@@ -1,23 +1,27 @@
 //! The command `load`: the rules of a file for a running switch (docs/COMMANDS.md, "load").
 
-ghost use Rattle.std.specs.Prelude.{◌≡◌, ◌≢◌, ◌≤◌, ◌⊎◌, ◌++◌, IfErr, IfOk, List, MatchOption, None, OnOk, codes, length, option_map, ℕ};
+ghost use Rattle.std.specs.Prelude.{◌≡◌, ◌≢◌, ◌≤◌, ◌⊎◌, ◌++◌, IfErr, IfOk, List, MatchOption, None, OnOk, Some, codes, length, option_map, ℕ};
 ghost use Rattle.std.specs.Io.KnownBytes.{Appends};
 ghost use Rattle.config_image.specs.Image.{Group};
+ghost use Rattle.control_client.specs.Wire.{peer_of};
 ghost use Rattle.control_line.specs.Rules.{IsConfigOf};
+ghost use Rattle.command_line.specs.ControlAddress.{SpellsControlAddress};
 ghost use Rattle.command_line.specs.declared.ending.Failure.TheVariants as failure;
 ghost use Rattle.command_waiting.specs.Opening.{RefusesRules};
-ghost use Rattle.command_waiting.specs.Showing.{AreChangesTo, EndsInRulesFailure, IsNoSwitch, IsSwitch, LoadsInto, RefusesLoad, WritesLoad, loaded_line, loaded_status, measures_line, version_line};
+ghost use Rattle.command_waiting.specs.Showing.{AreChangesTo, EndsInRulesFailure, IsNoSwitch, LoadsInto, RefusesLoad, WritesLoad, loaded_line, loaded_status, measures_line, version_line};
+ghost use Rattle.command_waiting.specs.body.Asked.{IsAsked};
 
 use crate::printing::{print_line, print_text};
 use crate::refuse_address;
+use crate::reporting::reported;
 use crate::rules_file::{RulesFile, open_file};
-use command_line::{Failure, Status, reported};
-use control_client::UdpWire;
+use command_line::{ControlAddress, Failure, Status};
+use control_client::{Reach, SocketWire};
 use control_line::Reply;
 use control_rules::{Client, Loaded, differences, load};
-use ipv4_fields::Endpoint;
 use member_group::Config;
 use std::alloc::Global;
+use std::cell::Cell;
 use std::fs::Files;
 use std::io::Write;
 use std::net::Net;
@@ -35,11 +39,13 @@ pub(crate) struct Loading<'a> {
     pub(crate) diff: bool,
 }
 
-fn switch_of(control: Option<&str>) -> Option<Endpoint>
+// The text of a switch's address, and the address.
+fn switch_of<'a>(control: Option<&'a str>) -> Option<(&'a str, ControlAddress<'a>)>
     ensures { MatchOption result (IsNoSwitch (option_map (λ address. address.now) control.entry))
-        (IsSwitch (option_map (λ address. address.now) control.entry)) }
+        (λ asked. IsAsked (option_map (λ address. address.now) control.entry) asked.0.now asked.1) }
 {
-    Endpoint::from_text(control?.as_bytes())
+    let control = control?;
+    Some((control, ControlAddress::from_text(control)?))
 }
 
 fn measures(config: &Config) -> Reply
@@ -70,18 +76,17 @@ fn version_line(version: u64, rest: &str) -> Reply
 fn print_changes<R: Net + Clock, W: Write>(
     rt: &R,
     alloc: Global,
-    seconds: u64,
-    switch: Endpoint,
+    reach: Reach<'_>,
     config: &Config,
     out: &mut W,
 ) -> Result<Status, Failure>
     ensures done { IfOk result (λ status. status ≡ Status.Done) }
-    ensures shown { OnOk result ((changes : List ℕ) × AreChangesTo switch config.now changes
+    ensures shown { OnOk result ((changes : List ℕ) × AreChangesTo (peer_of reach.entry.address) config.now changes
         × Appends (W.contents out.old) (W.contents out.new) changes) }
     ensures unwritten { IfErr result (λ failure. failure ≢ Failure.WriteFailed → out.new ≡ out.old) }
 {
-    let wire = UdpWire::bind(rt, alloc, seconds)?;
-    let mut client = Client::new(alloc, wire, switch)?;
+    let wire = SocketWire::open(rt, alloc, reach)?;
+    let mut client = Client::new(alloc, wire, reach.peer())?;
     let Some(changes) = differences(&mut client, config)? else {
         return Err(Failure::RulesChanged);
     };
@@ -92,21 +97,22 @@ fn print_changes<R: Net + Clock, W: Write>(
 fn show_changes<R: Net + Clock, W: Write, E: Write>(
     rt: &R,
     alloc: Global,
-    seconds: u64,
-    switch: Endpoint,
+    asked: (&str, Reach<'_>),
     config: &Config,
     out: &mut W,
     errs: &mut E,
 ) -> Status
-    ensures done { result ≡ Status.Done → (changes : List ℕ) × AreChangesTo switch config.now changes
+    requires { SpellsControlAddress asked.0.now asked.1.address }
+    ensures done { result ≡ Status.Done → (changes : List ℕ) × AreChangesTo (peer_of asked.entry.1.address) config.now changes
         × Appends (W.contents out.old) (W.contents out.new) changes }
     ensures done_or_failed { (result ≡ Status.Done) ⊎ (result ≡ Status.Failed) }
     ensures no_errors { result ≡ Status.Done → errs.new ≡ errs.old }
     ensures failed { result ≡ Status.Failed
-        → EndsInRulesFailure (W.contents out.old) (W.contents out.new) (E.contents errs.old) (E.contents errs.new) }
+        → EndsInRulesFailure (Some asked.entry.0.now) (W.contents out.old) (W.contents out.new) (E.contents errs.old) (E.contents errs.new) }
 {
-    let ended = print_changes(rt, alloc, seconds, switch, config, out);
-    reported(ended, errs)
+    let (control, reach) = asked;
+    let ended = print_changes(rt, alloc, reach, config, out);
+    reported(alloc, ended, control, reach, errs)
 }
 
 // Prints how the replacing of the rules ended.
@@ -137,20 +143,19 @@ fn print_loaded<W: Write>(loaded: &Loaded, out: &mut W) -> Result<Status, Failur
 fn print_replaced<R: Net + Clock, W: Write>(
     rt: &R,
     alloc: Global,
-    seconds: u64,
-    switch: Endpoint,
+    reach: Reach<'_>,
     file: &RulesFile,
     out: &mut W,
 ) -> Result<Status, Failure>
     requires { IsConfigOf file.now.text.items file.now.config }
     ensures printed { IfOk result (λ status. (loaded : Loaded) × (status ≡ loaded_status loaded)
-        × LoadsInto switch file.now.text.items file.now.config loaded
+        × LoadsInto (peer_of reach.entry.address) file.now.text.items file.now.config loaded
         × Appends (W.contents out.old) (W.contents out.new) (loaded_line loaded ++ codes "\n")) }
     ensures done_or_refused { IfOk result (λ status. (status ≡ Status.Done) ⊎ (status ≡ Status.Refused)) }
     ensures unwritten { IfErr result (λ failure. failure ≢ Failure.WriteFailed → out.new ≡ out.old) }
 {
-    let wire = UdpWire::bind(rt, alloc, seconds)?;
-    let mut client = Client::new(alloc, wire, switch)?;
+    let wire = SocketWire::open(rt, alloc, reach)?;
+    let mut client = Client::new(alloc, wire, reach.peer())?;
     let loaded = load(rt, &mut client, &file.text, &file.config)?;
     print_loaded(&loaded, out)
 }
@@ -158,23 +163,24 @@ fn print_replaced<R: Net + Clock, W: Write>(
 fn replace<R: Net + Clock, W: Write, E: Write>(
     rt: &R,
     alloc: Global,
-    seconds: u64,
-    switch: Endpoint,
+    asked: (&str, Reach<'_>),
     file: &RulesFile,
     out: &mut W,
     errs: &mut E,
 ) -> Status
-    requires { IsConfigOf file.now.text.items file.now.config }
+    requires config { IsConfigOf file.now.text.items file.now.config }
+    requires address { SpellsControlAddress asked.0.now asked.1.address }
     ensures printed { (result ≡ Status.Failed → ⊥) → (loaded : Loaded) × (result ≡ loaded_status loaded)
-        × LoadsInto switch file.now.text.items file.now.config loaded
+        × LoadsInto (peer_of asked.entry.1.address) file.now.text.items file.now.config loaded
         × Appends (W.contents out.old) (W.contents out.new) (loaded_line loaded ++ codes "\n") }
     ensures no_errors { result ≡ Status.Done → errs.new ≡ errs.old }
     ensures never_misused { result ≡ Status.Misused → ⊥ }
     ensures failed { result ≡ Status.Failed
-        → EndsInRulesFailure (W.contents out.old) (W.contents out.new) (E.contents errs.old) (E.contents errs.new) }
+        → EndsInRulesFailure (Some asked.entry.0.now) (W.contents out.old) (W.contents out.new) (E.contents errs.old) (E.contents errs.new) }
 {
-    let ended = print_replaced(rt, alloc, seconds, switch, file, out);
-    reported(ended, errs)
+    let (control, reach) = asked;
+    let ended = print_replaced(rt, alloc, reach, file, out);
+    reported(alloc, ended, control, reach, errs)
 }
 
 // Prints the measures of a file, and asks no switch.
@@ -191,7 +197,7 @@ fn check_file<R: Files, W: Write, E: Write>(
     ensures no_errors { result ≡ Status.Done → errs.new ≡ errs.old }
     ensures never_misused { result ≡ Status.Misused → ⊥ }
     ensures failed { result ≡ Status.Failed
-        → EndsInRulesFailure (W.contents out.old) (W.contents out.new) (E.contents errs.old) (E.contents errs.new) }
+        → EndsInRulesFailure None (W.contents out.old) (W.contents out.new) (E.contents errs.old) (E.contents errs.new) }
 {
     let file = match open_file(rt, alloc, name, out, errs) {
         Ok(file) => file,
@@ -218,21 +224,26 @@ pub(crate) fn run_load<R: Net + Clock + Files, W: Write, E: Write>(
     ensures no_errors { result ≡ Status.Done → errs.new ≡ errs.old }
     ensures never_misused { result ≡ Status.Misused → ⊥ }
     ensures failed { result ≡ Status.Failed
-        → EndsInRulesFailure (W.contents out.old) (W.contents out.new) (E.contents errs.old) (E.contents errs.new) }
+        → EndsInRulesFailure (option_map (λ address. address.now) loading.entry.control) (W.contents out.old) (W.contents out.new) (E.contents errs.old) (E.contents errs.new) }
 {
     if loading.check {
         return check_file(rt, alloc, loading.file, out, errs);
     }
-    let Some(switch) = switch_of(loading.control) else {
+    let Some((control, address)) = switch_of(loading.control) else {
         return refuse_address(out, errs);
+    };
+    let trouble = Cell::new(None);
+    let reach = Reach {
+        address,
+        seconds: loading.timeout,
+        trouble: &trouble,
     };
     let file = match open_file(rt, alloc, loading.file, out, errs) {
         Ok(file) => file,
         Err(status) => return status,
     };
     if loading.diff {
-        let config = &file.config;
-        return show_changes(rt, alloc, loading.timeout, switch, config, out, errs);
+        return show_changes(rt, alloc, (control, reach), &file.config, out, errs);
     }
-    replace(rt, alloc, loading.timeout, switch, &file, out, errs)
+    replace(rt, alloc, (control, reach), &file, out, errs)
 }

@@ -1,25 +1,25 @@
 -- What comes while a line waits, and how the line ends by that.
-use Rattle.std.proofs.Common.{◌≡◌, ◌∙◌, ◌<◌, ◌≤◌, ◌++◌, ◌∷◌, Bool, Err, List, Ok, Option, Result, None, Some, [], ap, ap₂, eq-eqb, eqb, eqb-true, false, is_err, length, not-suc-le-zero, refl, subst, sym, take, true, true≢false, ◌&&◌, ◌≢◌, ℕ}
-use Rattle.std.proofs.lemmas.Bool.{and_from, and_parts, both_ways}
-use Rattle.std.specs.Prelude.{IfErr, IfOk, OnErr, OnOk}
+use Rattle.std.proofs.Common.{◌≡◌, ◌∙◌, ◌<◌, ◌++◌, ◌∷◌, Bool, Bor, Err, List, Ok, Option, Result, None, Some, [], ap, false, is_err, length, not-suc-le-zero, refl, subst, sym, take, true, true≢false, ℕ}
+use Rattle.std.specs.Prelude.{IfErr, IfOk, MatchOption, OnErr, OnOk}
 use Rattle.std.specs.Io.KnownBytes.{Appends}
 use Rattle.std.proofs.lemmas.List.Elements.{All-push}
-use Rattle.ipv4_fields.specs.declared.endpoint.Endpoint.{Endpoint}
-use Rattle.control_client.specs.declared.asking.TheConstants.{FOREIGN_LIMIT, LONGEST_LINE}
+use Rattle.control_client.specs.declared.device.Peer.{Peer}
+use Rattle.control_client.specs.declared.asking.TheConstants.{FOREIGN_LIMIT}
+use Rattle.control_client.specs.Carried.{IsCarried, IsRefusedUnsent}
 use Rattle.control_client.specs.declared.device.Came.{Came}
 use Rattle.control_client.specs.declared.device.WireFailed.{WireFailed}
 use Rattle.command_line.specs.declared.ending.Failure.{Failure}
 use Rattle.command_line.specs.declared.ending.Failure.TheVariants.{NoAnswer, WriteFailed}
 use Rattle.command_line.specs.Ending.{AppendsBeginning}
-use Rattle.control_client.specs.Exchange.{Asks, IsExchange, IsForeign, LineEndsBy, LineTold, LineUnprinted, answered, is_refusal, not_sent, outnumbered, reply_line, timed_out}
+use Rattle.control_client.specs.Exchange.{Asks, IsExchange, IsForeign, LineEndsBy, LineTold, LineUnprinted, answered, is_refusal, not_sent, outnumbered, reply_line, timed_out, unsent}
 use Rattle.control_client.specs.Wire.{Event, Logs, came, came_by, none_came, sent, sent_by}
 use Rattle.control_client.specs.body.Asking.{Hears, HearsNone, Passes, broken, out_of_time, too_many}
 use Rattle.control_client.proofs.WireLemmas.{logs_more, logs_nothing}
 
-pub passes_none : (switch : Endpoint) (log : Option (List Event)) → Passes switch [] log log
+pub passes_none : (switch : Peer) (log : Option (List Event)) → Passes switch [] log log
 passes_none switch log = record { are_foreign = λ k d below. absurd (not-suc-le-zero below); logged = logs_nothing log }
 
-pub passes_more : (switch from : Endpoint) (bytes : List ℕ) (passed : List Event) (before mid after : Option (List Event)) → Passes switch passed before mid
+pub passes_more : (switch from : Peer) (bytes : List ℕ) (passed : List Event) (before mid after : Option (List Event)) → Passes switch passed before mid
     → IsForeign switch (came from bytes) → Logs mid after (came from bytes ∷ []) → Passes switch (passed ++ came from bytes ∷ []) before after
 passes_more switch from bytes passed before mid after so_far foreign logged = record {
   are_foreign = All-push (IsForeign switch) passed (came from bytes) so_far.are_foreign foreign;
@@ -27,64 +27,62 @@ passes_more switch from bytes passed before mid after so_far foreign logged = re
 }
 
 -- the line was sent, and then an answer was heard
-pub exchanged : (switch : Endpoint) (line reply : List ℕ) (before mid after : Option (List Event)) → length line ≤ LONGEST_LINE → Logs before mid (sent switch line ∷ [])
+pub exchanged : (switch : Peer) (line reply : List ℕ) (before mid after : Option (List Event)) → IsCarried switch line → Logs before mid (sent switch line ∷ [])
     → Hears switch reply mid after → Asks switch line reply before after
-exchanged switch line reply before mid after short was_sent heard = record {
+exchanged switch line reply before mid after carried was_sent heard = record {
   events = sent switch line ∷ (heard.passed ++ came switch reply ∷ []);
-  is_exchange = answered reply (sent switch line ∷ (heard.passed ++ came switch reply ∷ [])) short (record { passed = heard.passed; are_foreign = heard.are_foreign; few = heard.few; events_are = refl });
+  is_exchange = answered reply (sent switch line ∷ (heard.passed ++ came switch reply ∷ [])) carried (record { passed = heard.passed; are_foreign = heard.are_foreign; few = heard.few; events_are = refl });
   logged = logs_more before mid after (sent switch line ∷ []) (heard.passed ++ came switch reply ∷ []) was_sent heard.logged;
 }
 
 -- or none
-pub unheard : (fault : Failure) (switch : Endpoint) (line : List ℕ) (before mid after : Option (List Event)) (out : Option (List ℕ)) → Logs before mid (sent switch line ∷ [])
-    → HearsNone fault switch mid after → LineEndsBy fault switch line before after out out
-unheard _ switch line before mid after out was_sent (out_of_time _ _ _ passed foreign few logged) = record {
+pub unheard : (fault : Failure) (switch : Peer) (line : List ℕ) (before mid after : Option (List Event)) (out : Option (List ℕ)) → IsCarried switch line
+    → Logs before mid (sent switch line ∷ []) → HearsNone fault switch mid after → LineEndsBy fault switch line before after out out
+unheard _ switch line before mid after out carried was_sent (out_of_time _ _ _ passed foreign few logged) = record {
   events = sent switch line ∷ (passed ++ none_came ∷ []);
-  is_last = timed_out passed foreign few;
+  is_last = timed_out carried passed foreign few;
   logged = logs_more before mid after (sent switch line ∷ []) (passed ++ none_came ∷ []) was_sent logged;
   not_printed = refl;
 }
-unheard _ switch line before mid after out was_sent (too_many _ _ _ passed foreign count logged) = record {
+unheard _ switch line before mid after out carried was_sent (too_many _ _ _ passed foreign count logged) = record {
   events = sent switch line ∷ passed;
-  is_last = outnumbered passed foreign count;
+  is_last = outnumbered carried passed foreign count;
   logged = logs_more before mid after (sent switch line ∷ []) passed was_sent logged;
   not_printed = refl;
 }
-unheard _ switch line before mid after out was_sent (broken _ _ _ passed foreign few logged) = record {
+unheard _ switch line before mid after out carried was_sent (broken _ _ _ passed foreign few logged) = record {
   events = sent switch line ∷ passed;
-  is_last = record { passed = passed; are_foreign = foreign; few = few; events_are = refl };
+  is_last = record { carried = carried; passed = passed; are_foreign = foreign; few = few; events_are = refl };
   logged = logs_more before mid after (sent switch line ∷ []) passed was_sent logged;
   not_printed = refl;
 }
-
--- the same of a line that was sent, whichever way its wait ended
-module _ (switch : Endpoint) (line : List ℕ) (before mid after : Option (List Event)) (was_sent : Logs before mid (sent switch line ∷ [])) where
-  pub asks_heard : (room : List ℕ) → length line ≤ LONGEST_LINE → (result : Result ℕ Failure) → IfOk result (λ (size : ℕ). Hears switch (take size room) mid after)
-      → IfOk result (λ (size : ℕ). Asks switch line (take size room) before after)
-  asks_heard room short (Ok size) heard = exchanged switch line (take size room) before mid after short was_sent heard
-  asks_heard room short (Err fault) heard = tt
-
-  pub asks_unheard : (result : Result ℕ Failure) → IfErr result (λ (fault : Failure). HearsNone fault switch mid after)
-      → IfErr result (λ (fault : Failure). (out : Option (List ℕ)) → LineEndsBy fault switch line before after out out)
-  asks_unheard (Ok size) not_heard = tt
-  asks_unheard (Err fault) not_heard = λ out. unheard fault switch line before mid after out was_sent not_heard
 
 -- a send that failed logged nothing, and another the line
-pub sent_nothing : {E : Type 0} (result : Result (Unit {0}) E) (to : Endpoint) (bytes : List ℕ) (log log' : Option (List Event)) → is_err result ≡ true
+pub sent_nothing : {E : Type 0} (result : Result (Unit {0}) E) (to : Peer) (bytes : List ℕ) (log log' : Option (List Event)) → is_err result ≡ true
     → Logs log log' (sent_by result to bytes) → Logs log log' []
 sent_nothing (Ok done) to bytes log log' failed logged = absurd (true≢false (sym failed))
 sent_nothing (Err fault) to bytes log log' failed logged = logged
 
-pub sent_line : {E : Type 0} (result : Result (Unit {0}) E) (to : Endpoint) (bytes : List ℕ) (log log' : Option (List Event)) → is_err result ≡ false
+pub sent_line : {E : Type 0} (result : Result (Unit {0}) E) (to : Peer) (bytes : List ℕ) (log log' : Option (List Event)) → is_err result ≡ false
     → Logs log log' (sent_by result to bytes) → Logs log log' (sent to bytes ∷ [])
 sent_line (Ok done) to bytes log log' failed logged = logged
 sent_line (Err fault) to bytes log log' failed logged = absurd (true≢false failed)
 
-pub unsent : (switch : Endpoint) (line : List ℕ) (log log' : Option (List Event)) (out : Option (List ℕ)) → Logs log log' [] → LineEndsBy NoAnswer switch line log log' out out
-unsent switch line log log' out logged = record { events = []; is_last = not_sent; logged = logged; not_printed = refl }
+pub failed_send : (switch : Peer) (line : List ℕ) (log log' : Option (List Event)) (out : Option (List ℕ)) → IsCarried switch line → Logs log log' []
+    → LineEndsBy NoAnswer switch line log log' out out
+failed_send switch line log log' out carried logged = record { events = []; is_last = not_sent carried; logged = logged; not_printed = refl }
+
+-- the line is carried, or not
+pub carried : (switch : Peer) (line : List ℕ) (reply : Option (Bor (List ℕ))) → ((given : Bor (List ℕ)) → reply ≡ Some given → ⊥)
+    → MatchOption reply (IsCarried switch line) (λ given. IsRefusedUnsent switch line given.now) → IsCarried switch line
+carried switch line None none is = is
+carried switch line (Some given) none is = absurd (none given refl)
+
+pub refused_unsent : (switch : Peer) (line reply : List ℕ) (log : Option (List Event)) → IsRefusedUnsent switch line reply → Asks switch line reply log log
+refused_unsent switch line reply log refused = record { events = []; is_exchange = unsent reply refused; logged = logs_nothing log }
 
 -- a line was exchanged, and its reply is printed, or a beginning of it
-module _ (switch : Endpoint) (line reply : List ℕ) (events : List Event) (log log' : Option (List Event)) (out out' : Option (List ℕ)) (exchange : IsExchange switch line reply events)
+module _ (switch : Peer) (line reply : List ℕ) (events : List Event) (log log' : Option (List Event)) (out out' : Option (List ℕ)) (exchange : IsExchange switch line reply events)
     (logged : Logs log log' events) where
   pub line_told : (result : Result Bool Failure) → OnOk result (Appends out out' (reply_line reply)) → IfOk result (λ (refused : Bool). refused ≡ is_refusal reply)
       → IfOk result (LineTold switch line log log' out out')
@@ -98,17 +96,7 @@ module _ (switch : Endpoint) (line reply : List ℕ) (events : List Event) (log 
       let unprinted : LineUnprinted switch line log log' out out' = record { reply = reply; events = events; is_exchange = exchange; logged = logged; printed = begun } in
       subst (λ (f : Failure). LineEndsBy f switch line log log' out out') (sym is) unprinted
 
--- ---- a datagram and where it came from
-
-pub same_endpoint : (one other : Endpoint) → (eqb one.address other.address && eqb one.port other.port) ≡ true → one ≡ other
-same_endpoint one other is =
-    let parts = and_parts (eqb one.address other.address) (eqb one.port other.port) is in
-    ap₂ (λ (a : ℕ) (p : ℕ). let e : Endpoint = record { address = a; port = p } in e) (eqb-true one.address other.address parts.0) (eqb-true one.port other.port parts.1)
-
-pub other_endpoint : (one other : Endpoint) → (eqb one.address other.address && eqb one.port other.port) ≡ false → one ≢ other
-other_endpoint one other is same =
-    both_ways (eqb one.address other.address && eqb one.port other.port) is
-    (and_from (eqb one.address other.address) (eqb one.port other.port) (eq-eqb one.address other.address (ap (λ (e : Endpoint). e.address) same)) (eq-eqb one.port other.port (ap (λ (e : Endpoint). e.port) same)))
+-- ---- a reply and where it came from
 
 -- a receive that gave a datagram, or none in time
 pub gave_one : (result : Result (Option Came) WireFailed) (answer : Option Came) (one : Came) (buffer : List ℕ) (log log' : Option (List Event)) → result ≡ Ok answer → answer ≡ Some one
@@ -122,11 +110,11 @@ gave_none result answer buffer log log' is none logged =
     subst (λ (r : Result (Option Came) WireFailed). Logs log log' (came_by r buffer)) (is ∙ ap (λ (a : Option Came). Ok a) none) logged
 
 -- the datagram is the switch's
-pub hears : (switch : Endpoint) (one : Came) (bytes : List ℕ) (passed : List Event) (before mid after : Option (List Event)) → Passes switch passed before mid
+pub hears : (switch : Peer) (one : Came) (bytes : List ℕ) (passed : List Event) (before mid after : Option (List Event)) → Passes switch passed before mid
     → length passed < FOREIGN_LIMIT → one.from ≡ switch → Logs mid after (came one.from bytes ∷ []) → Hears switch bytes before after
 hears switch one bytes passed before mid after so_far few is logged = record {
   passed = passed;
   are_foreign = so_far.are_foreign;
   few = few;
-  logged = logs_more before mid after passed (came switch bytes ∷ []) so_far.logged (subst (λ (from : Endpoint). Logs mid after (came from bytes ∷ [])) is logged);
+  logged = logs_more before mid after passed (came switch bytes ∷ []) so_far.logged (subst (λ (from : Peer). Logs mid after (came from bytes ∷ [])) is logged);
 }

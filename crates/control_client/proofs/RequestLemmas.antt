@@ -1,5 +1,5 @@
 -- Requests that are made of lines.
-use Rattle.std.proofs.Common.{◌≡◌, ◌∙◌, ◌+◌, ◌<◌, ◌++◌, ◌∷◌, List, None, Option, Some, [], ap, append-nil, append_assoc, arith, codes, decimal, false, inl, inr, length, length-append, refl, subst, sym, true, ℕ}
+use Rattle.std.proofs.Common.{◌≡◌, ◌∙◌, ◌+◌, ◌<◌, ◌++◌, ◌∷◌, List, None, Option, Some, [], ap, append-nil, append_assoc, arith, decimal, false, inl, inr, length, length-append, refl, subst, sym, true, ℕ}
 use Rattle.std.proofs.lemmas.Grind.{flat_map-append}
 use Rattle.control_line.specs.Block.{IsHead, after_line_feeds, head_text}
 use Rattle.control_line.specs.declared.head.Head.{Head}

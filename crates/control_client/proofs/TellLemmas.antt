@@ -5,7 +5,7 @@ use Rattle.std.proofs.lemmas.List.{map-append}
 use Rattle.std.proofs.lemmas.List.Folds.{list_any-append}
 use Rattle.std.specs.Io.KnownBytes.{Appends}
 use Rattle.std.specs.Prelude.{IfErr, IfOk}
-use Rattle.ipv4_fields.specs.declared.endpoint.Endpoint.{Endpoint}
+use Rattle.control_client.specs.declared.device.Peer.{Peer}
 use Rattle.command_line.specs.declared.ending.Failure.{Failure}
 use Rattle.command_line.specs.declared.ending.Failure.TheVariants.{BindFailed, NoAnswer, OutOfMemory, PollFailed, ReadFailed, RulesChanged, SpawnFailed, WriteFailed}
 use Rattle.control_client.specs.Exchange.{AreExchanged, Exchange, LineEndsBy, LineTold, has_refusal, is_refusal, lines_of, no_line, one_more, reply_line, text_of}
@@ -17,7 +17,7 @@ use Rattle.std.proofs.KnownBytes.{Appends-nil, Appends-trans}
 use Rattle.control_client.proofs.WireLemmas.{logs_more, logs_nothing}
 
 -- these requests were given and told so far
-pub record IsTelling (switch : Endpoint) (coming now : Option (List (List ℕ))) (log log' : Option (List Event)) (out out' : Option (List ℕ)) (refused : Bool) : Type 0 where
+pub record IsTelling (switch : Peer) (coming now : Option (List (List ℕ))) (log log' : Option (List Event)) (out out' : Option (List ℕ)) (refused : Bool) : Type 0 where
   pub told : List Exchange
   pub events : List Event
   pub given : Gave coming now (lines_of told)
@@ -26,7 +26,7 @@ pub record IsTelling (switch : Endpoint) (coming now : Option (List (List ℕ)))
   pub printed : Appends out out' (text_of told)
   pub refused_is : refused ≡ has_refusal told
 
-pub telling_begins : (switch : Endpoint) (coming : Option (List (List ℕ))) (log : Option (List Event)) (out : Option (List ℕ)) → IsTelling switch coming coming log log out out false
+pub telling_begins : (switch : Peer) (coming : Option (List (List ℕ))) (log : Option (List Event)) (out : Option (List ℕ)) → IsTelling switch coming coming log log out out false
 telling_begins switch coming log out = record {
   told = [];
   events = [];
@@ -53,7 +53,7 @@ has_refusal_more told one =
     list_any-append (λ (each : Exchange). is_refusal each.reply) told (one ∷ []) ∙ ap (λ (b : Bool). has_refusal told || b) (or_false (is_refusal one.reply))
 
 -- how it stops in a line, by the line's fault
-stops_by : (fault : Failure) (switch : Endpoint) (coming : Option (List (List ℕ))) (lines : List (List ℕ)) (line : List ℕ) (log log' : Option (List Event)) (out out' : Option (List ℕ))
+stops_by : (fault : Failure) (switch : Peer) (coming : Option (List (List ℕ))) (lines : List (List ℕ)) (line : List ℕ) (log log' : Option (List Event)) (out out' : Option (List ℕ))
     → AreFirst coming (lines ++ line ∷ []) → LineEndsBy fault switch line log log' out out' → StopsBehind fault switch coming lines log log' out out'
 stops_by NoAnswer switch coming lines line log log' out out' first ends = (line, first, ends)
 stops_by PollFailed switch coming lines line log log' out out' first ends = (line, first, ends)
@@ -64,12 +64,12 @@ stops_by BindFailed switch coming lines line log log' out out' first ends = absu
 stops_by SpawnFailed switch coming lines line log log' out out' first ends = absurd ends
 stops_by RulesChanged switch coming lines line log log' out out' first ends = absurd ends
 
-stops_without : (fault : Failure) (switch : Endpoint) (coming : Option (List (List ℕ))) (lines : List (List ℕ)) (log : Option (List Event)) (out : Option (List ℕ))
+stops_without : (fault : Failure) (switch : Peer) (coming : Option (List (List ℕ))) (lines : List (List ℕ)) (log : Option (List Event)) (out : Option (List ℕ))
     → AreFirst coming lines → (fault ≡ ReadFailed) ⊎ (fault ≡ OutOfMemory) → StopsBehind fault switch coming lines log log out out
 stops_without fault switch coming lines log out first (inl is) = subst (λ (f : Failure). StopsBehind f switch coming lines log log out out) (sym is) (first, refl, refl)
 stops_without fault switch coming lines log out first (inr is) = subst (λ (f : Failure). StopsBehind f switch coming lines log log out out) (sym is) (first, refl, refl)
 
-module _ (switch : Endpoint) (coming mid after : Option (List (List ℕ))) (log log' log'' : Option (List Event)) (out out' out'' : Option (List ℕ)) (refused : Bool)
+module _ (switch : Peer) (coming mid after : Option (List (List ℕ))) (log log' log'' : Option (List Event)) (out out' out'' : Option (List ℕ)) (refused : Bool)
     (so_far : IsTelling switch coming mid log log' out out' refused) where
   -- a request was given and told
   pub telling_on : (line : List ℕ) (one : Bool) → LosesRequest mid after line → LineTold switch line log' log'' out' out'' one
@@ -127,13 +127,13 @@ module _ (switch : Endpoint) (coming mid after : Option (List (List ℕ))) (log 
   }
 
 -- memory for the answers was not to be had
-pub stops_at_start : (switch : Endpoint) (coming : Option (List (List ℕ))) (log : Option (List Event)) (out : Option (List ℕ)) (fault : Failure) → fault ≡ OutOfMemory
+pub stops_at_start : (switch : Peer) (coming : Option (List (List ℕ))) (log : Option (List Event)) (out : Option (List ℕ)) (fault : Failure) → fault ≡ OutOfMemory
     → TellsFirst fault switch coming log log out out
 stops_at_start switch coming log out fault is = stops_between switch coming coming coming log log log out out out false (telling_begins switch coming log out) fault (inr is)
 
 -- ---- all lines as one change
 
-pub change_ends : (fault : Failure) (switch : Endpoint) (coming : Option (List (List ℕ))) (request : List ℕ) (log log' : Option (List Event)) (out out' : Option (List ℕ))
+pub change_ends : (fault : Failure) (switch : Peer) (coming : Option (List (List ℕ))) (request : List ℕ) (log log' : Option (List Event)) (out out' : Option (List ℕ))
     → IsChangeOf coming request → LineEndsBy fault switch request log log' out out' → ChangeEndsBy fault switch coming log log' out out'
 change_ends NoAnswer switch coming request log log' out out' change ends = (request, change, ends)
 change_ends PollFailed switch coming request log log' out out' change ends = (request, change, ends)
@@ -144,12 +144,12 @@ change_ends BindFailed switch coming request log log' out out' change ends = abs
 change_ends SpawnFailed switch coming request log log' out out' change ends = absurd ends
 change_ends RulesChanged switch coming request log log' out out' change ends = absurd ends
 
-pub change_not_made : (fault : Failure) (switch : Endpoint) (coming : Option (List (List ℕ))) (log : Option (List Event)) (out : Option (List ℕ))
+pub change_not_made : (fault : Failure) (switch : Peer) (coming : Option (List (List ℕ))) (log : Option (List Event)) (out : Option (List ℕ))
     → (fault ≡ ReadFailed) ⊎ (fault ≡ OutOfMemory) → ChangeEndsBy fault switch coming log log out out
 change_not_made fault switch coming log out (inl is) = subst (λ (f : Failure). ChangeEndsBy f switch coming log log out out) (sym is) (refl, refl)
 change_not_made fault switch coming log out (inr is) = subst (λ (f : Failure). ChangeEndsBy f switch coming log log out out) (sym is) (refl, refl)
 
-module _ (result : Result Bool Failure) (switch : Endpoint) (coming : Option (List (List ℕ))) (request : List ℕ) (log log' : Option (List Event)) (out out' : Option (List ℕ))
+module _ (result : Result Bool Failure) (switch : Peer) (coming : Option (List (List ℕ))) (request : List ℕ) (log log' : Option (List Event)) (out out' : Option (List ℕ))
     (change : IsChangeOf coming request) where
   pub change_told : IfOk result (LineTold switch request log log' out out') → IfOk result (TellsChange switch coming log log' out out')
   change_told told = by_result result told

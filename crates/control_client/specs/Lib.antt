@@ -1,7 +1,10 @@
 pub mod Wire
 pub mod Lines
+pub mod Carried
 pub mod Exchange
 pub mod Tell
+pub mod Stream
+pub mod Trouble
 pub mod body
 pub use Rattle.control_line.specs.Block
 pub use Rattle.control_line.specs.Rules

@@ -1,12 +1,20 @@
 -- What contracts see of the wire to a switch: what was sent, what came, and where nothing came in time.
 use Rattle.std.specs.Prelude.{◌≡◌, ◌++◌, ◌∷◌, Err, List, None, Ok, Option, Result, Some, [], take, ℕ}
-use Rattle.ipv4_fields.specs.declared.endpoint.Endpoint.{Endpoint}
+use Rattle.command_line.specs.declared.control_address.ControlAddress.{ControlAddress}
+use Rattle.command_line.specs.declared.control_address.ControlAddress.TheVariants as address
+use Rattle.control_client.specs.declared.device.Peer.{Peer}
+use Rattle.control_client.specs.declared.device.Peer.TheVariants.{Udp, Unix}
 use Rattle.control_client.specs.declared.device.Came.{Came}
 
--- one thing that happened: a datagram was sent, one came, or none came in time
+-- the other end of a wire to this address
+abbrev pub peer_of : ControlAddress → Peer
+peer_of (address.Udp endpoint) = Udp endpoint
+peer_of (address.Unix path) = Unix
+
+-- one thing that happened: a request was sent, a reply came, or none came in time
 pub data Event : Type 0 where
-  sent : (to : Endpoint) (bytes : List ℕ) → Event
-  came : (from : Endpoint) (bytes : List ℕ) → Event
+  sent : (to : Peer) (bytes : List ℕ) → Event
+  came : (from : Peer) (bytes : List ℕ) → Event
   none_came : Event
 
 -- what a wire tells is what it told before, and then these; a wire may tell nothing
@@ -16,7 +24,7 @@ Logs (Some log) None events = ⊥
 Logs (Some log) (Some later) events = later ≡ log ++ events
 
 -- what happened in a send that ended so
-abbrev pub sent_by : {E : Type 0} → Result (Unit {0}) E → Endpoint → List ℕ → List Event
+abbrev pub sent_by : {E : Type 0} → Result (Unit {0}) E → Peer → List ℕ → List Event
 sent_by (Ok done) to bytes = sent to bytes ∷ []
 sent_by (Err fault) to bytes = []
 

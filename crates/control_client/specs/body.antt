@@ -1,3 +1,4 @@
 pub mod Asking
 pub mod LineEnd
 pub mod Collecting
+pub mod Feeds

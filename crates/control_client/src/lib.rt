@@ -1,33 +1,43 @@
 //! Telling control lines to a running switch (docs/COMMANDS.md, "tell").
 //!
-//! `tell` sends requests over any `Wire`, one datagram each, and prints the replies; `tell_change` sends all lines as one change.
-//! `UdpWire` is a wire over a socket. The lines come from a script or from words.
+//! `tell` sends requests over any `Wire`, one at a time, and prints the replies; `tell_change` sends all lines as one change.
+//! `SocketWire` is a wire over a UDP socket, or over the socket file of a switch. The lines come from a script or from words.
 #![tactic(auto)]
 
 ghost use Rattle.std.specs.Prelude.{◌≡◌, IfErr, IfOk, None};
+ghost use Rattle.control_client.specs.Wire.{peer_of};
 ghost use Rattle.control_client.specs.Tell.{ChangeEndsBy, ChangeStopsOverSocket, StopsOverSocket, TellsAll, TellsChange, TellsFirst};
 
 mod asking;
+mod carrying;
+mod connection;
 mod device;
 mod given_lines;
 mod printing;
 mod request;
+mod socket_wire;
+mod stream_lines;
+mod trouble;
 mod udp_device;
+mod unix_device;
 
 use asking::exchange;
-pub use asking::{FOREIGN_LIMIT, LONGEST_DATAGRAM, LONGEST_LINE, ask};
+pub use asking::{FOREIGN_LIMIT, LONGEST_DATAGRAM, ask};
+pub use carrying::{LONGEST_LINE, unsent_reply};
 use command_line::Failure;
-pub use device::{Came, Wire, WireFailed};
+pub use device::{Came, Peer, Wire, WireFailed};
 pub use given_lines::{InputLines, Lines, WordLines};
-use ipv4_fields::Endpoint;
 pub use printing::is_refusal;
 pub use request::block_of;
 use request::next_request;
+pub use socket_wire::{Reach, SocketWire};
 use std::alloc::Global;
 use std::io::Write;
 use std::net::Net;
 use std::time::Clock;
+pub use trouble::{LONGEST_PATH, Trouble};
 pub use udp_device::UdpWire;
+pub use unix_device::UnixWire;
 
 // How the first line of a change begins.
 const CHANGE: &[u8] = b"all ";
@@ -35,6 +45,7 @@ const CHANGE: &[u8] = b"all ";
 /// Law: the limits, as numbers. It runs nothing.
 pub fn limits_as_numbers()
     ensures line { LONGEST_LINE ≡ 65507 }
+    ensures path { LONGEST_PATH ≡ 107 }
     ensures foreign { FOREIGN_LIMIT ≡ 4096 }
 {}
 
@@ -42,13 +53,13 @@ pub fn limits_as_numbers()
 /// the block with it. True if a reply says that its request was not done: it begins with `refused ` or `failed `.
 ///
 /// A request is sent when the reply to the one before was printed and flushed. It goes on after one that was not done, and ends at
-/// the first one without an answer. So an answer that comes late is taken for no other request's. A request of more than
-/// `LONGEST_LINE` bytes is not sent, and its reply is `refused C2`. It tells 2^64 - 1 requests at most.
+/// the first one without an answer. So an answer that comes late is taken for no other request's. A request that the wire does not
+/// carry is not sent, and `unsent_reply` is its reply. It tells 2^64 - 1 requests at most.
 pub fn tell<L: Lines, D: Wire, W: Write>(
     alloc: Global,
     lines: &mut L,
     wire: &mut D,
-    switch: Endpoint,
+    switch: Peer,
     out: &mut W,
 ) -> Result<bool, Failure>
     ensures all_told { IfOk result (TellsAll switch (L.coming lines.old) (D.log wire.old) (D.log wire.new) (W.contents out.old) (W.contents out.new)) }
@@ -70,32 +81,31 @@ pub fn tell<L: Lines, D: Wire, W: Write>(
     Err(Failure::ReadFailed)
 }
 
-/// Tells the lines over a UDP socket of its own, with so many seconds for each answer.
-pub fn tell_over_udp<R: Clock + Net, L: Lines, W: Write>(
+/// Tells the lines over a socket of its own.
+pub fn tell_over_socket<R: Clock + Net, L: Lines, W: Write>(
     rt: &R,
     alloc: Global,
-    seconds: u64,
+    reach: Reach<'_>,
     lines: &mut L,
-    switch: Endpoint,
     out: &mut W,
 ) -> Result<bool, Failure>
-    ensures all_told { IfOk result (TellsAll switch (L.coming lines.old) None None (W.contents out.old) (W.contents out.new)) }
+    ensures all_told { IfOk result (TellsAll (peer_of reach.entry.address) (L.coming lines.old) None None (W.contents out.old) (W.contents out.new)) }
     ensures first_told { IfErr result (λ fault.
-        StopsOverSocket fault switch (L.coming lines.old) (W.contents out.old) (W.contents out.new)) }
+        StopsOverSocket fault (peer_of reach.entry.address) (L.coming lines.old) (W.contents out.old) (W.contents out.new)) }
 {
-    let mut wire = UdpWire::bind(rt, alloc, seconds)?;
-    tell(alloc, lines, &mut wire, switch, out)
+    let mut wire = SocketWire::open(rt, alloc, reach)?;
+    tell(alloc, lines, &mut wire, reach.peer(), out)
 }
 
 /// Sends all lines to the switch as one change, `all N` and the N lines, and prints its reply with LF. True if the reply says that the
 /// change was not done.
 ///
-/// A change of more than `LONGEST_LINE` bytes is not sent, and its reply is `refused C2`.
+/// A change that the wire does not carry is not sent, and `unsent_reply` is its reply.
 pub fn tell_change<L: Lines, D: Wire, W: Write>(
     alloc: Global,
     lines: &mut L,
     wire: &mut D,
-    switch: Endpoint,
+    switch: Peer,
     out: &mut W,
 ) -> Result<bool, Failure>
     ensures change_told { IfOk result (TellsChange switch (L.coming lines.old) (D.log wire.old) (D.log wire.new) (W.contents out.old) (W.contents out.new)) }
@@ -107,19 +117,18 @@ pub fn tell_change<L: Lines, D: Wire, W: Write>(
     exchange(wire, switch, &request, &mut room, out)
 }
 
-/// Tells all lines as one change over a UDP socket of its own, with so many seconds for the answer.
-pub fn tell_change_over_udp<R: Clock + Net, L: Lines, W: Write>(
+/// Tells all lines as one change over a socket of its own.
+pub fn tell_change_over_socket<R: Clock + Net, L: Lines, W: Write>(
     rt: &R,
     alloc: Global,
-    seconds: u64,
+    reach: Reach<'_>,
     lines: &mut L,
-    switch: Endpoint,
     out: &mut W,
 ) -> Result<bool, Failure>
-    ensures change_told { IfOk result (TellsChange switch (L.coming lines.old) None None (W.contents out.old) (W.contents out.new)) }
+    ensures change_told { IfOk result (TellsChange (peer_of reach.entry.address) (L.coming lines.old) None None (W.contents out.old) (W.contents out.new)) }
     ensures change_ended { IfErr result (λ fault.
-        ChangeStopsOverSocket fault switch (L.coming lines.old) (W.contents out.old) (W.contents out.new)) }
+        ChangeStopsOverSocket fault (peer_of reach.entry.address) (L.coming lines.old) (W.contents out.old) (W.contents out.new)) }
 {
-    let mut wire = UdpWire::bind(rt, alloc, seconds)?;
-    tell_change(alloc, lines, &mut wire, switch, out)
+    let mut wire = SocketWire::open(rt, alloc, reach)?;
+    tell_change(alloc, lines, &mut wire, reach.peer(), out)
 }

@@ -3,7 +3,7 @@
 ghost use Rattle.std.specs.Prelude.{IfErr};
 ghost use Rattle.control_client.specs.Tell.{IsMakingFault};
 
-use crate::device::{Came, Wire, WireFailed};
+use crate::device::{Came, Peer, Wire, WireFailed};
 use command_line::Failure;
 use ipv4_fields::Endpoint;
 use mio::net::UdpSocket;
@@ -90,7 +90,10 @@ impl<R: Clock> Wire for UdpWire<'_, R> {
 
     ghost log = { λ _. None };
 
-    fn send(&mut self, to: Endpoint, bytes: &[u8]) -> Result<(), WireFailed> {
+    fn send(&mut self, to: Peer, bytes: &[u8]) -> Result<(), WireFailed> {
+        let Peer::Udp(to) = to else {
+            return Err(WireFailed);
+        };
         let Ok(now) = Instant::now(self.clock) else {
             return Err(WireFailed);
         };
@@ -106,7 +109,10 @@ impl<R: Clock> Wire for UdpWire<'_, R> {
             match self.socket.recv_from(buf) {
                 Ok((len, from)) => {
                     if let Some(from) = Endpoint::from_socket_address(from) {
-                        return Ok(Some(Came { from, len }));
+                        return Ok(Some(Came {
+                            from: Peer::Udp(from),
+                            len,
+                        }));
                     }
                 }
                 Err(error) if error.kind() == ErrorKind::WouldBlock => {

@@ -1,7 +1,6 @@
 -- The lines of a block, and what they make of a configuration.
-use Rattle.std.proofs.Common.{◌≡◌, ◌∙◌, ◌+◌, ◌≤◌, ◌∷◌, ◌++◌, Err, List, Ok, Option, None, Result, Some, [], ap, append_assoc, append-nil, arith, length, length-append, refl, subst, suc, sym, ℕ}
+use Rattle.std.proofs.Common.{◌≡◌, ◌∙◌, ◌+◌, ◌≤◌, ◌∷◌, ◌++◌, Err, List, Ok, Result, [], ap, append_assoc, append-nil, arith, length, length-append, refl, subst, suc, sym, ℕ}
 use Rattle.std.specs.Prelude.{MatchResult}
-use Rattle.std.specs.Option.{unwrap_or}
 use Rattle.std.specs.List.{All}
 use Rattle.std.proofs.lemmas.List.Elements.{All-append, All-cons, All-head, All-nil, All-tail}
 use Rattle.ipv4_fields.specs.Cut.{Lacks}
@@ -22,12 +21,12 @@ use Rattle.control_line.specs.body.Making.{IsChangeDone, IsChangeFault}
 
 -- ---- one of several lines
 
-pub line_result : (line : List ℕ) (real : List Group) (command : Command Source) → length line ≤ LINE_LIMIT → Spells line (change command) → (result : Result (List Group) LineFault)
-    → MatchResult result (IsChangeDone command real) (IsChangeFault command real) → MatchResult result (IsDone real line) (IsLineFault real line)
-line_result line real command short spells (Ok next) done = λ text agrees.
-    let now = done text agrees in (now.0, record { command = command; short = short; spells = spells; leads = now.1 }, now.2)
-line_result line real command short spells (Err (failure_of.Refused why)) fault = λ text agrees. bad_change command why short spells (fault.1 text agrees)
-line_result line real command short spells (Err failure_of.OutOfMemory) fault = tt
+pub line_result : {V : Type 0} (line : List ℕ) (real next : List Group) (command : Command Source) → length line ≤ LINE_LIMIT → Spells line (change command) → (result : Result V LineFault)
+    → MatchResult result (λ _. IsChangeDone command real next) (IsChangeFault command real) → MatchResult result (λ _. IsDone real line next) (IsLineFault real line)
+line_result line real next command short spells (Ok done) is = λ text agrees.
+    let now = is text agrees in (now.0, record { command = command; short = short; spells = spells; leads = now.1 }, now.2)
+line_result line real next command short spells (Err (failure_of.Refused why)) fault = λ text agrees. bad_change command why short spells (fault.1 text agrees)
+line_result line real next command short spells (Err failure_of.OutOfMemory) fault = tt
 
 -- ---- the lines of a text
 
@@ -116,22 +115,17 @@ lead_on by _ _ _ next line (one_more config first rest mid last also lead) done 
 
 -- ---- the configuration that lines make
 
--- the configuration at hand
-abbrev pub at_hand : List Group → Option (List Group) → List Group
-at_hand start None = start
-at_hand start (Some config) = config
-
-pub record AreDoneTo (start : List Group) (made : Option (List Group)) (number : ℕ) (left : List ℕ) (lines : List (List ℕ)) : Type 0 where
+-- so many lines are done, and the others are left
+pub record AreDoneTo (start config : List Group) (number : ℕ) (left : List ℕ) (lines : List (List ℕ)) : Type 0 where
   pub done : List (List ℕ)
   pub others : List (List ℕ)
   pub all : lines ≡ done ++ others
   pub are_lines : All (Lacks 10) others
   pub left_is : left ≡ after_line_feeds others
   pub count : number ≡ length done
-  pub leads : AreDone start done (at_hand start made)
-  pub none : made ≡ None → done ≡ []
+  pub leads : AreDone start done config
 
-pub none_done : (start : List Group) (text : List ℕ) (lines : List (List ℕ)) → AreLines text lines → AreDoneTo start None 0 text lines
+pub none_done : (start : List Group) (text : List ℕ) (lines : List (List ℕ)) → AreLines text lines → AreDoneTo start start 0 text lines
 none_done start text lines are = record {
   done = [];
   others = lines;
@@ -140,10 +134,9 @@ none_done start text lines are = record {
   left_is = are.whole;
   count = refl;
   leads = λ config agrees. (config, no_line config, agrees);
-  none = λ same. refl;
 }
 
-module _ (start : List Group) (made : Option (List Group)) (number : ℕ) (left : List ℕ) (lines : List (List ℕ)) (so_far : AreDoneTo start made number left lines) where
+module _ (start config : List Group) (number : ℕ) (left : List ℕ) (lines : List (List ℕ)) (so_far : AreDoneTo start config number left lines) where
   module _ (line rest : List ℕ) (next : IsNextLine left line rest) where
     abbrev at_next : (others : List (List ℕ)) × (so_far.others ≡ line ∷ others) × (rest ≡ after_line_feeds others)
     at_next = next_of so_far.others left line rest so_far.are_lines so_far.left_is next
@@ -160,8 +153,8 @@ module _ (start : List Group) (made : Option (List Group)) (number : ℕ) (left 
     numbered_is : numbered 1 (so_far.done ++ line ∷ []) ≡ numbered 1 so_far.done ++ this ∷ []
     numbered_is = numbered-append 1 so_far.done (line ∷ []) ∙ ap (λ k. numbered 1 so_far.done ++ numbered k (line ∷ [])) number_is
 
-    pub line_done : (config : List Group) → IsDone (at_hand start made) line config → AreDoneTo start (Some config) (number + 1) rest lines
-    line_done config is = record {
+    pub line_done : (after : List Group) → IsDone config line after → AreDoneTo start after (number + 1) rest lines
+    line_done after is = record {
       done = so_far.done ++ line ∷ [];
       others = at_next.0;
       all = all_is;
@@ -175,10 +168,9 @@ module _ (start : List Group) (made : Option (List Group)) (number : ℕ) (left 
             subst (λ ls. LeadBy IsProgramFor text ls then.0) (sym numbered_is) (lead_on IsProgramFor (numbered 1 so_far.done) text now.0 then.0 this now.1 then.1),
             then.2,
           );
-      none = λ same. absurd (cc);
     }
 
-    fault_at : (fault : LineFault) → IsLineFault (at_hand start made) line fault → IsFaultAt start lines (number + 1) fault
+    fault_at : (fault : LineFault) → IsLineFault config line fault → IsFaultAt start lines (number + 1) fault
     fault_at (failure_of.Refused why) is = λ text agrees.
         let now = so_far.leads text agrees in
         record {
@@ -197,7 +189,7 @@ module _ (start : List Group) (made : Option (List Group)) (number : ℕ) (left 
         }
     fault_at failure_of.OutOfMemory is = tt
 
-    pub line_failed : (fault : BlockFault) → fault.line ≡ number + 1 → IsLineFault (at_hand start made) line fault.fault → IsFirstFault start lines fault
+    pub line_failed : (fault : BlockFault) → fault.line ≡ number + 1 → IsLineFault config line fault.fault → IsFirstFault start lines fault
     line_failed fault same is = subst (λ n. IsFaultAt start lines n fault.fault) (sym same) (fault_at fault.fault is)
 
   module _ (none_left : left ≡ []) where
@@ -208,20 +200,5 @@ module _ (start : List Group) (made : Option (List Group)) (number : ℕ) (left 
     all_done_lines : lines ≡ so_far.done
     all_done_lines = so_far.all ∙ ap (λ (ls : List (List ℕ)). so_far.done ++ ls) (none_of so_far.others so_far.left_is) ∙ append-nil so_far.done
 
-    all_done : (config : List Group) → made ≡ Some config → AreDone start lines config
-    all_done config is = subst (λ ls. AreDone start ls config) (sym all_done_lines) (subst (AreDone start so_far.done) (ap (at_hand start) is) so_far.leads)
-
-    -- there was no line
-    nothing_done : (text : List ℕ) → AreLines text lines → made ≡ None → (text ≡ [] → start ≡ []) → AreDone start lines []
-    nothing_done text are is empty =
-        let none : lines ≡ [] = all_done_lines ∙ so_far.none is in
-        let no_groups : start ≡ [] = empty (are.whole ∙ ap after_line_feeds none) in
-        subst (λ ls. AreDone start ls []) (sym none) (subst (AreDone start []) no_groups (λ config agrees. (config, no_line config, agrees)))
-
-    -- the last configuration, or the new one where there was no line
-    pub all_done_or_start : (text : List ℕ) → AreLines text lines → (text ≡ [] → start ≡ []) → (fresh : List Group) → fresh ≡ [] → (last : List Group) → last ≡ unwrap_or made fresh → AreDone start lines last
-    all_done_or_start text are empty fresh none last is = by_made made refl
-      where
-        by_made : (there : Option (List Group)) → made ≡ there → AreDone start lines last
-        by_made None same = subst (AreDone start lines) (sym (is ∙ ap (λ m. unwrap_or m fresh) same ∙ none)) (nothing_done text are same empty)
-        by_made (Some config) same = subst (AreDone start lines) (sym (is ∙ ap (λ m. unwrap_or m fresh) same)) (all_done config same)
+    pub all_done : AreDone start lines config
+    all_done = subst (λ ls. AreDone start ls config) (sym all_done_lines) so_far.leads

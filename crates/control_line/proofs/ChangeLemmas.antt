@@ -117,6 +117,11 @@ module _ (command : Command Source) (real : List Group) (made : Command ProgramV
   change_result (Ok next) is = leads_to command real is_made.0 is_made.1 next (subst (λ c. IsNext c real next) is_made.2 is)
   change_result (Err failure) is = no_next failure is
 
+  pub done_result : {V : Type 0} (next : List Group) (result : Result V LineFault) → MatchResult result (λ _. IsNext made real next) (IsRefusedFor (first_refusal made real))
+      → MatchResult result (λ _. IsChangeDone command real next) (IsChangeFault command real)
+  done_result next (Ok done) is = leads_to command real is_made.0 is_made.1 next (subst (λ c. IsNext c real next) is_made.2 is)
+  done_result next (Err failure) is = no_next failure is
+
 -- ---- publications
 
 module _ (next : List Group) (before : OperatorValue) where

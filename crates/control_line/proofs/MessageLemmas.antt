@@ -1,5 +1,5 @@
 -- The reply to a block, and what it leaves.
-use Rattle.std.proofs.Common.{◌≡◌, ◌≢◌, ◌∙◌, ◌<◌, ◌≤◌, ◌++◌, ◌∷◌, List, [], ap, arith, length, refl, subst, sym, ℕ}
+use Rattle.std.proofs.Common.{◌≡◌, ◌≢◌, ◌∙◌, ◌<◌, ◌≤◌, List, [], ap, arith, length, refl, subst, sym, ℕ}
 use Rattle.std.specs.Prelude.{IfSome}
 use Rattle.config_image.specs.Image.{Group}
 use Rattle.versions.specs.Free.{number_after}
@@ -19,7 +19,7 @@ use Rattle.control_line.specs.declared.reply.LineAnswer.TheVariants.{LineRefused
 use Rattle.control_line.specs.Agrees.{Agrees, AgreesNow, TextConfig}
 use Rattle.filter_program.specs.Program.{IsProgramFor}
 use Rattle.control_line.specs.Answer.{AsksForChange, IsAnswered, IsFirstRefused, all_made, bad_form, changed_together, config_at, line_refused, numbered, other_version, replied, too_long}
-use Rattle.control_line.specs.Block.{HasHead, IsBlock, IsCountFor, IsHead, IsTooLong, Message, SpellsMessage, after_line_feeds, block, for_version, head_text, long_block, long_line, single}
+use Rattle.control_line.specs.Block.{HasHead, IsBlock, IsTooLong, Message, SpellsMessage, after_line_feeds, block, for_version, head_text, long_block, long_line, single}
 use Rattle.control_line.specs.Request.{change, read}
 use Rattle.control_line.specs.body.Blocks.{AreDone, AreLines, IsFaultAt, IsFirstFault, IsOther, IsStart, reply_to_fault, reply_to_line}
 use Rattle.control_line.specs.body.Making.{IsOutcome, IsPublication}
@@ -109,15 +109,3 @@ module _ (text : List ℕ) (head : Head) (rest : List ℕ) (has : HasHead text h
               let left = publication.text config made.0 agrees made.2 in
               (left.0, replied (block head lines) _ _ not_long is_block (changed_together head lines _ _ meant (all_made made.0 answer left.0 made.1 left.1)), left.2);
         }
-
--- a block without lines changes the configuration without groups
-pub empty_start : (head : Head) (text : List ℕ) (lines : List (List ℕ)) → IsHead head → AreLines text lines → length lines ≡ head.count → text ≡ [] → head.start ≡ Empty
-empty_start head text lines is are count none = by_start head.start is.count
-  where
-    none_of : (lines : List (List ℕ)) → text ≡ after_line_feeds lines → length lines ≡ 0
-    none_of [] whole = refl
-    none_of (line ∷ lines) whole = let empty : 10 ∷ (line ++ after_line_feeds lines) ≡ [] = sym whole ∙ none in absurd (cc)
-
-    by_start : (start : Start) → IsCountFor start head.count → start ≡ Empty
-    by_start Current some = let zero = none_of lines are.whole in absurd (omega (arith, some.0, zero, count))
-    by_start Empty some = refl

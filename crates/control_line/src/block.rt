@@ -5,12 +5,12 @@ ghost use Rattle.control_line.specs.Answer.{AsksForChange, IsAnswered};
 ghost use Rattle.control_line.specs.Block.{EndsLine, HasHead, IsHead};
 ghost use Rattle.control_line.specs.body.Blocks.{AreDone, AreLines, IsDone, IsFirstFault, IsLineFault, IsNextLine, IsOther, IsStart, reply_to_fault};
 ghost use Rattle.config_image.specs.Image.{Group};
-ghost use Rattle.control_line.specs.declared.head.Start.TheVariants.{Empty};
+ghost use Rattle.read_section.specs.Operator.{IsCurrent};
 ghost use Rattle.control_line.specs.declared.program.LineFault.TheVariants as line_fault;
 ghost use Rattle.control_line.specs.body.Making.{IsOutcome, IsShort};
 
 use crate::BLOCK_LIMIT;
-use crate::change::{line_done, publish_next};
+use crate::change::{do_line, publish_next};
 use crate::head::{Head, Start, cut_line};
 use crate::program::LineFault;
 use crate::reason::Reason;
@@ -51,17 +51,17 @@ pub(crate) fn count_lines(text: &[u8]) -> usize
     count
 }
 
-// The configuration after one of the lines.
-fn config_after(
+// Changes a configuration by one of the lines.
+fn do_numbered(
     alloc: Global,
-    config: &Config,
+    config: &mut Config,
     line: &[u8],
     number: u32,
-) -> Result<Config, BlockFault>
-    ensures { MatchResult result (IsDone config.now line.now) (λ fault. (fault.line ≡ number) × IsLineFault config.now line.now fault.fault) }
+) -> Result<(), BlockFault>
+    ensures { MatchResult result (λ _. IsDone config.old line.now config.new) (λ fault. (fault.line ≡ number) × IsLineFault config.old line.now fault.fault) }
 {
-    match line_done(alloc, config, line) {
-        Ok(next) => Ok(next),
+    match do_line(alloc, config, line) {
+        Ok(()) => Ok(()),
         Err(fault) => Err(BlockFault {
             line: number,
             fault,
@@ -69,33 +69,37 @@ fn config_after(
     }
 }
 
-/// What the lines make of a configuration, one after the other. No lines are for a configuration without groups only.
-pub(crate) fn config_of_lines(
-    alloc: Global,
-    start: &Config,
-    text: &[u8],
-) -> Result<Config, BlockFault>
+// What the lines make of a configuration, one after the other.
+fn config_of_lines(alloc: Global, start: Config, text: &[u8]) -> Result<Config, BlockFault>
     requires ends_line { EndsLine text.now }
     requires few { length text.now ≤ BLOCK_LIMIT }
-    requires none { text.now ≡ [] → start.now ≡ [] }
-    ensures { (lines : List (List ℕ)) → AreLines text.now lines → MatchResult result (AreDone start.now lines) (IsFirstFault start.now lines) }
+    ensures { (lines : List (List ℕ)) → AreLines text.now lines → MatchResult result (AreDone start lines) (IsFirstFault start lines) }
 {
-    let mut made = None;
+    let mut config = start;
     let mut number = 0;
     let mut left = text;
     while let Some((line, rest)) = next_line(left) {
         number += 1;
-        let config = match &made {
-            Some(config) => config,
-            None => start,
-        };
-        made = Some(config_after(alloc, config, line, number)?);
+        do_numbered(alloc, &mut config, line, number)?;
         left = rest;
     }
-    Ok(made.unwrap_or(Config::new(alloc)))
+    Ok(config)
 }
 
-// What the lines make of the configuration that a block changes. A block without lines changes the one without groups.
+// The current configuration once more, for the lines to change.
+fn current_copy(operator: &Operator) -> Result<Config, BlockFault>
+    ensures { (real : List Group) × IsCurrent operator.now.view real × MatchResult result (λ copy. copy ≡ real) (λ fault. fault.fault ≡ line_fault.OutOfMemory) }
+{
+    match operator.config().copy() {
+        Ok(config) => Ok(config),
+        Err(_refused) => Err(BlockFault {
+            line: 1,
+            fault: LineFault::OutOfMemory,
+        }),
+    }
+}
+
+// What the lines make of the configuration that a block changes.
 fn config_of_block(
     alloc: Global,
     start: Start,
@@ -104,13 +108,12 @@ fn config_of_block(
 ) -> Result<Config, BlockFault>
     requires ends_line { EndsLine lines.now }
     requires few { length lines.now ≤ BLOCK_LIMIT }
-    requires none { lines.now ≡ [] → start ≡ Empty }
     ensures { (real : List Group) × IsStart start operator.now.view real × ((them : List (List ℕ)) → AreLines lines.now them →
         MatchResult result (AreDone real them) (IsFirstFault real them)) }
 {
     match start {
-        Start::Current => config_of_lines(alloc, operator.config(), lines),
-        Start::Empty => config_of_lines(alloc, &Config::new(alloc), lines),
+        Start::Current => config_of_lines(alloc, current_copy(operator)?, lines),
+        Start::Empty => config_of_lines(alloc, Config::new(alloc), lines),
     }
 }
 

@@ -40,15 +40,38 @@ pub(crate) fn changed(
     next_config(config, &command)
 }
 
-/// The configuration after one of several lines, which has to ask for a change.
-pub(crate) fn line_done(alloc: Global, config: &Config, line: &[u8]) -> Result<Config, LineFault>
-    ensures { MatchResult result (IsDone config.now line.now) (IsLineFault config.now line.now) }
+fn do_command(config: &mut Config, command: &Command) -> Result<(), LineFault>
+    ensures { MatchResult result (λ _. IsNext command.now config.old config.new) (IsRefusedFor (first_refusal command.now config.old)) }
+{
+    match config.change(command) {
+        Ok(()) => Ok(()),
+        Err(Refusal::OutOfMemory) => Err(LineFault::OutOfMemory),
+        Err(refusal) => Err(LineFault::Refused(Reason::Command(refusal))),
+    }
+}
+
+// Changes a configuration as a line asks.
+fn do_change(
+    alloc: Global,
+    config: &mut Config,
+    command: Command<ProgramText<'_>>,
+) -> Result<(), LineFault>
+    ensures { let asked = command_over source_of command.entry in
+        MatchResult result (λ _. IsChangeDone asked config.old config.new) (IsChangeFault asked config.old) }
+{
+    let made = command_of(alloc, command)?;
+    do_command(config, &made)
+}
+
+/// Changes a configuration as one of several lines asks, which has to ask for a change.
+pub(crate) fn do_line(alloc: Global, config: &mut Config, line: &[u8]) -> Result<(), LineFault>
+    ensures { MatchResult result (λ _. IsDone config.old line.now config.new) (IsLineFault config.old line.now) }
 {
     if line.len() > LINE_LIMIT {
         return Err(LineFault::Refused(Reason::LineTooLong));
     }
     match read_change(line) {
-        Some(command) => changed(alloc, config, command),
+        Some(command) => do_change(alloc, config, command),
         None => Err(LineFault::Refused(Reason::BadForm)),
     }
 }

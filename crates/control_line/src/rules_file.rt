@@ -4,7 +4,7 @@ ghost use Rattle.std.specs.Prelude.{◌≡◌, ◌≤◌, ◌↔◌, IsTrue, Mat
 ghost use Rattle.control_line.specs.Rules.{IsConfigOf, IsFaultOfFile, IsShortFile, is_blank, is_skipped, line_numbered, lines_in, rule_of, rules_in, without_return};
 ghost use Rattle.control_line.specs.body.Rules.{AreRulesDone, IsFileFaultAt, IsFirstLine, IsLineDone, IsLineFaultAt};
 
-use crate::change::line_done;
+use crate::change::do_line;
 use crate::program::LineFault;
 use crate::reason::Reason;
 use crate::{BLOCK_LIMIT, MOST_LINES};
@@ -105,21 +105,16 @@ fn count_rules(text: &[u8]) -> usize
     count
 }
 
-// The configuration after a line of a file.
+// Changes a configuration by a line of a file.
 #[tactic(auto, using(crate::proofs::RulesLemmas::line_skipped, crate::proofs::RulesLemmas::line_is_done, crate::proofs::RulesLemmas::line_is_refused))]
-fn config_after(
-    alloc: Global,
-    config: Config,
-    line: &[u8],
-    number: u32,
-) -> Result<Config, RulesFault>
-    ensures { MatchResult result (IsLineDone config line.now) (IsLineFaultAt config line.now number) }
+fn do_rule(alloc: Global, config: &mut Config, line: &[u8], number: u32) -> Result<(), RulesFault>
+    ensures { MatchResult result (λ _. IsLineDone config.old line.now config.new) (IsLineFaultAt config.old line.now number) }
 {
     if is_skipped(line) {
-        return Ok(config);
+        return Ok(());
     }
-    match line_done(alloc, &config, without_return(line)) {
-        Ok(next) => Ok(next),
+    match do_line(alloc, config, without_return(line)) {
+        Ok(()) => Ok(()),
         Err(LineFault::Refused(reason)) => Err(RulesFault::Refused {
             line: Some(number),
             reason,
@@ -139,8 +134,7 @@ fn config_of_rules(alloc: Global, text: &[u8]) -> Result<Config, RulesFault>
     let mut left = text;
     while let Some((line, rest)) = next_line(left) {
         number += 1;
-        let next = config_after(alloc, config, line, number)?;
-        config = next;
+        do_rule(alloc, &mut config, line, number)?;
         left = rest;
     }
     Ok(config)

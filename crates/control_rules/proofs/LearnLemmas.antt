@@ -3,9 +3,9 @@ use Rattle.std.proofs.Common.{◌≡◌, ◌∙◌, ◌++◌, ◌∷◌, List, N
 use Rattle.std.specs.Prelude.{Err, IfOk, IfSome, Ok, Result}
 use Rattle.std.specs.List.{All}
 use Rattle.std.proofs.lemmas.List.Elements.{All-append, All-cons, All-head, All-nil, All-tail}
-use Rattle.ipv4_fields.specs.declared.endpoint.Endpoint.{Endpoint}
 use Rattle.control_client.specs.Exchange.{AreExchanged, Asks, Exchange, no_line, one_more}
 use Rattle.control_client.specs.Wire.{Event}
+use Rattle.control_client.specs.declared.device.Peer.{Peer}
 use Rattle.control_client.proofs.WireLemmas.{logs_more, logs_nothing}
 use Rattle.control_rules.specs.History.{AreConfigs, ClientValue, History, IsReadLine, IsTrueTo, Learns}
 
@@ -18,7 +18,7 @@ module _ {X : Type 0} (P : X → Type 0) where
   all_right [] ys all = all
   all_right (x ∷ xs) ys all = all_right xs ys (All-tail P x (xs ++ ys) all)
 
-exchanged-append : (switch : Endpoint) (told more : List Exchange) (events later : List Event) → AreExchanged switch told events →
+exchanged-append : (switch : Peer) (told more : List Exchange) (events later : List Event) → AreExchanged switch told events →
     AreExchanged switch more later → AreExchanged switch (told ++ more) (events ++ later)
 exchanged-append switch told [] events [] one no_line =
     rw (append-nil told, append-nil events) one

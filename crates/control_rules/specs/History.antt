@@ -1,7 +1,6 @@
 -- What replies say of the configurations of a switch. Each reply shows the configuration of one version (docs/COMMANDS.md, "rules").
 use Rattle.std.specs.Prelude.{◌≡◌, ◌≤◌, ◌⊎◌, List, Option, codes, length, ℕ}
 use Rattle.std.specs.List.{All}
-use Rattle.ipv4_fields.specs.declared.endpoint.Endpoint.{Endpoint}
 use Rattle.config_image.specs.Image.{Group}
 use Rattle.member_group.specs.Charge.{charge_of, members_of}
 use Rattle.member_group.specs.Group.{IsConfig}
@@ -13,6 +12,7 @@ use Rattle.control_line.specs.declared.reply.LineAnswer.{LineAnswer}
 use Rattle.control_line.specs.declared.reply.LineAnswer.TheVariants.{Shown}
 use Rattle.control_client.specs.Exchange.{AreExchanged, Exchange}
 use Rattle.control_client.specs.Wire.{Event, Logs}
+use Rattle.control_client.specs.declared.device.Peer.{Peer}
 
 -- the configuration of each version of a switch
 abbrev pub History : Type 0
@@ -34,7 +34,7 @@ pub record IsTrueTo (history : History) (one : Exchange) : Type 0 where
 
 -- what a contract sees of a client: the switch that it asks, and what happened on its wire
 pub record ClientValue : Type 0 where
-  pub switch : Endpoint
+  pub switch : Peer
   pub log : Option (List Event)
 
 -- a line that changes nothing: `show`, or one that reads a part

@@ -1,5 +1,5 @@
 -- How a rules file replaces the rules of a switch (docs/COMMANDS.md, "load").
-use Rattle.std.specs.Prelude.{◌≡◌, ◌≢◌, ◌<◌, ◌++◌, ◌∷◌, ◌⊎◌, Bool, List, Some, [], codes, decimal, false, length, nat_eq, true, ℕ}
+use Rattle.std.specs.Prelude.{◌≡◌, ◌≢◌, ◌++◌, ◌∷◌, ◌⊎◌, Bool, List, Some, [], codes, decimal, false, length, nat_eq, true, ℕ}
 use Rattle.std.specs.List.{starts_with}
 use Rattle.config_diff.specs.Lead.{LeadTo}
 use Rattle.config_diff.specs.Words.{words_config}
@@ -7,7 +7,6 @@ use Rattle.member_group.specs.Group.{GroupOf}
 use Rattle.member_group.specs.declared.command.Command.{Command}
 use Rattle.control_client.specs.Exchange.{Asks, is_refusal}
 use Rattle.control_client.specs.Lines.{IsBlockOf, script_known}
-use Rattle.control_client.specs.declared.asking.TheConstants.{LONGEST_LINE}
 use Rattle.control_rules.specs.Fields.{fields_in}
 use Rattle.control_rules.specs.History.{ClientValue, History, Learns}
 use Rattle.control_rules.specs.Text.{changes_text}
@@ -44,7 +43,8 @@ abbrev pub IsPublishedReply : List ℕ → ℕ → Type 0
 IsPublishedReply reply version = fields_in reply ≡ codes "ok" ∷ codes "version" ∷ decimal version ∷ []
 
 module _ (file : List ℕ) (wanted : List (GroupOf (List ℕ))) where
-  -- a version was read whose rules are not these; then the change of that version was sent, and had this reply
+  -- a version was read whose rules are not these; then the change of that version was sent, or was too long for that, and had this
+  -- reply
   pub record Sends (before after : ClientValue) (reply : List ℕ) : Type 0 where
     pub version : ℕ
     pub mid : ClientValue
@@ -59,20 +59,11 @@ module _ (file : List ℕ) (wanted : List (GroupOf (List ℕ))) where
     no_try : (after : ClientValue) → after ≡ before → AreTries before after
     one_more : (mid after : ClientValue) (reply : List ℕ) → AreTries before mid → Sends mid after reply → IsAgain reply → AreTries before after
 
-  -- a version was read whose rules are not these, and the change of it is too large to be sent
-  pub record IsTooLarge (before after : ClientValue) (text : List ℕ) : Type 0 where
-    pub version : ℕ
-    pub request : List ℕ
-    pub learns : Learns before after (λ history. words_config (history version) ≢ wanted)
-    pub is_request : IsRequestFor file version request
-    pub large : LONGEST_LINE < length request
-    pub text_is : text ≡ codes "refused C2"
-
   -- how it ends
   abbrev pub EndsLoad : ClientValue → ClientValue → Loaded → Type 0
   EndsLoad before after (Unchanged version) = Learns before after (λ history. words_config (history version) ≡ wanted)
   EndsLoad before after (Published version) = (reply : List ℕ) × Sends before after reply × IsPublishedReply reply version
-  EndsLoad before after (Refused text) = (Sends before after text.items × IsEnd text.items) ⊎ IsTooLarge before after text.items
+  EndsLoad before after (Refused text) = Sends before after text.items × IsEnd text.items
   EndsLoad before after Changed = Learns before after (λ history. Unit {0})
 
   abbrev pub Loads : ClientValue → ClientValue → Loaded → Type 0

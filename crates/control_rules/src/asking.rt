@@ -29,8 +29,7 @@ pub(crate) fn ask_shown<D: Wire + Drop>(client: &mut Client<D>) -> Result<Option
 }
 
 fn group_line(index: u32) -> Reply
-    ensures spelled { Spells result (read (group_at index)) }
-    ensures short { length result ≤ 128 }
+    ensures { Spells result (read (group_at index)) }
 {
     let mut line = Reply::empty();
     line.push("group ");
@@ -53,8 +52,7 @@ pub(crate) fn ask_group<D: Wire + Drop>(
 
 fn member_line(key: Endpoint, index: u32) -> Reply
     requires { IsEndpoint key }
-    ensures spelled { Spells result (read (member_at key index)) }
-    ensures short { length result ≤ 128 }
+    ensures { Spells result (read (member_at key index)) }
 {
     let mut line = Reply::empty();
     line.push("member ");
@@ -93,8 +91,7 @@ fn push_owner(line: &mut Reply, owner: Option<u32>)
 
 fn words_line(key: Endpoint, owner: Option<u32>, place: u32) -> Reply
     requires { IsEndpoint key }
-    ensures spelled { Spells result (read (words_reading key owner place)) }
-    ensures short { length result ≤ 128 }
+    ensures { Spells result (read (words_reading key owner place)) }
 {
     let mut line = Reply::empty();
     line.push("words ");

@@ -1,20 +1,18 @@
 //! A client of a switch: it sends lines, and receives their replies.
 
-ghost use Rattle.std.specs.Prelude.{◌≡◌, ◌≤◌, IfOk, length};
+ghost use Rattle.std.specs.Prelude.{◌≡◌, IfOk};
 ghost use Rattle.control_client.specs.Exchange.{Asks};
-ghost use Rattle.control_client.specs.declared.asking.TheConstants.{LONGEST_LINE};
 
 use command_line::Failure;
-use control_client::{LONGEST_DATAGRAM, Wire, ask};
-use ipv4_fields::Endpoint;
+use control_client::{LONGEST_DATAGRAM, Peer, Wire, ask};
 use std::alloc::Global;
 use std::marker::Model;
 
-/// A client of the switch at an endpoint, over a wire.
+/// A client of the switch at the other end of a wire.
 #[derive(Drop)]
 pub struct Client<D: Wire + Drop> {
     wire: D,
-    switch: Endpoint,
+    switch: Peer,
     // Room for a reply.
     room: Vec<u8>,
     alloc: Global,
@@ -29,7 +27,7 @@ impl<D: Wire + Drop> Model for Client<D> {
 }
 
 impl<D: Wire + Drop> Client<D> {
-    pub fn new(alloc: Global, wire: D, switch: Endpoint) -> Result<Client<D>, Failure>
+    pub fn new(alloc: Global, wire: D, switch: Peer) -> Result<Client<D>, Failure>
         ensures switch { IfOk result (λ client. client.switch ≡ switch) }
         ensures log { IfOk result (λ client. client.log ≡ D.log wire) }
     {
@@ -48,11 +46,10 @@ impl<D: Wire + Drop> Client<D> {
 
     /// Sends a line, and returns its reply.
     pub(crate) fn ask(&mut self, line: &[u8]) -> Result<Vec<u8>, Failure>
-        requires { length line.now ≤ LONGEST_LINE }
         ensures switch { self.new.switch ≡ self.old.switch }
         ensures asked { IfOk result (λ reply. Asks self.old.switch line.now reply.items self.old.log self.new.log) }
     {
-        let size = ask(&mut self.wire, self.switch, line, &mut self.room)?;
-        Ok(Vec::from_slice(self.alloc, &self.room[..size])?)
+        let reply = ask(&mut self.wire, self.switch, line, &mut self.room)?;
+        Ok(Vec::from_slice(self.alloc, reply)?)
     }
 }

@@ -13,7 +13,7 @@ use crate::reading::{AGAIN, read_rules};
 use crate::replies::read_published;
 use command_line::Failure;
 use config_diff::diff;
-use control_client::{InputLines, LONGEST_LINE, Wire, block_of, is_refusal};
+use control_client::{InputLines, Wire, block_of, is_refusal};
 use control_line::{RulesFault, rules};
 use member_group::Config;
 use std::alloc::{AllocError, Global};
@@ -27,7 +27,7 @@ pub enum Loaded {
     Unchanged { version: u64 },
     /// The file's rules are this version.
     Published { version: u64 },
-    /// The switch refused them with this reply, or they fit no datagram. Nothing was changed.
+    /// The switch refused them with this reply, or they are too long to be sent. Nothing was changed.
     Refused(Vec<u8>),
     /// The rules changed, or a publication was busy, each time.
     Changed,
@@ -51,9 +51,7 @@ struct Running {
 // How long a busy publication is waited for, in milliseconds.
 const PAUSE: u64 = 10;
 
-// What a switch replies if a request is too long, if a publication is busy, and how its reply begins if the version is another one.
-const TOO_LONG: &[u8] = b"refused C2";
-
+// What a switch replies if a publication is busy, and how its reply begins if the version is another one.
 const BUSY: &[u8] = b"refused B2";
 
 const OUTDATED: &[u8] = b"refused M1 ";
@@ -143,10 +141,6 @@ fn try_once<D: Wire + Drop>(
         return Ok(Attempt::Ended(Loaded::Unchanged { version }));
     }
     let request = request_for(alloc, version, file)?;
-    if request.as_slice().len() > LONGEST_LINE {
-        let reply = Vec::from_slice(alloc, TOO_LONG)?;
-        return Ok(Attempt::Ended(Loaded::Refused(reply)));
-    }
     let reply = client.ask(&request)?;
     Ok(read_reply(reply))
 }

@@ -7,3 +7,4 @@ pub mod ChargeLemmas
 pub mod StandardFacts
 pub mod MapLemmas
 pub mod OverLemmas
+pub mod InPlaceLemmas

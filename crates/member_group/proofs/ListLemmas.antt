@@ -1,10 +1,10 @@
 -- Lists in which one element alone passes a test, and lists in which each pair is related.
 use Rattle.std.proofs.Common.{◌++◌, ◌+◌, ◌-◌, ◌<◌, ◌≤◌, ◌∙◌, ◌∷◌, ◌≡◌, Bool, List, [], ap, append-nil, append_assoc, arith, drop, false, get_or, inl, inr, length, length-set, map, min, refl, set, suc, sym, take, true, zero, ℕ}
 use Rattle.std.specs.Prelude.{if◌then◌else◌, None, Some, nat_lt, not, slice_range}
-use Rattle.std.specs.List.{All, AllPairs, filter, find, remove}
+use Rattle.std.specs.List.{All, AllPairs, filter, find, remove, swap_remove}
 use Rattle.std.proofs.Math.Seq.{drop-cons}
 use Rattle.std.proofs.lemmas.Bool.{cases_eq, le-ltb, lt-ltb}
-use Rattle.std.proofs.lemmas.List.{drop-take, drop_all, get_or-set_other, get_or-set_same, get_or-take, length-take, length-take-le, set_split, take-append-drop, take-take, take_all, take_more}
+use Rattle.std.proofs.lemmas.List.{drop-take, drop_all, get_or-set_other, get_or-set_same, get_or-take, get_or_read, length-take, length-take-le, set_split, take-append-drop, take-set-le, take-take, take_all, take_more}
 use Rattle.std.proofs.lemmas.List.Elements.{All-append, filter-append}
 use Rattle.std.proofs.lemmas.List.Kept.{AllPairs-cons}
 use Rattle.member_group.specs.Place.{IsNowhere, IsOnlyAt, last_in_gap}
@@ -135,6 +135,29 @@ last_in_gap-inner at xs x inner is =
 
 pub last_in_gap-end : {X : Type 0} (at : ℕ) (xs : List X) → suc at ≡ length xs → last_in_gap at xs ≡ take at xs
 last_in_gap-end at xs end = rw (le-ltb at (length xs - 1) (omega arith)) refl
+
+take-set-lt : {X : Type 0} (n : ℕ) (xs : List X) (i : ℕ) (y : X) → i < n → take n (set xs i y) ≡ set (take n xs) i y
+take-set-lt zero xs i y less = absurd (omega arith)
+take-set-lt (suc n) [] i y less = refl
+take-set-lt (suc n) (x ∷ xs) zero y less = refl
+take-set-lt (suc n) (x ∷ xs) (suc i) y less = ap (λ rest. x ∷ rest) (take-set-lt n xs i y (omega arith))
+
+-- `swap_remove` of a vector does so
+pub swap_remove-is : {X : Type 0} (xs : List X) (at : ℕ) (d : X) → at < length xs → swap_remove xs at d ≡ last_in_gap at xs
+swap_remove-is {X} xs at d inside =
+    let last = length xs - 1 in
+    let moved : X = get_or xs last d in
+    elim (cases_eq (suc at) (length xs)) [
+      | inl end ↦
+          take-set-le last xs at moved (omega arith)
+          ∙ ap (λ n. take n xs) (omega arith)
+          ∙ sym (last_in_gap-end at xs end)
+      | inr other ↦
+          let z = element_at xs last (omega arith) in
+          take-set-lt last xs at moved (omega arith)
+          ∙ ap (λ x. set (take last xs) at x) (sym (get_or_read xs last z.0 (omega arith) z.1 d))
+          ∙ sym (last_in_gap-inner at xs z.0 (omega arith) z.1)
+    ]
 
 -- ---- three appends
 

@@ -1,5 +1,5 @@
 -- Configurations and commands over programs of another kind: all stays but the programs.
-use Rattle.std.specs.Prelude.{List, Option, map, option_map}
+use Rattle.std.specs.Prelude.{List, map, option_map}
 use Rattle.member_group.specs.declared.command.Command.{Command}
 use Rattle.member_group.specs.declared.command.Command.TheVariants.{AddGroup, ClearFilter, ClearSelector, Join, Leave, LockFilter, RemoveGroup, SetFilter, SetSelector}
 use Rattle.member_group.specs.declared.member.Member.{Member}

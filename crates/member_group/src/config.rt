@@ -11,6 +11,8 @@ ghost use Rattle.member_group.specs.declared.TheConstants.{GROUP_LIMIT};
 ghost use Rattle.member_group.specs.declared.command.Command.TheVariants as command;
 ghost use Rattle.member_group.specs.declared.refusal.Refusal.TheVariants as refusal_of;
 
+mod in_place;
+
 use crate::command::Command;
 use crate::group::Group;
 use crate::place::place_of_key;

@@ -1,4 +1,4 @@
-//! What is counted of a group once, when it is made: its charge, and the words of its programs.
+//! What is counted of a group when it is made: its charge, and the words of its programs.
 
 ghost use Rattle.std.specs.Prelude.{◌≡◌, ◌+◌, ◌*◌, ◌<◌, ◌≤◌, ◌^◌, length};
 ghost use Rattle.std.specs.List.{sum_by};
@@ -13,7 +13,7 @@ use crate::{GROUP_WORDS, MEMBER_WORDS};
 use bpf_verify::Program;
 use std::alloc::Allocator;
 
-fn charge_of_program<A: Allocator>(program: &Option<Program<A>>) -> u64
+pub(crate) fn charge_of_program<A: Allocator>(program: &Option<Program<A>>) -> u64
     ensures charge { result ≡ sum_by (λ one. one.charge) (option_to_list program.now) }
     ensures bounded { result ≤ MAX_INSTRUCTIONS }
 {
@@ -23,7 +23,7 @@ fn charge_of_program<A: Allocator>(program: &Option<Program<A>>) -> u64
     }
 }
 
-fn words_of_program<A: Allocator>(program: &Option<Program<A>>) -> usize
+pub(crate) fn words_of_program<A: Allocator>(program: &Option<Program<A>>) -> usize
     ensures words { result ≡ sum_by (λ one. length one.words) (option_to_list program.now) }
     ensures bounded { result ≤ MAX_INSTRUCTIONS }
 {

@@ -11,6 +11,8 @@ ghost use Rattle.member_group.specs.Group.{IsGroup, has_id};
 ghost use Rattle.member_group.specs.Place.{IsOnlyAt, last_in_gap};
 ghost use Rattle.member_group.specs.Refusal.{IsAnswer, clear_filter_causes, clear_selector_causes, first_of, join_causes, member_causes, set_filter_causes};
 
+mod in_place;
+
 use crate::MEMBER_LIMIT;
 use crate::counted::{charge_of_parts, words_of_parts};
 use crate::member::{
@@ -25,8 +27,8 @@ use std::alloc::Allocator;
 use std::marker::Model;
 use std::sync::Arc;
 
-// What a group is made of, its charge, and how many words its programs have. The two numbers are counted once: a publication asks
-// each group for them.
+// What a group is made of, its charge, and how many words its programs have. The two numbers are kept because a publication asks each
+// group for them.
 #[derive(Drop)]
 struct Parts<A: Allocator> {
     key: Endpoint,
@@ -66,7 +68,7 @@ impl<A: Allocator> Parts<A> {
 
 /// A group: its key, its selector or none, and its members in the order of their indexes.
 ///
-/// It never changes, so configurations share the groups that they have in common, with their programs.
+/// Configurations share the groups that they have in common, with their programs. A group that is shared never changes.
 #[derive(Drop)]
 pub struct Group<A: Allocator> {
     parts: Arc<Parts<A>, A>,

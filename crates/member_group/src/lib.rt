@@ -1,7 +1,8 @@
 //! The configuration of the switch: groups of members, named by a destination address and port, with their selector and
 //! filter programs, and the commands that change it (socket(7); docs/SWITCH.md, "Groups, members, commands and refusals").
 //!
-//! A `Config` never changes: `Config::apply` makes the next one of it. Only `apply` takes memory.
+//! `Config::apply` makes the next configuration of one that stays as it is, and `Config::change` changes one in place. Only these two
+//! and `Config::copy` take memory.
 #![tactic(auto)]
 
 ghost use Rattle.std.specs.Prelude.{◌≡◌};

@@ -1,1 +1,3 @@
 mod IgnoredLemmas
+mod LogLemmas
+mod DeskLemmas

@@ -38,6 +38,12 @@ pub data AnswersDatagram (bound : BoundAddresses) (sender : Endpoint) (text : Li
   answers : (answer : ControlAnswer) → ¬ IsIgnored bound sender text → AnswersText text operator operator' tally tally' answer →
       AnswersDatagram bound sender text operator operator' tally tally' (Some answer)
 
+-- the answer is the line of the totals
+abbrev pub IsTotals : ControlAnswer → Type 0
+IsTotals Stop = ⊥
+IsTotals (TotalsAnswer totals) = Unit {0}
+IsTotals (Line reply) = ⊥
+
 -- what is sent back
 abbrev pub bytes_of : ControlAnswer → List ℕ
 bytes_of Stop = codes "ok stop"

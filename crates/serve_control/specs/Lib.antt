@@ -1,2 +1,4 @@
 pub mod Ignored
 pub mod Answer
+pub mod Log
+pub mod Desk

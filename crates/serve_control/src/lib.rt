@@ -5,21 +5,24 @@
 //! send back.
 #![tactic(auto)]
 
-ghost use Rattle.std.specs.Prelude.{◌≡◌, ◌≤◌, ◌++◌, IfSome, OnOk, length};
+ghost use Rattle.std.specs.Prelude.{◌≡◌, ◌⊎◌, ◌+◌, ◌<◌, ◌≤◌, ◌++◌, IfSome, OnErr, OnOk, length, vec_capacity, vec_len};
 ghost use Rattle.control_line.specs.declared.reply.TheConstants.{REPLY_LIMIT};
-ghost use Rattle.serve_control.specs.Answer.{AnswersDatagram, AnswersText, RepliesToLine, bytes_of};
+ghost use Rattle.serve_control.specs.Answer.{AnswersDatagram, AnswersText, IsTotals, RepliesToLine, bytes_of};
 ghost use Rattle.serve_control.specs.Ignored.{IsAlwaysIgnored};
 
+mod desk;
 mod ignored;
+mod log;
 
 use control_line::{Reply, is_word, line};
+pub use desk::Desk;
 use dispatch::{Tally, Totals};
 pub use ignored::BoundAddresses;
 use ignored::is_ignored;
 use ipv4_fields::Endpoint;
+pub use log::{LOGGED_BYTES, Log, LogLines, NoLog, Peer};
 use read_section::Operator;
 use std::alloc::{AllocError, Global};
-use std::io::Write;
 
 /// The answer to a control datagram.
 #[derive(Drop)]
@@ -35,11 +38,16 @@ pub enum ControlAnswer {
 impl ControlAnswer {
     /// Appends the bytes to send back, without LF.
     pub fn append_to(&self, bytes: &mut Vec<u8>) -> Result<(), AllocError>
-        ensures { OnOk result (bytes.new.items ≡ bytes.old.items ++ bytes_of self.now) }
+        ensures appended { OnOk result (bytes.new.items ≡ bytes.old.items ++ bytes_of self.now) }
+        ensures unchanged { OnErr result (bytes.new.items ≡ bytes.old.items) }
+        ensures refused { OnErr result (IsTotals self.now ⊎ (vec_capacity bytes.old < vec_len bytes.old + REPLY_LIMIT)) }
     {
         match self {
             ControlAnswer::Stop => bytes.extend_from_slice(b"ok stop".as_slice()),
-            ControlAnswer::Totals(totals) => write!(bytes, "{totals}").map_err(|_| AllocError),
+            ControlAnswer::Totals(totals) => {
+                let text = format!(in *bytes.allocator(); "{totals}")?;
+                bytes.extend_from_slice(text.as_bytes())
+            }
             ControlAnswer::Line(reply) => bytes.extend_from_slice(reply.bytes()),
         }
     }
@@ -67,8 +75,11 @@ fn line_reply(alloc: Global, text: &[u8], operator: &mut Operator) -> Reply
     }
 }
 
-// Answers a text, and does what it asks for.
-fn answer_text(
+/// Answers a request, and does what it asks for.
+///
+/// `stop` changes nothing here: its caller stops. `totals` reads each total by one load, in the order of their line. Every other
+/// text is answered and done by `line`; if memory is refused then, the reply is `failed E3` and nothing was changed.
+pub fn answer_request(
     alloc: Global,
     text: &[u8],
     operator: &mut Operator,
@@ -91,8 +102,7 @@ fn answer_text(
 /// A datagram is ignored if its text begins with a word that begins replies and a space, or if its sender is one of the switch's
 /// two sockets. Each answer is such a text, so no switch answers an answer.
 ///
-/// `stop` changes nothing here: its caller stops. `totals` reads each total by one load, in the order of their line. Every other
-/// text is answered and done by `line`; if memory is refused then, the reply is `failed E3` and nothing was changed.
+/// Every other datagram is answered as a request, by `answer_request`.
 pub fn answer(
     alloc: Global,
     bound: &BoundAddresses,
@@ -108,5 +118,5 @@ pub fn answer(
     if is_ignored(bound, sender, text) {
         return None;
     }
-    Some(answer_text(alloc, text, operator, tally))
+    Some(answer_request(alloc, text, operator, tally))
 }

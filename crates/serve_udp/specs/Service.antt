@@ -4,6 +4,8 @@ use Rattle.std.specs.Io.KnownBytes.{Appends}
 use Rattle.std.specs.List.{All}
 use Rattle.command_line.specs.declared.ending.Failure.{Failure}
 use Rattle.command_line.specs.declared.ending.Failure.TheVariants.{NoAnswer, ReadFailed, RulesChanged}
+use Rattle.command_line.specs.ControlAddress.{address_text}
+use Rattle.command_line.specs.declared.control_address.ControlAddress.{ControlAddress}
 use Rattle.config_image.specs.Image.{Group}
 use Rattle.dispatch.specs.Batch.{Parts}
 use Rattle.dispatch.specs.Device.{OutboxValue}
@@ -42,25 +44,31 @@ abbrev pub IsServeFailure : Failure → Type 0
 IsServeFailure failure = (failure ≢ ReadFailed) × (failure ≢ NoAnswer) × (failure ≢ RulesChanged)
 
 -- the line that tells that the service is ready
-abbrev pub ready_text : Endpoint → Endpoint → List ℕ
-ready_text front control = codes "ready " ++ endpoint_text front ++ codes " " ++ endpoint_text control ++ codes "\n"
+abbrev pub ready_front : Endpoint → List ℕ
+ready_front front = codes "ready " ++ endpoint_text front ++ codes " "
 
-abbrev pub WritesReady : Endpoint → Endpoint → Option (List ℕ) → Option (List ℕ) → Type 0
+abbrev pub ready_text : Endpoint → ControlAddress → List ℕ
+ready_text front control = ready_front front ++ (address_text control ++ codes "\n")
+
+abbrev pub WritesReady : Endpoint → ControlAddress → Option (List ℕ) → Option (List ℕ) → Type 0
 WritesReady front control before after = Appends before after (ready_text front control)
 
--- that line, for some two endpoints, or nothing
+-- that line, for some two addresses, or nothing
 abbrev pub WritesReadyOrNothing : Option (List ℕ) → Option (List ℕ) → Type 0
-WritesReadyOrNothing before after = (after ≡ before) ⊎ ((front control : Endpoint) × WritesReady front control before after)
+WritesReadyOrNothing before after = (after ≡ before) ⊎ ((front : Endpoint) × (control : ControlAddress) × WritesReady front control before after)
 
 -- that line, then the line of such totals, and nothing else
-pub record WritesServedFrom (opening : List Group) (workers : ℕ) (before after : Option (List ℕ)) : Type 0 where
+pub record WritesServedAt (control : ControlAddress) (opening : List Group) (workers : ℕ) (before after : Option (List ℕ)) : Type 0 where
   pub front : Endpoint
-  pub control : Endpoint
   pub totals : Totals
   pub between : Option (List ℕ)
   pub ready : WritesReady front control before between
   pub is_served : IsServedFrom opening workers totals
   pub totals_line : WritesTotals totals between after
+
+-- for some address of control
+abbrev pub WritesServedFrom : List Group → ℕ → Option (List ℕ) → Option (List ℕ) → Type 0
+WritesServedFrom opening workers before after = (control : ControlAddress) × WritesServedAt control opening workers before after
 
 -- as a switch does that begins without groups
 abbrev pub WritesServed : ℕ → Option (List ℕ) → Option (List ℕ) → Type 0

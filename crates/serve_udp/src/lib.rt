@@ -1,8 +1,8 @@
 //! The switch over UDP (docs/COMMANDS.md, "serve"; docs/OPERATING.md): datagrams that come to the front are judged by worker threads
-//! and sent on to members, while control datagrams change the rules.
+//! and sent on to members, while control requests change the rules.
 //!
-//! The caller's thread receives from both sockets, and hands what comes at the front to the workers in turn. It answers control
-//! itself, by `serve_control`.
+//! The caller's thread receives from all sockets, and hands what comes at the front to the workers in turn. It answers control
+//! itself, by serve_control: over UDP, or over a Unix socket by serve_unix.
 #![tactic(auto)]
 
 ghost use Rattle.std.specs.Prelude.{◌≡◌, ◌≢◌, ◌⊎◌, ◌↔◌, ◌≤◌, Err, IfErr, IfOk, List, OnOk, vec_len};
@@ -11,15 +11,17 @@ ghost use Rattle.config_image.specs.Image.{Group};
 ghost use Rattle.member_group.specs.Charge.{charge_of};
 ghost use Rattle.versions.specs.declared.layout.TheConstants.{CHARGE_LIMIT, WORKERS};
 ghost use Rattle.serve_udp.specs.declared.jobs.TheConstants.{LIMIT};
-ghost use Rattle.serve_udp.specs.Service.{IsServeFailure, IsServedFrom, WritesReadyOrNothing, WritesServed, WritesServedFrom};
+ghost use Rattle.serve_udp.specs.Service.{IsServeFailure, IsServedFrom, WritesReadyOrNothing, WritesServed, WritesServedAt, WritesServedFrom};
 ghost use Rattle.serve_udp.specs.body.Jobs.{AreOpened, HaveNewWorkers};
 
+mod bound;
 mod jobs;
 mod opening;
 mod ready;
 mod receiving;
 mod sockets;
 
+pub use bound::{BindFault, BoundSockets, bind_udp, bind_unix};
 use command_line::Failure;
 use dispatch::{Gate, NamedTally, RunFault, TallyName, Totals, gather, run_counted, write_totals};
 use ipv4_fields::Endpoint;
@@ -29,6 +31,7 @@ use opening::{Service, open_service};
 use read_section::WORKERS;
 use ready::write_ready;
 use receiving::Ended;
+use serve_control::{Log, LogLines, NoLog};
 pub use sockets::LONGEST_DATAGRAM;
 use std::alloc::Global;
 use std::io::Write;
@@ -54,12 +57,13 @@ fn failed(fault: RunFault) -> Failure
 }
 
 // Receives beside the jobs until it is asked to stop, and then counts what they judged.
-fn count_served<N: TallyName, R: Threads + Wait + Sync, G: Gate + Sync>(
+fn count_served<N: TallyName, L: LogLines, R: Threads + Wait + Sync, G: Gate + Sync>(
     rt: &R,
     alloc: Global,
     jobs: Vec<ServiceJob<'_, R>>,
     service: Service,
     gate: &G,
+    log: &mut Log<L>,
 ) -> Result<Totals, Failure>
     requires named { service.tally.table ≡ N.table }
     requires opened { AreOpened service.tally.table service.spare.items jobs.items }
@@ -74,7 +78,7 @@ fn count_served<N: TallyName, R: Threads + Wait + Sync, G: Gate + Sync>(
     let told = &mut ended;
     let mut receiver = service.receiver;
     let counters = match run_counted(rt, alloc, jobs, service.spare, gate, move || {
-        *told = receiver.receive(rt, alloc, &mut lent.tally);
+        *told = receiver.receive(rt, alloc, lent, log);
     }) {
         Ok(counters) => counters,
         Err(fault) => return Err(failed(fault)),
@@ -85,14 +89,40 @@ fn count_served<N: TallyName, R: Threads + Wait + Sync, G: Gate + Sync>(
     }
 }
 
-/// Runs the switch on two UDP sockets until a control datagram says `stop`, and then writes the line of the totals.
+/// Runs the switch on its sockets until a control request says `stop`, and then writes the line of the totals.
 ///
-/// Version 0 is the configuration. A port 0 lets the system pick one. The line `ready FRONT CONTROL` has the addresses bound, and is
-/// flushed before a datagram is received. Of the switch's workers each receives through a queue, in turn, and sends by a socket
-/// of its own at the front's address.
+/// Version 0 is the configuration. The line `ready FRONT CONTROL` has the addresses bound, and is flushed before a datagram is
+/// received. Of the switch's workers each receives through a queue, in turn, and sends by a socket of its own at the front's address.
+/// Each control request that changes something or is not done is a line of the log.
 ///
-/// All memory but that of the threads, of queued datagrams and of control lines is taken before the line `ready`, from the
-/// configuration's allocator. It may wait, since nothing says that it is ever asked to stop.
+/// All memory but that of the threads, of queued datagrams and of control is taken before the line `ready`, from the configuration's
+/// allocator. It may wait, since nothing says that it is ever asked to stop.
+pub fn serve_bound<R: Threads + Wait + Net + Sync, G: Gate + Sync, W: Write, L: LogLines>(
+    rt: &R,
+    config: Config,
+    sockets: BoundSockets<'_>,
+    workers: usize,
+    gate: &G,
+    out: &mut W,
+    log: &mut Log<L>,
+) -> Result<(), Failure>
+    requires within { charge_of config ≤ CHARGE_LIMIT }
+    requires at_least_one { 1 ≤ workers }
+    requires at_most { workers ≤ WORKERS }
+    ensures served { OnOk result (WritesServedAt sockets.entry.place config workers (W.contents out.old) (W.contents out.new)) }
+    ensures no_input { IfErr result IsServeFailure }
+    ensures not_bound { result ≡ Err Failure.BindFailed → out.new ≡ out.old }
+    ensures ready_or_nothing { IfErr result (λ failure. failure ≢ Failure.WriteFailed → WritesReadyOrNothing (W.contents out.old) (W.contents out.new)) }
+{
+    let alloc = *config.allocator();
+    let (front, control) = (sockets.address, sockets.place);
+    let (jobs, service) = open_service(rt, config, sockets, workers)?;
+    write_ready(front, control, out)?;
+    let totals = count_served::<Brand, L, R, G>(rt, alloc, jobs, service, gate, log)?;
+    write_totals(&totals, out).map_err(|_| Failure::WriteFailed)
+}
+
+/// Runs the switch, as `serve_bound` does, on two UDP sockets that it binds, without a log. A port 0 lets the system pick one.
 pub fn serve_with<R: Threads + Wait + Net + Sync, G: Gate + Sync, W: Write>(
     rt: &R,
     config: Config,
@@ -110,11 +140,13 @@ pub fn serve_with<R: Threads + Wait + Net + Sync, G: Gate + Sync, W: Write>(
     ensures not_bound { result ≡ Err Failure.BindFailed → out.new ≡ out.old }
     ensures ready_or_nothing { IfErr result (λ failure. failure ≢ Failure.WriteFailed → WritesReadyOrNothing (W.contents out.old) (W.contents out.new)) }
 {
-    let alloc = *config.allocator();
-    let (jobs, service) = open_service(rt, config, front, control, workers)?;
-    write_ready(service.front, service.control, out)?;
-    let totals = count_served::<Brand, R, G>(rt, alloc, jobs, service, gate)?;
-    write_totals(&totals, out).map_err(|_| Failure::WriteFailed)
+    let Ok(mut log) = Log::new(*config.allocator(), NoLog) else {
+        return Err(Failure::OutOfMemory);
+    };
+    let Ok(sockets) = bind_udp(rt, front, control) else {
+        return Err(Failure::BindFailed);
+    };
+    serve_bound(rt, config, sockets, workers, gate, out, &mut log)
 }
 
 /// Runs the switch, as `serve_with` does, at a configuration without groups.

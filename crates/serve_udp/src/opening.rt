@@ -1,4 +1,4 @@
-//! The service before it receives: its sockets are bound, and its jobs are made.
+//! The service before it receives: its jobs are made.
 
 ghost use Rattle.std.specs.Prelude.{◌≡◌, ◌<◌, ◌≤◌, IfErr, IfOk, vec_len};
 ghost use Rattle.std.specs.List.{All};
@@ -8,15 +8,14 @@ ghost use Rattle.dispatch.specs.Counted.{IsNewWorker};
 ghost use Rattle.serve_udp.specs.Service.{IsServeFailure};
 ghost use Rattle.serve_udp.specs.body.Jobs.{AreMade, AreOpened, HaveNewWorkers};
 
+use crate::bound::BoundSockets;
 use crate::jobs::{ServiceJob, jobs};
 use crate::receiving::Receiver;
-use crate::sockets::{BoundSockets, Room, Sockets};
+use crate::sockets::{Room, Sockets};
 use command_line::Failure;
 use dispatch::{Counter, Tally};
-use ipv4_fields::Endpoint;
 use member_group::Config;
 use read_section::{Operator, WORKERS, Worker, open_within, spread};
-use serve_control::BoundAddresses;
 use serve_devices::{WorkerQueue, WorkerQueues};
 use std::alloc::{AllocError, Global};
 use std::net::Net;
@@ -25,10 +24,6 @@ use std::sync::Wait;
 /// What the service has beside its jobs.
 #[derive(Drop)]
 pub struct Service {
-    /// The address that the front is bound to.
-    pub front: Endpoint,
-    /// The address that control is bound to.
-    pub control: Endpoint,
     pub tally: Tally,
     /// The counters that no job has.
     pub spare: Vec<Counter>,
@@ -46,12 +41,11 @@ fn open_table(config: Config) -> Result<(Operator, Vec<Worker>), AllocError>
     Ok((operator, workers))
 }
 
-// Binds both sockets, and makes so many jobs of the workers and the counters, with the queues that lead to them.
+// Makes so many jobs of the workers and the counters, with the queues that lead to them.
 fn connect<'a, R: Wait + Net>(
     rt: &'a R,
     alloc: Global,
-    front: Endpoint,
-    control: Endpoint,
+    sockets: BoundSockets<'_>,
     seats: &mut Vec<Worker>,
     counters: &mut Vec<Counter>,
     workers: usize,
@@ -65,14 +59,8 @@ fn connect<'a, R: Wait + Net>(
     let Ok(room) = Room::new(alloc) else {
         return Err(Failure::OutOfMemory);
     };
-    let Some(sockets) = BoundSockets::bind(rt, front, control) else {
-        return Err(Failure::BindFailed);
-    };
-    let Some(bound) = sockets.addresses() else {
-        return Err(Failure::BindFailed);
-    };
-    let (jobs, queues) = jobs(rt, alloc, seats, counters, bound.front.address, workers)?;
-    let Ok(sockets) = Sockets::open(rt, sockets, bound, room) else {
+    let (jobs, queues) = jobs(rt, alloc, seats, counters, sockets.address.address, workers)?;
+    let Ok(sockets) = Sockets::open(rt, alloc, sockets, room) else {
         return Err(Failure::PollFailed);
     };
     Ok((jobs, queues, sockets))
@@ -91,11 +79,8 @@ fn service_of(
     ensures spare { result.spare ≡ spare }
     ensures operator { result.receiver.operator ≡ operator }
 {
-    let BoundAddresses { front, control } = sockets.bound;
     let queues = WorkerQueues::new(alloc, queues);
     Service {
-        front,
-        control,
         tally,
         spare,
         receiver: Receiver {
@@ -106,13 +91,12 @@ fn service_of(
     }
 }
 
-/// Binds both sockets, and makes so many jobs and all that they and receiving need. The jobs have new workers of the operator's
+/// Makes so many jobs and all that they and receiving need. The jobs have new workers of the operator's
 /// table, which opens with the configuration, and new counters of the tally.
 pub fn open_service<'a, R: Wait + Net>(
     rt: &'a R,
     config: Config,
-    front: Endpoint,
-    control: Endpoint,
+    sockets: BoundSockets<'_>,
     workers: usize,
 ) -> Result<(Vec<ServiceJob<'a, R>>, Service), Failure>
     requires within { charge_of config ≤ CHARGE_LIMIT }
@@ -130,9 +114,7 @@ pub fn open_service<'a, R: Wait + Net>(
     let Ok((tally, mut spare)) = Tally::open(alloc) else {
         return Err(Failure::OutOfMemory);
     };
-    let (jobs, queues, sockets) = connect(
-        rt, alloc, front, control, &mut seats, &mut spare, workers,
-    )?;
+    let (jobs, queues, sockets) = connect(rt, alloc, sockets, &mut seats, &mut spare, workers)?;
     Ok((
         jobs,
         service_of(alloc, sockets, queues, operator, tally, spare),

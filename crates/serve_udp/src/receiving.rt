@@ -1,10 +1,9 @@
 //! The caller's thread of the service: it hands over what comes, and answers control, until it is asked to stop.
 
-ghost use Rattle.std.specs.Prelude.{◌≡◌};
-
 use crate::sockets::Sockets;
-use dispatch::Tally;
+use dispatch::{NamedTally, TallyName};
 use read_section::Operator;
+use serve_control::{Log, LogLines};
 use serve_devices::WorkerQueues;
 use std::alloc::Global;
 use std::sync::Wait;
@@ -18,7 +17,7 @@ pub enum Ended {
     PollFailed,
 }
 
-/// What receives, with the workers' queues and the operator. Where it is dropped the queues close, so that the workers end.
+/// What receives, with the workers' queues and the operator. When it is dropped the queues close, so that the workers end.
 #[derive(Drop)]
 pub struct Receiver {
     pub sockets: Sockets,
@@ -28,9 +27,13 @@ pub struct Receiver {
 
 impl Receiver {
     /// Receives until it is asked to stop. It may wait, for the sockets and for a place in a worker's queue.
-    pub fn receive<R: Wait>(&mut self, rt: &R, alloc: Global, tally: &mut Tally) -> Ended
-        ensures { tally.new.table ≡ tally.old.table }
-    {
+    pub fn receive<N: TallyName, L: LogLines, R: Wait>(
+        &mut self,
+        rt: &R,
+        alloc: Global,
+        named: &mut NamedTally<N>,
+        log: &mut Log<L>,
+    ) -> Ended {
         for _ in rt.forever() {
             if self.sockets.wait().is_err() {
                 return Ended::PollFailed;
@@ -38,7 +41,7 @@ impl Receiver {
             self.sockets.receive(rt, &mut self.queues);
             if self
                 .sockets
-                .answer_control(alloc, &mut self.operator, tally)
+                .answer_control(alloc, &mut self.operator, named, log)
             {
                 return Ended::Stopped;
             }

@@ -1,14 +1,15 @@
-//! The two sockets of the service, and the turns that they get (docs/COMMANDS.md, "serve").
+//! The sockets of the service, and the turns that they get (docs/COMMANDS.md, "serve").
 
-ghost use Rattle.std.specs.Prelude.{◌≡◌};
-
-use dispatch::Tally;
+use crate::bound::{BoundControl, BoundSockets};
+use dispatch::{NamedTally, TallyName};
 use ipv4_fields::Endpoint;
 use mio::net::UdpSocket;
-use mio::{Events, Interest, Poll, Token};
+use mio::{Events, Interest, Poll, Registry, Token};
 use read_section::Operator;
-use serve_control::{BoundAddresses, ControlAnswer, answer};
+use serve_control::{BoundAddresses, ControlAnswer, Desk, Log, LogLines, Peer, answer};
 use serve_devices::WorkerQueues;
+use serve_stream::Turn;
+use serve_unix::{CLIENTS, UnixControl};
 use std::alloc::{AllocError, Global};
 use std::io;
 use std::io::ErrorKind;
@@ -18,15 +19,17 @@ use std::time::Duration;
 
 const FRONT: Token = Token(0);
 
+// The token of control, or the first of those of control over a Unix socket.
 const CONTROL: Token = Token(1);
 
-// How many datagrams a socket gives before the other has its turn.
+// How many datagrams the front gives before control has its turn.
 const FRONT_TURN: usize = 64;
 
+// How many datagrams, or turns of clients, control has before the front has its turn.
 const CONTROL_TURN: usize = 4;
 
-// One event a socket.
-const EVENTS: usize = 2;
+// One event a socket: the front, control, and its clients.
+const EVENTS: usize = 2 + CLIENTS;
 
 /// The most bytes of a datagram: no UDP datagram over IPv4 has more.
 pub const LONGEST_DATAGRAM: usize = 65_535;
@@ -53,51 +56,24 @@ impl Room {
     }
 }
 
-/// The two sockets, bound.
+// Control over a UDP socket.
 #[derive(Drop)]
-pub struct BoundSockets {
-    front: UdpSocket,
-    control: UdpSocket,
+struct UdpControl {
+    socket: UdpSocket,
+    // What is sent to control from these is ignored.
+    bound: BoundAddresses,
+    // Not known to be empty.
+    is_ready: bool,
 }
 
-// The address that a socket is bound to. Both sockets are bound to IPv4 addresses.
-fn bound_address(socket: &UdpSocket) -> Option<Endpoint> {
-    Endpoint::from_socket_address(socket.local_addr().ok()?)
+// The way by which control comes.
+#[derive(Drop)]
+enum Control {
+    Udp(UdpControl),
+    Unix(UnixControl),
 }
 
-// Answers a datagram of this text, unless it is ignored.
-fn answer_from(
-    alloc: Global,
-    bound: &BoundAddresses,
-    sender: SocketAddr,
-    text: &[u8],
-    operator: &mut Operator,
-    tally: &mut Tally,
-) -> Option<ControlAnswer>
-    ensures { tally.new.table ≡ tally.old.table }
-{
-    let sender = Endpoint::from_socket_address(sender)?;
-    answer(alloc, bound, sender, text, operator, tally)
-}
-
-impl BoundSockets {
-    /// Binds the front, then control. A port 0 is the system's to pick. `None` where one could not be bound.
-    pub fn bind<N: Net>(net: &N, front: Endpoint, control: Endpoint) -> Option<BoundSockets> {
-        let front = UdpSocket::bind(net, front.socket_address()).ok()?;
-        let control = UdpSocket::bind(net, control.socket_address()).ok()?;
-        Some(BoundSockets { front, control })
-    }
-
-    /// The addresses that the front and control are bound to.
-    pub fn addresses(&self) -> Option<BoundAddresses> {
-        Some(BoundAddresses {
-            front: bound_address(&self.front)?,
-            control: bound_address(&self.control)?,
-        })
-    }
-}
-
-/// The two sockets, and what waits for them.
+/// The sockets, and what waits for them.
 ///
 /// An event tells that a socket has something, and it tells it once; so what is not known to be empty is read until it would
 /// block.
@@ -106,44 +82,187 @@ pub struct Sockets {
     poll: Poll,
     room: Room,
     front: UdpSocket,
-    control: UdpSocket,
-    // What is sent to control from these is ignored.
-    pub bound: BoundAddresses,
     // Not known to be empty.
     front_ready: bool,
-    control_ready: bool,
+    control: Control,
+}
+
+// Waits for control from now on.
+fn open_control(
+    alloc: Global,
+    front: Endpoint,
+    control: BoundControl,
+    registry: &Registry,
+) -> io::Result<Control> {
+    match control {
+        BoundControl::Udp(mut socket, address) => {
+            registry.register(&mut socket, CONTROL, Interest::READABLE)?;
+            Ok(Control::Udp(UdpControl {
+                socket,
+                bound: BoundAddresses {
+                    front,
+                    control: address,
+                },
+                is_ready: true,
+            }))
+        }
+        BoundControl::Unix(listener) => Ok(Control::Unix(UnixControl::open(
+            alloc, listener, registry, CONTROL,
+        )?)),
+    }
+}
+
+impl Control {
+    fn is_ready(&self) -> bool {
+        match self {
+            Control::Udp(control) => control.is_ready,
+            Control::Unix(control) => control.is_ready(),
+        }
+    }
+
+    // Notes an event.
+    fn wake(&mut self, token: Token) {
+        match self {
+            Control::Udp(control) => control.is_ready = true,
+            Control::Unix(control) => control.wake(token),
+        }
+    }
+}
+
+// Sends an answer back. A reply that fails is passed over.
+fn send_reply(socket: &UdpSocket, reply: &mut Vec<u8>, answer: &ControlAnswer, to: SocketAddr) {
+    reply.clear();
+    if answer.append_to(reply).is_ok() {
+        let _ = socket.send_to(reply, to);
+    }
+}
+
+// The reply, if it may be one that the log tells.
+fn reply_of(answer: &ControlAnswer) -> &[u8] {
+    match answer {
+        ControlAnswer::Stop => b"ok stop".as_slice(),
+        ControlAnswer::Totals(_) => b"".as_slice(),
+        ControlAnswer::Line(reply) => reply.bytes(),
+    }
+}
+
+// Answers a datagram of this text, unless it is ignored, and tells the log.
+fn answer_from<N: TallyName, L: LogLines>(
+    alloc: Global,
+    bound: &BoundAddresses,
+    sender: SocketAddr,
+    text: &[u8],
+    operator: &mut Operator,
+    named: &mut NamedTally<N>,
+    log: &mut Log<L>,
+) -> Option<ControlAnswer> {
+    let sender = Endpoint::from_socket_address(sender)?;
+    let answer = answer(alloc, bound, sender, text, operator, &mut named.tally)?;
+    // A line for which there is no memory is left out.
+    let _ = log.tell_request(Peer::Udp(sender), text, reply_of(&answer));
+    Some(answer)
+}
+
+impl UdpControl {
+    // Answers the next datagrams by one datagram each to their senders, but for those that are ignored. True if the switch is asked to
+    // stop.
+    fn turn<N: TallyName, L: LogLines>(
+        &mut self,
+        alloc: Global,
+        room: &mut Room,
+        operator: &mut Operator,
+        named: &mut NamedTally<N>,
+        log: &mut Log<L>,
+    ) -> bool {
+        for _datagram in 0..CONTROL_TURN {
+            match self.socket.recv_from(&mut room.buf) {
+                Ok((size, sender)) => {
+                    let text = &room.buf[..size];
+                    let answered = answer_from(
+                        alloc,
+                        &self.bound,
+                        sender,
+                        text,
+                        operator,
+                        named,
+                        log,
+                    );
+                    let Some(answer) = answered else {
+                        continue;
+                    };
+                    send_reply(&self.socket, &mut room.reply, &answer, sender);
+                    if let ControlAnswer::Stop = answer {
+                        return true;
+                    }
+                }
+                Err(error) if error.kind() == ErrorKind::WouldBlock => {
+                    self.is_ready = false;
+                    return false;
+                }
+                // A receive that fails is passed over.
+                Err(_) => {}
+            }
+        }
+        false
+    }
+}
+
+// Gives the next clients their turns. True if the switch is asked to stop.
+fn client_turns<N: TallyName, L: LogLines>(
+    control: &mut UnixControl,
+    alloc: Global,
+    operator: &mut Operator,
+    named: &mut NamedTally<N>,
+    log: &mut Log<L>,
+) -> bool {
+    for _client in 0..CONTROL_TURN {
+        let Some(place) = control.next_turn() else {
+            return false;
+        };
+        let mut desk = Desk {
+            alloc,
+            operator,
+            tally: named,
+            log,
+            peer: Peer::Unix(control.number(place)),
+        };
+        if let Turn::Stop = control.turn(place, &mut desk) {
+            return true;
+        }
+    }
+    false
 }
 
 impl Sockets {
-    /// Waits for both sockets, which are bound to these addresses, from now on.
+    /// Waits for the sockets from now on.
     pub fn open<N: Net>(
         net: &N,
-        sockets: BoundSockets,
-        bound: BoundAddresses,
+        alloc: Global,
+        sockets: BoundSockets<'_>,
         room: Room,
     ) -> io::Result<Sockets> {
         let BoundSockets {
             mut front,
-            mut control,
+            address,
+            control,
+            place: _,
         } = sockets;
         let poll = Poll::new(net)?;
-        let registry = poll.registry();
-        registry.register(&mut front, FRONT, Interest::READABLE)?;
-        registry.register(&mut control, CONTROL, Interest::READABLE)?;
+        poll.registry()
+            .register(&mut front, FRONT, Interest::READABLE)?;
+        let control = open_control(alloc, address, control, poll.registry())?;
         Ok(Sockets {
             poll,
             room,
             front,
-            control,
-            bound,
             front_ready: true,
-            control_ready: true,
+            control,
         })
     }
 
-    /// Waits until a socket has something; where one is not known to be empty it only looks.
+    /// Waits until a socket has something; if one is not known to be empty it only looks.
     pub fn wait(&mut self) -> io::Result<()> {
-        let timeout = if self.front_ready || self.control_ready {
+        let timeout = if self.front_ready || self.control.is_ready() {
             Some(Duration::ZERO)
         } else {
             None
@@ -152,7 +271,7 @@ impl Sockets {
         for event in &self.room.events {
             match event.token() {
                 FRONT => self.front_ready = true,
-                _ => self.control_ready = true,
+                token => self.control.wake(token),
             }
         }
         Ok(())
@@ -175,54 +294,22 @@ impl Sockets {
         }
     }
 
-    // Sends an answer back. A reply that fails is passed over.
-    fn reply(&mut self, answer: &ControlAnswer, to: SocketAddr) {
-        self.room.reply.clear();
-        if answer.append_to(&mut self.room.reply).is_ok() {
-            let _ = self.control.send_to(&self.room.reply, to);
-        }
-    }
-
-    /// Gives control its turn: each datagram is answered by one datagram to its sender, unless it is ignored. True if the switch
-    /// is asked to stop.
-    pub fn answer_control(
+    /// Gives control its turn: requests are answered. True if the switch is asked to stop.
+    pub fn answer_control<N: TallyName, L: LogLines>(
         &mut self,
         alloc: Global,
         operator: &mut Operator,
-        tally: &mut Tally,
-    ) -> bool
-        ensures { tally.new.table ≡ tally.old.table }
-    {
-        if !self.control_ready {
-            return false;
-        }
-        for _ in 0..CONTROL_TURN {
-            match self.control.recv_from(&mut self.room.buf) {
-                Ok((size, sender)) => {
-                    let text = &self.room.buf[..size];
-                    let Some(answer) = answer_from(
-                        alloc,
-                        &self.bound,
-                        sender,
-                        text,
-                        operator,
-                        tally,
-                    ) else {
-                        continue;
-                    };
-                    self.reply(&answer, sender);
-                    if let ControlAnswer::Stop = answer {
-                        return true;
-                    }
-                }
-                Err(error) if error.kind() == ErrorKind::WouldBlock => {
-                    self.control_ready = false;
-                    return false;
-                }
-                // A receive that fails is passed over.
-                Err(_) => {}
+        named: &mut NamedTally<N>,
+        log: &mut Log<L>,
+    ) -> bool {
+        match &mut self.control {
+            Control::Udp(control) => {
+                control.is_ready && control.turn(alloc, &mut self.room, operator, named, log)
+            }
+            Control::Unix(control) => {
+                control.accept(alloc, self.poll.registry());
+                client_turns(control, alloc, operator, named, log)
             }
         }
-        false
     }
 }

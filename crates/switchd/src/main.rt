@@ -1,17 +1,23 @@
 //! The program `dswitch`: its arguments, its standard streams and its exit status (docs/COMMANDS.md).
 #![tactic(auto)]
 
-use command_line::{Failure, refuse_arguments};
+use command_line::{Failure, refuse_arguments, with_control};
 use command_returning::run_returning;
 use command_waiting::run_waiting;
-use std::env::Env;
-use std::io::LineWriter;
+use std::env::{Env, VarError};
+use std::io::{ErrorKind, LineWriter};
 use std::process::ExitCode;
 use std::{env, io};
 
-// The words after the program's name.
+// The words after the program's name, with the address of control from the environment if they lack it.
 fn arguments<R: Env + AllocGlobal>(rt: &R) -> io::Result<Vec<String>> {
-    Ok(env::args(rt)?.skip(1).collect(rt.alloc())?)
+    let words = env::args(rt)?.skip(1).collect(rt.alloc())?;
+    match env::var(rt, "DSWITCH_CONTROL") {
+        Ok(address) if !address.is_empty() => Ok(with_control(rt.alloc(), words, address)?),
+        Ok(_) | Err(VarError::NotPresent) => Ok(words),
+        Err(VarError::NotUnicode) => Err(io::Error::from(ErrorKind::InvalidInput)),
+        Err(VarError::OutOfMemory) => Err(io::Error::from(ErrorKind::OutOfMemory)),
+    }
 }
 
 fn main(rt: HostRuntime) -> ExitCode {

@@ -8,7 +8,7 @@ pub returns-then-is_ignored-clause-answered : goal.returns-then-is_ignored-claus
 returns-then-is_ignored-clause-answered c = ignores (c.if-is_ignored.ensures.0 refl) refl refl
 
 pub returns-clause-answered : goal.returns-clause-answered
-returns-clause-answered c = answers c.answer_text.result (λ is. false≢true (c.if-is_ignored.ensures.1 is)) c.answer_text.ensures.answered
+returns-clause-answered c = answers c.answer_request.result (λ is. false≢true (c.if-is_ignored.ensures.1 is)) c.answer_request.ensures.answered
 
 pub returns-clause-no_loop : goal.returns-clause-no_loop
-returns-clause-no_loop c = answer_is_ignored _ _ _ _ _ _ c.answer_text.ensures.answered
+returns-clause-no_loop c = answer_is_ignored _ _ _ _ _ _ c.answer_request.ensures.answered

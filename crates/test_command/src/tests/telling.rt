@@ -4,22 +4,22 @@ ghost use Rattle.std.specs.Prelude.{◌≤◌, IfSome, length};
 
 use command_line::Failure;
 use control_client::{
-    Came, InputLines, LONGEST_LINE, Lines, Wire, WireFailed, WordLines, tell, tell_change,
+    Came, InputLines, LONGEST_LINE, Lines, Peer, Wire, WireFailed, WordLines, tell, tell_change,
 };
 use ipv4_fields::Endpoint;
 use std::alloc::Global;
 use std::io::{BufReader, Read};
 use std::test::Fail;
 
-const SWITCH: Endpoint = Endpoint {
+const SWITCH: Peer = Peer::Udp(Endpoint {
     address: 0x7f00_0001,
     port: 5301,
-};
+});
 
-const ELSEWHERE: Endpoint = Endpoint {
+const ELSEWHERE: Peer = Peer::Udp(Endpoint {
     address: 0x7f00_0001,
     port: 5302,
-};
+});
 
 // What a receive gives.
 #[derive(Clone, Copy)]
@@ -33,11 +33,12 @@ enum Arrival {
 // It gives these in their order, and then nothing in time. What is sent stands in `sent`, a line each.
 #[derive(Drop)]
 struct MemoryWire {
+    switch: Peer,
     left: &'static [Arrival],
     sent: Vec<u8>,
 }
 
-fn put(from: Endpoint, text: &str, buf: &mut [u8]) -> Option<Came>
+fn put(from: Peer, text: &str, buf: &mut [u8]) -> Option<Came>
     ensures within { IfSome result (λ one. one.len ≤ length buf.new) }
 {
     let len = text.len().min(buf.len());
@@ -50,7 +51,7 @@ impl Wire for MemoryWire {
 
     ghost log = { λ _. None };
 
-    fn send(&mut self, _to: Endpoint, bytes: &[u8]) -> Result<(), WireFailed> {
+    fn send(&mut self, _to: Peer, bytes: &[u8]) -> Result<(), WireFailed> {
         let whole = self.sent.extend_from_slice(bytes).is_ok()
             && self.sent.extend_from_slice(b"\n".as_slice()).is_ok();
         if whole { Ok(()) } else { Err(WireFailed) }
@@ -62,7 +63,7 @@ impl Wire for MemoryWire {
         };
         self.left = left;
         match *first {
-            Arrival::Answer(text) => Ok(put(SWITCH, text, buf)),
+            Arrival::Answer(text) => Ok(put(self.switch, text, buf)),
             Arrival::Foreign(text) => Ok(put(ELSEWHERE, text, buf)),
             Arrival::Silence => Ok(None),
             Arrival::Broken => Err(WireFailed),
@@ -162,17 +163,19 @@ const ROWS: [Row; 9] = [
 
 fn is_told<L: Lines>(
     alloc: Global,
+    switch: Peer,
     lines: &mut L,
     arrivals: &'static [Arrival],
     ended: Result<bool, Failure>,
     texts: (&str, &str),
 ) -> bool {
     let mut wire = MemoryWire {
+        switch,
         left: arrivals,
         sent: Vec::new(alloc),
     };
     let mut out = Vec::new(alloc);
-    tell(alloc, lines, &mut wire, SWITCH, &mut out) == ended
+    tell(alloc, lines, &mut wire, switch, &mut out) == ended
         && wire.sent.as_slice() == texts.0.as_bytes()
         && out.as_slice() == texts.1.as_bytes()
 }
@@ -183,6 +186,7 @@ fn lines_are_told_in_order(rt: HostRuntime) {
         let mut lines = WordLines::new(row.lines);
         let told = is_told(
             rt.alloc(),
+            SWITCH,
             &mut lines,
             row.arrivals,
             row.ended,
@@ -237,6 +241,7 @@ fn sends<R: Read + Drop>(alloc: Global, input: R, sent: &str) -> bool {
         return false;
     };
     let mut wire = MemoryWire {
+        switch: SWITCH,
         left: &THREE,
         sent: Vec::new(alloc),
     };
@@ -262,6 +267,7 @@ fn input_is_cut_into_lines(rt: HostRuntime) {
 fn input_is_one_change(rt: HostRuntime) -> Result<(), Fail> {
     for (input, sent) in &CHANGES {
         let mut wire = MemoryWire {
+            switch: SWITCH,
             left: &THREE,
             sent: Vec::new(rt.alloc()),
         };
@@ -280,6 +286,7 @@ fn input_is_one_change(rt: HostRuntime) -> Result<(), Fail> {
 #[test]
 fn words_are_one_change(rt: HostRuntime) -> Result<(), Fail> {
     let mut wire = MemoryWire {
+        switch: SWITCH,
         left: &THREE,
         sent: Vec::new(rt.alloc()),
     };
@@ -298,10 +305,39 @@ fn long_line_is_not_sent(rt: HostRuntime) -> Result<(), Fail> {
     let reader = BufReader::new(rt.alloc(), input.as_slice())?;
     let told = is_told(
         rt.alloc(),
+        SWITCH,
         &mut InputLines::new(reader),
         &THREE,
         Ok(true),
         ("show\n", "refused C2\nok\n"),
+    );
+    assert!(rt; told);
+    Ok(())
+}
+
+// On a stream a longer line is one request, too. A line with an LF in it, and a block with fewer lines than it says, are none.
+#[test]
+fn stream_carries_other_lines(rt: HostRuntime) -> Result<(), Fail> {
+    let mut input = vec![in rt.alloc(); b'a'; LONGEST_LINE + 1]?;
+    input.extend_from_slice(b"\n".as_slice())?;
+    let reader = BufReader::new(rt.alloc(), input.as_slice())?;
+    let mut wire = MemoryWire {
+        switch: Peer::Unix,
+        left: &THREE,
+        sent: Vec::new(rt.alloc()),
+    };
+    let mut out = Vec::new(rt.alloc());
+    let mut lines = InputLines::new(reader);
+    let ended = tell(rt.alloc(), &mut lines, &mut wire, Peer::Unix, &mut out);
+    assert!(rt; ended == Ok(false));
+    assert!(rt; wire.sent.as_slice() == input.as_slice());
+    let told = is_told(
+        rt.alloc(),
+        Peer::Unix,
+        &mut WordLines::new(&["show\nstop", "all 1", "show", "all 0", "all 2", "show"]),
+        &THREE,
+        Ok(true),
+        ("all 1\nshow\nall 0\n", "refused C1\nok\nok\nrefused C1\n"),
     );
     assert!(rt; told);
     Ok(())

@@ -7,5 +7,5 @@ returns-clause-printed g c =
 
 pub returns-clause-failed : goal.returns-clause-failed
 returns-clause-failed g c =
-    ended_failed g.W.Write.contents c.args.out.now c.print_replaced-ended.new.out _ _ c.print_replaced-ended.result c.reported.result c.reported.ensures.status
+    ended_failed _ g.W.Write.contents c.args.out.now c.print_replaced-ended.new.out _ _ c.print_replaced-ended.result c.reported.result c.reported.ensures.status
     c.print_replaced-ended.ensures.done_or_refused c.print_replaced-ended.ensures.unwritten c.reported.ensures.told

@@ -1,11 +1,9 @@
-use Rattle.std.proofs.Common.{rules, sym, ◌∙◌}
+use Rattle.std.proofs.Common.{rules}
 use Rattle.command_waiting.specs.Telling.{stopped}
 use Rattle.command_waiting.proofs.telling.run_tell.Goals as goal
 
 pub returns-in-Err-clause-failed : goal.returns-in-Err-clause-failed
-returns-in-Err-clause-failed g c = λ is.
-    let switch = c.in-Some in
-    stopped switch.switch c.in-Err.fault switch.ensures.0 (sym c.as_bytes.ensures.value ∙ switch.ensures.1) c.in-Err.ensures.stopped c.report.ensures.told
+returns-in-Err-clause-failed g c = λ is. stopped c.in-Some.address c.in-Err.fault c.in-Some.ensures c.in-Err.ensures.stopped c.report.ensures.told
 
 pub returns-in-Err-clause-done : goal.returns-in-Err-clause-done
 returns-in-Err-clause-done g c = search rules

@@ -1,7 +1,8 @@
-use Rattle.std.proofs.Common.{[], append-nil, arith, length, length-append, refl, sym, take, ◌<◌, ◌++◌, ◌∙◌, ◌∷◌, ◌≡◌, rules}
+use Rattle.std.proofs.Common.{[], append-nil, arith, length, length-append, refl, take, ◌<◌, ◌++◌, ◌∷◌, ◌≡◌, rules}
+use Rattle.std.proofs.lemmas.Bool.{both_ways}
 use Rattle.control_client.specs.Wire.{came, none_came}
 use Rattle.control_client.specs.body.Asking.{broken, out_of_time, too_many}
-use Rattle.control_client.proofs.ExchangeLemmas.{gave_none, gave_one, hears, other_endpoint, passes_more, passes_none, same_endpoint}
+use Rattle.control_client.proofs.ExchangeLemmas.{gave_none, gave_one, hears, passes_more, passes_none}
 use Rattle.control_client.proofs.WireLemmas.{logs_more}
 use Rattle.control_client.proofs.asking.hear.Goals as goal
 
@@ -14,7 +15,7 @@ returns-in-Ok-Some-clause-heard g c =
     let mid = g.D.Wire.log c.loop-passed.wire in let after = g.D.Wire.log c.receive.new.self in
     let few : length so_far.0 < 4096 = (let count = so_far.2 in let bound = c.loop-passed-test.true in let end = c.loop-passed.auto._passed-end in omega arith) in
     hears c.args.switch some.one (take some.one.len c.receive.new.buf) so_far.0 (g.D.Wire.log c.args.wire.now) mid after so_far.1 few
-    (same_endpoint some.one.from c.args.switch (sym c.eq.ensures ∙ c.if-eq.true))
+    (c.is.ensures.0 c.if-is.true)
     (gave_one c.receive.result some.field-0 some.one c.receive.new.buf mid after some.is some.field-0-is c.receive.ensures.logged)
 
 pub returns-in-Ok-None-clause-not_heard : goal.returns-in-Ok-None-clause-not_heard
@@ -41,7 +42,7 @@ loop-passed-preserved g c =
     let longer = length-append so_far.0 (came some.one.from bytes ∷ []) in let count = so_far.2 in (
       so_far.0 ++ came some.one.from bytes ∷ [],
       passes_more c.args.switch some.one.from bytes so_far.0 (g.D.Wire.log c.args.wire.now) mid after so_far.1
-          (other_endpoint some.one.from c.args.switch (sym c.eq.ensures ∙ c.if-eq.false))
+          (λ same. both_ways c.is.result c.if-is.false (c.is.ensures.1 same))
           (gave_one c.receive.result some.field-0 some.one c.receive.new.buf mid after some.is some.field-0-is c.receive.ensures.logged),
       omega arith,
     )

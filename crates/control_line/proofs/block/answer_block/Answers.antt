@@ -5,7 +5,7 @@ use Rattle.control_line.specs.body.Blocks.{IsOther}
 use Rattle.control_line.specs.declared.reason.Reason.TheVariants.{OtherVersion}
 use Rattle.control_line.specs.declared.reply.LineAnswer.TheVariants.{Refused}
 use Rattle.control_line.proofs.LineLemmas.{asked}
-use Rattle.control_line.proofs.MessageLemmas.{block_asks, block_bad_form, block_failed, block_other, block_published, block_too_long, empty_start}
+use Rattle.control_line.proofs.MessageLemmas.{block_asks, block_bad_form, block_failed, block_other, block_published, block_too_long}
 use Rattle.control_line.proofs.block.answer_block.Goals as goal
 
 pub returns-then-lines-gt-BLOCK_LIMIT-clause-answered : goal.returns-then-lines-gt-BLOCK_LIMIT-clause-answered
@@ -22,10 +22,6 @@ returns-then-is_other-clause-answered c = λ text has.
     subst (λ n. IsAnswered text c.args.operator.now c.args.operator.now (Refused (OtherVersion n))) (sym c.number-then-is_other.ensures.number)
     (block_other text c.args.head c.args.lines.now has c.args.operator.now c.if-lines-gt-BLOCK_LIMIT.false counted.0 counted.1 (sym counted.2 ∙ c.if-count_lines-head.false)
     (subst (IsOther c.args.head.version) c.number.ensures.number (c.if-is_other.ensures.other refl)))
-
-pub config_of_block-requires-clause-none : goal.config_of_block-requires-clause-none
-config_of_block-requires-clause-none c =
-    let counted = c.count_lines.ensures in empty_start c.args.head c.args.lines.now counted.0 c.requires.head counted.1 (sym counted.2 ∙ c.if-count_lines-head.false)
 
 pub returns-in-Ok-clause-answered : goal.returns-in-Ok-clause-answered
 returns-in-Ok-clause-answered c = λ text has.

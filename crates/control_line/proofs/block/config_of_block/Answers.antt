@@ -3,17 +3,10 @@ use Rattle.std.specs.Prelude.{MatchResult}
 use Rattle.control_line.specs.body.Blocks.{AreDone, IsFirstFault, IsStart}
 use Rattle.control_line.proofs.block.config_of_block.Goals as goal
 
-pub returns-in-Current : goal.returns-in-Current
-returns-in-Current c = (
-  c.config.result.now,
-  subst (λ start. IsStart start c.args.operator.now.view c.config.result.now) (sym c.in-Current.is) c.config.ensures.current_configuration,
-  c.config_of_lines.ensures,
-)
-
 pub returns-in-Empty : goal.returns-in-Empty
 returns-in-Empty c = (
   [],
   subst (λ start. IsStart start c.args.operator.now.view []) (sym c.in-Empty.is) refl,
-  λ them are. subst (λ real. MatchResult c.config_of_lines-in-Empty-2.result (AreDone real them) (IsFirstFault real them)) c.new.ensures.empty
-      (c.config_of_lines-in-Empty-2.ensures them are),
+  λ them are. subst (λ real. MatchResult c.config_of_lines-in-Empty.result (AreDone real them) (IsFirstFault real them)) c.new.ensures.empty
+      (c.config_of_lines-in-Empty.ensures them are),
 )

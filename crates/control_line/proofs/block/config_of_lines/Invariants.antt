@@ -5,7 +5,7 @@ use Rattle.control_line.proofs.BlockLemmas.{AreDoneTo}
 use Rattle.control_line.proofs.block.config_of_lines.Given as goal
 
 abbrev pub invariant-loop-line : goal.invariant-loop-line
-invariant-loop-line l = ((lines : List (List ℕ)) → AreLines l.text lines → AreDoneTo l.start l.made l.number l.left lines)
+invariant-loop-line l = ((lines : List (List ℕ)) → AreLines l.text lines → AreDoneTo l.initial.config l.config l.number l.left lines)
     × EndsLine l.left
     × (l.number + length l.left ≤ length l.text)
 

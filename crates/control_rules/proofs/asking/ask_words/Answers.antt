@@ -11,7 +11,7 @@ returns g c =
     let line = c.bytes.result.now in
     let reply = c.in_ok-reply.reply.items in
     let shown = c.in_ok-read_words.field-0 in
-    learns_asked c.args.client.now c.ask.new.self line reply _ c.ask.ensures.switch (inr (words_reading c.args.program.0 c.args.program.1 c.args.place, rw c.bytes.ensures.line c.words_line-line.ensures.spelled)) c.in_ok-reply.ensures.asked
+    learns_asked c.args.client.now c.ask.new.self line reply _ c.ask.ensures.switch (inr (words_reading c.args.program.0 c.args.program.1 c.args.place, rw c.bytes.ensures.line c.words_line-line.ensures)) c.in_ok-reply.ensures.asked
     (λ history are true. if_some_all (IsWordsReply reply) _
-    (λ it of. words_true history are line reply true c.args.program.0 c.args.program.1 c.args.place it of (rw c.bytes.ensures.line c.words_line-line.ensures.spelled))
+    (λ it of. words_true history are line reply true c.args.program.0 c.args.program.1 c.args.place it of (rw c.bytes.ensures.line c.words_line-line.ensures))
     shown (subst (λ text. IfSome shown (IsWordsReply text)) c.deref.ensures.value c.in_ok-read_words.ensures))

@@ -1,4 +1,4 @@
-use Rattle.std.proofs.Common.{◌≡◌, ◌∙◌, inr, rules, subst, sym}
+use Rattle.std.proofs.Common.{◌≡◌, ◌∙◌, subst, sym}
 use Rattle.std.proofs.lemmas.Bool.{false≢true}
 use Rattle.config_diff.specs.Words.{words_config}
 use Rattle.control_client.specs.Exchange.{Asks}
@@ -15,23 +15,9 @@ returns-then-branch g c =
     ∙ c.in_ok-is_same.ensures.0 c.if-branch.true)
     c.in_ok-now.ensures
 
-pub returns-then-as_slice-gt-LONGEST_LINE : goal.returns-then-as_slice-gt-LONGEST_LINE
-returns-then-as_slice-gt-LONGEST_LINE g c =
-    inr (record {
-      version = c.in-Some.now.version;
-      request = c.in_ok-request.request.items;
-      learns = learns_weaker c.args.client.now c.read_running.new.client _ _
-          (λ history are has same. false≢true (sym c.if-branch.false ∙ c.in_ok-is_same.ensures.1
-          (some_holds (λ running. words_config running.config ≡ words_config (history running.version)) _ c.in-Some.now has c.in-Some.is ∙ same)))
-          c.in_ok-now.ensures;
-      is_request = c.in_ok-request.ensures;
-      large = search rules;
-      text_is = c.in_ok-reply.ensures.items;
-    })
-
 pub returns : goal.returns
 returns g c =
-    attempt_read c.args.file.now (words_config c.args.config.now) c.args.client.now c.ask.new.self c.in_ok-reply-2.reply.items c.read_reply.result c.read_reply.ensures (record {
+    attempt_read c.args.file.now (words_config c.args.config.now) c.args.client.now c.ask.new.self c.in_ok-reply.reply.items c.read_reply.result c.read_reply.ensures (record {
       version = c.in-Some.now.version;
       mid = c.read_running.new.client;
       request = c.in_ok-request.request.items;
@@ -40,6 +26,6 @@ returns g c =
           (some_holds (λ running. words_config running.config ≡ words_config (history running.version)) _ c.in-Some.now has c.in-Some.is ∙ same)))
           c.in_ok-now.ensures;
       is_request = c.in_ok-request.ensures;
-      asked = subst (λ line. Asks c.read_running.new.client.switch line c.in_ok-reply-2.reply.items c.read_running.new.client.log c.ask.new.self.log) c.deref.ensures.value c.in_ok-reply-2.ensures.asked;
+      asked = subst (λ line. Asks c.read_running.new.client.switch line c.in_ok-reply.reply.items c.read_running.new.client.log c.ask.new.self.log) c.deref.ensures.value c.in_ok-reply.ensures.asked;
       same_switch = c.ask.ensures.switch;
     })

@@ -1,0 +1,38 @@
+//! Bytes as they are shown to people: those that are no printable ASCII as `\xNN`.
+
+ghost use Rattle.std.specs.Prelude.{◌≡◌, ◌<◌, ◌++◌, ◌∷◌, [], OnOk};
+ghost use Rattle.std.specs.List.{flat_map};
+ghost use Rattle.command_explain.specs.Shown.{hex_digit, shown_byte, shown_text};
+
+use std::alloc::AllocError;
+
+fn hex_digit(value: u8) -> u8
+    requires { value < 16 }
+    ensures { result ≡ hex_digit value }
+{
+    if value < 10 {
+        b'0' + value
+    } else {
+        b'a' + (value - 10)
+    }
+}
+
+fn push_byte(text: &mut Vec<u8>, byte: u8) -> Result<(), AllocError>
+    ensures { OnOk result (text.new.items ≡ text.old.items ++ shown_byte byte) }
+{
+    if b' ' <= byte && byte <= b'~' {
+        return text.extend_from_slice([byte].as_slice());
+    }
+    let digits = [b'\\', b'x', hex_digit(byte / 16), hex_digit(byte % 16)];
+    text.extend_from_slice(digits.as_slice())
+}
+
+/// Appends bytes as they are shown: `\xNN` for each that is outside 0x20 to 0x7e.
+pub fn push_shown(text: &mut Vec<u8>, bytes: &[u8]) -> Result<(), AllocError>
+    ensures { OnOk result (text.new.items ≡ text.old.items ++ shown_text bytes.now) }
+{
+    for byte in bytes {
+        push_byte(text, *byte)?;
+    }
+    Ok(())
+}

@@ -1,0 +1,43 @@
+-- How `serve` fails before it serves.
+use Rattle.std.proofs.Common.{◌≡◌, ◌++◌, List, Option, [], codes, inl, refl, ℕ}
+use Rattle.std.proofs.KnownBytes.{Appends-nil}
+use Rattle.command_line.specs.Ending.{AppendsBeginning, line_of}
+use Rattle.command_line.specs.declared.ending.Failure.{Failure}
+use Rattle.command_line.specs.declared.ending.Failure.TheVariants.{BindFailed, NoAnswer, OutOfMemory, ReadFailed, RulesChanged}
+use Rattle.serve_udp.specs.Service.{IsServeFailure}
+use Rattle.command_waiting.specs.Serving.{FailsServing, IsBindLine, told_after_why, told_alone}
+
+-- a line that was not shown
+pub none_shown : (before : Option (List ℕ)) → (line : List ℕ) × IsBindLine line × AppendsBeginning before before line
+none_shown before = let line = codes "cannot bind --" ++ [] in (line, ([], refl), ([], line, Appends-nil before, refl))
+
+no_memory : IsServeFailure OutOfMemory
+no_memory = (λ is. cc, λ is. cc, λ is. cc)
+
+not_bound : IsServeFailure BindFailed
+not_bound = (λ is. cc, λ is. cc, λ is. cc)
+
+no_bind : ◌≡◌ {A = Failure} OutOfMemory BindFailed → ⊥
+no_bind same = cc
+
+module _ (before told_before told_after : Option (List ℕ)) where
+  -- for want of memory
+  pub fails_without_memory : AppendsBeginning told_before told_after (line_of OutOfMemory) → FailsServing before before told_before told_after
+  fails_without_memory told = record {
+    failure = OutOfMemory;
+    of_serve = no_memory;
+    written = λ other. inl refl;
+    not_bound = λ is. absurd (no_bind is);
+    told = told_alone told;
+  }
+
+  -- a socket was not bound
+  pub fails_unbound : (line : List ℕ) (between : Option (List ℕ)) → IsBindLine line → AppendsBeginning told_before between line
+      → AppendsBeginning between told_after (line_of BindFailed) → FailsServing before before told_before told_after
+  fails_unbound line between is first then = record {
+    failure = BindFailed;
+    of_serve = not_bound;
+    written = λ other. inl refl;
+    not_bound = λ is. refl;
+    told = told_after_why refl line is between first then;
+  }

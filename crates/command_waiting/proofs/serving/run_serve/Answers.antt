@@ -1,0 +1,25 @@
+use Rattle.std.proofs.Common.{Bor, List, rules, sym, ◌∙◌, ℕ}
+use Rattle.command_waiting.specs.Waiting.{no_rules}
+use Rattle.command_waiting.proofs.OpeningLemmas.{fails_unwritten, named}
+use Rattle.command_waiting.proofs.serving.run_serve.Goals as goal
+
+pub returns-in_default-clause-failed : goal.returns-in_default-clause-failed
+returns-in_default-clause-failed g c = λ is. fails_unwritten _ _ _ _ _ _ _ (c.refuse_address.ensures.failed is)
+
+pub returns-in_default-from_text-clause-failed : goal.returns-in_default-from_text-clause-failed
+returns-in_default-from_text-clause-failed g c = λ is. fails_unwritten _ _ _ _ _ _ _ (c.refuse_address-in_default-from_text.ensures.failed is)
+
+pub returns-in_default-from_text-clause-refused : goal.returns-in_default-from_text-clause-refused
+returns-in_default-from_text-clause-refused g c = search rules
+
+pub returns-in_default-clause-refused : goal.returns-in_default-clause-refused
+returns-in_default-clause-refused g c = search rules
+
+pub returns-in-Err-clause-refused : goal.returns-in-Err-clause-refused
+returns-in-Err-clause-refused g c = λ is.
+    let refused = c.in-Err.ensures.refused is in
+    let file = named (λ (name : Bor (List ℕ)). name.now) c.args.file refused.0 in
+    no_rules file.0 file.1
+    (c.in-Some.front, c.in-Some.ensures.0, sym c.as_bytes.ensures.value ∙ c.in-Some.ensures.1)
+    (c.in-Some-from_text.control, c.in-Some-from_text.ensures)
+    refused.1

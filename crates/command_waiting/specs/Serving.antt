@@ -1,0 +1,24 @@
+-- How `serve` fails: what it wrote, and what it tells people (docs/COMMANDS.md, "serve").
+use Rattle.std.specs.Prelude.{◌≡◌, ◌≢◌, ◌++◌, List, Option, codes, ℕ}
+use Rattle.command_line.specs.Ending.{AppendsBeginning, line_of}
+use Rattle.command_line.specs.declared.ending.Failure.{Failure}
+use Rattle.command_line.specs.declared.ending.Failure.TheVariants.{BindFailed, WriteFailed}
+use Rattle.serve_udp.specs.Service.{IsServeFailure, WritesReadyOrNothing}
+
+-- which socket could not be bound, and why; what the system says of that is its own
+abbrev pub IsBindLine : List ℕ → Type 0
+IsBindLine line = (rest : List ℕ) × (line ≡ codes "cannot bind --" ++ rest)
+
+-- the line of a failure was appended; if a socket was not bound, why may come first. Where a write fails, a beginning of either
+pub data IsServeTold (failure : Failure) (before after : Option (List ℕ)) : Type 0 where
+  told_alone : AppendsBeginning before after (line_of failure) → IsServeTold failure before after
+  told_after_why : failure ≡ BindFailed → (line : List ℕ) → IsBindLine line → (between : Option (List ℕ)) →
+      AppendsBeginning before between line → AppendsBeginning between after (line_of failure) → IsServeTold failure before after
+
+-- the switch ended with a failure; if no write failed the line `ready` was written or nothing, and nothing if a socket was not bound
+pub record FailsServing (before after told_before told_after : Option (List ℕ)) : Type 0 where
+  pub failure : Failure
+  pub of_serve : IsServeFailure failure
+  pub written : failure ≢ WriteFailed → WritesReadyOrNothing before after
+  pub not_bound : failure ≡ BindFailed → after ≡ before
+  pub told : IsServeTold failure told_before told_after

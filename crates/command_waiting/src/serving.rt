@@ -1,0 +1,155 @@
+//! The command `serve`: the switch on its sockets (docs/COMMANDS.md, "serve").
+
+ghost use Rattle.std.specs.Prelude.{◌≡◌, ◌≤◌, ◌++◌, ◌⊎◌, IfOk, None, codes, option_map};
+ghost use Rattle.member_group.specs.Charge.{charge_of};
+ghost use Rattle.versions.specs.declared.layout.TheConstants.{CHARGE_LIMIT};
+ghost use Rattle.command_line.specs.Ending.{AppendsBeginning};
+ghost use Rattle.serve_udp.specs.Service.{WritesServedFrom};
+ghost use Rattle.command_waiting.specs.Serving.{FailsServing, IsBindLine};
+ghost use Rattle.command_waiting.specs.Waiting.{EndsInServeFailure, RefusesService, WritesService};
+
+use crate::refuse_address;
+use crate::rules_file::opening;
+use command_line::{ControlAddress, Failure, Status, Workers, write_whole};
+use dispatch::OpenGate;
+use ipv4_fields::Endpoint;
+use member_group::Config;
+use serve_control::{Log, NoLog};
+use serve_udp::{BindFault, BoundSockets, bind_udp, bind_unix, serve_bound};
+use std::alloc::{AllocError, Global};
+use std::fs::Files;
+use std::io::Write;
+use std::net::Net;
+use std::sync::Wait;
+use std::thread::Threads;
+
+// Which socket was not bound, and why.
+fn bind_line(alloc: Global, fault: &BindFault) -> Result<Vec<u8>, AllocError>
+    ensures { IfOk result (λ line. IsBindLine line.items) }
+{
+    let rest = match fault {
+        BindFault::Front(error) => format!(in alloc; "front: {error}\n")?,
+        BindFault::Control(error) => format!(in alloc; "control: {error}\n")?,
+    };
+    let mut line = Vec::new(alloc);
+    line.extend_from_slice(b"cannot bind --".as_slice())?;
+    line.extend_from_slice(rest.as_bytes())?;
+    Ok(line)
+}
+
+// Shows people why a socket was not bound. If memory or a write fails, that is left out.
+fn show_bind_fault<E: Write>(alloc: Global, fault: &BindFault, errs: &mut E)
+    ensures { (line : _) × IsBindLine line × AppendsBeginning (E.contents errs.old) (E.contents errs.new) line }
+{
+    if let Ok(line) = bind_line(alloc, fault) {
+        let _ = write_whole(&line, errs);
+        let _ = errs.flush();
+    }
+}
+
+fn report_bind<W: Write, E: Write>(
+    alloc: Global,
+    fault: &BindFault,
+    out: &mut W,
+    errs: &mut E,
+) -> Status
+    ensures failed { result ≡ Status.Failed }
+    ensures told { FailsServing (W.contents out.old) (W.contents out.new) (E.contents errs.old) (E.contents errs.new) }
+{
+    show_bind_fault(alloc, fault, errs);
+    Failure::BindFailed.report(errs)
+}
+
+// Serves on bound sockets.
+fn serve_on<R: Threads + Wait + Net + Sync, W: Write, E: Write>(
+    rt: &R,
+    config: Config,
+    sockets: BoundSockets<'_>,
+    workers: Workers,
+    out: &mut W,
+    errs: &mut E,
+) -> Status
+    requires { charge_of config ≤ CHARGE_LIMIT }
+    ensures done { result ≡ Status.Done → WritesServedFrom config workers.count (W.contents out.old) (W.contents out.new) }
+    ensures no_errors { result ≡ Status.Done → errs.new ≡ errs.old }
+    ensures done_or_failed { (result ≡ Status.Done) ⊎ (result ≡ Status.Failed) }
+    ensures failed { result ≡ Status.Failed
+        → FailsServing (W.contents out.old) (W.contents out.new) (E.contents errs.old) (E.contents errs.new) }
+{
+    let Ok(mut log) = Log::new(*config.allocator(), NoLog) else {
+        return Failure::OutOfMemory.report(errs);
+    };
+    match serve_bound(rt, config, sockets, workers.count, &OpenGate, out, &mut log) {
+        Ok(()) => Status::Done,
+        Err(failure) => failure.report(errs),
+    }
+}
+
+// Binds the sockets, and serves. A socket file is removed at the end.
+fn serve_at<R: Threads + Wait + Net + Files + Sync, W: Write, E: Write>(
+    rt: &R,
+    config: Config,
+    places: (Endpoint, ControlAddress<'_>),
+    workers: Workers,
+    out: &mut W,
+    errs: &mut E,
+) -> Status
+    requires { charge_of config ≤ CHARGE_LIMIT }
+    ensures done { result ≡ Status.Done → WritesServedFrom config workers.count (W.contents out.old) (W.contents out.new) }
+    ensures no_errors { result ≡ Status.Done → errs.new ≡ errs.old }
+    ensures done_or_failed { (result ≡ Status.Done) ⊎ (result ≡ Status.Failed) }
+    ensures failed { result ≡ Status.Failed
+        → FailsServing (W.contents out.old) (W.contents out.new) (E.contents errs.old) (E.contents errs.new) }
+{
+    let alloc = *config.allocator();
+    match places.1 {
+        ControlAddress::Udp(control) => match bind_udp(rt, places.0, control) {
+            Ok(sockets) => serve_on(rt, config, sockets, workers, out, errs),
+            Err(fault) => report_bind(alloc, &fault, out, errs),
+        },
+        ControlAddress::Unix(path) => match bind_unix(rt, places.0, path) {
+            Ok((sockets, file)) => {
+                let status = serve_on(rt, config, sockets, workers, out, errs);
+                file.remove(rt);
+                status
+            }
+            Err(fault) => report_bind(alloc, &fault, out, errs),
+        },
+    }
+}
+
+#[tactic(auto, using(crate::proofs::OpeningLemmas::fails_unread, crate::proofs::OpeningLemmas::fails_serving, crate::proofs::OpeningLemmas::named, crate::proofs::OpeningLemmas::is_given))]
+/// Runs `serve` with the texts of both addresses, and the name of a rules file if there is one.
+pub(crate) fn run_serve<R: Threads + Wait + Net + Files + Sync, W: Write, E: Write>(
+    rt: &R,
+    alloc: Global,
+    addresses: (&str, &str),
+    workers: Workers,
+    file: Option<&str>,
+    out: &mut W,
+    errs: &mut E,
+) -> Status
+    ensures done { result ≡ Status.Done
+        → WritesService addresses.entry.0.now addresses.entry.1.now workers.count (option_map (λ name. name.now) file.entry)
+        (W.contents out.old) (W.contents out.new) }
+    ensures refused { result ≡ Status.Refused
+        → RefusesService addresses.entry.0.now addresses.entry.1.now (option_map (λ name. name.now) file.entry)
+        (W.contents out.old) (W.contents out.new) }
+    ensures no_errors { (result ≡ Status.Done) ⊎ ((result ≡ Status.Refused) × (file.entry ≡ None)) → errs.new ≡ errs.old }
+    ensures never_misused { result ≡ Status.Misused → ⊥ }
+    ensures failed { result ≡ Status.Failed
+        → EndsInServeFailure addresses.entry.0.now addresses.entry.1.now (option_map (λ name. name.now) file.entry)
+        (W.contents out.old) (W.contents out.new) (E.contents errs.old) (E.contents errs.new) }
+{
+    let Some(front) = Endpoint::from_text(addresses.0.as_bytes()) else {
+        return refuse_address(out, errs);
+    };
+    let Some(control) = ControlAddress::from_text(addresses.1) else {
+        return refuse_address(out, errs);
+    };
+    let config = match opening(rt, alloc, file, out, errs) {
+        Ok(config) => config,
+        Err(status) => return status,
+    };
+    serve_at(rt, config, (front, control), workers, out, errs)
+}

@@ -1,0 +1,22 @@
+-- What an exchange at the desk does (docs/COMMANDS.md, "serve").
+use Rattle.std.specs.Prelude.{◌≡◌, List, ℕ}
+use Rattle.dispatch.specs.Tally.{TallyValue}
+use Rattle.read_section.specs.Operator.{OperatorValue}
+use Rattle.serve_control.specs.Answer.{AnswersText, bytes_of}
+use Rattle.serve_control.specs.declared.ControlAnswer.{ControlAnswer}
+use Rattle.serve_control.specs.declared.ControlAnswer.TheVariants.{Line, Stop, Totals as TotalsAnswer}
+use Rattle.serve_stream.specs.Answers.{Exchange, replied, unanswered}
+use Rattle.serve_stream.specs.declared.answers.After.{After}
+use Rattle.serve_stream.specs.declared.answers.After.TheVariants.{GoesOn, Stops}
+
+-- the service is to stop after the answer to `stop` alone
+abbrev pub after_of : ControlAnswer → After
+after_of Stop = Stops
+after_of (TotalsAnswer totals) = GoesOn
+after_of (Line reply) = GoesOn
+
+-- a request is answered as the text of a datagram is; if memory was refused, the rules stay as they were
+abbrev pub AnswersAtDesk : OperatorValue → OperatorValue → TallyValue → TallyValue → Exchange → Type 0
+AnswersAtDesk operator operator' tally tally' (replied request reply after) =
+    (answer : ControlAnswer) × AnswersText request operator operator' tally tally' answer × (reply ≡ bytes_of answer) × (after ≡ after_of answer)
+AnswersAtDesk operator operator' tally tally' (unanswered request) = operator' ≡ operator

@@ -1,0 +1,4 @@
+pub mod Held
+pub mod Replies
+pub mod Waiting
+pub mod Asked
