@@ -67,7 +67,7 @@ impl Write for Output {
         if self.bytes.extend_from_slice(buf).is_err() {
             return Err(io::Error::from(ErrorKind::OutOfMemory));
         }
-        if let Some(ports) = ports_in(buf) {
+        if let Some(ports) = ports_in(&self.bytes) {
             self.ports.store(ports, Ordering::SeqCst);
         }
         Ok(buf.len())
