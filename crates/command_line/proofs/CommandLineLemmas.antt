@@ -241,7 +241,7 @@ flood_datagrams : AreRead flood_shape (codes "datagrams") (IsNumber MAX_DATAGRAM
 flood_datagrams = (inl refl, λ same. cc, (inl refl, λ same. (refl, reads MAX_DATAGRAMS), (inl refl, λ same. cc, tt)))
 
 serve_workers : AreRead serve_shape (codes "workers") (IsNumber WORKERS) serve_shape.rules
-serve_workers = (inl refl, λ same. cc, (inl refl, λ same. cc, (inl refl, λ same. (refl, reads WORKERS), (inl refl, λ same. cc, (inl refl, λ same. cc, tt)))))
+serve_workers = (inl refl, λ same. cc, (inl refl, λ same. cc, (inl refl, λ same. (refl, reads WORKERS), (inl refl, λ same. cc, (inr refl, λ same. cc, (inl refl, λ same. cc, tt))))))
 
 tell_timeout : AreRead tell_shape (codes "timeout") (IsNumber MAX_TIMEOUT) tell_shape.rules
 tell_timeout = (inl refl, λ same. cc, (inl refl, λ same. (refl, reads MAX_TIMEOUT), (inr refl, λ same. cc, (inl refl, λ same. cc, (inl refl, λ same. cc, tt)))))

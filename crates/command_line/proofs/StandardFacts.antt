@@ -106,14 +106,19 @@ unfolding clap_on_literals
 in_serve = refl
 
 in_serve_request : command_in (codes "serve" ∷ codes "--front" ∷ codes "0.0.0.0:1" ∷ codes "--control" ∷ codes "0.0.0.0:2" ∷ codes "--workers" ∷ codes "64" ∷ [])
-    ≡ Some (waiting (serve (codes "0.0.0.0:1") (codes "0.0.0.0:2") 64 None))
+    ≡ Some (waiting (serve (codes "0.0.0.0:1") (codes "0.0.0.0:2") 64 None false))
 unfolding clap_on_literals
 in_serve_request = refl
 
 in_serve_with_rules : command_in (codes "serve" ∷ codes "--rules" ∷ codes "r" ∷ codes "--front" ∷ codes "0.0.0.0:1" ∷ codes "--control" ∷ codes "0.0.0.0:2" ∷ codes "--workers" ∷ codes "64" ∷ [])
-    ≡ Some (waiting (serve (codes "0.0.0.0:1") (codes "0.0.0.0:2") 64 (Some (codes "r"))))
+    ≡ Some (waiting (serve (codes "0.0.0.0:1") (codes "0.0.0.0:2") 64 (Some (codes "r")) false))
 unfolding clap_on_literals
 in_serve_with_rules = refl
+
+in_serve_with_log : command_in (codes "serve" ∷ codes "--front" ∷ codes "0.0.0.0:1" ∷ codes "--log" ∷ codes "--control" ∷ codes "0.0.0.0:2" ∷ codes "--workers" ∷ codes "64" ∷ [])
+    ≡ Some (waiting (serve (codes "0.0.0.0:1") (codes "0.0.0.0:2") 64 None true))
+unfolding clap_on_literals
+in_serve_with_log = refl
 
 in_serve_without_front : faults_in (codes "serve" ∷ codes "--control" ∷ codes "0.0.0.0:2" ∷ codes "--workers" ∷ codes "64" ∷ []) ≡ MissingRequiredArgument ∷ []
 unfolding clap_on_literals

@@ -82,14 +82,16 @@ datagrams_argument = record (named_argument (codes "datagrams")) { parser = Some
 abbrev pub flood_line : App
 flood_line = with_rule (with_rule (new_app (codes "flood")) workers_argument) datagrams_argument
 
--- `serve --front A --control A --workers N`, with a rules file or none
+-- `serve --front A --control A --workers N`, with a rules file or none, and its flag or not
 abbrev pub serve_line : App
 serve_line =
     with_rule
     (with_rule
+    (with_rule
     (with_rule (with_rule (new_app (codes "serve")) (required_named_argument (codes "front"))) (required_named_argument (codes "control")))
     workers_argument)
-    (named_argument (codes "rules"))
+    (named_argument (codes "rules")))
+    (flag (codes "log"))
 
 -- `--timeout SECONDS`, from 1 on
 abbrev pub timeout_argument : Rule
@@ -174,7 +176,7 @@ pub data Request : Type 0 where
 -- a command that may wait: it runs worker threads, or awaits replies
 pub data WaitingRequest : Type 0 where
   flood : (workers datagrams : ℕ) → WaitingRequest
-  serve : (front control : Text) (workers : ℕ) (rules_file : Option Text) → WaitingRequest
+  serve : (front control : Text) (workers : ℕ) (rules_file : Option Text) (logs : Bool) → WaitingRequest
   tell : (control : Text) (timeout : ℕ) (all : Bool) (lines : List Text) → WaitingRequest
   rules : (control : Text) (timeout : ℕ) → WaitingRequest
   load : (control : Option Text) (timeout : ℕ) (rules_file : Text) (only_check only_diff : Bool) → WaitingRequest
@@ -198,7 +200,8 @@ request_of returned.Packets = packets
 
 abbrev pub waiting_of : Waiting → WaitingRequest
 waiting_of (waited.Flood workers datagrams) = flood workers.count datagrams
-waiting_of (waited.Serve front control workers file) = serve front.now control.now workers.count (option_map (λ name. name.now) file)
+waiting_of (waited.Serve front control workers file logs) =
+    serve front.now control.now workers.count (option_map (λ name. name.now) file) logs
 waiting_of (waited.Tell control timeout all lines) = tell control.now timeout all (map (λ line. line.now) lines.items)
 waiting_of (waited.Rules control timeout) = rules control.now timeout
 waiting_of (waited.Load control timeout file only_check only_diff) =
@@ -250,7 +253,8 @@ flood_in rows = option_and_then (λ workers. option_map (λ datagrams. waiting (
 abbrev pub serve_in : List Row → Option Command
 serve_in rows =
     option_map
-    (λ workers. waiting (serve (value_in rows (codes "front")) (value_in rows (codes "control")) workers (first_of (codes "rules") rows)))
+    (λ workers. waiting
+    (serve (value_in rows (codes "front")) (value_in rows (codes "control")) workers (first_of (codes "rules") rows) (is_set rows (codes "log"))))
     (workers_in rows)
 
 abbrev pub tell_in : List Row → Option Command

@@ -105,8 +105,10 @@ fn serve_command<'a>(alloc: Global) -> Result<Command<'a>, AllocError>
     let command = plain_command(alloc, "serve", help::SERVE, help::SERVE_MORE);
     let command = with_argument(Ok(command), front);
     let command = with_argument(command, control);
+    let log = flag_argument(alloc, "log", help::SERVE_LOG);
     let command = with_argument(command, workers_argument(alloc, help::SERVE_WORKERS));
-    with_argument(command, rules_argument(alloc))
+    let command = with_argument(command, rules_argument(alloc));
+    with_argument(command, log)
 }
 
 fn tell_command<'a>(alloc: Global) -> Result<Command<'a>, AllocError>

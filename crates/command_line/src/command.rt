@@ -58,12 +58,13 @@ pub enum Waiting<'a> {
         workers: Workers,
         datagrams: usize,
     },
-    /// `rules` is the name of a rules file, if there is one.
+    /// `rules` is the name of a rules file, if there is one. `log` says whether the flag is given.
     Serve {
         front: &'a str,
         control: &'a str,
         workers: Workers,
         rules: Option<&'a str>,
+        log: bool,
     },
     /// `timeout` is a number of seconds. `all` says whether the lines are one change. `lines` are in the order of the words.
     Tell {

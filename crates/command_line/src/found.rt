@@ -118,6 +118,7 @@ fn serve<'a>(found: &ArgMatches<'a>) -> Option<Subcommand<'a>>
         control: value_of(found, "control"),
         workers,
         rules: given(found, "rules"),
+        log: is_set(found, "log"),
     }))
 }
 

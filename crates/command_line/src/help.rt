@@ -208,6 +208,8 @@ pub const SERVE_WORKERS: &str = "How many worker threads judge, from 1 to 64";
 
 pub const SERVE_RULES: &str = "A rules file to begin with; without it there are no groups";
 
+pub const SERVE_LOG: &str = "Log each control request that changes something or is not done, on standard error";
+
 pub const SERVE_MORE: &str = "\
 Reads UDP datagrams. Each that comes to FRONT is a whole IPv4 packet: the workers take them in turn,
 and send what is to be delivered to the members. Requests come to CONTROL, as `replay` takes them
@@ -229,6 +231,8 @@ Else prints, with status 1, before a socket is bound:
   refused C2, refused B1       if FILE is too long, or its configuration too large
 Or it fails with status 3: with `failed E1` if FILE cannot be read, and with `failed S1` if a socket
 cannot be bound; a line before that says which one, and why.
+With --log standard error gets a line `PEER REPLY: REQUEST` for each control request whose reply
+begins with `ok `, `refused ` or `failed `. REQUEST is cut at 256 bytes.
 Without --control the environment's DSWITCH_CONTROL is taken.
 
 Examples:

@@ -41,7 +41,7 @@ pub record WritesService (front control : Text) (workers : ℕ) (file : Option T
 -- what the command writes was written
 abbrev pub WritesFor : WaitingRequest → Option (List ℕ) → Option (List ℕ) → Option (List ℕ) → Type 0
 WritesFor (flood workers datagrams) input before after = WritesFlood workers datagrams before after
-WritesFor (serve front control workers file) input before after = WritesService front control workers file before after
+WritesFor (serve front control workers file logs) input before after = WritesService front control workers file before after
 WritesFor (tell control timeout all lines) input before after = WritesReplies control all lines input before after false
 WritesFor (rules control timeout) input before after = WritesRules control before after
 WritesFor (load control timeout file only_check only_diff) input before after = WritesLoad control before after only_check only_diff
@@ -62,7 +62,7 @@ pub data RefusesService (front control : Text) (file : Option Text) (before afte
 -- a command that is given no rules file
 abbrev pub HasNoRules : WaitingRequest → Type 0
 HasNoRules (flood workers datagrams) = Unit {0}
-HasNoRules (serve front control workers file) = file ≡ None
+HasNoRules (serve front control workers file logs) = file ≡ None
 HasNoRules (tell control timeout all lines) = Unit {0}
 HasNoRules (rules control timeout) = Unit {0}
 HasNoRules (load control timeout file only_check only_diff) = ⊥
@@ -70,7 +70,7 @@ HasNoRules (load control timeout file only_check only_diff) = ⊥
 -- what was refused is written
 abbrev pub WritesRefusal : WaitingRequest → Option (List ℕ) → Option (List ℕ) → Option (List ℕ) → Type 0
 WritesRefusal (flood workers datagrams) input before after = ⊥
-WritesRefusal (serve front control workers file) input before after = RefusesService front control file before after
+WritesRefusal (serve front control workers file logs) input before after = RefusesService front control file before after
 WritesRefusal (tell control timeout all lines) input before after = IsToldRefusal control all lines input before after
 WritesRefusal (rules control timeout) input before after = IsNoControlAddress control × Appends before after (codes "refused C1\n")
 WritesRefusal (load control timeout file only_check only_diff) input before after = RefusesLoad control before after only_check only_diff
@@ -91,7 +91,7 @@ pub record EndsInServeFailure (front control : Text) (file : Option Text) (befor
 -- the command failed
 abbrev pub EndsInWaitingFailure : WaitingRequest → (input before after told_before told_after : Option (List ℕ)) → Type 0
 EndsInWaitingFailure (flood workers datagrams) input before after told_before told_after = EndsInFloodFailure before after told_before told_after
-EndsInWaitingFailure (serve front control workers file) input before after told_before told_after =
+EndsInWaitingFailure (serve front control workers file logs) input before after told_before told_after =
     EndsInServeFailure front control file before after told_before told_after
 EndsInWaitingFailure (tell control timeout all lines) input before after told_before told_after =
     EndsInTellFailure control all lines input before after told_before told_after

@@ -13,6 +13,7 @@ ghost use Rattle.command_line.specs.declared.ending.Failure.TheVariants as failu
 ghost use Rattle.command_waiting.specs.Waiting.{EndsInWaitingFailure, HasNoRules, WritesFor, WritesRefusal};
 
 mod loading;
+mod logging;
 mod printing;
 mod reporting;
 mod rules_file;
@@ -24,6 +25,7 @@ use command_flood::run_flood;
 pub use command_flood::{DATAGRAMS, flood};
 use command_line::{Failure, Status, Waiting};
 use loading::{Loading, run_load};
+use logging::ServeLog;
 pub use serve_udp::{serve, serve_with};
 use serving::run_serve;
 use showing::run_rules;
@@ -58,13 +60,23 @@ fn refuse_address<W: Write, E: Write>(out: &mut W, errs: &mut E) -> Status
     }
 }
 
-/// Runs a command that may wait, and returns its exit status. `tell` without lines reads its lines from the input.
+/// Runs a command that may wait, and returns its exit status. `tell` without lines reads its lines from the input. `serve --log` gives
+/// the lines of its log to `log`, which is standard error.
 pub fn run_waiting<
     R: Threads + Wait + Net + Clock + Files + Sync,
     I: Read + Drop,
     W: Write,
     E: Write,
->(rt: &R, alloc: Global, command: Waiting<'_>, input: I, out: &mut W, errs: &mut E) -> Status
+    L: Write + Drop,
+>(
+    rt: &R,
+    alloc: Global,
+    command: Waiting<'_>,
+    input: I,
+    log: L,
+    out: &mut W,
+    errs: &mut E,
+) -> Status
     ensures done { result ≡ Status.Done → WritesFor (waiting_of command.entry) (I.remaining input) (W.contents out.old) (W.contents out.new) }
     ensures refused { result ≡ Status.Refused → WritesRefusal (waiting_of command.entry) (I.remaining input) (W.contents out.old) (W.contents out.new) }
     ensures no_errors { (result ≡ Status.Done) ⊎ ((result ≡ Status.Refused) × HasNoRules (waiting_of command.entry)) → errs.new ≡ errs.old }
@@ -82,7 +94,11 @@ pub fn run_waiting<
             control,
             workers,
             rules,
-        } => run_serve(rt, alloc, (front, control), workers, rules, out, errs),
+            log: logs,
+        } => {
+            let lines = if logs { ServeLog::To(log) } else { ServeLog::Off };
+            run_serve(rt, alloc, (front, control), workers, rules, lines, out, errs)
+        }
         Waiting::Tell {
             control,
             timeout,

@@ -8,13 +8,14 @@ ghost use Rattle.serve_udp.specs.Service.{WritesServedFrom};
 ghost use Rattle.command_waiting.specs.Serving.{FailsServing, IsBindLine};
 ghost use Rattle.command_waiting.specs.Waiting.{EndsInServeFailure, RefusesService, WritesService};
 
+use crate::logging::ServeLog;
 use crate::refuse_address;
 use crate::rules_file::opening;
 use command_line::{ControlAddress, Failure, Status, Workers, write_whole};
 use dispatch::OpenGate;
 use ipv4_fields::Endpoint;
 use member_group::Config;
-use serve_control::{Log, NoLog};
+use serve_control::Log;
 use serve_udp::{BindFault, BoundSockets, bind_udp, bind_unix, serve_bound};
 use std::alloc::{AllocError, Global};
 use std::fs::Files;
@@ -61,11 +62,12 @@ fn report_bind<W: Write, E: Write>(
 }
 
 // Serves on bound sockets.
-fn serve_on<R: Threads + Wait + Net + Sync, W: Write, E: Write>(
+fn serve_on<R: Threads + Wait + Net + Sync, W: Write, E: Write, L: Write + Drop>(
     rt: &R,
     config: Config,
     sockets: BoundSockets<'_>,
     workers: Workers,
+    lines: ServeLog<L>,
     out: &mut W,
     errs: &mut E,
 ) -> Status
@@ -76,7 +78,7 @@ fn serve_on<R: Threads + Wait + Net + Sync, W: Write, E: Write>(
     ensures failed { result ≡ Status.Failed
         → FailsServing (W.contents out.old) (W.contents out.new) (E.contents errs.old) (E.contents errs.new) }
 {
-    let Ok(mut log) = Log::new(*config.allocator(), NoLog) else {
+    let Ok(mut log) = Log::new(*config.allocator(), lines) else {
         return Failure::OutOfMemory.report(errs);
     };
     match serve_bound(rt, config, sockets, workers.count, &OpenGate, out, &mut log) {
@@ -86,11 +88,12 @@ fn serve_on<R: Threads + Wait + Net + Sync, W: Write, E: Write>(
 }
 
 // Binds the sockets, and serves. A socket file is removed at the end.
-fn serve_at<R: Threads + Wait + Net + Files + Sync, W: Write, E: Write>(
+fn serve_at<R: Threads + Wait + Net + Files + Sync, W: Write, E: Write, L: Write + Drop>(
     rt: &R,
     config: Config,
     places: (Endpoint, ControlAddress<'_>),
     workers: Workers,
+    lines: ServeLog<L>,
     out: &mut W,
     errs: &mut E,
 ) -> Status
@@ -104,12 +107,12 @@ fn serve_at<R: Threads + Wait + Net + Files + Sync, W: Write, E: Write>(
     let alloc = *config.allocator();
     match places.1 {
         ControlAddress::Udp(control) => match bind_udp(rt, places.0, control) {
-            Ok(sockets) => serve_on(rt, config, sockets, workers, out, errs),
+            Ok(sockets) => serve_on(rt, config, sockets, workers, lines, out, errs),
             Err(fault) => report_bind(alloc, &fault, out, errs),
         },
         ControlAddress::Unix(path) => match bind_unix(rt, places.0, path) {
             Ok((sockets, file)) => {
-                let status = serve_on(rt, config, sockets, workers, out, errs);
+                let status = serve_on(rt, config, sockets, workers, lines, out, errs);
                 file.remove(rt);
                 status
             }
@@ -119,13 +122,19 @@ fn serve_at<R: Threads + Wait + Net + Files + Sync, W: Write, E: Write>(
 }
 
 #[tactic(auto, using(crate::proofs::OpeningLemmas::fails_unread, crate::proofs::OpeningLemmas::fails_serving, crate::proofs::OpeningLemmas::named, crate::proofs::OpeningLemmas::is_given))]
-/// Runs `serve` with the texts of both addresses, and the name of a rules file if there is one.
-pub(crate) fn run_serve<R: Threads + Wait + Net + Files + Sync, W: Write, E: Write>(
+/// Runs `serve` with the texts of both addresses, the name of a rules file if there is one, and where the lines of the log go.
+pub(crate) fn run_serve<
+    R: Threads + Wait + Net + Files + Sync,
+    W: Write,
+    E: Write,
+    L: Write + Drop,
+>(
     rt: &R,
     alloc: Global,
     addresses: (&str, &str),
     workers: Workers,
     file: Option<&str>,
+    lines: ServeLog<L>,
     out: &mut W,
     errs: &mut E,
 ) -> Status
@@ -151,5 +160,5 @@ pub(crate) fn run_serve<R: Threads + Wait + Net + Files + Sync, W: Write, E: Wri
         Ok(config) => config,
         Err(status) => return status,
     };
-    serve_at(rt, config, (front, control), workers, out, errs)
+    serve_at(rt, config, (front, control), workers, lines, out, errs)
 }

@@ -1,10 +1,12 @@
 -- What an exchange at the desk does (docs/COMMANDS.md, "serve").
-use Rattle.std.specs.Prelude.{◌≡◌, List, ℕ}
+use Rattle.std.specs.Prelude.{◌≡◌, List, Option, ℕ}
 use Rattle.dispatch.specs.Tally.{TallyValue}
 use Rattle.read_section.specs.Operator.{OperatorValue}
 use Rattle.serve_control.specs.Answer.{AnswersText, bytes_of}
+use Rattle.serve_control.specs.Log.{TellsRequest}
 use Rattle.serve_control.specs.declared.ControlAnswer.{ControlAnswer}
 use Rattle.serve_control.specs.declared.ControlAnswer.TheVariants.{Line, Stop, Totals as TotalsAnswer}
+use Rattle.serve_control.specs.declared.log.Peer.{Peer}
 use Rattle.serve_stream.specs.Answers.{Exchange, replied, unanswered}
 use Rattle.serve_stream.specs.declared.answers.After.{After}
 use Rattle.serve_stream.specs.declared.answers.After.TheVariants.{GoesOn, Stops}
@@ -20,3 +22,8 @@ abbrev pub AnswersAtDesk : OperatorValue → OperatorValue → TallyValue → Ta
 AnswersAtDesk operator operator' tally tally' (replied request reply after) =
     (answer : ControlAnswer) × AnswersText request operator operator' tally tally' answer × (reply ≡ bytes_of answer) × (after ≡ after_of answer)
 AnswersAtDesk operator operator' tally tally' (unanswered request) = operator' ≡ operator
+
+-- the request has its line in the log, if it is one that is logged; one that was not answered has none
+abbrev pub LogsExchange : Option (List (List ℕ)) → Option (List (List ℕ)) → Peer → Exchange → Type 0
+LogsExchange log log' peer (replied request reply after) = TellsRequest log log' peer request reply
+LogsExchange log log' peer (unanswered request) = log' ≡ log

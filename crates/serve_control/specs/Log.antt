@@ -21,6 +21,14 @@ abbrev pub log_text : Peer → List ℕ → List ℕ → List ℕ
 log_text peer request reply =
     peer_text peer ++ (codes " " ++ (reply ++ (codes ": " ++ (shown_text (take LOGGED_BYTES request) ++ codes "\n"))))
 
+-- the line of a request that is logged
+pub record IsLogLine (line : List ℕ) : Type 0 where
+  pub peer : Peer
+  pub request : List ℕ
+  pub reply : List ℕ
+  pub logged : is_logged reply ≡ true
+  pub is_line : line ≡ log_text peer request reply
+
 -- the lines that were told are those before, and this one; nothing may be known of them
 abbrev pub TellsLine : Option (List (List ℕ)) → Option (List (List ℕ)) → List ℕ → Type 0
 TellsLine None after line = after ≡ None

@@ -15,7 +15,7 @@ mod ignored;
 mod log;
 
 use control_line::{Reply, is_word, line};
-pub use desk::Desk;
+pub use desk::{Desk, answer_from};
 use dispatch::{Tally, Totals};
 pub use ignored::BoundAddresses;
 use ignored::is_ignored;

@@ -1,8 +1,10 @@
 //! The log of control: a line for each request that changes something or is refused (docs/OPERATING.md, "The log").
 
-ghost use Rattle.std.specs.Prelude.{◌≡◌, ◌++◌, IfOk, List, OnErr, OnOk, Option, codes, take, ℕ};
+ghost use Rattle.std.specs.Prelude.{◌≡◌, ◌++◌, ◌+◌, ◌<◌, ◌≤◌, IfOk, List, OnErr, OnOk, Option, codes, length, take, true, vec_capacity, vec_len, ℕ};
+ghost use Rattle.control_line.specs.declared.reply.TheConstants.{REPLY_LIMIT};
 ghost use Rattle.command_explain.specs.Shown.{shown_text};
-ghost use Rattle.serve_control.specs.Log.{TellsLine, TellsRequest, is_logged, log_text, peer_text};
+ghost use Rattle.serve_control.specs.declared.log.TheConstants.{LOGGED_BYTES};
+ghost use Rattle.serve_control.specs.Log.{IsLogLine, TellsLine, TellsRequest, is_logged, log_text, peer_text};
 
 use command_explain::push_shown;
 use control_line::Reply;
@@ -13,7 +15,7 @@ use std::marker::Model;
 /// The most bytes of a request that a line of the log shows.
 pub const LOGGED_BYTES: usize = 256;
 
-// A line of a usual request needs no more room.
+// No line whose reply is within `REPLY_LIMIT` needs more room.
 const LINE_ROOM: usize = 2048;
 
 /// Who sent a request.
@@ -30,8 +32,9 @@ pub trait LogLines {
     /// The lines that were told, if that is known. Of a terminal or a file nothing is known.
     ghost lines: { Self → Option (List (List ℕ)) };
 
-    /// Tells a line, which ends with LF.
+    /// Takes a line of the log, which ends with LF.
     fn tell(&mut self, line: &[u8])
+        requires { IsLogLine line.now }
         ensures { TellsLine (lines self.old) (lines self.new) line.now };
 }
 
@@ -64,11 +67,13 @@ pub struct Log<L: LogLines> {
 }
 
 impl<L: LogLines> Model for Log<L> {
-    ghost use Rattle.std.specs.Prelude.{List, Option, ℕ};
+    ghost use Rattle.std.specs.Prelude.{List, Option, vec_capacity, ℕ, ◌≤◌};
 
     ghost Value = { Option (List (List ℕ)) };
 
     ghost view = { λ log. L.lines log.lines };
+
+    ghost invariant = { λ log. 2048 ≤ vec_capacity log.room };
 }
 
 fn peer_name(peer: Peer) -> Reply
@@ -87,7 +92,8 @@ fn peer_name(peer: Peer) -> Reply
 
 // The bytes of a request that are shown.
 fn front_of(request: &[u8]) -> &[u8]
-    ensures { result.now ≡ take LOGGED_BYTES request.now }
+    ensures front { result.now ≡ take LOGGED_BYTES request.now }
+    ensures short { length result.now ≤ LOGGED_BYTES }
 {
     if request.len() <= LOGGED_BYTES {
         return request;
@@ -97,7 +103,10 @@ fn front_of(request: &[u8]) -> &[u8]
 
 // Appends who sent a request, and the reply.
 fn push_front(line: &mut Vec<u8>, peer: Peer, reply: &[u8]) -> Result<(), AllocError>
-    ensures { OnOk result (line.new.items ≡ line.old.items ++ (peer_text peer ++ (codes " " ++ reply.now))) }
+    ensures appended { OnOk result (line.new.items ≡ line.old.items ++ (peer_text peer ++ (codes " " ++ reply.now))) }
+    ensures at_most { OnOk result (vec_len line.new ≤ vec_len line.old + (129 + length reply.now)) }
+    ensures capacity { vec_capacity line.old ≤ vec_capacity line.new }
+    ensures full { OnErr result (vec_capacity line.old < vec_len line.old + (129 + length reply.now)) }
 {
     line.extend_from_slice(peer_name(peer).bytes())?;
     line.extend_from_slice(b" ".as_slice())?;
@@ -106,7 +115,9 @@ fn push_front(line: &mut Vec<u8>, peer: Peer, reply: &[u8]) -> Result<(), AllocE
 
 // Appends the request, as it is shown, and the end of the line.
 fn push_end(line: &mut Vec<u8>, request: &[u8]) -> Result<(), AllocError>
-    ensures { OnOk result (line.new.items ≡ line.old.items ++ (codes ": " ++ (shown_text (take LOGGED_BYTES request.now) ++ codes "\n"))) }
+    ensures appended { OnOk result (line.new.items ≡ line.old.items ++ (codes ": " ++ (shown_text (take LOGGED_BYTES request.now) ++ codes "\n"))) }
+    ensures capacity { vec_capacity line.old ≤ vec_capacity line.new }
+    ensures full { OnErr result (vec_capacity line.old < vec_len line.old + 1027) }
 {
     line.extend_from_slice(b": ".as_slice())?;
     push_shown(line, front_of(request))?;
@@ -115,7 +126,9 @@ fn push_end(line: &mut Vec<u8>, request: &[u8]) -> Result<(), AllocError>
 
 // Appends the line of a request and its reply.
 fn push_line(line: &mut Vec<u8>, peer: Peer, request: &[u8], reply: &[u8]) -> Result<(), AllocError>
-    ensures { OnOk result (line.new.items ≡ line.old.items ++ log_text peer request.now reply.now) }
+    ensures appended { OnOk result (line.new.items ≡ line.old.items ++ log_text peer request.now reply.now) }
+    ensures capacity { vec_capacity line.old ≤ vec_capacity line.new }
+    ensures full { OnErr result (vec_capacity line.old < vec_len line.old + (1156 + length reply.now)) }
 {
     push_front(line, peer, reply)?;
     push_end(line, request)?;
@@ -135,7 +148,8 @@ impl<L: LogLines> Log<L> {
         })
     }
 
-    /// Tells a request and its reply in one line, if the request changed something or was not done. `Err` tells nothing.
+    /// Tells a request and its reply in one line, if the request changed something or was not done. `Err` tells nothing; only a reply
+    /// that is longer than a control line's needs memory.
     pub fn tell_request(
         &mut self,
         peer: Peer,
@@ -144,6 +158,8 @@ impl<L: LogLines> Log<L> {
     ) -> Result<(), AllocError>
         ensures told { OnOk result (TellsRequest self.old self.new peer request.now reply.now) }
         ensures untold { OnErr result (self.new ≡ self.old) }
+        ensures logged { OnErr result (is_logged reply.now ≡ true) }
+        ensures long { OnErr result (REPLY_LIMIT < length reply.now) }
     {
         if !is_logged(reply) {
             return Ok(());

@@ -6,7 +6,7 @@ use ipv4_fields::Endpoint;
 use mio::net::UdpSocket;
 use mio::{Events, Interest, Poll, Registry, Token};
 use read_section::Operator;
-use serve_control::{BoundAddresses, ControlAnswer, Desk, Log, LogLines, Peer, answer};
+use serve_control::{BoundAddresses, ControlAnswer, Desk, Log, LogLines, Peer, answer_from};
 use serve_devices::WorkerQueues;
 use serve_stream::Turn;
 use serve_unix::{CLIENTS, UnixControl};
@@ -137,32 +137,6 @@ fn send_reply(socket: &UdpSocket, reply: &mut Vec<u8>, answer: &ControlAnswer, t
     }
 }
 
-// The reply, if it may be one that the log tells.
-fn reply_of(answer: &ControlAnswer) -> &[u8] {
-    match answer {
-        ControlAnswer::Stop => b"ok stop".as_slice(),
-        ControlAnswer::Totals(_) => b"".as_slice(),
-        ControlAnswer::Line(reply) => reply.bytes(),
-    }
-}
-
-// Answers a datagram of this text, unless it is ignored, and tells the log.
-fn answer_from<N: TallyName, L: LogLines>(
-    alloc: Global,
-    bound: &BoundAddresses,
-    sender: SocketAddr,
-    text: &[u8],
-    operator: &mut Operator,
-    named: &mut NamedTally<N>,
-    log: &mut Log<L>,
-) -> Option<ControlAnswer> {
-    let sender = Endpoint::from_socket_address(sender)?;
-    let answer = answer(alloc, bound, sender, text, operator, &mut named.tally)?;
-    // A line for which there is no memory is left out.
-    let _ = log.tell_request(Peer::Udp(sender), text, reply_of(&answer));
-    Some(answer)
-}
-
 impl UdpControl {
     // Answers the next datagrams by one datagram each to their senders, but for those that are ignored. True if the switch is asked to
     // stop.
@@ -178,15 +152,11 @@ impl UdpControl {
             match self.socket.recv_from(&mut room.buf) {
                 Ok((size, sender)) => {
                     let text = &room.buf[..size];
-                    let answered = answer_from(
-                        alloc,
-                        &self.bound,
-                        sender,
-                        text,
-                        operator,
-                        named,
-                        log,
-                    );
+                    let Some(from) = Endpoint::from_socket_address(sender) else {
+                        continue;
+                    };
+                    let answered =
+                        answer_from(alloc, &self.bound, from, text, operator, named, log);
                     let Some(answer) = answered else {
                         continue;
                     };

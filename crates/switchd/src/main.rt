@@ -32,7 +32,10 @@ fn main(rt: HostRuntime) -> ExitCode {
     let alloc = rt.alloc();
     let status = match run_returning(alloc, words.as_slice(), rt.stdin(), &mut out, &mut errs) {
         Ok(status) => status,
-        Err(command) => { run_waiting(&rt, alloc, command, rt.stdin(), &mut out, &mut errs) as u8 }
+        Err(command) => {
+            let (input, log) = (rt.stdin(), rt.stderr());
+            run_waiting(&rt, alloc, command, input, log, &mut out, &mut errs) as u8
+        }
     };
     ExitCode::from(status)
 }

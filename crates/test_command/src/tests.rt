@@ -14,6 +14,7 @@ use command_waiting::run_waiting;
 use std::alloc::{AllocError, Global};
 use std::fmt::Debug;
 use std::fs::Files;
+use std::io;
 use std::io::Read;
 use std::net::Net;
 use std::process::Abort;
@@ -96,7 +97,9 @@ fn wait_for<R: Threads + Wait + Net + Clock + Files + Sync + Abort>(
             let writes = (told.out.writes, told.errs.writes);
             assert!(rt; writes == (0, 0), "{words:?}: {writes:?}");
             if let Ok(Subcommand::Waiting(command)) = read_words(alloc, words) {
-                let ended = run_waiting(rt, alloc, command, input, &mut told.out, &mut told.errs);
+                let log = io::sink();
+                let ended =
+                    run_waiting(rt, alloc, command, input, log, &mut told.out, &mut told.errs);
                 told.status = Some(ended as u8);
             }
         }

@@ -1,6 +1,6 @@
 use Rattle.std.proofs.Common.{codes}
 use Rattle.clap.specs.Words.{App, new_app, with_rule}
-use Rattle.command_line.specs.CommandLine.{named_argument, required_named_argument, workers_argument}
+use Rattle.command_line.specs.CommandLine.{flag, named_argument, required_named_argument, workers_argument}
 use Rattle.command_line.proofs.builders.serve_command.Goals as goal
 
 pub returns-clause-app : goal.returns-clause-app
@@ -12,11 +12,14 @@ returns-clause-app c =
     let to2 : App = with_rule to1 (required_named_argument (codes "control")) in
     let made3 = c.with_argument-command-3.ensures.app to2 workers_argument made2 c.workers_argument.ensures.rule c.workers_argument.ensures.local in
     let to3 : App = with_rule to2 workers_argument in
-    c.with_argument.ensures.app to3 (named_argument (codes "rules")) made3 c.rules_argument.ensures.rule c.rules_argument.ensures.local
+    let made4 = c.with_argument-command-4.ensures.app to3 (named_argument (codes "rules")) made3 c.rules_argument.ensures.rule c.rules_argument.ensures.local in
+    let to4 : App = with_rule to3 (named_argument (codes "rules")) in
+    c.with_argument.ensures.app to4 (flag (codes "log")) made4 c.flag_argument-log.ensures.rule c.flag_argument-log.ensures.local
 
 pub returns-clause-local : goal.returns-clause-local
 returns-clause-local c =
     let made1 = c.with_argument-command.ensures.local c.plain_command-command.ensures.local c.address_argument-front.ensures.local in
     let made2 = c.with_argument-command-2.ensures.local made1 c.address_argument-control.ensures.local in
     let made3 = c.with_argument-command-3.ensures.local made2 c.workers_argument.ensures.local in
-    c.with_argument.ensures.local made3 c.rules_argument.ensures.local
+    let made4 = c.with_argument-command-4.ensures.local made3 c.rules_argument.ensures.local in
+    c.with_argument.ensures.local made4 c.flag_argument-log.ensures.local
