@@ -31,4 +31,4 @@ pub unanswered_is : {E : Type 0} (operator operator' : OperatorValue) (tally tal
     → IsAnswered (λ exchange. AnswersAtDesk operator operator' tally tally' exchange × LogsExchange log log peer exchange × (peer ≡ peer))
     request before later result
 unanswered_is operator operator' tally tally' log peer request before later (Ok after) is same kept = absurd (false≢true is)
-unanswered_is operator operator' tally tally' log peer request before later (Err fault) is same kept = (same, (kept, (refl, refl)))
+unanswered_is operator operator' tally tally' log peer request before later (Err fault) is same kept = (same, (kept, refl, refl))

@@ -47,12 +47,7 @@ fn tell_short<L: LogLines>(log: &mut Log<L>, peer: Peer, request: &[u8], reply: 
 }
 
 // Tells a request and its answer.
-fn tell_answer<L: LogLines>(
-    log: &mut Log<L>,
-    peer: Peer,
-    request: &[u8],
-    answer: &ControlAnswer,
-)
+fn tell_answer<L: LogLines>(log: &mut Log<L>, peer: Peer, request: &[u8], answer: &ControlAnswer)
     ensures { TellsRequest log.old log.new peer request.now (bytes_of answer.now) }
 {
     match answer {

@@ -5,7 +5,7 @@ use Rattle.serve_control.specs.declared.log.TheConstants.{LOGGED_BYTES}
 use Rattle.serve_control.proofs.LogLemmas.{joined}
 use Rattle.serve_control.proofs.log.push_line.Goals as goal
 
-pub returns : goal.returns
-returns c =
+pub returns-clause-appended : goal.returns-clause-appended
+returns-clause-appended c =
     joined c.args.line.now.items c.push_front.new.line.items c.push_end.new.line.items (peer_text c.args.peer) (codes " ") c.args.reply.now
-    (codes ": ") (shown_text (take LOGGED_BYTES c.args.request.now) ++ codes "\n") c.in_ok-push_front.ensures c.in_ok-push_end.ensures
+    (codes ": ") (shown_text (take LOGGED_BYTES c.args.request.now) ++ codes "\n") c.in_ok-push_front.ensures.appended c.in_ok-push_end.ensures.appended
