@@ -1,2 +1,4 @@
 pub mod Explanation
+pub mod Printed
 pub mod Shown
+pub mod body

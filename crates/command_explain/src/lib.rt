@@ -1,7 +1,7 @@
 //! What the codes of the program mean: of a refusal, a failure, or an answer of the libraries (docs/COMMANDS.md, "Failures" and
 //! "Refusals").
 //!
-//! `explanation` finds the text of a code. `line_fault_text` and `file_fault_text` show people a file that is refused. The codes and texts stand in two tables, in
+//! `explanation` finds the text of a code, and `shown_code` the code in what the program prints. `line_fault_text` and `file_fault_text` show people a file that is refused. The codes and texts stand in two tables, in
 //! `table_to_g` and `table_from_i`.
 #![tactic(auto)]
 
@@ -9,11 +9,13 @@ ghost use Rattle.std.specs.Prelude.{◌≡◌, ◌↔◌, Contains, IfSome, IsSo
 ghost use Rattle.command_explain.specs.Explanation.{Explains, IsExplanation, codes_explained, explanations, explanations_from_i, explanations_to_g, text_beside};
 
 mod file_fault;
+mod printed;
 mod shown;
 mod table_from_i;
 mod table_to_g;
 
 pub use file_fault::{FaultPlace, SHOWN_LIMIT, file_fault_text, line_fault_text};
+pub use printed::{ShownCode, shown_code};
 pub use shown::push_shown;
 use table_from_i::EXPLANATIONS_FROM_I;
 use table_to_g::EXPLANATIONS_TO_G;

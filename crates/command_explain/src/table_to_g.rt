@@ -78,8 +78,8 @@ What to do: restart the switch, and send its rules again.",
         "\
 C1: The text is not one that was asked for. HEX has an odd number of digits or
 another character; a control line is none of its table; an address is no
-`a.b.c.d:p`, and that of control no `unix:PATH`; the CODE of `explain` is none
-of this page; the NAME of `--format` is none of the command's.
+`a.b.c.d:p`, and that of control no `unix:PATH`; the words of `explain` show no
+code of this page; the NAME of `--format` is none of the command's.
 Usual mistake: `0x` before HEX, a digit lost in copying, or HEX with the spaces
 of `tcpdump -x`; two spaces in a line, a space at its end, a CR or an LF in a
 control datagram (`echo` adds an LF, `printf` does not), a leading zero as in

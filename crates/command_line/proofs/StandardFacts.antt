@@ -129,9 +129,13 @@ in_serve_of_too_many : faults_in (codes "serve" ∷ codes "--front" ∷ codes "0
 unfolding clap_on_literals
 in_serve_of_too_many = refl
 
-in_explain : command_in (codes "explain" ∷ codes "G3" ∷ []) ≡ Some (returning (explain (codes "G3")))
+in_explain : command_in (codes "explain" ∷ codes "G3" ∷ []) ≡ Some (returning (explain (codes "G3" ∷ [])))
 unfolding clap_on_literals
 in_explain = refl
+
+in_explain_of_words : command_in (codes "explain" ∷ codes "refused" ∷ codes "P1" ∷ codes "17" ∷ []) ≡ Some (returning (explain (codes "refused" ∷ codes "P1" ∷ codes "17" ∷ [])))
+unfolding clap_on_literals
+in_explain_of_words = refl
 
 in_explain_of_nothing : faults_in (codes "explain" ∷ []) ≡ MissingRequiredArgument ∷ []
 unfolding clap_on_literals

@@ -38,6 +38,10 @@ flag id = record (new_rule id) { long = Some id; action = Some SetTrue }
 abbrev pub any_number_of : Text → Rule
 any_number_of id = record (new_rule id) { action = Some Append }
 
+-- at least one
+abbrev pub some_number_of : Text → Rule
+some_number_of id = record (any_number_of id) { required = true }
+
 -- ---- the commands
 
 abbrev pub first_line : App
@@ -59,9 +63,9 @@ run_line =
     (with_rule (with_rule (new_app (codes "run")) (required_named_argument (codes "packet"))) (named_argument (codes "expr")))
     (named_argument (codes "format"))
 
--- `explain CODE`
+-- `explain`, with words
 abbrev pub explain_line : App
-explain_line = with_rule (new_app (codes "explain")) (required_argument (codes "CODE"))
+explain_line = with_rule (new_app (codes "explain")) (some_number_of (codes "WORD"))
 
 -- `replay`, with each of its flags or without
 abbrev pub replay_line : App
@@ -169,7 +173,7 @@ pub data Request : Type 0 where
   compile : (expression format : Text) → Request
   run : (packet format : Text) → Request
   judge : (packet expression : Text) → Request
-  explain : (code : Text) → Request
+  explain : (words : List Text) → Request
   replay : (summary quiet : Bool) → Request
   packets : Request
 
@@ -191,7 +195,7 @@ query_request (query.Check format) = check format.now
 query_request (query.Compile expression format) = compile expression.now format.now
 query_request (query.Run packet format) = run packet.now format.now
 query_request (query.Judge packet expression) = judge packet.now expression.now
-query_request (query.Explain code) = explain code.now
+query_request (query.Explain words) = explain (map (λ word. word.now) words.items)
 
 abbrev pub request_of : Returning → Request
 request_of (returned.Query asked) = query_request asked
@@ -282,7 +286,7 @@ command_named name rows =
     else if bytes_eq name (codes "run")
     then Some (returning (run_or_judge (value_in rows (codes "packet")) (format_in rows) (first_of (codes "expr") rows)))
     else if bytes_eq name (codes "explain")
-    then Some (returning (explain (value_in rows (codes "CODE"))))
+    then Some (returning (explain (values_in rows (codes "WORD"))))
     else if bytes_eq name (codes "replay")
     then Some (returning (replay (is_set rows (codes "summary")) (is_set rows (codes "quiet"))))
     else if bytes_eq name (codes "packets")

@@ -2,7 +2,7 @@
 
 ghost use Rattle.std.specs.Prelude.{◌≡◌, codes, false};
 ghost use Rattle.clap.specs.Words.{rule_of};
-ghost use Rattle.command_line.specs.CommandLine.{any_number_of, datagrams_argument, flag, named_argument, required_argument, required_named_argument, timeout_argument, workers_argument};
+ghost use Rattle.command_line.specs.CommandLine.{any_number_of, datagrams_argument, flag, named_argument, required_argument, required_named_argument, some_number_of, timeout_argument, workers_argument};
 
 use crate::command::{MAX_DATAGRAMS, MAX_TIMEOUT};
 use crate::help;
@@ -133,6 +133,17 @@ pub(crate) fn timeout_argument<'a>(alloc: Global) -> Arg<'a>
         .value_name("SECONDS")
         .value_parser(ValueParser::unsigned(1, MAX_TIMEOUT))
         .help(help::TELL_TIMEOUT)
+}
+
+// `WORD..`
+pub(crate) fn words_argument<'a>(alloc: Global) -> Arg<'a>
+    ensures rule { rule_of result ≡ some_number_of (codes "WORD") }
+    ensures local { result.global ≡ false }
+{
+    Arg::new(alloc, "WORD")
+        .required(true)
+        .action(ArgAction::Append)
+        .help(help::EXPLAIN_WORDS)
 }
 
 // `LINE..`

@@ -9,7 +9,7 @@ ghost use Rattle.command_line.specs.body.Half.{with_queries, with_workers};
 use crate::arguments::{
     address_argument, control_argument, datagrams_argument, expression_argument, flag_argument,
     format_argument, lines_argument, packet_argument, positional_argument, rules_argument,
-    timeout_argument, workers_argument,
+    timeout_argument, words_argument, workers_argument,
 };
 use crate::help;
 use clap::{Arg, Command};
@@ -70,9 +70,8 @@ fn explain_command<'a>(alloc: Global) -> Result<Command<'a>, AllocError>
     ensures app { IfOk result (λ command. app_of command ≡ explain_line) }
     ensures local { IfOk result (λ command. (out-Command command).has_globals ≡ false) }
 {
-    let code = positional_argument(alloc, "CODE", help::EXPLAIN_CODE);
     let command = plain_command(alloc, "explain", help::EXPLAIN, help::EXPLAIN_MORE);
-    with_argument(Ok(command), code)
+    with_argument(Ok(command), words_argument(alloc))
 }
 
 fn replay_command<'a>(alloc: Global) -> Result<Command<'a>, AllocError>

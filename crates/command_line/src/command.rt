@@ -10,7 +10,7 @@ pub const MAX_TIMEOUT: u64 = 3600;
 pub const MAX_DATAGRAMS: u64 = 1 << 24;
 
 /// A command that has one result.
-#[derive(Clone, Copy)]
+#[derive(Drop)]
 pub enum Query<'a> {
     First,
     /// `format` is the name of a format as it is written, and `"asm"` where none is. So it is below.
@@ -30,8 +30,9 @@ pub enum Query<'a> {
         packet: &'a str,
         expression: &'a str,
     },
+    /// `words` are in their order.
     Explain {
-        code: &'a str,
+        words: Vec<&'a str>,
     },
 }
 
@@ -43,7 +44,7 @@ pub struct Workers {
 }
 
 /// A command that returns.
-#[derive(Clone, Copy)]
+#[derive(Drop)]
 pub enum Returning<'a> {
     Query(Query<'a>),
     /// `summary` and `quiet` say which of the two flags are given.

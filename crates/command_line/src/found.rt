@@ -4,7 +4,7 @@ ghost use Rattle.std.specs.Prelude.{◌≡◌, ◌≤◌, IfOk, IfSome, Some, co
 ghost use Rattle.std.specs.Option.{option_map};
 ghost use Rattle.clap.specs.Walk.{first_of};
 ghost use Rattle.clap.specs.Words.{FailsBy, found_of, rows_of};
-ghost use Rattle.command_line.specs.CommandLine.{command_in, command_named, command_of, datagrams_in, faults_in, flood_in, format_in, is_set, load_in, number_in, query_request, request_of, returning, rules_in, run_or_judge, serve_in, tell_in, timeout_in, value_in, values_in, workers_in};
+ghost use Rattle.command_line.specs.CommandLine.{command_in, command_named, command_of, datagrams_in, explain, faults_in, flood_in, format_in, is_set, load_in, number_in, query_request, request_of, returning, rules_in, run_or_judge, serve_in, tell_in, timeout_in, value_in, values_in, workers_in};
 
 use crate::builders::program;
 use crate::command::{MAX_DATAGRAMS, MAX_TIMEOUT, Query, Returning, Subcommand, Waiting, Workers};
@@ -145,7 +145,15 @@ fn load<'a>(found: &ArgMatches<'a>) -> Option<Subcommand<'a>>
     }))
 }
 
-// The only command whose arguments take memory.
+// `tell` takes memory for its arguments, too.
+fn explain<'a>(alloc: Global, found: &ArgMatches<'a>) -> Result<Option<Subcommand<'a>>, AllocError>
+    ensures { IfOk result (λ command. option_map command_of command ≡ Some (returning (explain (values_in (rows_of (found_of found.now)) (codes "WORD"))))) }
+{
+    returning(Returning::Query(Query::Explain {
+        words: values_of(alloc, found, "WORD")?,
+    }))
+}
+
 fn tell<'a>(alloc: Global, found: &ArgMatches<'a>) -> Result<Option<Subcommand<'a>>, AllocError>
     ensures { IfOk result (λ command. option_map command_of command ≡ tell_in (rows_of (found_of found.now))) }
 {
@@ -185,9 +193,7 @@ fn subcommand_of<'a>(
             format: format_of(found),
         })),
         "run" => returning(Returning::Query(run_or_judge(found))),
-        "explain" => returning(Returning::Query(Query::Explain {
-            code: value_of(found, "CODE"),
-        })),
+        "explain" => explain(alloc, found),
         "replay" => returning(Returning::Replay {
             summary: is_set(found, "summary"),
             quiet: is_set(found, "quiet"),

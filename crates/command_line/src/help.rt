@@ -107,20 +107,30 @@ Examples:
 
 pub const EXPLAIN: &str = "Say what a code means, what causes it and what to do";
 
-pub const EXPLAIN_CODE: &str =
-    "The code of a refusal or a failure, as it was printed: a capital letter and a number";
+pub const EXPLAIN_WORDS: &str =
+    "The code of a refusal or a failure, alone or in the line that was printed, quoted or not";
 
 pub const EXPLAIN_MORE: &str = "\
-Reads no input. Prints what the code means, the usual mistake or cause behind it, and what to do.
-Else prints `refused C1`, with status 1, where CODE is no code; `g3` is none.
+Reads no input. Prints what the code means, the usual mistake or cause, and what to do. The words,
+with one space between each two, are one text: a code, as `P1`, if need be with what was printed
+around it:
+  refused or failed  before the code
+  NUMBER             after it
+  line NUMBER        at the end
+A number is decimal, without leading zeros, and at most 18446744073709551615. For any other text,
+and for a code that is none, as `g3`, it prints `refused C1`, with status 1.
 
-Example:
+Examples:
   $ dswitch explain G3
   G3: The group has no member with this number, or at this index.
   Usual mistake: the member left before, or belongs to another group; an index
   counted from 1.
   What to do: `join` the member first, or name the group that it belongs to; an
-  index counts from 0.";
+  index counts from 0.
+  $ dswitch explain refused G1 line 2
+  G1: There is no group with this key, or at this place.
+  Usual mistake: `add` forgotten, or another address or port.
+  What to do: `add` the group, or correct the key or the place.";
 
 pub const REPLAY: &str = "Answer a script of control lines and packets";
 

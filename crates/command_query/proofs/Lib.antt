@@ -1,3 +1,4 @@
+mod JoinLemmas
 mod QueryLemmas
 pub mod StopLemmas
 mod WriteLemmas

@@ -4,6 +4,7 @@ use Rattle.std.specs.Prelude.{IfOk, OnOk}
 use Rattle.std.specs.Io.KnownBytes.{Appends}
 use Rattle.std.proofs.lemmas.List.Elements.{All-from_get_or}
 use Rattle.hex.proofs.HexLemmas.{decode_of-ok}
+use Rattle.control_line.specs.Request.{spaced}
 use Rattle.control_line.specs.Packet.{IsRefusalOfHex, SpellsPacket}
 use Rattle.control_line.specs.Reason.{IsRefusalOfExpression}
 use Rattle.control_line.specs.declared.reason.Reason.{Reason}
@@ -88,8 +89,8 @@ module _ (known : Option (List ℕ)) where
   compile_stops expression name stop =
       stops_before (compile expression name) (IsRefusalReason (compile expression name) []) stop (λ reason why. why)
 
-  pub explain_stops : (code : List ℕ) (stop : Stop) → IsStopBy (IsRefusalOfCode code) stop → IsStopOf (explain code) known stop
-  explain_stops code stop = stops_before (explain code) (IsRefusalOfCode code) stop (λ reason why. why)
+  pub explain_stops : (words : List (List ℕ)) (stop : Stop) → IsStopBy (IsRefusalOfCode (spaced words)) stop → IsStopOf (explain words) known stop
+  explain_stops words stop = stops_before (explain words) (IsRefusalOfCode (spaced words)) stop (λ reason why. why)
 
   pub judge_stops : (digits expression packet : List ℕ) (stop : Stop) → SpellsPacket digits packet
       → IsStopBy (IsRefusalOfExpression expression) stop → IsStopOf (judge digits expression) known stop
@@ -100,8 +101,8 @@ module _ (known : Option (List ℕ)) where
       → IsResultOf (compile expression name) known answer
   compile_found expression name answer found = (some_input, is_input, found)
 
-  pub explain_found : (code : List ℕ) (answer : CommandResult) → IsExplainAnswer code answer → IsResultOf (explain code) known answer
-  explain_found code answer found = (some_input, is_input, found)
+  pub explain_found : (words : List (List ℕ)) (answer : CommandResult) → IsExplainAnswer (spaced words) answer → IsResultOf (explain words) known answer
+  explain_found words answer found = (some_input, is_input, found)
 
   pub judge_found : (digits expression packet : List ℕ) (answer : CommandResult) → SpellsPacket digits packet
       → IsJudgeAnswer packet expression answer → IsResultOf (judge digits expression) known answer

@@ -1,5 +1,5 @@
 -- What each command answers (docs/COMMANDS.md).
-use Rattle.std.specs.Prelude.{◌≡◌, ◌++◌, IsTrue, List, codes, decimal, false, length, min, string_bytes, true, ℕ, ◌↔◌}
+use Rattle.std.specs.Prelude.{◌≡◌, ◌++◌, IsTrue, List, Option, codes, decimal, false, length, min, string_bytes, true, ℕ, ◌↔◌}
 use Rattle.bpf_asm.specs.Text.{printed}
 use Rattle.bpf_machine.specs.Meaning.{Ret, cost_of, ending_of}
 use Rattle.bpf_verify.specs.Program.{ProgramValue}
@@ -13,6 +13,7 @@ use Rattle.command_query.specs.declared.format.OutputFormat.TheVariants.{Assembl
 use Rattle.command_query.specs.declared.command_result.CommandResult.{CommandResult}
 use Rattle.command_query.specs.declared.command_result.CommandResult.TheVariants.{Accepted, Compiled, Explained, Judged, Listed, Ran, Versions}
 use Rattle.command_explain.specs.Explanation.{IsExplanation}
+use Rattle.command_explain.specs.Printed.{ShowsCode}
 use Rattle.command_query.specs.FirstPath.{line_text}
 
 -- the lines of a result
@@ -77,7 +78,8 @@ IsJudgeAnswer packet text _ = ⊥
 
 -- ---- codes
 
--- the explanation of the code
+-- the explanation of the code that the text shows
 abbrev pub IsExplainAnswer : List ℕ → CommandResult → Type 0
-IsExplainAnswer code (Explained text) = IsExplanation code text.now
-IsExplainAnswer code _ = ⊥
+IsExplainAnswer text (Explained told) =
+    (code : List ℕ) × (line : Option ℕ) × ShowsCode text code line × IsExplanation code told.now
+IsExplainAnswer text _ = ⊥

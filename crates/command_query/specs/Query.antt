@@ -1,9 +1,10 @@
 -- What a command makes of its arguments and its input: a result, or why there is none (docs/COMMANDS.md). `known` are the bytes of the
 -- input, where they are known. `before` and `after` are what the output held before the command and holds after it, where that is known.
-use Rattle.std.specs.Prelude.{◌≡◌, ◌++◌, ◌⊎◌, Contains, IsSome, IsSomeAnd, List, MatchOption, Option, codes, ℕ}
+use Rattle.std.specs.Prelude.{◌≡◌, ◌++◌, ◌⊎◌, IsSome, IsSomeAnd, List, MatchOption, Option, codes, ℕ}
 use Rattle.std.specs.Io.KnownBytes.{Appends}
 use Rattle.control_line.specs.Packet.{IsRefusalOfHex, SpellsPacket}
 use Rattle.control_line.specs.Reason.{IsRefusalOfExpression, refusal_text}
+use Rattle.control_line.specs.Request.{spaced}
 use Rattle.control_line.specs.declared.reason.Reason.{Reason}
 use Rattle.control_line.specs.declared.reason.Reason.TheVariants.{BadForm}
 use Rattle.command_query.specs.declared.command_result.CommandResult.{CommandResult}
@@ -17,7 +18,7 @@ use Rattle.command_query.specs.declared.stop.Stop.TheVariants as stop
 use Rattle.command_query.specs.CommandResult.{IsCheckAnswer, IsCompileAnswer, IsExplainAnswer, IsJudgeAnswer, IsRunAnswer, answer_text}
 use Rattle.command_line.specs.CommandLine.{Request, check, compile, explain, first, judge, packets, replay, run}
 use Rattle.bpf_formats.specs.declared.fault.FormatFault.{FormatFault}
-use Rattle.command_explain.specs.Explanation.{codes_explained}
+use Rattle.command_explain.specs.Printed.{ShowsCode}
 use Rattle.command_query.specs.Format.{IsFormatFault, IsRefusalOfProgram, input_format_of, misformed_text, output_format_of}
 use Rattle.command_query.specs.FirstPath.{first_text}
 use Rattle.command_line.specs.Input.{IsInput}
@@ -39,13 +40,13 @@ IsResult (run digits name) input answer =
     × IsSomeAnd (input_format_of name) (λ format. IsRunAnswer packet format input answer)
 IsResult (judge digits expression) input answer =
     (packet : List ℕ) × SpellsPacket digits packet × IsJudgeAnswer packet expression answer
-IsResult (explain code) input answer = IsExplainAnswer code answer
+IsResult (explain words) input answer = IsExplainAnswer (spaced words) answer
 IsResult (replay summary quiet) input answer = ⊥
 IsResult packets input answer = ⊥
 
--- a text that is no code
+-- a text that shows no code
 abbrev pub IsRefusalOfCode : List ℕ → Reason → Type 0
-IsRefusalOfCode code reason = (reason ≡ BadForm) × (Contains codes_explained code → ⊥)
+IsRefusalOfCode text reason = (reason ≡ BadForm) × ((code : List ℕ) (line : Option ℕ) → ShowsCode text code line → ⊥)
 
 -- a name that is no format's, or the program's text
 abbrev pub IsRefusalOfInput : List ℕ → List ℕ → Reason → Type 0
@@ -62,7 +63,7 @@ IsRefusalReason (run digits name) input reason =
     IsRefusalOfHex digits reason ⊎ ((packet : List ℕ) × SpellsPacket digits packet × IsRefusalOfInput name input reason)
 IsRefusalReason (judge digits expression) input reason =
     IsRefusalOfHex digits reason ⊎ ((packet : List ℕ) × SpellsPacket digits packet × IsRefusalOfExpression expression reason)
-IsRefusalReason (explain code) input reason = IsRefusalOfCode code reason
+IsRefusalReason (explain words) input reason = IsRefusalOfCode (spaced words) reason
 IsRefusalReason (replay summary quiet) input reason = ⊥
 IsRefusalReason packets input reason = ⊥
 

@@ -66,7 +66,7 @@ fn find_answer<R: Read + Drop>(
             let packet = read_packet(alloc, packet)?;
             judge(alloc, &packet, expression.as_bytes())
         }
-        Query::Explain { code } => explain(code),
+        Query::Explain { words } => explain(alloc, &words),
     }
 }
 

@@ -27,7 +27,7 @@ const COMMANDS: [(&[&str], &[u8]); 13] = [
     (&["run", "--packet", SAMPLE_PACKET], PROGRAM),
     (&["run", "--packet", "0"], PROGRAM),
     (&["run", "--packet", SAMPLE_PACKET, "--expr", "ip"], b""),
-    (&["explain", "G3"], b""),
+    (&["explain", "refused", "G3"], b""),
     (&["explain", "g3"], b""),
     (&["replay"], b"add 10.0.0.2:53\nshow\n"),
 ];

@@ -1,14 +1,8 @@
-use Rattle.std.proofs.Common.{rules}
+use Rattle.std.proofs.Common.{◌∙◌, IfErr, subst}
+use Rattle.command_query.specs.Query.{IsRefusalOfCode}
+use Rattle.command_query.specs.body.Stop.{IsStopBy}
 use Rattle.command_query.proofs.explaining.explain.Goals as goal
 
-pub returns-in-None-clause-answer : goal.returns-in-None-clause-answer
-returns-in-None-clause-answer c = search rules
-
-pub returns-in-None-clause-refused : goal.returns-in-None-clause-refused
-returns-in-None-clause-refused c = search rules
-
-pub returns-in-Some-clause-answer : goal.returns-in-Some-clause-answer
-returns-in-Some-clause-answer c = search rules
-
-pub returns-in-Some-clause-refused : goal.returns-in-Some-clause-refused
-returns-in-Some-clause-refused c = search rules
+pub returns-clause-refused : goal.returns-clause-refused
+returns-clause-refused c =
+    subst (λ text. IfErr c.explain_text.result (IsStopBy (IsRefusalOfCode text))) (c.deref.ensures.value ∙ c.in_ok-text.ensures) c.explain_text.ensures.refused

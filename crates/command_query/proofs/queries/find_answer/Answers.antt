@@ -2,10 +2,12 @@ use Rattle.std.proofs.Common.{IfErr, IfOk, ap, subst, sym, rules}
 use Rattle.std.proofs.lemmas.Result.{IfErr-weaker, IfOk-weaker}
 use Rattle.control_line.specs.Reason.{IsRefusalOfExpression}
 use Rattle.filter_compile.specs.Answer.{IsPacket}
-use Rattle.command_query.specs.CommandResult.{IsJudgeAnswer}
+use Rattle.control_line.specs.Request.{spaced}
+use Rattle.command_query.specs.CommandResult.{IsExplainAnswer, IsJudgeAnswer}
 use Rattle.command_line.specs.CommandLine.{query_request}
-use Rattle.command_query.specs.Query.{IsResultOf, IsStopOf}
+use Rattle.command_query.specs.Query.{IsRefusalOfCode, IsResultOf, IsStopOf}
 use Rattle.command_query.specs.body.Stop.{IsStopBy}
+use Rattle.command_query.proofs.JoinLemmas.{texts}
 use Rattle.command_query.proofs.QueryLemmas.{compile_found, compile_stops, explain_found, explain_stops, judge_found, judge_stops, judge_stops_by_hex, packet_of_spelt, result_of_first}
 use Rattle.command_query.proofs.WriteLemmas.{versions_of}
 use Rattle.command_query.proofs.StopLemmas.{stopped_as}
@@ -64,14 +66,16 @@ returns-in_ok-packet-in-Judge-clause-stopped g c =
 pub returns-in-Explain-clause-found : goal.returns-in-Explain-clause-found
 returns-in-Explain-clause-found g c =
     let known = g.R.Read.remaining c.args.input in
+    let found = subst (λ words. IfOk c.explain.result (IsExplainAnswer (spaced (texts words)))) c.deref-in-Explain.ensures.value c.explain.ensures.answer in
     subst (λ request. IfOk c.explain.result (IsResultOf request known)) (sym (ap query_request c.in-Explain.is))
-    (IfOk-weaker c.explain.result _ _ (explain_found known c.in-Explain.code.now) c.explain.ensures.answer)
+    (IfOk-weaker c.explain.result _ _ (explain_found known (texts c.in-Explain.words.items)) found)
 
 pub returns-in-Explain-clause-stopped : goal.returns-in-Explain-clause-stopped
 returns-in-Explain-clause-stopped g c =
     let known = g.R.Read.remaining c.args.input in
+    let refused = subst (λ words. IfErr c.explain.result (IsStopBy (IsRefusalOfCode (spaced (texts words))))) c.deref-in-Explain.ensures.value c.explain.ensures.refused in
     subst (λ request. IfErr c.explain.result (IsStopOf request known)) (sym (ap query_request c.in-Explain.is))
-    (IfErr-weaker c.explain.result _ _ (explain_stops known c.in-Explain.code.now) c.explain.ensures.refused)
+    (IfErr-weaker c.explain.result _ _ (explain_stops known (texts c.in-Explain.words.items)) refused)
 
 pub returns-in-Check-clause-found : goal.returns-in-Check-clause-found
 returns-in-Check-clause-found g c = search rules
