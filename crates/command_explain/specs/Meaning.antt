@@ -1,5 +1,5 @@
 -- What a code means, in one sentence (docs/COMMANDS.md, "tell" and "Rules files").
-use Rattle.std.specs.Prelude.{◌&&◌, ◌==◌, ◌||◌, ◌∷◌, ◌++◌, Bool, List, None, Option, Some, [], codes, decimal, if◌then◌else◌, true, ℕ}
+use Rattle.std.specs.Prelude.{◌&&◌, ◌==◌, ◌||◌, ◌∷◌, ◌++◌, Bool, List, None, Option, Some, [], codes, decimal, false, if◌then◌else◌, true, ℕ}
 use Rattle.command_explain.specs.Explanation.{explanations, text_beside}
 
 -- a dot before this ends a sentence: the text ends there, or a space or LF follows
@@ -7,10 +7,15 @@ abbrev pub ends_sentence : List ℕ → Bool
 ends_sentence [] = true
 ends_sentence (byte ∷ rest) = (byte == 32) || (byte == 10)
 
+-- a text begins with a dot that ends a sentence
+abbrev pub begins_with_end : List ℕ → Bool
+begins_with_end [] = false
+begins_with_end (byte ∷ rest) = (byte == 46) && ends_sentence rest
+
 -- a text up to the first dot that ends a sentence, or all of it
 abbrev pub first_sentence : List ℕ → List ℕ
 first_sentence [] = []
-first_sentence (byte ∷ rest) = if (byte == 46) && ends_sentence rest then byte ∷ [] else byte ∷ first_sentence rest
+first_sentence (byte ∷ rest) = if begins_with_end (byte ∷ rest) then byte ∷ [] else byte ∷ first_sentence rest
 
 abbrev pub text_or : List ℕ → Option (List ℕ) → List ℕ
 text_or code None = code

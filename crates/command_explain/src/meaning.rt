@@ -1,7 +1,7 @@
 //! What a code means, in one sentence (docs/COMMANDS.md, "tell" and "Rules files").
 
 ghost use Rattle.std.specs.Prelude.{◌≡◌, ◌++◌, ◌≤◌, IfOk, OnOk, length, take};
-ghost use Rattle.command_explain.specs.Meaning.{cause_line, ends_sentence, first_sentence, meaning_of};
+ghost use Rattle.command_explain.specs.Meaning.{begins_with_end, cause_line, ends_sentence, first_sentence, meaning_of};
 
 use crate::text_of;
 use std::alloc::{AllocError, Global};
@@ -16,17 +16,25 @@ fn ends_sentence(rest: &[u8]) -> bool
     }
 }
 
+// Tests whether a text begins with a dot that ends a sentence.
+fn begins_with_end(text: &[u8]) -> bool
+    ensures { result ≡ begins_with_end text.now }
+{
+    match text {
+        [] => false,
+        [byte, rest @ ..] => *byte == b'.' && ends_sentence(rest),
+    }
+}
+
 // The length of the first sentence of a text.
 fn sentence_length(text: &[u8]) -> usize
     ensures within { result ≤ length text.now }
     ensures sentence { take result text.now ≡ first_sentence text.now }
 {
-    let mut left = text;
-    while let [byte, rest @ ..] = left {
-        if *byte == b'.' && ends_sentence(rest) {
-            return text.len() - rest.len();
+    for place in 0..text.len() {
+        if begins_with_end(&text[place..]) {
+            return place + 1;
         }
-        left = rest;
     }
     text.len()
 }
