@@ -44,7 +44,8 @@ def look_at_files(checks, switch):
     checks.equal("an empty file", switch.load(""), (0, "version 0 unchanged\n", ""))
     checks.equal("rules without groups", switch.rules(), (0, "# version 0 groups 0 members 0 charge 2\n", ""))
     many = [f"add 10.0.{it}.2:53" for it in range(27)] + [f"join 10.0.{it % 27}.2:53 {it} 127.100.100.100:19001" for it in range(27 * 60)]
-    checks.equal("a file that fits no datagram", switch.load("\n".join(many))[:2], (1, "refused C2\n"))
+    checks.equal("a file that fits no datagram", switch.load("\n".join(many)),
+                 (1, "refused C2\n", f"{switch.work}/rules.txt: C2: The line, the block or the file is too long.\n"))
     checks.equal("the same file, checked", switch.load("\n".join(many), "--check"), (0, f"groups 27 members 1620 charge {2 + 4 * (27 + 1620)}\n", ""))
     checks.equal("nothing was changed", switch.rules()[1], "# version 0 groups 0 members 0 charge 2\n")
 
@@ -128,9 +129,14 @@ def look_at_switches(checks, switch):
     switch.tell("anew 0")
     ended, changes = through(refused(b"refused B2", 100), "load", path)
     checks.equal("rows that are held", (ended, len(changes)), ((3, "", "failed E5\n"), TIMES))
-    for reply in (b"refused B1", b"refused B3", b"failed E3", b"refused G8 line 2"):
+    for reply, meaning in ((b"refused B1", "B1: The new configuration is too large to be published."),
+                           (b"refused B3", "B3: The switch has used up its version numbers."),
+                           (b"failed E3", "E3: Memory ran out."),
+                           (b"refused G8 line 2", "G8: Memory for the new configuration was refused."),
+                           (b"refused by an older switch", None)):
         ended, changes = through(refused(reply, 100), "load", path)
-        checks.equal(f"a change that is refused: {reply}", (ended, len(changes)), ((1, f"{reply.decode()}\n", ""), 1))
+        told = f"{path}: {meaning}\n" if meaning else ""
+        checks.equal(f"a change that is refused: {reply}", (ended, len(changes)), ((1, f"{reply.decode()}\n", told), 1))
 
 
 def look_at_locks(checks, switch):

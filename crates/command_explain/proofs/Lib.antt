@@ -1,2 +1,3 @@
+mod MeaningLemmas
 mod PrintedLemmas
 mod TableLemmas

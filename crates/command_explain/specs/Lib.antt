@@ -1,4 +1,5 @@
 pub mod Explanation
+pub mod Meaning
 pub mod Printed
 pub mod Shown
 pub mod body

@@ -1,8 +1,9 @@
 //! What people read of a file that is refused: the place, the meaning of the code, and the line (docs/COMMANDS.md, "Rules files").
 
-ghost use Rattle.std.specs.Prelude.{◌≤◌, length};
+ghost use Rattle.std.specs.Prelude.{◌≡◌, ◌≤◌, IfOk, length};
+ghost use Rattle.command_explain.specs.Meaning.{file_line};
 
-use crate::explanation;
+use crate::meaning::push_meaning;
 use crate::shown::push_shown;
 use std::alloc::{AllocError, Global};
 
@@ -20,33 +21,6 @@ pub struct FaultPlace<'a> {
     pub column: usize,
     /// The line.
     pub line: &'a [u8],
-}
-
-// Whether a dot before this place ends a sentence: the text ends there, or a space or LF follows.
-fn is_end(text: &[u8], place: usize) -> bool {
-    place >= text.len() || text[place] == b' ' || text[place] == b'\n'
-}
-
-// The length of the first sentence of a text.
-fn sentence_length(text: &[u8]) -> usize
-    ensures { result ≤ length text.now }
-{
-    for (place, byte) in text.iter().enumerate() {
-        if *byte == b'.' && is_end(text, place + 1) {
-            return place + 1;
-        }
-    }
-    text.len()
-}
-
-// Appends the first sentence of the explanation of a code, which begins with the code; or the code, if it has none.
-fn push_meaning(text: &mut Vec<u8>, code: &str) -> Result<(), AllocError> {
-    let meaning = match explanation(code) {
-        Some(meaning) => meaning.as_bytes(),
-        None => code.as_bytes(),
-    };
-    text.extend_from_slice(&meaning[..sentence_length(meaning)])?;
-    text.extend_from_slice(b"\n".as_slice())
 }
 
 // Where the part of a line that is shown begins, with this place in its middle if there is more on both sides.
@@ -114,15 +88,19 @@ pub fn line_fault_text(
     let numbers = format!(in alloc; ":{number}:{column}: ")?;
     text.extend_from_slice(numbers.as_bytes())?;
     push_meaning(&mut text, code)?;
+    text.extend_from_slice(b"\n".as_slice())?;
     push_line(&mut text, place)?;
     Ok(text)
 }
 
 /// The text for people about a file that is refused for no line: `FILE: CODE: MEANING`.
-pub fn file_fault_text(alloc: Global, file: &str, code: &str) -> Result<Vec<u8>, AllocError> {
+pub fn file_fault_text(alloc: Global, file: &str, code: &str) -> Result<Vec<u8>, AllocError>
+    ensures { IfOk result (λ text. text.items ≡ file_line file.now code.now) }
+{
     let mut text = Vec::new(alloc);
     text.extend_from_slice(file.as_bytes())?;
     text.extend_from_slice(b": ".as_slice())?;
     push_meaning(&mut text, code)?;
+    text.extend_from_slice(b"\n".as_slice())?;
     Ok(text)
 }

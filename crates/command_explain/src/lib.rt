@@ -9,12 +9,14 @@ ghost use Rattle.std.specs.Prelude.{◌≡◌, ◌↔◌, Contains, IfSome, IsSo
 ghost use Rattle.command_explain.specs.Explanation.{Explains, IsExplanation, codes_explained, explanations, explanations_from_i, explanations_to_g, text_beside};
 
 mod file_fault;
+mod meaning;
 mod printed;
 mod shown;
 mod table_from_i;
 mod table_to_g;
 
 pub use file_fault::{FaultPlace, SHOWN_LIMIT, file_fault_text, line_fault_text};
+pub use meaning::{cause_line, push_meaning};
 pub use printed::{ShownCode, shown_code};
 pub use shown::push_shown;
 use table_from_i::EXPLANATIONS_FROM_I;

@@ -83,10 +83,10 @@ code of this page; the NAME of `--format` is none of the command's.
 Usual mistake: `0x` before HEX, a digit lost in copying, or HEX with the spaces
 of `tcpdump -x`; two spaces in a line, a space at its end, a CR or an LF in a
 control datagram (`echo` adds an LF, `printf` does not), a leading zero as in
-`010.0.0.2:53`, a host name for an address, a line of `tell` without quotes, so
-that each of its words is a line, a comment or an empty line, `packet` sent to
-`serve`, `all N` with fewer or more lines than N, a code in small letters,
-`--format dd` where a program is read.
+`010.0.0.2:53`, a host name for an address, a line of `tell` without quotes
+beside one with quotes, so that each of its words is a line, a comment or an
+empty line, `packet` sent to `serve`, `all N` with fewer or more lines than N,
+a code in small letters, `--format dd` where a program is read.
 What to do: write it in the form that `dswitch help COMMAND` shows;
 `dswitch help replay` shows the control lines.",
     ),

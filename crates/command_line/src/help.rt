@@ -260,22 +260,27 @@ pub const TELL_TIMEOUT: &str =
 
 pub const TELL_ALL: &str = "Sends all lines as one change: all of them are done, or none is";
 
-pub const TELL_LINES: &str = "Control lines, each as one argument";
+pub const TELL_LINES: &str = "Control lines, each as one argument, or one line as several words";
 
 pub const TELL_MORE: &str = "\
 Sends each LINE to the CONTROL of `dswitch serve`, or each line of standard input if there is no
-LINE. Of standard input it skips empty lines and lines whose first character is `#`. The line
+LINE. If no LINE has a space, all of them are one line, unless the first is `show`, `sweep`, `stop`
+or `totals`. Of standard input it skips empty lines and lines whose first character is `#`. The line
 `all N` or `anew N` takes the N lines after it with it. Prints the reply to one request before it
 sends the next. Ends with status 0 if no reply is `refused ..` or `failed ..`, else with status 1;
-it goes on after such a reply. With --all it sends all lines as one change, `all N` and the N
-lines, which may have 65507 bytes if CONTROL is ADDRESS:PORT.
+it goes on after such a reply, and standard error has the number of the line and what the code
+means. With --all it sends all lines as one change, `all N` and the N lines, which may have 65507
+bytes if CONTROL is ADDRESS:PORT.
 Prints `refused C1`, with status 1, where CONTROL is no address. Fails with status 3 and
 `failed E4` where a line has no reply; then no later line is sent. The line may be done all the
 same, even later.
 
 Examples:
-  $ dswitch tell --control 127.0.0.1:5301 'add 10.0.0.2:53' show
+  $ dswitch tell --control 127.0.0.1:5301 add 10.0.0.2:53
   ok version 1
+  $ dswitch tell --control 127.0.0.1:5301 'leave 10.0.0.2:53 7' show
+  refused G3
+  line 1: G3: The group has no member with this number, or at this index.
   version 1 groups 1 members 0 charge 6
   $ dswitch tell --control 127.0.0.1:5301 --all <rules.txt
   ok version 2";
@@ -324,7 +329,7 @@ Else prints, with status 1:
   refused CODE NUMBER line I   if there is a number; standard error shows the place
   refused C2, refused B1       if FILE is too long, or its configuration too large; C2 also if its
                                lines fit no datagram, and CONTROL is ADDRESS:PORT
-  the switch's reply           if it refuses the change
+  the switch's reply           if it refuses the change; standard error says what its code means
 Or it fails with status 3: with `failed E1` if FILE cannot be read, with `failed E4` if a line has no
 reply, and with `failed E5` if the rules changed each time. After E4 the change may have been made:
 `load` again.

@@ -116,6 +116,21 @@ ended_failed control contents old new told_before told_after (Err why) status is
   told = told;
 }
 
+-- a failure shows nothing before its own line
+pub told_from : {X : Type 0} (control : Option Text) (contents : X → Option (List ℕ)) (old new : X) (after : Option (List ℕ)) (ended : Result Status Failure)
+    → OnErr ended (new ≡ old) → IfErr ended (λ failure. IsTold control failure (contents new) after) → IfErr ended (λ failure. IsTold control failure (contents old) after)
+told_from control contents old new after (Ok given) same told = tt
+told_from {X} control contents old new after (Err why) same told = subst (λ (x : X). IsTold control why (contents x) after) same told
+
+-- what was done shows nothing
+pub nothing_told : {X : Type 0} (old mid new : X) (ended : Result Status Failure) (status : Status) → IfOk ended (λ given. status ≡ given) → OnOk ended (new ≡ mid)
+    → OnErr ended (status ≡ Failed) → IfOk ended (λ given. given ≡ Done → mid ≡ old) → status ≡ Done → new ≡ old
+nothing_told old mid new (Ok given) status is same failed untold done = same ∙ untold (sym is ∙ done)
+nothing_told old mid new (Err why) status is same failed untold done = absurd (not_both (sym failed ∙ done))
+  where
+    not_both : Failed ≡ Done → ⊥
+    not_both both = absurd (cc)
+
 pub done_is_good : (ended : Result Status Failure) → IfOk ended (λ given. given ≡ Done) → IfOk ended IsDoneOrRefused
 done_is_good (Ok given) is = inl is
 done_is_good (Err why) is = tt

@@ -1,4 +1,5 @@
 pub mod Opening
+pub mod Refused
 pub mod Reported
 pub mod Showing
 pub mod Telling
@@ -8,6 +9,7 @@ pub use Rattle.command_line.specs.ControlAddress
 pub use Rattle.control_client.specs.Carried
 pub use Rattle.control_client.specs.Exchange
 pub use Rattle.control_client.specs.Lines
+pub use Rattle.control_client.specs.Refused
 pub use Rattle.control_client.specs.Tell
 pub use Rattle.control_client.specs.Trouble
 pub use Rattle.control_client.specs.Wire

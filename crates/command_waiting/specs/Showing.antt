@@ -3,8 +3,11 @@ use Rattle.std.specs.Prelude.{◌≡◌, ◌≢◌, ◌++◌, Bool, List, None, 
 use Rattle.std.specs.Io.KnownBytes.{Appends}
 use Rattle.std.specs.List.{All}
 use Rattle.clap.specs.Words.{Text}
+use Rattle.command_explain.specs.Meaning.{file_line}
+use Rattle.command_explain.specs.Printed.{ShowsCode}
 use Rattle.command_line.specs.ControlAddress.{SpellsControlAddress}
 use Rattle.command_line.specs.declared.control_address.ControlAddress.{ControlAddress}
+use Rattle.command_line.specs.Ending.{AppendsBeginning}
 use Rattle.command_line.specs.declared.ending.Failure.{Failure}
 use Rattle.command_line.specs.declared.ending.Failure.TheVariants.{WriteFailed}
 use Rattle.command_line.specs.declared.ending.Status.{Status}
@@ -93,6 +96,13 @@ loaded_status (Unchanged version) = Done
 loaded_status (Published version) = Done
 loaded_status (loading.Refused reply) = Refused
 loaded_status Changed = Failed
+
+-- people are shown why a switch refused the rules of a file, by what the code of its reply means; if memory or a write failed, a
+-- beginning of that or nothing
+pub data ShowsFileRefusal (name reply : List ℕ) (told_before told_after : Option (List ℕ)) : Type 0 where
+  explained : (code : List ℕ) (place : Option ℕ) → ShowsCode reply code place → AppendsBeginning told_before told_after (file_line name code) →
+      ShowsFileRefusal name reply told_before told_after
+  unread : ((code : List ℕ) (place : Option ℕ) → ShowsCode reply code place → ⊥) → told_after ≡ told_before → ShowsFileRefusal name reply told_before told_after
 
 -- the file's configuration, and what was written about it: its measures; the changes that lead to it; or the version that has it
 pub data WritesLoad (control : Option Text) (before after : Option (List ℕ)) : (only_check only_diff : Bool) → Type 0 where

@@ -39,18 +39,18 @@ pub record WritesService (front control : Text) (workers : ℕ) (file : Option T
   pub served : WritesServedFrom config workers before after
 
 -- what the command writes was written
-abbrev pub WritesFor : WaitingRequest → Option (List ℕ) → Option (List ℕ) → Option (List ℕ) → Type 0
-WritesFor (flood workers datagrams) input before after = WritesFlood workers datagrams before after
-WritesFor (serve front control workers file logs) input before after = WritesService front control workers file before after
-WritesFor (tell control timeout all lines) input before after = WritesReplies control all lines input before after false
-WritesFor (rules control timeout) input before after = WritesRules control before after
-WritesFor (load control timeout file only_check only_diff) input before after = WritesLoad control before after only_check only_diff
+abbrev pub WritesFor : WaitingRequest → (input before after told_before told_after : Option (List ℕ)) → Type 0
+WritesFor (flood workers datagrams) input before after told_before told_after = WritesFlood workers datagrams before after
+WritesFor (serve front control workers file logs) input before after told_before told_after = WritesService front control workers file before after
+WritesFor (tell control timeout all words) input before after told_before told_after = WritesReplies control all words input before after told_before told_after false
+WritesFor (rules control timeout) input before after told_before told_after = WritesRules control before after
+WritesFor (load control timeout file only_check only_diff) input before after told_before told_after = WritesLoad control before after only_check only_diff
 
--- `tell` is given a text that is no address, and the refusal of that was written; or a reply is a refusal, and all replies were
--- written
-pub data IsToldRefusal (control : Text) (all : Bool) (lines : List Text) (input before after : Option (List ℕ)) : Type 0 where
-  no_switch : IsNoControlAddress control → Appends before after (codes "refused C1\n") → IsToldRefusal control all lines input before after
-  line_refused : WritesReplies control all lines input before after true → IsToldRefusal control all lines input before after
+-- `tell` is given a text that is no address, and the refusal of that was written; or a reply is a refusal, all replies were written, and
+-- those that are refusals were shown on standard error
+pub data IsToldRefusal (control : Text) (all : Bool) (words : List Text) (input before after told_before told_after : Option (List ℕ)) : Type 0 where
+  no_switch : IsNoControlAddress control → Appends before after (codes "refused C1\n") → IsToldRefusal control all words input before after told_before told_after
+  line_refused : WritesReplies control all words input before after told_before told_after true → IsToldRefusal control all words input before after told_before told_after
 
 -- `serve` is given a text for a socket that is no address, or a rules file that is refused, and the refusal was written
 pub data RefusesService (front control : Text) (file : Option Text) (before after : Option (List ℕ)) : Type 0 where
@@ -59,21 +59,21 @@ pub data RefusesService (front control : Text) (file : Option Text) (before afte
   no_rules : (name : Text) → file ≡ Some name → IsAddress front → IsControl control → RefusesRules None before after →
       RefusesService front control file before after
 
--- a command that is given no rules file
-abbrev pub HasNoRules : WaitingRequest → Type 0
-HasNoRules (flood workers datagrams) = Unit {0}
-HasNoRules (serve front control workers file logs) = file ≡ None
-HasNoRules (tell control timeout all lines) = Unit {0}
-HasNoRules (rules control timeout) = Unit {0}
-HasNoRules (load control timeout file only_check only_diff) = ⊥
+-- a refusal of the command is not shown on standard error: it has no rules file, and no line was told
+abbrev pub ShowsNoRefusal : WaitingRequest → Type 0
+ShowsNoRefusal (flood workers datagrams) = Unit {0}
+ShowsNoRefusal (serve front control workers file logs) = file ≡ None
+ShowsNoRefusal (tell control timeout all words) = IsNoControlAddress control
+ShowsNoRefusal (rules control timeout) = Unit {0}
+ShowsNoRefusal (load control timeout file only_check only_diff) = ⊥
 
 -- what was refused is written
-abbrev pub WritesRefusal : WaitingRequest → Option (List ℕ) → Option (List ℕ) → Option (List ℕ) → Type 0
-WritesRefusal (flood workers datagrams) input before after = ⊥
-WritesRefusal (serve front control workers file logs) input before after = RefusesService front control file before after
-WritesRefusal (tell control timeout all lines) input before after = IsToldRefusal control all lines input before after
-WritesRefusal (rules control timeout) input before after = IsNoControlAddress control × Appends before after (codes "refused C1\n")
-WritesRefusal (load control timeout file only_check only_diff) input before after = RefusesLoad control before after only_check only_diff
+abbrev pub WritesRefusal : WaitingRequest → (input before after told_before told_after : Option (List ℕ)) → Type 0
+WritesRefusal (flood workers datagrams) input before after told_before told_after = ⊥
+WritesRefusal (serve front control workers file logs) input before after told_before told_after = RefusesService front control file before after
+WritesRefusal (tell control timeout all words) input before after told_before told_after = IsToldRefusal control all words input before after told_before told_after
+WritesRefusal (rules control timeout) input before after told_before told_after = IsNoControlAddress control × Appends before after (codes "refused C1\n")
+WritesRefusal (load control timeout file only_check only_diff) input before after told_before told_after = RefusesLoad control before after only_check only_diff
 
 -- `serve` for these addresses failed so; if no write failed the line `ready` was written or nothing, and nothing if a socket was
 -- not bound or the rules file could not be read; but for writes and memory it fails only if both texts are addresses

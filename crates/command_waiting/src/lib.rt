@@ -10,11 +10,12 @@ ghost use Rattle.std.specs.Io.KnownBytes.{Appends};
 ghost use Rattle.command_line.specs.CommandLine.{waiting_of};
 ghost use Rattle.command_line.specs.Ending.{AppendsBeginning, line_of};
 ghost use Rattle.command_line.specs.declared.ending.Failure.TheVariants as failure;
-ghost use Rattle.command_waiting.specs.Waiting.{EndsInWaitingFailure, HasNoRules, WritesFor, WritesRefusal};
+ghost use Rattle.command_waiting.specs.Waiting.{EndsInWaitingFailure, ShowsNoRefusal, WritesFor, WritesRefusal};
 
 mod loading;
 mod logging;
 mod printing;
+mod refused;
 mod reporting;
 mod rules_file;
 mod serving;
@@ -77,9 +78,11 @@ pub fn run_waiting<
     out: &mut W,
     errs: &mut E,
 ) -> Status
-    ensures done { result ≡ Status.Done → WritesFor (waiting_of command.entry) (I.remaining input) (W.contents out.old) (W.contents out.new) }
-    ensures refused { result ≡ Status.Refused → WritesRefusal (waiting_of command.entry) (I.remaining input) (W.contents out.old) (W.contents out.new) }
-    ensures no_errors { (result ≡ Status.Done) ⊎ ((result ≡ Status.Refused) × HasNoRules (waiting_of command.entry)) → errs.new ≡ errs.old }
+    ensures done { result ≡ Status.Done → WritesFor (waiting_of command.entry) (I.remaining input) (W.contents out.old) (W.contents out.new)
+        (E.contents errs.old) (E.contents errs.new) }
+    ensures refused { result ≡ Status.Refused → WritesRefusal (waiting_of command.entry) (I.remaining input) (W.contents out.old) (W.contents out.new)
+        (E.contents errs.old) (E.contents errs.new) }
+    ensures no_errors { (result ≡ Status.Done) ⊎ ((result ≡ Status.Refused) × ShowsNoRefusal (waiting_of command.entry)) → errs.new ≡ errs.old }
     ensures never_misused { result ≡ Status.Misused → ⊥ }
     ensures failed { result ≡ Status.Failed
         → EndsInWaitingFailure (waiting_of command.entry) (I.remaining input) (W.contents out.old) (W.contents out.new)

@@ -1,6 +1,6 @@
 //! The command `load`: the rules of a file for a running switch (docs/COMMANDS.md, "load").
 
-ghost use Rattle.std.specs.Prelude.{◌≡◌, ◌≢◌, ◌≤◌, ◌⊎◌, ◌++◌, IfErr, IfOk, List, MatchOption, None, OnOk, Some, codes, length, option_map, ℕ};
+ghost use Rattle.std.specs.Prelude.{◌≡◌, ◌≢◌, ◌≤◌, ◌⊎◌, ◌++◌, IfErr, IfOk, List, MatchOption, None, OnErr, OnOk, Some, codes, length, option_map, ℕ};
 ghost use Rattle.std.specs.Io.KnownBytes.{Appends};
 ghost use Rattle.config_image.specs.Image.{Group};
 ghost use Rattle.control_client.specs.Wire.{peer_of};
@@ -8,14 +8,15 @@ ghost use Rattle.control_line.specs.Rules.{IsConfigOf};
 ghost use Rattle.command_line.specs.ControlAddress.{SpellsControlAddress};
 ghost use Rattle.command_line.specs.declared.ending.Failure.TheVariants as failure;
 ghost use Rattle.command_waiting.specs.Opening.{RefusesRules};
-ghost use Rattle.command_waiting.specs.Showing.{AreChangesTo, EndsInRulesFailure, IsNoSwitch, LoadsInto, RefusesLoad, WritesLoad, loaded_line, loaded_status, measures_line, version_line};
+ghost use Rattle.command_waiting.specs.Showing.{AreChangesTo, EndsInRulesFailure, IsNoSwitch, LoadsInto, RefusesLoad, ShowsFileRefusal, WritesLoad, loaded_line, loaded_status, measures_line, version_line};
 ghost use Rattle.command_waiting.specs.body.Asked.{IsAsked};
 
 use crate::printing::{print_line, print_text};
 use crate::refuse_address;
 use crate::reporting::reported;
 use crate::rules_file::{RulesFile, open_file};
-use command_line::{ControlAddress, Failure, Status};
+use command_explain::{file_fault_text, shown_code};
+use command_line::{ControlAddress, Failure, Status, write_whole};
 use control_client::{Reach, SocketWire};
 use control_line::Reply;
 use control_rules::{Client, Loaded, differences, load};
@@ -139,39 +140,73 @@ fn print_loaded<W: Write>(loaded: &Loaded, out: &mut W) -> Result<Status, Failur
     }
 }
 
-// Makes the rules of a switch those of the file, and prints how that ended.
-fn print_replaced<R: Net + Clock, W: Write>(
+// Makes the rules of a switch those of the file.
+fn replaced<R: Net + Clock>(
     rt: &R,
     alloc: Global,
     reach: Reach<'_>,
     file: &RulesFile,
-    out: &mut W,
-) -> Result<Status, Failure>
+) -> Result<Loaded, Failure>
     requires { IsConfigOf file.now.text.items file.now.config }
-    ensures printed { IfOk result (λ status. (loaded : Loaded) × (status ≡ loaded_status loaded)
-        × LoadsInto (peer_of reach.entry.address) file.now.text.items file.now.config loaded
-        × Appends (W.contents out.old) (W.contents out.new) (loaded_line loaded ++ codes "\n")) }
-    ensures done_or_refused { IfOk result (λ status. (status ≡ Status.Done) ⊎ (status ≡ Status.Refused)) }
-    ensures unwritten { IfErr result (λ failure. failure ≢ Failure.WriteFailed → out.new ≡ out.old) }
+    ensures loaded { IfOk result (LoadsInto (peer_of reach.entry.address) file.now.text.items file.now.config) }
 {
     let wire = SocketWire::open(rt, alloc, reach)?;
     let mut client = Client::new(alloc, wire, reach.peer())?;
-    let loaded = load(rt, &mut client, &file.text, &file.config)?;
-    print_loaded(&loaded, out)
+    load(rt, &mut client, &file.text, &file.config)
+}
+
+// Shows people why a switch refuses the rules of a file of this name. If memory or a write fails, that is left out.
+fn show_refusal<E: Write>(alloc: Global, name: &str, reply: &[u8], errs: &mut E)
+    ensures { ShowsFileRefusal name.now reply.now (E.contents errs.old) (E.contents errs.new) }
+{
+    let Some(shown) = shown_code(reply) else {
+        return;
+    };
+    if let Ok(text) = file_fault_text(alloc, name, shown.code) {
+        let _ = write_whole(&text, errs);
+        let _ = errs.flush();
+    }
+}
+
+// Makes the rules of a switch those of the file of this name, and prints how that ended.
+fn print_replaced<R: Net + Clock, W: Write, E: Write>(
+    rt: &R,
+    alloc: Global,
+    reach: Reach<'_>,
+    named: (&str, &RulesFile),
+    out: &mut W,
+    errs: &mut E,
+) -> Result<Status, Failure>
+    requires { IsConfigOf named.1.now.text.items named.1.now.config }
+    ensures printed { IfOk result (λ status. (loaded : Loaded) × (status ≡ loaded_status loaded)
+        × LoadsInto (peer_of reach.entry.address) named.entry.1.now.text.items named.entry.1.now.config loaded
+        × Appends (W.contents out.old) (W.contents out.new) (loaded_line loaded ++ codes "\n")) }
+    ensures done_or_refused { IfOk result (λ status. (status ≡ Status.Done) ⊎ (status ≡ Status.Refused)) }
+    ensures no_errors { IfOk result (λ status. status ≡ Status.Done → errs.new ≡ errs.old) }
+    ensures unshown { OnErr result (errs.new ≡ errs.old) }
+    ensures unwritten { IfErr result (λ failure. failure ≢ Failure.WriteFailed → out.new ≡ out.old) }
+{
+    let (name, file) = named;
+    let loaded = replaced(rt, alloc, reach, file)?;
+    let status = print_loaded(&loaded, out)?;
+    if let Loaded::Refused(reply) = loaded {
+        show_refusal(alloc, name, &reply, errs);
+    }
+    Ok(status)
 }
 
 fn replace<R: Net + Clock, W: Write, E: Write>(
     rt: &R,
     alloc: Global,
     asked: (&str, Reach<'_>),
-    file: &RulesFile,
+    named: (&str, &RulesFile),
     out: &mut W,
     errs: &mut E,
 ) -> Status
-    requires config { IsConfigOf file.now.text.items file.now.config }
+    requires config { IsConfigOf named.1.now.text.items named.1.now.config }
     requires address { SpellsControlAddress asked.0.now asked.1.address }
     ensures printed { (result ≡ Status.Failed → ⊥) → (loaded : Loaded) × (result ≡ loaded_status loaded)
-        × LoadsInto (peer_of asked.entry.1.address) file.now.text.items file.now.config loaded
+        × LoadsInto (peer_of asked.entry.1.address) named.entry.1.now.text.items named.entry.1.now.config loaded
         × Appends (W.contents out.old) (W.contents out.new) (loaded_line loaded ++ codes "\n") }
     ensures no_errors { result ≡ Status.Done → errs.new ≡ errs.old }
     ensures never_misused { result ≡ Status.Misused → ⊥ }
@@ -179,7 +214,7 @@ fn replace<R: Net + Clock, W: Write, E: Write>(
         → EndsInRulesFailure (Some asked.entry.0.now) (W.contents out.old) (W.contents out.new) (E.contents errs.old) (E.contents errs.new) }
 {
     let (control, reach) = asked;
-    let ended = print_replaced(rt, alloc, reach, file, out);
+    let ended = print_replaced(rt, alloc, reach, named, out, errs);
     reported(alloc, ended, control, reach, errs)
 }
 
@@ -245,5 +280,6 @@ pub(crate) fn run_load<R: Net + Clock + Files, W: Write, E: Write>(
     if loading.diff {
         return show_changes(rt, alloc, (control, reach), &file.config, out, errs);
     }
-    replace(rt, alloc, (control, reach), &file, out, errs)
+    let named = (loading.file, &file);
+    replace(rt, alloc, (control, reach), named, out, errs)
 }

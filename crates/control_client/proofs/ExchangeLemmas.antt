@@ -11,7 +11,7 @@ use Rattle.control_client.specs.declared.device.WireFailed.{WireFailed}
 use Rattle.command_line.specs.declared.ending.Failure.{Failure}
 use Rattle.command_line.specs.declared.ending.Failure.TheVariants.{NoAnswer, WriteFailed}
 use Rattle.command_line.specs.Ending.{AppendsBeginning}
-use Rattle.control_client.specs.Exchange.{Asks, IsExchange, IsForeign, LineEndsBy, LineTold, LineUnprinted, answered, is_refusal, not_sent, outnumbered, reply_line, timed_out, unsent}
+use Rattle.control_client.specs.Exchange.{Asks, IsExchange, IsForeign, LineEndsBy, LineUnprinted, answered, is_refusal, not_sent, outnumbered, reply_line, timed_out, unsent}
 use Rattle.control_client.specs.Wire.{Event, Logs, came, came_by, none_came, sent, sent_by}
 use Rattle.control_client.specs.body.Asking.{Hears, HearsNone, Passes, broken, out_of_time, too_many}
 use Rattle.control_client.proofs.WireLemmas.{logs_more, logs_nothing}
@@ -84,11 +84,6 @@ refused_unsent switch line reply log refused = record { events = []; is_exchange
 -- a line was exchanged, and its reply is printed, or a beginning of it
 module _ (switch : Peer) (line reply : List ℕ) (events : List Event) (log log' : Option (List Event)) (out out' : Option (List ℕ)) (exchange : IsExchange switch line reply events)
     (logged : Logs log log' events) where
-  pub line_told : (result : Result Bool Failure) → OnOk result (Appends out out' (reply_line reply)) → IfOk result (λ (refused : Bool). refused ≡ is_refusal reply)
-      → IfOk result (LineTold switch line log log' out out')
-  line_told (Ok refused) printed is = record { reply = reply; events = events; is_exchange = exchange; logged = logged; printed = printed; refused_is = is }
-  line_told (Err fault) printed is = tt
-
   pub line_unprinted : (result : Result Bool Failure) → OnErr result (AppendsBeginning out out' (reply_line reply)) → IfErr result (λ (fault : Failure). fault ≡ WriteFailed)
       → IfErr result (λ (fault : Failure). LineEndsBy fault switch line log log' out out')
   line_unprinted (Ok refused) begun is = tt

@@ -1,5 +1,5 @@
 -- The first line of a text, the lines of a script, and requests that were given one after the other.
-use Rattle.std.proofs.Common.{◌≡◌, ◌∙◌, ◌==◌, ◌++◌, ◌∷◌, Bool, List, None, Option, Some, [], ap, eqb-true, false, length, nat_eq, refl, subst, sym, take, true, ℕ, ◌-◌, ◌+◌, arith, length-append}
+use Rattle.std.proofs.Common.{◌≡◌, ◌∙◌, ◌==◌, ◌++◌, ◌∷◌, Bool, List, None, Option, Some, [], ap, eqb-true, false, length, nat_eq, refl, subst, suc, sym, take, true, ℕ, ◌-◌, ◌+◌, arith, length-append}
 use Rattle.std.proofs.lemmas.Bool.{both_ways}
 use Rattle.std.proofs.lemmas.Bool.Decides.{Decides-eqb}
 use Rattle.std.proofs.lemmas.Slice.Eq.{ends_is}
@@ -7,34 +7,35 @@ use Rattle.std.specs.List.{ends_with}
 use Rattle.std.specs.Prelude.{IfSome}
 use Rattle.std.specs.Io.BufRead.{DropsThrough, drop_through, take_through}
 use Rattle.std.specs.Io.KnownBytes.{IsAtEnd}
-use Rattle.control_line.specs.Rules.{grow_first, is_skipped, lines_in, without_return}
-use Rattle.control_client.specs.Lines.{AreAll, AreFirst, AreNone, AreRequests, LosesLine, LosesRequest, lines_known, lines_of_script, next_request, no_request, script_known}
+use Rattle.control_line.specs.Answer.{NumberedLine}
+use Rattle.control_line.specs.Rules.{grow_first, is_skipped, lines_in, rules_from, without_return}
+use Rattle.control_client.specs.Lines.{AreAll, AreFirst, AreNone, AreRequests, LosesLine, LosesRequest, Request, lines_known, next_request, no_request, script_after}
 use Rattle.control_client.specs.body.LineEnd.{without_end}
 
 -- these requests were given
-abbrev pub Gave : Option (List (List ℕ)) → Option (List (List ℕ)) → List (List ℕ) → Type 0
+abbrev pub Gave : Option (List NumberedLine) → Option (List NumberedLine) → List Request → Type 0
 Gave None later requests = Unit {0}
 Gave (Some coming) None requests = ⊥
 Gave (Some coming) (Some later) requests = AreRequests coming later requests
 
-pub gave_nothing : (coming : Option (List (List ℕ))) → Gave coming coming []
+pub gave_nothing : (coming : Option (List NumberedLine)) → Gave coming coming []
 gave_nothing None = tt
 gave_nothing (Some lines) = no_request
 
-pub gave_request : (before mid after : Option (List (List ℕ))) (requests : List (List ℕ)) (request : List ℕ) → Gave before mid requests → LosesRequest mid after request
+pub gave_request : (before mid after : Option (List NumberedLine)) (requests : List Request) (request : Request) → Gave before mid requests → LosesRequest mid after request
     → Gave before after (requests ++ request ∷ [])
 gave_request None mid after requests request one two = tt
 gave_request (Some a) None after requests request one two = absurd one
 gave_request (Some a) (Some b) None requests request one two = absurd two
 gave_request (Some a) (Some b) (Some c) requests request one two = next_request b c requests request one two
 
-pub gave_all : (before mid after : Option (List (List ℕ))) (requests : List (List ℕ)) → Gave before mid requests → AreNone mid after → AreAll before requests
+pub gave_all : (before mid after : Option (List NumberedLine)) (requests : List Request) → Gave before mid requests → AreNone mid after → AreAll before requests
 gave_all None mid after requests one none = tt
 gave_all (Some a) None after requests one none = absurd one
 gave_all (Some a) (Some b) None requests one none = absurd none
-gave_all (Some a) (Some b) (Some c) requests one none = subst (λ (left : List (List ℕ)). AreRequests a left requests) none.0 one
+gave_all (Some a) (Some b) (Some c) requests one none = subst (λ (left : List NumberedLine). AreRequests a left requests) none.0 one
 
-pub gave_first : (before after : Option (List (List ℕ))) (requests : List (List ℕ)) → Gave before after requests → AreFirst before requests
+pub gave_first : (before after : Option (List NumberedLine)) (requests : List Request) → Gave before after requests → AreFirst before requests
 gave_first None after requests one = tt
 gave_first (Some a) None requests one = absurd one
 gave_first (Some a) (Some b) requests one = (b, one)
@@ -107,56 +108,65 @@ reads_none (Some text) (Some more) at_end rest =
 
 -- ---- the lines of a script
 
-pub script_skips : (before after : Option (List ℕ)) (line : List ℕ) → LosesLine (lines_known before) (lines_known after) line → is_skipped line ≡ true
-    → (before ≡ None → ⊥) → script_known before ≡ script_known after
-script_skips None after line lost skipped known = absurd (known refl)
-script_skips (Some text) None line lost skipped known = absurd lost
-script_skips (Some text) (Some more) line lost skipped known =
-    ap (λ (lines : List (List ℕ)). Some lines) (ap lines_of_script lost ∙ skips line (lines_in more) skipped)
-  where
-    skips : (line : List ℕ) (rest : List (List ℕ)) → is_skipped line ≡ true → lines_of_script (line ∷ rest) ≡ lines_of_script rest
-    skips line rest skipped = simp skipped refl
+-- one line more was read
+module _ (read next : ℕ) (is_next : next ≡ suc read) where
+  pub script_skips : (before after : Option (List ℕ)) (line : List ℕ) → LosesLine (lines_known before) (lines_known after) line → is_skipped line ≡ true
+      → (before ≡ None → ⊥) → script_after read before ≡ script_after next after
+  script_skips None after line lost skipped known = absurd (known refl)
+  script_skips (Some text) None line lost skipped known = absurd lost
+  script_skips (Some text) (Some more) line lost skipped known =
+      ap (λ (lines : List NumberedLine). Some lines) (ap (rules_from (suc read)) lost ∙ skips line (lines_in more) skipped
+      ∙ ap (λ (number : ℕ). rules_from (suc number) (lines_in more)) (sym is_next))
+    where
+      skips : (line : List ℕ) (rest : List (List ℕ)) → is_skipped line ≡ true → rules_from (suc read) (line ∷ rest) ≡ rules_from (suc (suc read)) rest
+      skips line rest skipped = simp skipped refl
 
-pub script_tells : (before after : Option (List ℕ)) (line : List ℕ) → LosesLine (lines_known before) (lines_known after) line → is_skipped line ≡ false
-    → LosesLine (script_known before) (script_known after) (without_return line)
-script_tells None after line lost told = tt
-script_tells (Some text) None line lost told = absurd lost
-script_tells (Some text) (Some more) line lost told = ap lines_of_script lost ∙ tells line (lines_in more) told
-  where
-    tells : (line : List ℕ) (rest : List (List ℕ)) → is_skipped line ≡ false → lines_of_script (line ∷ rest) ≡ without_return line ∷ lines_of_script rest
-    tells line rest told = simp told refl
+  pub script_tells : (before after : Option (List ℕ)) (line : List ℕ) → LosesLine (lines_known before) (lines_known after) line → is_skipped line ≡ false
+      → LosesLine (script_after read before) (script_after next after) (record { number = next; text = without_return line })
+  script_tells None after line lost told = tt
+  script_tells (Some text) None line lost told = absurd lost
+  script_tells (Some text) (Some more) line lost told =
+      ap (rules_from (suc read)) lost ∙ tells line (lines_in more) told
+      ∙ ap (λ (number : ℕ). record { number = number; text = without_return line } ∷ rules_from (suc number) (lines_in more)) (sym is_next)
+    where
+      tells : (line : List ℕ) (rest : List (List ℕ)) → is_skipped line ≡ false
+          → rules_from (suc read) (line ∷ rest) ≡ record { number = suc read; text = without_return line } ∷ rules_from (suc (suc read)) rest
+      tells line rest told = simp told refl
 
-pub script_ends : (before after : Option (List ℕ)) → AreNone (lines_known before) (lines_known after) → AreNone (script_known before) (script_known after)
-script_ends None after none = tt
-script_ends (Some text) None none = absurd none
-script_ends (Some text) (Some more) none = (ap lines_of_script none.0, ap lines_of_script none.1)
+pub script_ends : (read : ℕ) (before after : Option (List ℕ)) → AreNone (lines_known before) (lines_known after) → AreNone (script_after read before) (script_after read after)
+script_ends read None after none = tt
+script_ends read (Some text) None none = absurd none
+script_ends read (Some text) (Some more) none = (ap (rules_from (suc read)) none.0, ap (rules_from (suc read)) none.1)
 
 -- lines were skipped, if the text is known
-abbrev pub Skips : Option (List ℕ) → Option (List ℕ) → Type 0
-Skips None now = Unit {0}
-Skips (Some text) now = script_known (Some text) ≡ script_known now
+abbrev pub Skips : ℕ → Option (List ℕ) → ℕ → Option (List ℕ) → Type 0
+Skips begin None read now = Unit {0}
+Skips begin (Some text) read now = script_after begin (Some text) ≡ script_after read now
 
-pub skips_none : (text : Option (List ℕ)) → Skips text text
-skips_none None = tt
-skips_none (Some text) = refl
+pub skips_none : (begin : ℕ) (text : Option (List ℕ)) → Skips begin text begin text
+skips_none begin None = tt
+skips_none begin (Some text) = refl
 
-pub skips_more : (before now after : Option (List ℕ)) (line : List ℕ) → Skips before now → LosesLine (lines_known now) (lines_known after) line → is_skipped line ≡ true
-    → Skips before after
-skips_more None now after line so_far lost skipped = tt
-skips_more (Some text) None after line so_far lost skipped = absurd (cc)
-skips_more (Some text) (Some more) after line so_far lost skipped = so_far ∙ script_skips (Some more) after line lost skipped (λ none. absurd (cc))
+pub skips_more : (begin read next : ℕ) → next ≡ suc read → (before now after : Option (List ℕ)) (line : List ℕ) → Skips begin before read now
+    → LosesLine (lines_known now) (lines_known after) line → is_skipped line ≡ true → Skips begin before next after
+skips_more begin read next is_next None now after line so_far lost skipped = tt
+skips_more begin read next is_next (Some text) None after line so_far lost skipped = absurd (cc)
+skips_more begin read next is_next (Some text) (Some more) after line so_far lost skipped =
+    so_far ∙ script_skips read next is_next (Some more) after line lost skipped (λ none. absurd (cc))
 
-pub skipped_then_told : (before now after : Option (List ℕ)) (line : List ℕ) → Skips before now → LosesLine (lines_known now) (lines_known after) line → is_skipped line ≡ false
-    → LosesLine (script_known before) (script_known after) (without_return line)
-skipped_then_told None now after line so_far lost told = tt
-skipped_then_told (Some text) now after line so_far lost told =
-    subst (λ (lines : Option (List (List ℕ))). LosesLine lines (script_known after) (without_return line)) (sym so_far) (script_tells now after line lost told)
+pub skipped_then_told : (begin read next : ℕ) → next ≡ suc read → (before now after : Option (List ℕ)) (line : List ℕ) → Skips begin before read now
+    → LosesLine (lines_known now) (lines_known after) line → is_skipped line ≡ false
+    → LosesLine (script_after begin before) (script_after next after) (record { number = next; text = without_return line })
+skipped_then_told begin read next is_next None now after line so_far lost told = tt
+skipped_then_told begin read next is_next (Some text) now after line so_far lost told =
+    subst (λ (lines : Option (List NumberedLine)). LosesLine lines (script_after next after) (record { number = next; text = without_return line })) (sym so_far)
+    (script_tells read next is_next now after line lost told)
 
-pub skipped_then_none : (before now after : Option (List ℕ)) → Skips before now → AreNone (lines_known now) (lines_known after)
-    → AreNone (script_known before) (script_known after)
-skipped_then_none None now after so_far none = tt
-skipped_then_none (Some text) now after so_far none =
-    subst (λ (lines : Option (List (List ℕ))). AreNone lines (script_known after)) (sym so_far) (script_ends now after none)
+pub skipped_then_none : (begin read : ℕ) (before now after : Option (List ℕ)) → Skips begin before read now → AreNone (lines_known now) (lines_known after)
+    → AreNone (script_after begin before) (script_after read after)
+skipped_then_none begin read None now after so_far none = tt
+skipped_then_none begin read (Some text) now after so_far none =
+    subst (λ (lines : Option (List NumberedLine)). AreNone lines (script_after read after)) (sym so_far) (script_ends read now after none)
 
 -- ---- a line's CR
 

@@ -1,8 +1,8 @@
 -- Worked examples of the definitions.
-use Rattle.std.proofs.Common.{[], codes, false, refl, true, ◌∷◌, ◌≡◌}
+use Rattle.std.proofs.Common.{Some, [], codes, false, refl, true, ◌∷◌, ◌≡◌}
 use Rattle.control_client.specs.Exchange.{has_refusal, is_refusal, text_of}
-use Rattle.control_client.specs.Lines.{lines_of_script}
-use Rattle.control_line.specs.Rules.{lines_in}
+use Rattle.control_client.specs.Refused.{refusals_of}
+use Rattle.control_line.specs.Rules.{lines_in, rules_in}
 
 no_bytes_no_line : lines_in (codes "") ≡ []
 no_bytes_no_line = refl
@@ -16,7 +16,8 @@ all_ended = refl
 empty_lines : lines_in (codes "\n\nshow") ≡ [] ∷ [] ∷ codes "show" ∷ []
 empty_lines = refl
 
-comments_and_returns : lines_of_script (lines_in (codes "# rules\r\nshow\r\n \t\r\n  # no rule\nsweep\r")) ≡ codes "show" ∷ codes "sweep" ∷ []
+comments_and_returns : rules_in (codes "# rules\r\nshow\r\n \t\r\n  # no rule\nsweep\r")
+    ≡ record { number = 2; text = codes "show" } ∷ record { number = 5; text = codes "sweep" } ∷ []
 comments_and_returns = refl
 
 refused_line : is_refusal (codes "refused G3") ≡ true
@@ -36,3 +37,11 @@ text_of_two = refl
 
 one_refused : has_refusal (record { line = codes "stop"; reply = codes "ok stop" } ∷ record { line = []; reply = codes "refused C1" } ∷ []) ≡ true
 one_refused = refl
+
+-- a line that was done, a block that was not, and a line after it
+shown_of_three : refusals_of (
+    record { request = record { head = Some 1; lines = []; text = codes "show" }; reply = codes "version 0 groups 0 members 0 charge 2" } ∷
+    record { request = record { head = Some 3; lines = 4 ∷ 6 ∷ []; text = codes "all 2\nshow\nshow" }; reply = codes "refused C1 line 1" } ∷
+    record { request = record { head = Some 7; lines = []; text = codes "totals" }; reply = codes "failed E3" } ∷ [])
+    ≡ record { head = Some 3; lines = 4 ∷ 6 ∷ []; reply = codes "refused C1 line 1" } ∷ record { head = Some 7; lines = []; reply = codes "failed E3" } ∷ []
+shown_of_three = refl

@@ -72,9 +72,6 @@ reply_line reply = reply ++ 10 ∷ []
 abbrev pub text_of : List Exchange → List ℕ
 text_of told = flat_map (λ (one : Exchange). reply_line one.reply) told
 
-abbrev pub lines_of : List Exchange → List (List ℕ)
-lines_of told = map (λ (one : Exchange). one.line) told
-
 -- a reply that tells that its line was not done
 abbrev pub is_refusal : List ℕ → Bool
 is_refusal reply = starts_with nat_eq reply (codes "refused ") || starts_with nat_eq reply (codes "failed ")
@@ -83,15 +80,6 @@ abbrev pub has_refusal : List Exchange → Bool
 has_refusal told = list_any (λ (one : Exchange). is_refusal one.reply) told
 
 -- ---- one line
-
--- the line was exchanged and its reply printed
-pub record LineTold (switch : Peer) (line : List ℕ) (log log' : Option (List Event)) (out out' : Option (List ℕ)) (refused : Bool) : Type 0 where
-  pub reply : List ℕ
-  pub events : List Event
-  pub is_exchange : IsExchange switch line reply events
-  pub logged : Logs log log' events
-  pub printed : Appends out out' (reply_line reply)
-  pub refused_is : refused ≡ is_refusal reply
 
 -- it was sent and had no reply, and nothing was printed
 pub record LineUnheard (IsLast : List Event → Type 0) (log log' : Option (List Event)) (out out' : Option (List ℕ)) : Type 0 where

@@ -2,6 +2,7 @@ pub mod Wire
 pub mod Lines
 pub mod Carried
 pub mod Exchange
+pub mod Refused
 pub mod Tell
 pub mod Stream
 pub mod Trouble

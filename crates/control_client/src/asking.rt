@@ -1,13 +1,17 @@
 //! One line: it is sent, and its reply received and printed.
 
-ghost use Rattle.std.specs.Prelude.{◌≡◌, ◌≤◌, IfErr, IfOk, List, Option, length, take, ℕ};
-ghost use Rattle.control_client.specs.Exchange.{Asks, LineEndsBy, LineTold};
+ghost use Rattle.std.specs.Prelude.{◌≡◌, ◌≤◌, IfErr, IfOk, List, OnErr, Option, length, take, ℕ};
+ghost use Rattle.control_client.specs.Exchange.{Asks, LineEndsBy};
+ghost use Rattle.control_client.specs.Refused.{ShownOn};
+ghost use Rattle.control_client.specs.Tell.{RequestTold};
 ghost use Rattle.control_client.specs.body.Asking.{Hears, HearsNone};
 
 use crate::carrying::unsent_reply;
 use crate::device::{Peer, Wire, WireFailed};
 use crate::printing::print_reply;
+use crate::refused::{Explains, Places};
 use command_line::Failure;
+use std::io::Write;
 
 /// How many replies from elsewhere are passed over while a line waits for its reply.
 pub const FOREIGN_LIMIT: usize = 4096;
@@ -52,18 +56,28 @@ pub fn ask<'a, D: Wire>(
     Ok(&room[..size])
 }
 
-/// Sends the line, and prints its reply. True if that is a refusal. `room` is for the reply.
-pub(crate) fn exchange<D: Wire, W: std::io::Write>(
+/// Sends the request, prints its reply, and shows it if the request was not done. True if so. `room` is for the reply.
+pub(crate) fn exchange<D: Wire, W: Write, E: Write, X: Explains>(
     wire: &mut D,
     switch: Peer,
-    line: &[u8],
+    request: (&[u8], Places<'_>),
     room: &mut [u8],
     out: &mut W,
+    errs: &mut E,
+    explains: &X,
 ) -> Result<bool, Failure>
-    ensures told { IfOk result (LineTold switch line.now (D.log wire.old) (D.log wire.new) (W.contents out.old) (W.contents out.new)) }
+    ensures told { IfOk result (RequestTold (ShownOn E.contents X.shows) switch
+        (record { head = request.entry.1.head; lines = request.entry.1.lines.now; text = request.entry.0.now })
+        (D.log wire.old) (D.log wire.new) (W.contents out.old) (W.contents out.new) errs.old errs.new) }
     ensures stopped { IfErr result (λ fault.
-        LineEndsBy fault switch line.now (D.log wire.old) (D.log wire.new) (W.contents out.old) (W.contents out.new)) }
+        LineEndsBy fault switch request.entry.0.now (D.log wire.old) (D.log wire.new) (W.contents out.old) (W.contents out.new)) }
+    ensures unshown { OnErr result (errs.new ≡ errs.old) }
 {
-    let reply = ask(wire, switch, line, room)?;
-    print_reply(reply, out)
+    let (text, places) = request;
+    let reply = ask(wire, switch, text, room)?;
+    if !print_reply(reply, out)? {
+        return Ok(false);
+    }
+    explains.show(places, reply, errs);
+    Ok(true)
 }

@@ -1,7 +1,8 @@
 //! The lines to tell: those of a script, or words that are a line each (docs/COMMANDS.md, "tell").
 
 ghost use Rattle.std.specs.Prelude.{◌≡◌, ◌⊎◌, IfErr, IfOk, List, Option, Some, map, ℕ};
-ghost use Rattle.control_client.specs.Lines.{GivesNext, lines_known, script_known};
+ghost use Rattle.control_client.specs.Lines.{GivesNext, GivesNumbered, lines_known, script_after, script_known};
+ghost use Rattle.control_line.specs.Answer.{NumberedLine, numbered};
 ghost use Rattle.control_line.specs.Rules.{without_return};
 ghost use Rattle.control_client.specs.body.LineEnd.{without_end};
 
@@ -12,35 +13,39 @@ use std::marker::Model;
 
 /// Where lines come from.
 pub trait Lines {
-    ghost coming: { Self → Option (List (List ℕ)) };
+    /// The lines to come, with their numbers.
+    ghost coming: { Self → Option (List NumberedLine) };
 
-    /// Puts the next line, without LF, in place of what `line` has. False where there is none.
-    fn next(&mut self, line: &mut Vec<u8>) -> Result<bool, Failure>
-        ensures next_line { IfOk result (GivesNext (coming self.old) (coming self.new) line.new.items) }
+    /// Puts the next line, without LF, in place of what `line` has, and returns its number. `None` if there is none.
+    fn next(&mut self, line: &mut Vec<u8>) -> Result<Option<u64>, Failure>
+        ensures next_line { IfOk result (GivesNumbered (coming self.old) (coming self.new) line.new.items) }
         ensures faults { IfErr result (λ fault. (fault ≡ Failure.ReadFailed) ⊎ (fault ≡ Failure.OutOfMemory)) };
 }
 
 /// The lines of a script that are no comments. LF ends a line, and bytes after the last LF are a line too. A line that a rules file
-/// skips is skipped, and the CR at the end of a line is dropped. A line takes as much memory as it has bytes.
+/// skips is skipped, and the CR at the end of a line is dropped. The number of a line counts all lines from 1; of 2^64 lines the last
+/// is not read. A line takes as much memory as it has bytes.
 #[derive(Drop)]
 pub struct InputLines<B: BufRead> {
     input: B,
+    read: u64,
 }
 
 impl<B: BufRead> Model for InputLines<B> {
-    ghost use Rattle.std.specs.Prelude.{List, Option, ℕ};
-    ghost use Rattle.control_client.specs.Lines.{script_known};
+    ghost use Rattle.std.specs.Prelude.{List, Option};
+    ghost use Rattle.control_line.specs.Answer.{NumberedLine};
+    ghost use Rattle.control_client.specs.Lines.{script_after};
 
-    ghost Value = { Option (List (List ℕ)) };
+    ghost Value = { Option (List NumberedLine) };
 
-    ghost view = { λ lines. script_known (B.remaining lines.input) };
+    ghost view = { λ lines. script_after lines.read (B.remaining lines.input) };
 }
 
 impl<B: BufRead> InputLines<B> {
     pub fn new(input: B) -> InputLines<B>
         ensures lines { result ≡ script_known (B.remaining input) }
     {
-        InputLines { input }
+        InputLines { input, read: 0 }
     }
 }
 
@@ -86,18 +91,28 @@ fn drop_return(line: &mut Vec<u8>)
     line.truncate(len);
 }
 
-// Puts the next line that is told in place of what `line` has. False if there is none.
-fn read_told<B: BufRead>(input: &mut B, line: &mut Vec<u8>) -> Result<bool, Failure>
-    ensures next_line { IfOk result (GivesNext (script_known (B.remaining input.old)) (script_known (B.remaining input.new)) line.new.items) }
+// Puts the next line that is told in place of what `line` has, and returns its number. `None` if there is none. `read` counts the lines
+// that were read.
+fn read_told<B: BufRead>(
+    input: &mut B,
+    read: &mut u64,
+    line: &mut Vec<u8>,
+) -> Result<Option<u64>, Failure>
+    ensures next_line { IfOk result
+        (GivesNumbered (script_after read.old (B.remaining input.old)) (script_after read.new (B.remaining input.new)) line.new.items) }
     ensures faults { IfErr result (λ fault. (fault ≡ Failure.ReadFailed) ⊎ (fault ≡ Failure.OutOfMemory)) }
 {
     for _line in 0..u64::MAX {
         if !read_line(input, line)? {
-            return Ok(false);
+            return Ok(None);
         }
+        let Some(number) = read.checked_add(1) else {
+            return Err(Failure::ReadFailed);
+        };
+        *read = number;
         if !is_skipped(line.as_slice()) {
             drop_return(line);
-            return Ok(true);
+            return Ok(Some(number));
         }
     }
     Err(Failure::ReadFailed)
@@ -106,12 +121,12 @@ fn read_told<B: BufRead>(input: &mut B, line: &mut Vec<u8>) -> Result<bool, Fail
 impl<B: BufRead> Lines for InputLines<B> {
     ghost coming = { λ lines. lines };
 
-    fn next(&mut self, line: &mut Vec<u8>) -> Result<bool, Failure> {
-        read_told(&mut self.input, line)
+    fn next(&mut self, line: &mut Vec<u8>) -> Result<Option<u64>, Failure> {
+        read_told(&mut self.input, &mut self.read, line)
     }
 }
 
-/// Words that are a line each.
+/// Words that are a line each. Their numbers count from 1.
 #[derive(Drop)]
 pub struct WordLines<'a> {
     words: &'a [&'a str],
@@ -119,16 +134,17 @@ pub struct WordLines<'a> {
 }
 
 impl<'a> Model for WordLines<'a> {
-    ghost use Rattle.std.specs.Prelude.{List, drop, map, ℕ};
+    ghost use Rattle.std.specs.Prelude.{List, drop, map, suc};
+    ghost use Rattle.control_line.specs.Answer.{NumberedLine, numbered};
 
-    ghost Value = { List (List ℕ) };
+    ghost Value = { List NumberedLine };
 
-    ghost view = { λ lines. map (λ word. word.now) (drop lines.given lines.words.now) };
+    ghost view = { λ lines. numbered (suc lines.given) (map (λ word. word.now) (drop lines.given lines.words.now)) };
 }
 
 impl<'a> WordLines<'a> {
     pub fn new(words: &'a [&'a str]) -> WordLines<'a>
-        ensures lines { result ≡ map (λ word. word.now) words.now }
+        ensures lines { result ≡ numbered 1 (map (λ word. word.now) words.now) }
     {
         WordLines { words, given: 0 }
     }
@@ -137,13 +153,13 @@ impl<'a> WordLines<'a> {
 impl Lines for WordLines<'_> {
     ghost coming = { λ lines. Some lines };
 
-    fn next(&mut self, line: &mut Vec<u8>) -> Result<bool, Failure> {
+    fn next(&mut self, line: &mut Vec<u8>) -> Result<Option<u64>, Failure> {
         let Some(word) = self.words.get(self.given) else {
-            return Ok(false);
+            return Ok(None);
         };
         line.clear();
         line.extend_from_slice(word.as_bytes())?;
         self.given += 1;
-        Ok(true)
+        Ok(Some(self.given as u64))
     }
 }

@@ -1,10 +1,12 @@
 //! Telling control lines to a running switch (docs/COMMANDS.md, "tell").
 //!
-//! `tell` sends requests over any `Wire`, one at a time, and prints the replies; `tell_change` sends all lines as one change.
-//! `SocketWire` is a wire over a UDP socket, or over the socket file of a switch. The lines come from a script or from words.
+//! `tell` sends requests over any `Wire`, one at a time, and prints the replies; `tell_change` sends all lines as one change. Both show
+//! people, by any `Explains`, which requests were not done. `SocketWire` is a wire over a UDP socket, or over the socket file of a
+//! switch. The lines come from a script or from words.
 #![tactic(auto)]
 
-ghost use Rattle.std.specs.Prelude.{◌≡◌, IfErr, IfOk, None};
+ghost use Rattle.std.specs.Prelude.{◌≡◌, IfErr, IfOk, None, OnErr};
+ghost use Rattle.control_client.specs.Refused.{ShownOn};
 ghost use Rattle.control_client.specs.Wire.{peer_of};
 ghost use Rattle.control_client.specs.Tell.{ChangeEndsBy, ChangeStopsOverSocket, StopsOverSocket, TellsAll, TellsChange, TellsFirst};
 
@@ -14,6 +16,7 @@ mod connection;
 mod device;
 mod given_lines;
 mod printing;
+mod refused;
 mod request;
 mod socket_wire;
 mod stream_lines;
@@ -28,8 +31,9 @@ use command_line::Failure;
 pub use device::{Came, Peer, Wire, WireFailed};
 pub use given_lines::{InputLines, Lines, WordLines};
 pub use printing::is_refusal;
+pub use refused::{Explains, Places};
 pub use request::block_of;
-use request::next_request;
+use request::{next_request, numbered_block_of};
 pub use socket_wire::{Reach, SocketWire};
 use std::alloc::Global;
 use std::io::Write;
@@ -50,31 +54,41 @@ pub fn limits_as_numbers()
 {}
 
 /// Sends each request to the switch, and prints its reply with LF. A line is a request; the first line of a block takes the lines of
-/// the block with it. True if a reply says that its request was not done: it begins with `refused ` or `failed `.
+/// the block with it. If a reply says that its request was not done, since it begins with `refused ` or `failed `, it is shown on
+/// `errs` too, and the result is true.
 ///
 /// A request is sent when the reply to the one before was printed and flushed. It goes on after one that was not done, and ends at
 /// the first one without an answer. So an answer that comes late is taken for no other request's. A request that the wire does not
 /// carry is not sent, and `unsent_reply` is its reply. It tells 2^64 - 1 requests at most.
-pub fn tell<L: Lines, D: Wire, W: Write>(
+pub fn tell<L: Lines, D: Wire, W: Write, E: Write, X: Explains>(
     alloc: Global,
     lines: &mut L,
     wire: &mut D,
     switch: Peer,
     out: &mut W,
+    errs: &mut E,
+    explains: &X,
 ) -> Result<bool, Failure>
-    ensures all_told { IfOk result (TellsAll switch (L.coming lines.old) (D.log wire.old) (D.log wire.new) (W.contents out.old) (W.contents out.new)) }
-    ensures first_told { IfErr result (λ fault.
-        TellsFirst fault switch (L.coming lines.old) (D.log wire.old) (D.log wire.new) (W.contents out.old) (W.contents out.new)) }
+    ensures all_told { IfOk result (TellsAll (ShownOn E.contents X.shows) switch (L.coming lines.old) (D.log wire.old) (D.log wire.new)
+        (W.contents out.old) (W.contents out.new) errs.old errs.new) }
+    ensures first_told { IfErr result (λ fault. TellsFirst (ShownOn E.contents X.shows) fault switch (L.coming lines.old)
+        (D.log wire.old) (D.log wire.new) (W.contents out.old) (W.contents out.new) errs.old errs.new) }
 {
     let mut room = vec![in alloc; 0; LONGEST_DATAGRAM]?;
     let mut line = Vec::new(alloc);
     let mut request = Vec::new(alloc);
+    let mut numbers = Vec::new(alloc);
     let mut refused = false;
     for _request in 0..u64::MAX {
-        if !next_request(lines, &mut line, &mut request)? {
+        let Some(number) = next_request(lines, &mut line, &mut request, &mut numbers)? else {
             return Ok(refused);
-        }
-        if exchange(wire, switch, &request, &mut room, out)? {
+        };
+        let places = Places {
+            head: Some(number),
+            lines: &numbers,
+        };
+        let asked = (request.as_slice(), places);
+        if exchange(wire, switch, asked, &mut room, out, errs, explains)? {
             refused = true;
         }
     }
@@ -82,53 +96,86 @@ pub fn tell<L: Lines, D: Wire, W: Write>(
 }
 
 /// Tells the lines over a socket of its own.
-pub fn tell_over_socket<R: Clock + Net, L: Lines, W: Write>(
+pub fn tell_over_socket<R: Clock + Net, L: Lines, W: Write, E: Write, X: Explains>(
     rt: &R,
     alloc: Global,
     reach: Reach<'_>,
     lines: &mut L,
     out: &mut W,
+    errs: &mut E,
+    explains: &X,
 ) -> Result<bool, Failure>
-    ensures all_told { IfOk result (TellsAll (peer_of reach.entry.address) (L.coming lines.old) None None (W.contents out.old) (W.contents out.new)) }
-    ensures first_told { IfErr result (λ fault.
-        StopsOverSocket fault (peer_of reach.entry.address) (L.coming lines.old) (W.contents out.old) (W.contents out.new)) }
+    ensures all_told { IfOk result (TellsAll (ShownOn E.contents X.shows) (peer_of reach.entry.address) (L.coming lines.old) None None
+        (W.contents out.old) (W.contents out.new) errs.old errs.new) }
+    ensures first_told { IfErr result (λ fault. StopsOverSocket (ShownOn E.contents X.shows) fault (peer_of reach.entry.address) (L.coming lines.old)
+        (W.contents out.old) (W.contents out.new) errs.old errs.new) }
 {
     let mut wire = SocketWire::open(rt, alloc, reach)?;
-    tell(alloc, lines, &mut wire, reach.peer(), out)
+    tell(
+        alloc,
+        lines,
+        &mut wire,
+        reach.peer(),
+        out,
+        errs,
+        explains,
+    )
 }
 
 /// Sends all lines to the switch as one change, `all N` and the N lines, and prints its reply with LF. True if the reply says that the
-/// change was not done.
+/// change was not done; then it is shown on `errs` too.
 ///
 /// A change that the wire does not carry is not sent, and `unsent_reply` is its reply.
-pub fn tell_change<L: Lines, D: Wire, W: Write>(
+pub fn tell_change<L: Lines, D: Wire, W: Write, E: Write, X: Explains>(
     alloc: Global,
     lines: &mut L,
     wire: &mut D,
     switch: Peer,
     out: &mut W,
+    errs: &mut E,
+    explains: &X,
 ) -> Result<bool, Failure>
-    ensures change_told { IfOk result (TellsChange switch (L.coming lines.old) (D.log wire.old) (D.log wire.new) (W.contents out.old) (W.contents out.new)) }
+    ensures change_told { IfOk result (TellsChange (ShownOn E.contents X.shows) switch (L.coming lines.old) (D.log wire.old) (D.log wire.new)
+        (W.contents out.old) (W.contents out.new) errs.old errs.new) }
     ensures change_ended { IfErr result (λ fault.
         ChangeEndsBy fault switch (L.coming lines.old) (D.log wire.old) (D.log wire.new) (W.contents out.old) (W.contents out.new)) }
+    ensures unshown { OnErr result (errs.new ≡ errs.old) }
 {
-    let request = block_of(alloc, CHANGE, lines)?;
+    let mut numbers = Vec::new(alloc);
+    let request = numbered_block_of(alloc, CHANGE, lines, &mut numbers)?;
     let mut room = vec![in alloc; 0; LONGEST_DATAGRAM]?;
-    exchange(wire, switch, &request, &mut room, out)
+    let places = Places {
+        head: None,
+        lines: &numbers,
+    };
+    let asked = (request.as_slice(), places);
+    exchange(wire, switch, asked, &mut room, out, errs, explains)
 }
 
 /// Tells all lines as one change over a socket of its own.
-pub fn tell_change_over_socket<R: Clock + Net, L: Lines, W: Write>(
+pub fn tell_change_over_socket<R: Clock + Net, L: Lines, W: Write, E: Write, X: Explains>(
     rt: &R,
     alloc: Global,
     reach: Reach<'_>,
     lines: &mut L,
     out: &mut W,
+    errs: &mut E,
+    explains: &X,
 ) -> Result<bool, Failure>
-    ensures change_told { IfOk result (TellsChange (peer_of reach.entry.address) (L.coming lines.old) None None (W.contents out.old) (W.contents out.new)) }
+    ensures change_told { IfOk result (TellsChange (ShownOn E.contents X.shows) (peer_of reach.entry.address) (L.coming lines.old) None None
+        (W.contents out.old) (W.contents out.new) errs.old errs.new) }
     ensures change_ended { IfErr result (λ fault.
         ChangeStopsOverSocket fault (peer_of reach.entry.address) (L.coming lines.old) (W.contents out.old) (W.contents out.new)) }
+    ensures unshown { OnErr result (errs.new ≡ errs.old) }
 {
     let mut wire = SocketWire::open(rt, alloc, reach)?;
-    tell_change(alloc, lines, &mut wire, reach.peer(), out)
+    tell_change(
+        alloc,
+        lines,
+        &mut wire,
+        reach.peer(),
+        out,
+        errs,
+        explains,
+    )
 }

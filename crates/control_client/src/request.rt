@@ -1,7 +1,7 @@
 //! Requests made of lines: a line, a block with its lines, or all lines as one change (docs/COMMANDS.md, "tell").
 
 ghost use Rattle.std.specs.Prelude.{◌≡◌, ◌⊎◌, IfErr, IfOk, OnOk};
-ghost use Rattle.control_client.specs.Lines.{GivesRequest, IsBlockOf};
+ghost use Rattle.control_client.specs.Lines.{AreNumbersOf, GivesRequest, IsBlockOf};
 ghost use Rattle.control_client.specs.body.Collecting.{AddsAll, AddsLine, AddsUpTo};
 
 use crate::given_lines::Lines;
@@ -9,20 +9,25 @@ use command_line::Failure;
 use control_line::read_head;
 use std::alloc::Global;
 
-// Adds LF and the next line to a request. False if there is no line, and then nothing is added.
+// Adds LF and the next line to a request, and its number to the others. False if there is no line, and then nothing is added.
 fn add_line<L: Lines>(
     lines: &mut L,
     line: &mut Vec<u8>,
     request: &mut Vec<u8>,
+    numbers: &mut Vec<u64>,
 ) -> Result<bool, Failure>
-    ensures added { IfOk result (AddsLine (L.coming lines.old) (L.coming lines.new) request.old.items request.new.items) }
+    ensures added { IfOk result (AddsLine (L.coming lines.old) (L.coming lines.new)
+        (record { text = request.old.items; numbers = numbers.old.items }) (record { text = request.new.items; numbers = numbers.new.items })) }
     ensures faults { IfErr result (λ fault. (fault ≡ Failure.ReadFailed) ⊎ (fault ≡ Failure.OutOfMemory)) }
 {
-    if !lines.next(line)? {
+    let Some(number) = lines.next(line)? else {
         return Ok(false);
-    }
+    };
     request.extend_from_slice(b"\n".as_slice())?;
     request.extend_from_slice(line)?;
+    if numbers.push(number).is_err() {
+        return Err(Failure::OutOfMemory);
+    }
     Ok(true)
 }
 
@@ -32,47 +37,57 @@ fn add_lines<L: Lines>(
     count: u32,
     line: &mut Vec<u8>,
     request: &mut Vec<u8>,
+    numbers: &mut Vec<u64>,
 ) -> Result<(), Failure>
-    ensures added { OnOk result (AddsUpTo count (L.coming lines.old) (L.coming lines.new) request.old.items request.new.items) }
+    ensures added { OnOk result (AddsUpTo count (L.coming lines.old) (L.coming lines.new)
+        (record { text = request.old.items; numbers = numbers.old.items }) (record { text = request.new.items; numbers = numbers.new.items })) }
     ensures faults { IfErr result (λ fault. (fault ≡ Failure.ReadFailed) ⊎ (fault ≡ Failure.OutOfMemory)) }
 {
     for _line in 0..count {
-        if !add_line(lines, line, request)? {
+        if !add_line(lines, line, request, numbers)? {
             return Ok(());
         }
     }
     Ok(())
 }
 
-/// Puts the next request in place of what `request` has: a line, or the first line of a block with its lines. False if there is none.
-/// `line` is room for a line.
+/// Puts the next request in place of what `request` has: a line, or the first line of a block with its lines. The result is the number
+/// of its first line, or `None` if there is no request; `numbers` then has those of the lines of the block. `line` is room for a line.
 pub(crate) fn next_request<L: Lines>(
     lines: &mut L,
     line: &mut Vec<u8>,
     request: &mut Vec<u8>,
-) -> Result<bool, Failure>
-    ensures next { IfOk result (GivesRequest (L.coming lines.old) (L.coming lines.new) request.new.items) }
+    numbers: &mut Vec<u64>,
+) -> Result<Option<u64>, Failure>
+    ensures next { IfOk result (GivesRequest (L.coming lines.old) (L.coming lines.new) numbers.new.items request.new.items) }
     ensures faults { IfErr result (λ fault. (fault ≡ Failure.ReadFailed) ⊎ (fault ≡ Failure.OutOfMemory)) }
 {
-    if !lines.next(request)? {
-        return Ok(false);
-    }
+    numbers.clear();
+    let Some(number) = lines.next(request)? else {
+        return Ok(None);
+    };
     match read_head(request) {
-        None => Ok(true),
+        None => Ok(Some(number)),
         Some(head) => {
-            add_lines(lines, head.count, line, request)?;
-            Ok(true)
+            add_lines(lines, head.count, line, request, numbers)?;
+            Ok(Some(number))
         }
     }
 }
 
-// Adds all lines to a text, each after an LF, and returns how many they are.
-fn add_all<L: Lines>(lines: &mut L, line: &mut Vec<u8>, text: &mut Vec<u8>) -> Result<u64, Failure>
-    ensures added { IfOk result (λ count. AddsAll count (L.coming lines.old) text.old.items text.new.items) }
+// Adds all lines to a text, each after an LF, and their numbers to the others. Returns how many they are.
+fn add_all<L: Lines>(
+    lines: &mut L,
+    line: &mut Vec<u8>,
+    text: &mut Vec<u8>,
+    numbers: &mut Vec<u64>,
+) -> Result<u64, Failure>
+    ensures added { IfOk result (λ count. AddsAll count (L.coming lines.old)
+        (record { text = text.old.items; numbers = numbers.old.items }) (record { text = text.new.items; numbers = numbers.new.items })) }
     ensures faults { IfErr result (λ fault. (fault ≡ Failure.ReadFailed) ⊎ (fault ≡ Failure.OutOfMemory)) }
 {
     for count in 0..u64::MAX {
-        if !add_line(lines, line, text)? {
+        if !add_line(lines, line, text, numbers)? {
             return Ok(count);
         }
     }
@@ -84,9 +99,24 @@ pub fn block_of<L: Lines>(alloc: Global, front: &[u8], lines: &mut L) -> Result<
     ensures block { IfOk result (λ request. IsBlockOf front.now (L.coming lines.old) request.items) }
     ensures faults { IfErr result (λ fault. (fault ≡ Failure.ReadFailed) ⊎ (fault ≡ Failure.OutOfMemory)) }
 {
+    numbered_block_of(alloc, front, lines, &mut Vec::new(alloc))
+}
+
+/// The same, with the numbers of the lines in place of what `numbers` has.
+pub(crate) fn numbered_block_of<L: Lines>(
+    alloc: Global,
+    front: &[u8],
+    lines: &mut L,
+    numbers: &mut Vec<u64>,
+) -> Result<Vec<u8>, Failure>
+    ensures block { IfOk result (λ request. IsBlockOf front.now (L.coming lines.old) request.items) }
+    ensures numbers { OnOk result (AreNumbersOf (L.coming lines.old) numbers.new.items) }
+    ensures faults { IfErr result (λ fault. (fault ≡ Failure.ReadFailed) ⊎ (fault ≡ Failure.OutOfMemory)) }
+{
+    numbers.clear();
     let mut line = Vec::new(alloc);
     let mut text = Vec::new(alloc);
-    let count = add_all(lines, &mut line, &mut text)?;
+    let count = add_all(lines, &mut line, &mut text, numbers)?;
     let number = format!(in alloc; "{count}")?;
     let mut request = Vec::new(alloc);
     request.extend_from_slice(front)?;

@@ -4,11 +4,13 @@ ghost use Rattle.std.specs.Prelude.{◌≤◌, IfSome, length};
 
 use command_line::Failure;
 use control_client::{
-    Came, InputLines, LONGEST_LINE, Lines, Peer, Wire, WireFailed, WordLines, tell, tell_change,
+    Came, Explains, InputLines, LONGEST_LINE, Lines, Peer, Places, Wire, WireFailed, WordLines,
+    tell, tell_change,
 };
 use ipv4_fields::Endpoint;
-use std::alloc::Global;
-use std::io::{BufReader, Read};
+use std::alloc::{AllocError, Global};
+use std::io;
+use std::io::{BufReader, ErrorKind, Read, Write};
 use std::test::Fail;
 
 const SWITCH: Peer = Peer::Udp(Endpoint {
@@ -36,6 +38,57 @@ struct MemoryWire {
     switch: Peer,
     left: &'static [Arrival],
     sent: Vec<u8>,
+}
+
+// Shows the number of a request, those of the lines of its block, and its reply.
+#[derive(Drop)]
+struct Numbers {
+    alloc: Global,
+}
+
+fn numbers_text(alloc: Global, places: Places<'_>, reply: &[u8]) -> Result<Vec<u8>, AllocError> {
+    let mut text = Vec::new(alloc);
+    match places.head {
+        None => text.extend_from_slice(b"-".as_slice())?,
+        Some(head) => {
+            let number = format!(in alloc; "{head}")?;
+            text.extend_from_slice(number.as_bytes())?;
+        }
+    }
+    for line in places.lines {
+        let number = format!(in alloc; " {line}")?;
+        text.extend_from_slice(number.as_bytes())?;
+    }
+    text.extend_from_slice(b": ".as_slice())?;
+    text.extend_from_slice(reply)?;
+    text.extend_from_slice(b"\n".as_slice())?;
+    Ok(text)
+}
+
+impl Explains for Numbers {
+    ghost use Rattle.std.specs.Prelude.{Unit};
+
+    ghost shows = { λ _ _ _. Unit {0} };
+
+    fn show<E: Write>(&self, places: Places<'_>, reply: &[u8], errs: &mut E) {
+        if let Ok(text) = numbers_text(self.alloc, places, reply) {
+            let _ = errs.write_all(&text);
+        }
+    }
+}
+
+// Each write of it fails.
+#[derive(Drop)]
+struct Full;
+
+impl Write for Full {
+    fn write(&mut self, _buf: &[u8]) -> io::Result<usize> {
+        Err(io::Error::from(ErrorKind::StorageFull))
+    }
+
+    fn flush(&mut self) -> io::Result<()> {
+        Ok(())
+    }
 }
 
 fn put(from: Peer, text: &str, buf: &mut [u8]) -> Option<Came>
@@ -175,7 +228,11 @@ fn is_told<L: Lines>(
         sent: Vec::new(alloc),
     };
     let mut out = Vec::new(alloc);
-    tell(alloc, lines, &mut wire, switch, &mut out) == ended
+    let numbers = Numbers { alloc };
+    let done = tell(
+        alloc, lines, &mut wire, switch, &mut out, &mut Full, &numbers,
+    );
+    done == ended
         && wire.sent.as_slice() == texts.0.as_bytes()
         && out.as_slice() == texts.1.as_bytes()
 }
@@ -252,6 +309,8 @@ fn sends<R: Read + Drop>(alloc: Global, input: R, sent: &str) -> bool {
         &mut wire,
         SWITCH,
         &mut out,
+        &mut Full,
+        &Numbers { alloc },
     );
     ended == Ok(false) && wire.sent.as_slice() == sent.as_bytes()
 }
@@ -274,7 +333,15 @@ fn input_is_one_change(rt: HostRuntime) -> Result<(), Fail> {
         let mut out = Vec::new(rt.alloc());
         let reader = BufReader::new(rt.alloc(), input.as_bytes())?;
         let mut lines = InputLines::new(reader);
-        let ended = tell_change(rt.alloc(), &mut lines, &mut wire, SWITCH, &mut out);
+        let ended = tell_change(
+            rt.alloc(),
+            &mut lines,
+            &mut wire,
+            SWITCH,
+            &mut out,
+            &mut Full,
+            &Numbers { alloc: rt.alloc() },
+        );
         assert!(rt; ended == Ok(false), "{input:?}");
         assert!(rt; wire.sent.as_slice() == sent.as_bytes(), "{input:?}");
         assert!(rt; out.as_slice() == b"ok\n".as_slice(), "{input:?}");
@@ -292,7 +359,15 @@ fn words_are_one_change(rt: HostRuntime) -> Result<(), Fail> {
     };
     let mut out = Vec::new(rt.alloc());
     let mut lines = WordLines::new(&["# first", "add 10.0.0.2:53\r", ""]);
-    let ended = tell_change(rt.alloc(), &mut lines, &mut wire, SWITCH, &mut out);
+    let ended = tell_change(
+        rt.alloc(),
+        &mut lines,
+        &mut wire,
+        SWITCH,
+        &mut out,
+        &mut Full,
+        &Numbers { alloc: rt.alloc() },
+    );
     assert!(rt; ended == Ok(false));
     assert!(rt; wire.sent.as_slice() == b"all 3\n# first\nadd 10.0.0.2:53\r\n\n".as_slice());
     Ok(())
@@ -328,7 +403,16 @@ fn stream_carries_other_lines(rt: HostRuntime) -> Result<(), Fail> {
     };
     let mut out = Vec::new(rt.alloc());
     let mut lines = InputLines::new(reader);
-    let ended = tell(rt.alloc(), &mut lines, &mut wire, Peer::Unix, &mut out);
+    let numbers = Numbers { alloc: rt.alloc() };
+    let ended = tell(
+        rt.alloc(),
+        &mut lines,
+        &mut wire,
+        Peer::Unix,
+        &mut out,
+        &mut Full,
+        &numbers,
+    );
     assert!(rt; ended == Ok(false));
     assert!(rt; wire.sent.as_slice() == input.as_slice());
     let told = is_told(
@@ -341,4 +425,142 @@ fn stream_carries_other_lines(rt: HostRuntime) -> Result<(), Fail> {
     );
     assert!(rt; told);
     Ok(())
+}
+
+// An input, the replies, and what is shown of its requests that were not done.
+struct Shown {
+    input: &'static str,
+    arrivals: &'static [Arrival],
+    ended: Result<bool, Failure>,
+    shown: &'static str,
+}
+
+const SHOWN: [Shown; 5] = [
+    // Lines that are skipped count, in a block too.
+    Shown {
+        input: "# first\n\nadd 10.0.0.2:53\nall 2\r\n# in it\nshow\n\nshow\nstop",
+        arrivals: &[
+            Arrival::Answer("refused G2"),
+            Arrival::Answer("refused C1 line 2"),
+            Arrival::Answer("failed E3"),
+        ],
+        ended: Ok(true),
+        shown: "3: refused G2\n4 6 8: refused C1 line 2\n9: failed E3\n",
+    },
+    // What was done is not shown, nor is a word that only begins so.
+    Shown {
+        input: "show\nsweep\nadd 10.0.0.2:53\nshow",
+        arrivals: &[
+            Arrival::Answer("ok version 1"),
+            Arrival::Answer("refused"),
+            Arrival::Answer("refused M1 7"),
+            Arrival::Answer("failed"),
+        ],
+        ended: Ok(true),
+        shown: "3: refused M1 7\n",
+    },
+    // The numbers of a block are not those of the request after it.
+    Shown {
+        input: "all 1\nshow\nshow",
+        arrivals: &[Arrival::Answer("ok"), Arrival::Answer("refused C1")],
+        ended: Ok(true),
+        shown: "3: refused C1\n",
+    },
+    // What was shown stays if a later request has no reply.
+    Shown {
+        input: "show\nshow\nshow",
+        arrivals: &[Arrival::Answer("refused C1"), Arrival::Silence],
+        ended: Err(Failure::NoAnswer),
+        shown: "1: refused C1\n",
+    },
+    Shown {
+        input: "all 3\nshow\n\nshow",
+        arrivals: &[Arrival::Answer("refused C1")],
+        ended: Ok(true),
+        shown: "1 2 4: refused C1\n",
+    },
+];
+
+#[test]
+fn refused_requests_are_shown(rt: HostRuntime) -> Result<(), Fail> {
+    for row in &SHOWN {
+        let mut wire = MemoryWire {
+            switch: SWITCH,
+            left: row.arrivals,
+            sent: Vec::new(rt.alloc()),
+        };
+        let mut out = Vec::new(rt.alloc());
+        let mut errs = Vec::new(rt.alloc());
+        let reader = BufReader::new(rt.alloc(), row.input.as_bytes())?;
+        let mut lines = InputLines::new(reader);
+        let numbers = Numbers { alloc: rt.alloc() };
+        let ended = tell(
+            rt.alloc(),
+            &mut lines,
+            &mut wire,
+            SWITCH,
+            &mut out,
+            &mut errs,
+            &numbers,
+        );
+        assert!(rt; ended == row.ended);
+        assert!(rt; errs.as_slice() == row.shown.as_bytes(), "{:?}", row.input);
+    }
+    Ok(())
+}
+
+// Of all lines as one change the numbers are those of the lines that were sent.
+#[test]
+fn refused_change_is_shown(rt: HostRuntime) -> Result<(), Fail> {
+    let mut wire = MemoryWire {
+        switch: SWITCH,
+        left: &[Arrival::Answer("refused G3 line 2")],
+        sent: Vec::new(rt.alloc()),
+    };
+    let mut out = Vec::new(rt.alloc());
+    let mut errs = Vec::new(rt.alloc());
+    let input = b"# first\n\nadd 10.0.0.2:53\r\n \t\nleave 10.0.0.2:53 7".as_slice();
+    let mut lines = InputLines::new(BufReader::new(rt.alloc(), input)?);
+    let numbers = Numbers { alloc: rt.alloc() };
+    let ended = tell_change(
+        rt.alloc(),
+        &mut lines,
+        &mut wire,
+        SWITCH,
+        &mut out,
+        &mut errs,
+        &numbers,
+    );
+    assert!(rt; ended == Ok(true));
+    assert!(rt; out.as_slice() == b"refused G3 line 2\n".as_slice());
+    assert!(rt; errs.as_slice() == b"- 3 5: refused G3 line 2\n".as_slice());
+    Ok(())
+}
+
+// Words count from 1.
+#[test]
+fn refused_words_are_shown(rt: HostRuntime) {
+    let mut wire = MemoryWire {
+        switch: SWITCH,
+        left: &[
+            Arrival::Answer("ok"),
+            Arrival::Answer("refused C1"),
+            Arrival::Answer("refused C1 line 1"),
+        ],
+        sent: Vec::new(rt.alloc()),
+    };
+    let mut out = Vec::new(rt.alloc());
+    let mut errs = Vec::new(rt.alloc());
+    let numbers = Numbers { alloc: rt.alloc() };
+    let ended = tell(
+        rt.alloc(),
+        &mut WordLines::new(&["show", "", "all 1", "# no comment"]),
+        &mut wire,
+        SWITCH,
+        &mut out,
+        &mut errs,
+        &numbers,
+    );
+    assert!(rt; ended == Ok(true));
+    assert!(rt; errs.as_slice() == b"2: refused C1\n3 4: refused C1 line 1\n".as_slice());
 }

@@ -1,5 +1,6 @@
-use Rattle.control_client.specs.body.Collecting.{Adds}
+use Rattle.control_client.specs.body.Collecting.{AddsSome}
 use Rattle.control_client.proofs.request.add_all.Given as goal
 
 abbrev pub invariant-loop-count : goal.invariant-loop-count
-invariant-loop-count g l = Adds l.count (g.L.Lines.coming l.fn.lines) (g.L.Lines.coming l.lines) l.fn.text.items l.text.items
+invariant-loop-count g l = AddsSome l.count (g.L.Lines.coming l.fn.lines) (g.L.Lines.coming l.lines)
+    (record { text = l.fn.text.items; numbers = l.fn.numbers.items }) (record { text = l.text.items; numbers = l.numbers.items })
