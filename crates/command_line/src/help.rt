@@ -218,7 +218,8 @@ pub const SERVE_WORKERS: &str = "How many worker threads judge, from 1 to 64";
 
 pub const SERVE_RULES: &str = "A rules file to begin with; without it there are no groups";
 
-pub const SERVE_LOG: &str = "Log each control request that changes something or is not done, on standard error";
+pub const SERVE_LOG: &str =
+    "Log each control request that changes something or is not done, on standard error";
 
 pub const SERVE_MORE: &str = "\
 Reads UDP datagrams. Each that comes to FRONT is a whole IPv4 packet: the workers take them in turn,

@@ -99,8 +99,21 @@ pub fn run_waiting<
             rules,
             log: logs,
         } => {
-            let lines = if logs { ServeLog::To(log) } else { ServeLog::Off };
-            run_serve(rt, alloc, (front, control), workers, rules, lines, out, errs)
+            let lines = if logs {
+                ServeLog::To(log)
+            } else {
+                ServeLog::Off
+            };
+            run_serve(
+                rt,
+                alloc,
+                (front, control),
+                workers,
+                rules,
+                lines,
+                out,
+                errs,
+            )
         }
         Waiting::Tell {
             control,

@@ -1,8 +1,8 @@
 //! The log of `serve --log`: its lines on standard error (docs/OPERATING.md, "The log").
 
+use command_line::write_whole;
 use libc::net::{POLLOUT, poll};
 use libc::types::pollfd;
-use command_line::write_whole;
 use serve_control::LogLines;
 use std::io::Write;
 

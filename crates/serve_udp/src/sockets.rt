@@ -155,8 +155,15 @@ impl UdpControl {
                     let Some(from) = Endpoint::from_socket_address(sender) else {
                         continue;
                     };
-                    let answered =
-                        answer_from(alloc, &self.bound, from, text, operator, named, log);
+                    let answered = answer_from(
+                        alloc,
+                        &self.bound,
+                        from,
+                        text,
+                        operator,
+                        named,
+                        log,
+                    );
                     let Some(answer) = answered else {
                         continue;
                     };

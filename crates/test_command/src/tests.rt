@@ -98,8 +98,15 @@ fn wait_for<R: Threads + Wait + Net + Clock + Files + Sync + Abort>(
             assert!(rt; writes == (0, 0), "{words:?}: {writes:?}");
             if let Ok(Subcommand::Waiting(command)) = read_words(alloc, words) {
                 let log = io::sink();
-                let ended =
-                    run_waiting(rt, alloc, command, input, log, &mut told.out, &mut told.errs);
+                let ended = run_waiting(
+                    rt,
+                    alloc,
+                    command,
+                    input,
+                    log,
+                    &mut told.out,
+                    &mut told.errs,
+                );
                 told.status = Some(ended as u8);
             }
         }
