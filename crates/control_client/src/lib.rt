@@ -111,15 +111,7 @@ pub fn tell_over_socket<R: Clock + Net, L: Lines, W: Write, E: Write, X: Explain
         (W.contents out.old) (W.contents out.new) errs.old errs.new) }
 {
     let mut wire = SocketWire::open(rt, alloc, reach)?;
-    tell(
-        alloc,
-        lines,
-        &mut wire,
-        reach.peer(),
-        out,
-        errs,
-        explains,
-    )
+    tell(alloc, lines, &mut wire, reach.peer(), out, errs, explains)
 }
 
 /// Sends all lines to the switch as one change, `all N` and the N lines, and prints its reply with LF. True if the reply says that the
@@ -169,13 +161,5 @@ pub fn tell_change_over_socket<R: Clock + Net, L: Lines, W: Write, E: Write, X: 
     ensures unshown { OnErr result (errs.new ≡ errs.old) }
 {
     let mut wire = SocketWire::open(rt, alloc, reach)?;
-    tell_change(
-        alloc,
-        lines,
-        &mut wire,
-        reach.peer(),
-        out,
-        errs,
-        explains,
-    )
+    tell_change(alloc, lines, &mut wire, reach.peer(), out, errs, explains)
 }

@@ -53,7 +53,7 @@ returns-in_err-exchange-clause-first_told g c =
     let errs = c.args.errs.now in let errs' = c.loop-request.errs in
     let log'' = g.D.Wire.log c.exchange.new.wire in let out'' = g.W.Write.contents c.exchange.new.out in let errs'' = c.exchange.new.errs in let fault = c.in_err-exchange.field-0.0 in
     let given = given_request mid after c.in-Some.number c.next_request.new.numbers.items c.deref.result.now c.next_request.new.request.items c.as_slice.result.now c.in_ok-number.field-0
-        c.deref.ensures.value c.as_slice.ensures.value c.in-Some.is c.in_ok-number.ensures.next in
+    c.deref.ensures.value c.as_slice.ensures.value c.in-Some.is c.in_ok-number.ensures.next in
     if_err c.from_residual-in_err-exchange.result fault (λ (f : Failure). TellsFirst shows f c.args.switch coming log log'' out out'' errs errs'') c.from_residual-in_err-exchange.ensures.1
     (stops_in_line shows c.args.switch coming mid after log log' log'' out out' out'' errs errs' errs'' c.loop-request.refused c.loop-request.invariant fault
     _ given c.in_err-exchange.ensures.stopped c.in_err-exchange.ensures.unshown)
@@ -67,7 +67,7 @@ loop-request-preserved g c =
     let errs = c.args.errs.now in let errs' = c.loop-request.errs in
     let log'' = g.D.Wire.log c.exchange.new.wire in let out'' = g.W.Write.contents c.exchange.new.out in let errs'' = c.exchange.new.errs in let one = c.in_ok-exchange.field-0 in
     let given = given_request mid after c.in-Some.number c.next_request.new.numbers.items c.deref.result.now c.next_request.new.request.items c.as_slice.result.now c.in_ok-number.field-0
-        c.deref.ensures.value c.as_slice.ensures.value c.in-Some.is c.in_ok-number.ensures.next in
+    c.deref.ensures.value c.as_slice.ensures.value c.in-Some.is c.in_ok-number.ensures.next in
     let on = telling_on shows c.args.switch coming mid after log log' log'' out out' out'' errs errs' errs'' c.loop-request.refused c.loop-request.invariant _ one given c.in_ok-exchange.ensures.told in
     let refused : (c.loop-request.refused || one) ≡ c.if-branch.refused = (elim c.if-branch.branch [
       | then-branch w ↦ or_right c.loop-request.refused one w.if-branch.true ∙ sym w.refused-is
