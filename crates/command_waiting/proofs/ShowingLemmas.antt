@@ -51,6 +51,11 @@ pub loaded_into : (before after : ClientValue) (switch : Peer) (text : List ℕ)
     → Loads text (words_config config) before after loaded → LoadsInto switch text config loaded
 loaded_into before after switch text config loaded is loads = record { before = before; after = after; is_client = is; loads = loads }
 
+pub loaded_so : (before after : ClientValue) (switch : Peer) (text : List ℕ) (config : List Group) (result : Result Loaded Failure) → before.switch ≡ switch
+    → IfOk result (Loads text (words_config config) before after) → IfOk result (LoadsInto switch text config)
+loaded_so before after switch text config (Ok loaded) is loads = loaded_into before after switch text config loaded is loads
+loaded_so before after switch text config (Err why) is loads = tt
+
 module _ (control : Option Text) (before after told_before told_after : Option (List ℕ)) where
   -- no configuration
   pub fails_unread : EndsUnread before after told_before told_after → EndsInRulesFailure control before after told_before told_after

@@ -1,12 +1,16 @@
 -- Lines that are told one by one, or as one change, and what is shown of them.
-use Rattle.std.proofs.Common.{◌≡◌, ◌∙◌, ◌||◌, ◌++◌, ◌∷◌, ◌⊎◌, Bool, Err, List, None, Ok, Option, Result, [], ap, false, inr, refl, subst, sym, true, ℕ}
+use Rattle.std.proofs.Common.{◌≡◌, ◌∙◌, ◌||◌, ◌++◌, ◌∷◌, ◌⊎◌, Bool, Err, List, None, Ok, Option, Result, [], ap, false, inl, inr, refl, subst, sym, true, ℕ}
 use Rattle.std.specs.Prelude.{IfErr, IfOk, OnErr}
 use Rattle.clap.specs.Words.{Text}
 use Rattle.control_client.specs.Exchange.{has_refusal, is_refusal}
 use Rattle.control_client.specs.Refused.{Refusal, ShownOn, ShowsAll, ShowsIf, Told, exchanges_of, none_shown, one_shown, refusal_of, refusals_of}
 use Rattle.control_client.specs.Tell.{ChangeStopsOverSocket, RequestTold, StopsOverSocket, TellsAll, TellsChange, TellsFirst, not_made, socket_not_made, stopped_behind}
+use Rattle.command_line.specs.ControlAddress.{IsNoControlAddress, SpellsControlAddress}
+use Rattle.command_line.specs.declared.control_address.ControlAddress.{ControlAddress}
+use Rattle.command_line.specs.declared.control_address.ControlAddress.TheVariants.{Udp, Unix}
 use Rattle.command_line.specs.declared.ending.Failure.{Failure}
 use Rattle.command_line.specs.declared.ending.Failure.TheVariants.{OutOfMemory}
+use Rattle.command_line.specs.declared.ending.Status.TheVariants.{Done, Refused}
 use Rattle.control_client.specs.declared.device.Peer.{Peer}
 use Rattle.control_line.specs.Answer.{NumberedLine}
 use Rattle.command_waiting.specs.Refused.{Shows}
@@ -129,3 +133,16 @@ pub stops_early : (all : Bool) (fault : Failure) (switch : Peer) (lines : Option
     → StopsTelling all fault switch lines before before told told
 stops_early false fault switch lines before told is = not_made (inr (inr is)) refl refl
 stops_early true fault switch lines before told is = (socket_not_made (inr (inr is)) refl, refl)
+
+-- a command whose address was read is not refused for it
+pub never_unshown : {X : Type 0} (control : Text) (address : ControlAddress) (one two : X) → SpellsControlAddress control address
+    → (Refused ≡ Done) ⊎ ((Refused ≡ Refused) × IsNoControlAddress control) → two ≡ one
+never_unshown control address one two spelled (inl done) = absurd (not_both done)
+  where
+    not_both : Refused ≡ Done → ⊥
+    not_both both = absurd (cc)
+never_unshown control address one two spelled (inr (refused, none)) = absurd (by_address address spelled)
+  where
+    by_address : (a : ControlAddress) → SpellsControlAddress control a → ⊥
+    by_address (Udp endpoint) spelled = none.no_endpoint endpoint spelled.0 spelled.1
+    by_address (Unix path) spelled = none.no_path path.now spelled.0 spelled.1

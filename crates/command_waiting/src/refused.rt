@@ -20,11 +20,10 @@ pub(crate) struct Meanings {
 }
 
 // The number at a place, from 1; if there is none, the other one.
-fn number_at(other: Option<u64>, numbers: &[u64], place: u64) -> Option<u64>
-    ensures { result ≡ number_at other numbers.now place }
+fn number_at(other: Option<u64>, numbers: &[u64], mut place: u64) -> Option<u64>
+    ensures { result ≡ number_at other numbers.now place.entry }
 {
     let mut left = numbers;
-    let mut place = place;
     while let [number, rest @ ..] = left {
         if place < 1 {
             return other;
