@@ -144,7 +144,7 @@ fn load<'a>(found: &ArgMatches<'a>) -> Option<Subcommand<'a>>
     }))
 }
 
-// `tell` takes memory for its arguments, too.
+// Takes memory for the words, as `tell` does for its lines.
 fn explain<'a>(alloc: Global, found: &ArgMatches<'a>) -> Result<Option<Subcommand<'a>>, AllocError>
     ensures { IfOk result (λ command. option_map command_of command ≡ Some (returning (explain (values_in (rows_of (found_of found.now)) (codes "WORD"))))) }
 {
