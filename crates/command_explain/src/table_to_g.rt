@@ -146,9 +146,11 @@ listens, `ss -xlp` at a `unix:PATH`), the user may not write to its socket
 file, it is bound to 0.0.0.0 and replies from another address (on its machine
 give 127.0.0.1), a firewall drops the datagrams, or the switch is busy; start
 it, correct the address, or raise `--timeout`. The line may be done all the
-same, even after `tell` has ended. Before it is sent again, send `show` until a
-reply comes: by then the line is done, or it was lost. After `load`, `load`
-again: it does nothing if the change was made.",
+same, even after `tell` has ended. A change that begins with `at V ` may be
+sent again at once. Before any other line is sent again over UDP, send `show`
+until a reply comes: by then the line is done, or it was lost. Over a socket
+file a reply to `show` does not prove that; look at the rules (`rules`). After
+`load`, `load` again: it does nothing if the change was made.",
     ),
     (
         "E5",

@@ -272,18 +272,19 @@ sends the next. Ends with status 0 if no reply is `refused ..` or `failed ..`, e
 it goes on after such a reply, and standard error has the number of the line and what the code
 means. With --all it sends all lines as one change, `all N` and the N lines, which may have 65507
 bytes if CONTROL is ADDRESS:PORT.
-Prints `refused C1`, with status 1, where CONTROL is no address. Fails with status 3 and
-`failed E4` where a line has no reply; then no later line is sent. The line may be done all the
-same, even later.
+Prints `refused C1`, with status 1, if CONTROL is no address. Fails with status 3 and `failed E4`
+if a line has no reply; then no later line is sent. The line may be done all the same, even later.
+Without --control the environment's DSWITCH_CONTROL is taken.
 
 Examples:
-  $ dswitch tell --control 127.0.0.1:5301 add 10.0.0.2:53
+  $ export DSWITCH_CONTROL=unix:/run/dswitch/control
+  $ dswitch tell add 10.0.0.2:53
   ok version 1
-  $ dswitch tell --control 127.0.0.1:5301 'leave 10.0.0.2:53 7' show
+  $ dswitch tell 'leave 10.0.0.2:53 7' show
   refused G3
   line 1: G3: The group has no member with this number, or at this index.
   version 1 groups 1 members 0 charge 6
-  $ dswitch tell --control 127.0.0.1:5301 --all <rules.txt
+  $ dswitch tell --all <rules.txt
   ok version 2";
 
 pub const RULES: &str = "Print the rules of a running switch, as a rules file";
@@ -296,9 +297,10 @@ output to a file, and `load` it, or start a switch with it by `serve --rules`.
 If the rules change meanwhile, it starts again, at most 16 times.
 Prints `refused C1`, with status 1, if CONTROL is no address. Fails with status 3: with `failed E4`
 if a line has no reply, and with `failed E5` if the rules changed each time.
+Without --control the environment's DSWITCH_CONTROL is taken.
 
 Example:
-  $ dswitch rules --control 127.0.0.1:5301
+  $ dswitch rules --control unix:/run/dswitch/control
   # version 2 groups 1 members 1 charge 10
   add 10.0.0.2:53
   join 10.0.0.2:53 1 127.0.0.1:9001";
@@ -333,12 +335,12 @@ Else prints, with status 1:
   the switch's reply           if it refuses the change; standard error says what its code means
 Or it fails with status 3: with `failed E1` if FILE cannot be read, with `failed E4` if a line has no
 reply, and with `failed E5` if the rules changed each time. After E4 the change may have been made:
-`load` again.
+`load` again. Without --control the environment's DSWITCH_CONTROL is taken.
 
 Examples:
-  $ dswitch load --control 127.0.0.1:5301 --diff rules.txt
+  $ dswitch load --control unix:/run/dswitch/control --diff rules.txt
   leave 10.0.0.2:53 1
-  $ dswitch load --control 127.0.0.1:5301 rules.txt
+  $ dswitch load --control unix:/run/dswitch/control rules.txt
   version 3
   $ dswitch load --check rules.txt
   groups 1 members 0 charge 6";

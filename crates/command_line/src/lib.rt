@@ -23,7 +23,7 @@ pub use ending::{Failure, Status, refuse_arguments, reported, write_whole};
 pub use found::read_words;
 pub use input::read_whole;
 pub use sample::{SAMPLE_GROUP, SAMPLE_PACKET, applied, program};
-pub use words::with_control;
+pub use words::{wants_control, with_control};
 
 /// Law: the limits, as numbers. It runs nothing.
 pub fn limits_as_numbers()

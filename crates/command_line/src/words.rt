@@ -34,8 +34,8 @@ fn lacks_control(words: &[String]) -> bool
     true
 }
 
-// Tests whether the words name a command that takes the address of control, and lack it.
-fn wants_control(words: &[String]) -> bool
+/// Tests whether the words name a command that takes the address of control, and lack it.
+pub fn wants_control(words: &[String]) -> bool
     ensures { result ≡ wants_control (map string_bytes words.now) }
 {
     match words {

@@ -64,6 +64,18 @@ fn first_active<S: Stream>(places: &[Option<Client<S>>], from: usize) -> Option<
     None
 }
 
+// The first of the places from this one on that has no client.
+fn first_empty<S: Stream>(places: &[Option<Client<S>>], from: usize) -> Option<usize>
+    ensures { IfSome result (λ place. place < length places.now) }
+{
+    for (at, place) in places.iter().enumerate() {
+        if at >= from && place.is_none() {
+            return Some(at);
+        }
+    }
+    None
+}
+
 impl<S: Stream> Clients<S> {
     /// Takes the memory for the places, which are empty.
     pub fn new(alloc: Global) -> Result<Clients<S>, AllocError>
@@ -77,14 +89,13 @@ impl<S: Stream> Clients<S> {
         })
     }
 
-    /// Finds a place without a client.
+    /// Finds a place without a client: the first from the one on that has the next turn. So clients that come one after the other have
+    /// their first turns in this order.
     pub fn free_place(&self) -> Option<usize> {
-        for (at, place) in self.places.iter().enumerate() {
-            if place.is_none() {
-                return Some(at);
-            }
+        match first_empty(&self.places, self.next) {
+            Some(place) => Some(place),
+            None => first_empty(&self.places, 0),
         }
-        None
     }
 
     /// Puts a client into a place. If there is no memory for it, it is let go.

@@ -100,6 +100,11 @@ impl UnixControl {
 
     /// Gives the client in a place its turn.
     pub fn turn<A: Answers>(&mut self, place: usize, answers: &mut A) -> Turn {
-        self.clients.turn(place, answers)
+        let turn = self.clients.turn(place, answers);
+        if let Turn::Closed = turn {
+            // There may be a descriptor again for a client that could not be accepted.
+            self.listener_ready = true;
+        }
+        turn
     }
 }

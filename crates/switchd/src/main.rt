@@ -1,7 +1,7 @@
 //! The program `dswitch`: its arguments, its standard streams and its exit status (docs/COMMANDS.md).
 #![tactic(auto)]
 
-use command_line::{Failure, refuse_arguments, with_control};
+use command_line::{Failure, refuse_arguments, wants_control, with_control};
 use command_returning::run_returning;
 use command_waiting::run_waiting;
 use std::env::{Env, VarError};
@@ -11,7 +11,10 @@ use std::{env, io};
 
 // The words after the program's name, with the address of control from the environment if they lack it.
 fn arguments<R: Env + AllocGlobal>(rt: &R) -> io::Result<Vec<String>> {
-    let words = env::args(rt)?.skip(1).collect(rt.alloc())?;
+    let words: Vec<String> = env::args(rt)?.skip(1).collect(rt.alloc())?;
+    if !wants_control(&words) {
+        return Ok(words);
+    }
     match env::var(rt, "DSWITCH_CONTROL") {
         Ok(address) if !address.is_empty() => Ok(with_control(rt.alloc(), words, address)?),
         Ok(_) | Err(VarError::NotPresent) => Ok(words),
