@@ -14,7 +14,7 @@ use Rattle.command_line.specs.declared.ending.Status.TheVariants.{Done, Refused}
 use Rattle.control_client.specs.declared.device.Peer.{Peer}
 use Rattle.control_line.specs.Answer.{NumberedLine}
 use Rattle.command_waiting.specs.Refused.{Shows}
-use Rattle.command_waiting.specs.Telling.{StopsTelling, Tells}
+use Rattle.command_waiting.specs.Telling.{StopsTelling, Tells, is_one_line, joined, lines_of_words}
 
 -- ---- nothing is refused, so nothing is shown
 
@@ -146,3 +146,11 @@ never_unshown control address one two spelled (inr (refused, none)) = absurd (by
     by_address : (a : ControlAddress) → SpellsControlAddress control a → ⊥
     by_address (Udp endpoint) spelled = none.no_endpoint endpoint spelled.0 spelled.1
     by_address (Unix path) spelled = none.no_path path.now spelled.0 spelled.1
+
+-- ---- the lines of words
+
+pub one_each : (words : List Text) → is_one_line words ≡ false → lines_of_words words ≡ words
+one_each words is = simp is refl
+
+pub all_one : (words : List Text) → is_one_line words ≡ true → lines_of_words words ≡ joined words ∷ []
+all_one words is = simp is refl

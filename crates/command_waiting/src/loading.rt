@@ -189,10 +189,13 @@ fn print_replaced<R: Net + Clock, W: Write, E: Write>(
     let (name, file) = named;
     let loaded = replaced(rt, alloc, reach, file)?;
     let status = print_loaded(&loaded, out)?;
-    if let Loaded::Refused(reply) = loaded {
-        show_refusal(alloc, name, &reply, errs);
+    match loaded {
+        Loaded::Refused(reply) => {
+            show_refusal(alloc, name, &reply, errs);
+            Ok(status)
+        }
+        _ => Ok(status),
     }
-    Ok(status)
 }
 
 fn replace<R: Net + Clock, W: Write, E: Write>(

@@ -21,7 +21,7 @@ pub(crate) struct Meanings {
 
 // The number at a place, from 1; if there is none, the other one.
 fn number_at(other: Option<u64>, numbers: &[u64], mut place: u64) -> Option<u64>
-    ensures { result ≡ number_at other numbers.now place.entry }
+    ensures { result ≡ number_at other numbers.now place }
 {
     let mut left = numbers;
     while let [number, rest @ ..] = left {
@@ -39,7 +39,7 @@ fn number_at(other: Option<u64>, numbers: &[u64], mut place: u64) -> Option<u64>
 
 // The number of the line that a reply is about.
 fn number_of(places: Places<'_>, place: Option<u64>) -> Option<u64>
-    ensures { result ≡ number_of places.head places.lines.now place }
+    ensures { result ≡ number_of places.entry.head places.entry.lines.now place }
 {
     match place {
         None => places.head,
