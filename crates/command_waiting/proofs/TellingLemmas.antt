@@ -20,16 +20,17 @@ use Rattle.command_waiting.specs.Telling.{StopsTelling, Tells, is_one_line, join
 
 none_refused : (told : List Told) → has_refusal (exchanges_of told) ≡ false → refusals_of told ≡ []
 none_refused [] is = refl
-none_refused (one ∷ rest) is = by_reply (is_refusal one.reply) refl is
+none_refused (one ∷ rest) is = by_reply (is_refusal one.reply) refl is (none_refused rest)
   where
-    by_reply : (refused : Bool) → is_refusal one.reply ≡ refused → (is_refusal one.reply || has_refusal (exchanges_of rest)) ≡ false → refusals_of (one ∷ rest) ≡ []
-    by_reply true same is = absurd (simp same at is)
-    by_reply false same is = simp same (none_refused rest (simp same at is))
+    by_reply : (refused : Bool) → is_refusal one.reply ≡ refused → (is_refusal one.reply || has_refusal (exchanges_of rest)) ≡ false
+        → (has_refusal (exchanges_of rest) ≡ false → refusals_of rest ≡ []) → refusals_of (one ∷ rest) ≡ []
+    by_reply true same is later = absurd (let never : true ≡ false = simp same at is in cc)
+    by_reply false same is later = simp same (later (simp same at is))
 
 module _ {S : Type 0} (ShowsOne : S → S → Refusal → Type 0) where
   unshown : (start end : S) (refusals : List Refusal) → ShowsAll ShowsOne start end refusals → refusals ≡ [] → end ≡ start
   unshown start end refusals none_shown is = refl
-  unshown start end refusals (one_shown mid end earlier one so_far shown) is = absurd (not_empty earlier is)
+  unshown start end refusals (one_shown mid last earlier one so_far shown) is = absurd (not_empty earlier is)
     where
       not_empty : (l : List Refusal) → l ++ one ∷ [] ≡ [] → ⊥
       not_empty [] is = absurd (cc)
@@ -52,8 +53,8 @@ module _ {S : Type 0} (ShowsOne : S → S → Refusal → Type 0) where
 module _ {S : Type 0} (contents : S → Option (List ℕ)) where
   by_contents : (start end : S) (refusals : List Refusal) → ShowsAll (ShownOn contents Shows) start end refusals → ShowsAll Shows (contents start) (contents end) refusals
   by_contents start end refusals none_shown = none_shown
-  by_contents start end refusals (one_shown mid end earlier one so_far shown) =
-      one_shown (contents mid) (contents end) earlier one (by_contents start mid earlier so_far) shown
+  by_contents start end refusals (one_shown mid last earlier one so_far shown) =
+      one_shown (contents mid) (contents last) earlier one (by_contents start mid earlier so_far) shown
 
   if_by_contents : (start end : S) (one : Refusal) (refused : Bool) → ShowsIf (ShownOn contents Shows) start end one refused → ShowsIf Shows (contents start) (contents end) one refused
   if_by_contents start end one true shown = shown
