@@ -98,23 +98,16 @@ pub fn run_waiting<
             workers,
             rules,
             log: logs,
-        } => {
-            let lines = if logs {
-                ServeLog::To(log)
-            } else {
-                ServeLog::Off
-            };
-            run_serve(
-                rt,
-                alloc,
-                (front, control),
-                workers,
-                rules,
-                lines,
-                out,
-                errs,
-            )
-        }
+        } => run_serve(
+            rt,
+            alloc,
+            (front, control),
+            workers,
+            rules,
+            ServeLog::new(logs, log),
+            out,
+            errs,
+        ),
         Waiting::Tell {
             control,
             timeout,

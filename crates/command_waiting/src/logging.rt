@@ -18,6 +18,20 @@ pub(crate) enum ServeLog<L: Write> {
     To(L),
 }
 
+impl<L: Write> ServeLog<L> {
+    /// A log on standard error, or none.
+    pub(crate) fn new(is_on: bool, out: L) -> ServeLog<L>
+    where
+        L: Drop,
+    {
+        if is_on {
+            ServeLog::To(out)
+        } else {
+            ServeLog::Off
+        }
+    }
+}
+
 // Tests whether standard error takes a line without blocking. A line is shorter than what a pipe takes at once (pipe(7), PIPE_BUF).
 fn has_room() -> bool {
     let mut polled = [pollfd {
