@@ -13,7 +13,7 @@ use Rattle.command_line.specs.declared.ending.Failure.TheVariants.{OutOfMemory}
 use Rattle.command_line.specs.declared.ending.Status.TheVariants.{Done, Refused}
 use Rattle.control_client.specs.declared.device.Peer.{Peer}
 use Rattle.control_line.specs.Answer.{NumberedLine}
-use Rattle.command_waiting.specs.Refused.{Shows}
+use Rattle.command_waiting.specs.RefusalLines.{Shows}
 use Rattle.command_waiting.specs.Telling.{StopsTelling, Tells, is_one_line, joined, lines_of_words}
 
 -- ---- nothing is refused, so nothing is shown

@@ -1,5 +1,5 @@
 pub mod Opening
-pub mod Refused
+pub mod RefusalLines
 pub mod Reported
 pub mod Showing
 pub mod Telling

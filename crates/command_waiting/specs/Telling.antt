@@ -13,7 +13,7 @@ use Rattle.control_client.specs.Tell.{ChangeStopsOverSocket, StopsOverSocket, Te
 use Rattle.control_client.specs.Wire.{peer_of}
 use Rattle.control_client.specs.declared.device.Peer.{Peer}
 use Rattle.control_line.specs.Answer.{NumberedLine, numbered}
-use Rattle.command_waiting.specs.Refused.{Shows}
+use Rattle.command_waiting.specs.RefusalLines.{Shows}
 use Rattle.command_waiting.specs.Reported.{IsTold}
 
 -- the lines of one word

@@ -5,7 +5,9 @@ ghost use Rattle.std.specs.Io.KnownBytes.{Appends};
 ghost use Rattle.config_image.specs.Image.{Group};
 ghost use Rattle.control_client.specs.Wire.{peer_of};
 ghost use Rattle.control_line.specs.Rules.{IsConfigOf};
+ghost use Rattle.command_explain.specs.Meaning.{file_line};
 ghost use Rattle.command_line.specs.ControlAddress.{SpellsControlAddress};
+ghost use Rattle.command_line.specs.Ending.{AppendsBeginning};
 ghost use Rattle.command_line.specs.declared.ending.Failure.TheVariants as failure;
 ghost use Rattle.command_waiting.specs.Opening.{RefusesRules};
 ghost use Rattle.command_waiting.specs.Showing.{AreChangesTo, EndsInRulesFailure, IsNoSwitch, LoadsInto, RefusesLoad, ShowsFileRefusal, WritesLoad, loaded_line, loaded_status, measures_line, version_line};
@@ -13,10 +15,11 @@ ghost use Rattle.command_waiting.specs.body.Asked.{IsAsked};
 
 use crate::printing::{print_line, print_text};
 use crate::refuse_address;
+use crate::refused::write_flushed;
 use crate::reporting::reported;
 use crate::rules_file::{RulesFile, open_file};
 use command_explain::{file_fault_text, shown_code};
-use command_line::{ControlAddress, Failure, Status, write_whole};
+use command_line::{ControlAddress, Failure, Status};
 use control_client::{Reach, SocketWire};
 use control_line::Reply;
 use control_rules::{Client, Loaded, differences, load};
@@ -155,16 +158,29 @@ fn replaced<R: Net + Clock>(
     load(rt, &mut client, &file.text, &file.config)
 }
 
+// Writes what a code means for a file of this name.
+fn write_meaning<E: Write>(
+    alloc: Global,
+    name: &str,
+    code: &str,
+    errs: &mut E,
+) -> Result<(), Failure>
+    ensures written { OnOk result (Appends (E.contents errs.old) (E.contents errs.new) (file_line name.now code.now)) }
+    ensures beginning { AppendsBeginning (E.contents errs.old) (E.contents errs.new) (file_line name.now code.now) }
+{
+    let text = file_fault_text(alloc, name, code)?;
+    write_flushed(&text, errs)
+}
+
 // Shows people why a switch refuses the rules of a file of this name. If memory or a write fails, that is left out.
 fn show_refusal<E: Write>(alloc: Global, name: &str, reply: &[u8], errs: &mut E)
     ensures { ShowsFileRefusal name.now reply.now (E.contents errs.old) (E.contents errs.new) }
 {
-    let Some(shown) = shown_code(reply) else {
-        return;
-    };
-    if let Ok(text) = file_fault_text(alloc, name, shown.code) {
-        let _ = write_whole(&text, errs);
-        let _ = errs.flush();
+    match shown_code(reply) {
+        Some(shown) => {
+            let _ = write_meaning(alloc, name, shown.code, errs);
+        }
+        None => {}
     }
 }
 

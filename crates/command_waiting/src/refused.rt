@@ -5,7 +5,7 @@ ghost use Rattle.std.specs.Io.KnownBytes.{Appends};
 ghost use Rattle.command_explain.specs.Meaning.{cause_line, meaning_of};
 ghost use Rattle.command_explain.specs.Shown.{shown_text};
 ghost use Rattle.command_line.specs.Ending.{AppendsBeginning};
-ghost use Rattle.command_waiting.specs.Refused.{Shows, number_at, number_of};
+ghost use Rattle.command_waiting.specs.RefusalLines.{Shows, number_at, number_of};
 
 use command_explain::{SHOWN_LIMIT, cause_line, push_meaning, push_shown, shown_code};
 use command_line::{Failure, write_whole};
@@ -47,8 +47,8 @@ fn number_of(places: Places<'_>, place: Option<u64>) -> Option<u64>
     }
 }
 
-// Writes a text, and flushes it.
-fn write_flushed<E: Write>(text: &[u8], errs: &mut E) -> Result<(), Failure>
+/// Writes a text, and flushes it.
+pub(crate) fn write_flushed<E: Write>(text: &[u8], errs: &mut E) -> Result<(), Failure>
     ensures written { OnOk result (Appends (E.contents errs.old) (E.contents errs.new) text.now) }
     ensures beginning { AppendsBeginning (E.contents errs.old) (E.contents errs.new) text.now }
 {

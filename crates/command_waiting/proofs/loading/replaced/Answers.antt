@@ -3,6 +3,7 @@ use Rattle.control_client.specs.Wire.{peer_of}
 use Rattle.command_waiting.proofs.ShowingLemmas.{loaded_so}
 use Rattle.command_waiting.proofs.loading.replaced.Goals as goal
 
-pub returns-clause-loaded : goal.returns-clause-loaded
-returns-clause-loaded g c =
-    loaded_so _ _ (peer_of c.args.reach.address) c.args.file.now.text.items c.args.file.now.config c.load.result (c.in_ok-client.ensures.switch ∙ c.peer.ensures) c.load.ensures.loaded
+pub returns : goal.returns
+returns g c =
+    let loads = rw c.deref.ensures.value at c.load.ensures.loaded in
+    loaded_so _ _ (peer_of c.args.reach.address) c.args.file.now.text.items c.args.file.now.config c.load.result (c.in_ok-client.ensures.switch ∙ c.peer.ensures) loads

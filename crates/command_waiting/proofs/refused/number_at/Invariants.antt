@@ -1,5 +1,5 @@
 use Rattle.std.proofs.Common.{length, ◌≡◌}
-use Rattle.command_waiting.specs.Refused.{number_at}
+use Rattle.command_waiting.specs.RefusalLines.{number_at}
 use Rattle.command_waiting.proofs.refused.number_at.Given as goal
 
 abbrev pub invariant-loop-left : goal.invariant-loop-left

@@ -1,6 +1,6 @@
 use Rattle.control_client.specs.Refused.{ShownOn}
 use Rattle.control_client.specs.Wire.{peer_of}
-use Rattle.command_waiting.specs.Refused.{Shows}
+use Rattle.command_waiting.specs.RefusalLines.{Shows}
 use Rattle.command_waiting.proofs.TellingLemmas.{stops_change, stops_lines, tells_change, tells_lines, untold_change, untold_lines}
 use Rattle.command_waiting.proofs.telling.tell_lines.Goals as goal
 
