@@ -52,11 +52,7 @@ pub fn push_meaning(text: &mut Vec<u8>, code: &str) -> Result<(), AllocError>
 
 /// The line for people about a line of the input with this number: `line NUMBER: CAUSE`, with LF. Without a number it is the cause
 /// alone.
-pub fn cause_line(
-    alloc: Global,
-    number: Option<u64>,
-    cause: &[u8],
-) -> Result<Vec<u8>, AllocError>
+pub fn cause_line(alloc: Global, number: Option<u64>, cause: &[u8]) -> Result<Vec<u8>, AllocError>
     ensures { IfOk result (λ line. line.items ≡ cause_line number cause.now) }
 {
     let mut line = Vec::new(alloc);
