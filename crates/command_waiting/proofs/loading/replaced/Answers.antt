@@ -6,4 +6,4 @@ use Rattle.command_waiting.proofs.loading.replaced.Goals as goal
 pub returns : goal.returns
 returns g c =
     let loads = rw c.deref.ensures.value at c.load.ensures.loaded in
-    loaded_so _ _ (peer_of c.args.reach.address) c.args.file.now.text.items c.args.file.now.config c.load.result (c.in_ok-client.ensures.switch ∙ c.peer.ensures) loads
+    record { loaded = loaded_so _ _ (peer_of c.args.reach.address) c.args.file.now.text.items c.args.file.now.config c.load.result (c.in_ok-client.ensures.switch ∙ c.peer.ensures) loads }
