@@ -66,8 +66,6 @@ fn numbers_text(alloc: Global, places: Places<'_>, reply: &[u8]) -> Result<Vec<u
 }
 
 impl Explains for Numbers {
-    ghost use Rattle.std.specs.Prelude.{Unit};
-
     ghost shows = { λ _ _ _. Unit {0} };
 
     fn show<E: Write>(&self, places: Places<'_>, reply: &[u8], errs: &mut E) {
