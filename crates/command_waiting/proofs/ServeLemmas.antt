@@ -5,11 +5,12 @@ use Rattle.command_line.specs.Ending.{AppendsBeginning, line_of}
 use Rattle.command_line.specs.declared.ending.Failure.{Failure}
 use Rattle.command_line.specs.declared.ending.Failure.TheVariants.{BindFailed, NoAnswer, OutOfMemory, ReadFailed, RulesChanged}
 use Rattle.serve_udp.specs.Service.{IsServeFailure}
-use Rattle.command_waiting.specs.Serving.{FailsServing, IsBindLine, told_after_why, told_alone}
+use Rattle.serve_udp.specs.declared.bound.BindFault.{BindFault}
+use Rattle.command_waiting.specs.Serving.{FailsServing, IsBindLine, socket_name, told_after_why, told_alone}
 
 -- a line that was not shown
-pub none_shown : (before : Option (List ℕ)) → (line : List ℕ) × IsBindLine line × AppendsBeginning before before line
-none_shown before = let line = codes "cannot bind --" ++ [] in (line, ([], refl), ([], line, Appends-nil before, refl))
+pub none_shown : (fault : BindFault) (before : Option (List ℕ)) → (line : List ℕ) × IsBindLine fault line × AppendsBeginning before before line
+none_shown fault before = let line = codes "cannot bind " ++ (socket_name fault ++ []) in (line, ([], refl), ([], line, Appends-nil before, refl))
 
 no_memory : IsServeFailure OutOfMemory
 no_memory = (λ is. cc, λ is. cc, λ is. cc)
@@ -32,12 +33,12 @@ module _ (before told_before told_after : Option (List ℕ)) where
   }
 
   -- a socket was not bound
-  pub fails_unbound : (line : List ℕ) (between : Option (List ℕ)) → IsBindLine line → AppendsBeginning told_before between line
+  pub fails_unbound : (fault : BindFault) (line : List ℕ) (between : Option (List ℕ)) → IsBindLine fault line → AppendsBeginning told_before between line
       → AppendsBeginning between told_after (line_of BindFailed) → FailsServing before before told_before told_after
-  fails_unbound line between is first then = record {
+  fails_unbound fault line between is first then = record {
     failure = BindFailed;
     of_serve = not_bound;
     written = λ other. inl refl;
     not_bound = λ is. refl;
-    told = told_after_why refl line is between first then;
+    told = told_after_why refl fault line is between first then;
   }

@@ -1,11 +1,11 @@
 //! The command `serve`: the switch on its sockets (docs/COMMANDS.md, "serve").
 
-ghost use Rattle.std.specs.Prelude.{◌≡◌, ◌≤◌, ◌++◌, ◌⊎◌, IfOk, None, codes, option_map};
+ghost use Rattle.std.specs.Prelude.{◌≡◌, ◌≤◌, ◌⊎◌, IfOk, None, option_map, vec_len};
 ghost use Rattle.member_group.specs.Charge.{charge_of};
 ghost use Rattle.versions.specs.declared.layout.TheConstants.{CHARGE_LIMIT};
 ghost use Rattle.command_line.specs.Ending.{AppendsBeginning};
 ghost use Rattle.serve_udp.specs.Service.{WritesServedFrom};
-ghost use Rattle.command_waiting.specs.Serving.{FailsServing, IsBindLine};
+ghost use Rattle.command_waiting.specs.Serving.{FailsServing, IsBindLine, socket_name};
 ghost use Rattle.command_waiting.specs.Waiting.{EndsInServeFailure, RefusesService, WritesService};
 
 use crate::logging::ServeLog;
@@ -24,23 +24,43 @@ use std::net::Net;
 use std::sync::Wait;
 use std::thread::Threads;
 
+// The socket that was not bound.
+fn socket_name(fault: &BindFault) -> &'static str
+    ensures { result.now ≡ socket_name fault.now }
+{
+    match fault {
+        BindFault::Front(_) => "--front",
+        BindFault::Control(_) => "--control",
+        BindFault::Worker(_) => "a worker's socket",
+        BindFault::OutOfMemory => "",
+    }
+}
+
+// Why it was not bound, as the system says it.
+fn cause_text(alloc: Global, fault: &BindFault) -> Result<String, AllocError> {
+    match fault {
+        BindFault::Front(error) | BindFault::Control(error) | BindFault::Worker(error) => {
+            format!(in alloc; ": {error}\n")
+        }
+        BindFault::OutOfMemory => Err(AllocError),
+    }
+}
+
 // Which socket was not bound, and why.
 fn bind_line(alloc: Global, fault: &BindFault) -> Result<Vec<u8>, AllocError>
-    ensures { IfOk result (λ line. IsBindLine line.items) }
+    ensures { IfOk result (λ line. IsBindLine fault.now line.items) }
 {
-    let rest = match fault {
-        BindFault::Front(error) => format!(in alloc; "front: {error}\n")?,
-        BindFault::Control(error) => format!(in alloc; "control: {error}\n")?,
-    };
+    let cause = cause_text(alloc, fault)?;
     let mut line = Vec::new(alloc);
-    line.extend_from_slice(b"cannot bind --".as_slice())?;
-    line.extend_from_slice(rest.as_bytes())?;
+    line.extend_from_slice(b"cannot bind ".as_slice())?;
+    line.extend_from_slice(socket_name(fault).as_bytes())?;
+    line.extend_from_slice(cause.as_bytes())?;
     Ok(line)
 }
 
 // Shows people why a socket was not bound. If memory or a write fails, that is left out.
 fn show_bind_fault<E: Write>(alloc: Global, fault: &BindFault, errs: &mut E)
-    ensures { (line : _) × IsBindLine line × AppendsBeginning (E.contents errs.old) (E.contents errs.new) line }
+    ensures { (line : _) × IsBindLine fault.now line × AppendsBeginning (E.contents errs.old) (E.contents errs.new) line }
 {
     if let Ok(line) = bind_line(alloc, fault) {
         let _ = write_whole(&line, errs);
@@ -57,8 +77,13 @@ fn report_bind<W: Write, E: Write>(
     ensures failed { result ≡ Status.Failed }
     ensures told { FailsServing (W.contents out.old) (W.contents out.new) (E.contents errs.old) (E.contents errs.new) }
 {
-    show_bind_fault(alloc, fault, errs);
-    Failure::BindFailed.report(errs)
+    match fault {
+        BindFault::OutOfMemory => Failure::OutOfMemory.report(errs),
+        _ => {
+            show_bind_fault(alloc, fault, errs);
+            Failure::BindFailed.report(errs)
+        }
+    }
 }
 
 // Serves on bound sockets.
@@ -71,7 +96,8 @@ fn serve_on<R: Threads + Wait + Net + Sync, W: Write, E: Write, L: Write + Drop>
     out: &mut W,
     errs: &mut E,
 ) -> Status
-    requires { charge_of config ≤ CHARGE_LIMIT }
+    requires within { charge_of config ≤ CHARGE_LIMIT }
+    requires outlets { workers.count ≤ vec_len sockets.outlets }
     ensures done { result ≡ Status.Done → WritesServedFrom config workers.count (W.contents out.old) (W.contents out.new) }
     ensures no_errors { result ≡ Status.Done → errs.new ≡ errs.old }
     ensures done_or_failed { (result ≡ Status.Done) ⊎ (result ≡ Status.Failed) }
@@ -104,13 +130,13 @@ fn serve_at<R: Threads + Wait + Net + Files + Sync, W: Write, E: Write, L: Write
     ensures failed { result ≡ Status.Failed
         → FailsServing (W.contents out.old) (W.contents out.new) (E.contents errs.old) (E.contents errs.new) }
 {
-    let alloc = *config.allocator();
+    let (alloc, count) = (*config.allocator(), workers.count);
     match places.1 {
-        ControlAddress::Udp(control) => match bind_udp(rt, places.0, control) {
+        ControlAddress::Udp(control) => match bind_udp(rt, alloc, places.0, control, count) {
             Ok(sockets) => serve_on(rt, config, sockets, workers, lines, out, errs),
             Err(fault) => report_bind(alloc, &fault, out, errs),
         },
-        ControlAddress::Unix(path) => match bind_unix(rt, places.0, path) {
+        ControlAddress::Unix(path) => match bind_unix(rt, alloc, places.0, path, count) {
             Ok((sockets, file)) => {
                 let status = serve_on(rt, config, sockets, workers, lines, out, errs);
                 file.remove(rt);

@@ -1,15 +1,16 @@
-//! The two sockets of the service, bound (docs/COMMANDS.md, "serve").
+//! The sockets of the service, bound (docs/COMMANDS.md, "serve").
 
-ghost use Rattle.std.specs.Prelude.{◌≡◌, IfOk};
+ghost use Rattle.std.specs.Prelude.{◌≡◌, IfOk, vec_len};
 
 use command_line::ControlAddress;
 use ipv4_fields::Endpoint;
 use mio::net::{UdpSocket, UnixListener};
 use serve_unix::{SocketFile, listen};
+use std::alloc::Global;
 use std::fs::Files;
-use std::io;
 use std::io::ErrorKind;
 use std::net::Net;
+use std::{io, net};
 
 /// The socket of control: over UDP with the address that it is bound to, or over a Unix socket.
 #[derive(Drop)]
@@ -18,13 +19,14 @@ pub(crate) enum BoundControl {
     Unix(UnixListener),
 }
 
-/// The two sockets, and the addresses that they are bound to.
+/// The front and control with the addresses that they are bound to, and a socket to send by for each worker.
 #[derive(Drop)]
 pub struct BoundSockets<'a> {
     pub(crate) front: UdpSocket,
     pub(crate) address: Endpoint,
     pub(crate) control: BoundControl,
     pub(crate) place: ControlAddress<'a>,
+    pub(crate) outlets: Vec<net::UdpSocket>,
 }
 
 /// A socket could not be bound.
@@ -32,6 +34,10 @@ pub struct BoundSockets<'a> {
 pub enum BindFault {
     Front(io::Error),
     Control(io::Error),
+    /// The socket by which a worker sends.
+    Worker(io::Error),
+    /// Memory for the workers' sockets was refused.
+    OutOfMemory,
 }
 
 // Binds a socket, and asks for the address that it is bound to.
@@ -43,49 +49,93 @@ fn bind_socket<N: Net>(net: &N, at: Endpoint) -> io::Result<(UdpSocket, Endpoint
     }
 }
 
-/// Binds the front, then control over UDP. A port 0 is the system's to pick.
+// Binds a socket for each worker, at the address and a port that the system picks.
+fn bind_outlets<N: Net>(
+    net: &N,
+    alloc: Global,
+    address: u32,
+    workers: usize,
+) -> Result<Vec<net::UdpSocket>, BindFault>
+    ensures { IfOk result (λ outlets. vec_len outlets ≡ workers) }
+{
+    let any_port = Endpoint { address, port: 0 };
+    let Ok(mut outlets) = Vec::with_capacity(alloc, workers) else {
+        return Err(BindFault::OutOfMemory);
+    };
+    for _worker in 0..workers {
+        let outlet = match net.bind_udp(any_port.socket_address()) {
+            Ok(outlet) => outlet,
+            Err(error) => return Err(BindFault::Worker(error)),
+        };
+        let Ok(()) = outlets.push(outlet) else {
+            return Err(BindFault::OutOfMemory);
+        };
+    }
+    Ok(outlets)
+}
+
+/// Binds the front, then control over UDP, then a socket for each worker. A port 0 is the system's to pick.
 pub fn bind_udp<N: Net>(
     net: &N,
+    alloc: Global,
     front: Endpoint,
     control: Endpoint,
-) -> Result<BoundSockets<'static>, BindFault> {
+    workers: usize,
+) -> Result<BoundSockets<'static>, BindFault>
+    ensures { IfOk result (λ bound. vec_len bound.outlets ≡ workers) }
+{
     let (front, address) = match bind_socket(net, front) {
         Ok(bound) => bound,
         Err(error) => return Err(BindFault::Front(error)),
     };
-    match bind_socket(net, control) {
-        Ok((socket, bound)) => Ok(BoundSockets {
-            front,
-            address,
-            control: BoundControl::Udp(socket, bound),
-            place: ControlAddress::Udp(bound),
-        }),
-        Err(error) => Err(BindFault::Control(error)),
-    }
+    let (socket, bound) = match bind_socket(net, control) {
+        Ok(bound) => bound,
+        Err(error) => return Err(BindFault::Control(error)),
+    };
+    let outlets = bind_outlets(net, alloc, address.address, workers)?;
+    Ok(BoundSockets {
+        front,
+        address,
+        control: BoundControl::Udp(socket, bound),
+        place: ControlAddress::Udp(bound),
+        outlets,
+    })
 }
 
-/// Binds the front, then makes the socket file of control at a path.
+/// Binds the front, then makes the socket file of control at a path, then binds a socket for each worker.
 pub fn bind_unix<'a, R: Net + Files>(
     rt: &R,
+    alloc: Global,
     front: Endpoint,
     path: &'a str,
+    workers: usize,
 ) -> Result<(BoundSockets<'a>, SocketFile<'a>), BindFault>
-    ensures { IfOk result (λ bound. bound.0.place ≡ ControlAddress.Unix path.entry) }
+    ensures place { IfOk result (λ bound. bound.0.place ≡ ControlAddress.Unix path.entry) }
+    ensures outlets { IfOk result (λ bound. vec_len bound.0.outlets ≡ workers) }
 {
     let (front, address) = match bind_socket(rt, front) {
         Ok(bound) => bound,
         Err(error) => return Err(BindFault::Front(error)),
     };
-    match listen(rt, path) {
-        Ok((listener, file)) => Ok((
-            BoundSockets {
-                front,
-                address,
-                control: BoundControl::Unix(listener),
-                place: ControlAddress::Unix(path),
-            },
-            file,
-        )),
-        Err(error) => Err(BindFault::Control(error)),
-    }
+    let (listener, file) = match listen(rt, path) {
+        Ok(made) => made,
+        Err(error) => return Err(BindFault::Control(error)),
+    };
+    let outlets = match bind_outlets(rt, alloc, address.address, workers) {
+        Ok(outlets) => outlets,
+        Err(fault) => {
+            file.remove(rt);
+            return Err(fault);
+        }
+    };
+    Ok((
+        BoundSockets {
+            front,
+            address,
+            control: BoundControl::Unix(listener),
+            place: ControlAddress::Unix(path),
+            outlets,
+        },
+        file,
+    ))
 }

@@ -10,11 +10,10 @@ ghost use Rattle.serve_udp.specs.declared.jobs.TheConstants.{LIMIT};
 use crate::sockets::LONGEST_DATAGRAM;
 use command_line::Failure;
 use dispatch::{Counter, Job};
-use ipv4_fields::Endpoint;
 use read_section::Worker;
 use serve_devices::{ChannelSource, SocketOutbox, WorkerQueue, open_queue};
 use std::alloc::Global;
-use std::net::Net;
+use std::net::{Net, UdpSocket};
 use std::sync::Wait;
 
 // How many datagrams a batch judges at most.
@@ -31,11 +30,11 @@ struct Devices<'a, R: Wait + Net> {
     buffer: Vec<u8>,
 }
 
-// The socket is at the address and a port that the system picks.
+// The devices of a job that sends by this socket.
 fn open_devices<'a, R: Wait + Net>(
     rt: &'a R,
     alloc: Global,
-    address: u32,
+    outlet: UdpSocket,
 ) -> Result<Devices<'a, R>, Failure>
     ensures new { IfOk result (λ devices. HasNewDevices devices.source devices.outbox) }
     ensures room { IfOk result (λ devices. HasRoom (length devices.buffer.items) LIMIT) }
@@ -47,14 +46,10 @@ fn open_devices<'a, R: Wait + Net>(
     let Ok(buffer) = vec![in alloc; 0; LONGEST_DATAGRAM] else {
         return Err(Failure::OutOfMemory);
     };
-    let any_port = Endpoint { address, port: 0 };
-    let Ok(socket) = rt.bind_udp(any_port.socket_address()) else {
-        return Err(Failure::BindFailed);
-    };
     Ok(Devices {
         source,
         queue,
-        outbox: SocketOutbox::new(socket),
+        outbox: SocketOutbox::new(outlet),
         buffer,
     })
 }
@@ -107,17 +102,18 @@ fn add_job<'a, R: Wait + Net>(
     };
 }
 
-/// Takes a worker and a counter for each job, and returns the jobs and their queues.
+/// Takes a worker, a counter and a socket for each job, and returns the jobs and their queues.
 pub fn jobs<'a, R: Wait + Net>(
     rt: &'a R,
     alloc: Global,
     seats: &mut Vec<Worker>,
     counters: &mut Vec<Counter>,
-    address: u32,
+    mut outlets: Vec<UdpSocket>,
     workers: usize,
 ) -> Result<(Vec<ServiceJob<'a, R>>, Vec<WorkerQueue>), Failure>
     requires seats { workers ≤ vec_len seats.old }
     requires counters { workers ≤ vec_len counters.old }
+    requires outlets { workers ≤ vec_len outlets }
     ensures made { IfOk result (λ parts. AreMade workers seats.old.items seats.new.items counters.old.items counters.new.items
         parts.0.items (vec_len parts.1)) }
     ensures no_input { IfErr result IsServeFailure }
@@ -129,7 +125,10 @@ pub fn jobs<'a, R: Wait + Net>(
         return Err(Failure::OutOfMemory);
     };
     for _job in 0..workers {
-        let devices = open_devices(rt, alloc, address)?;
+        let Some(outlet) = outlets.pop() else {
+            unreachable!()
+        };
+        let devices = open_devices(rt, alloc, outlet)?;
         add_job(devices, seats, counters, &mut jobs, &mut queues);
     }
     Ok((jobs, queues))

@@ -92,7 +92,7 @@ fn count_served<N: TallyName, L: LogLines, R: Threads + Wait + Sync, G: Gate + S
 /// Runs the switch on its sockets until a control request says `stop`, and then writes the line of the totals.
 ///
 /// Version 0 is the configuration. The line `ready FRONT CONTROL` has the addresses bound, and is flushed before a datagram is
-/// received. Of the switch's workers each receives through a queue, in turn, and sends by a socket of its own at the front's address.
+/// received. Of the switch's workers each receives through a queue, in turn, and sends by one of the sockets for workers.
 /// Each control request that changes something or is not done is a line of the log.
 ///
 /// All memory but that of the threads, of queued datagrams and of control is taken before the line `ready`, from the configuration's
@@ -109,6 +109,7 @@ pub fn serve_bound<R: Threads + Wait + Net + Sync, G: Gate + Sync, W: Write, L: 
     requires within { charge_of config ≤ CHARGE_LIMIT }
     requires at_least_one { 1 ≤ workers }
     requires at_most { workers ≤ WORKERS }
+    requires outlets { workers ≤ vec_len sockets.outlets }
     ensures served { OnOk result (WritesServedAt sockets.entry.place config workers (W.contents out.old) (W.contents out.new)) }
     ensures no_input { IfErr result IsServeFailure }
     ensures not_bound { result ≡ Err Failure.BindFailed → out.new ≡ out.old }
@@ -140,11 +141,14 @@ pub fn serve_with<R: Threads + Wait + Net + Sync, G: Gate + Sync, W: Write>(
     ensures not_bound { result ≡ Err Failure.BindFailed → out.new ≡ out.old }
     ensures ready_or_nothing { IfErr result (λ failure. failure ≢ Failure.WriteFailed → WritesReadyOrNothing (W.contents out.old) (W.contents out.new)) }
 {
-    let Ok(mut log) = Log::new(*config.allocator(), NoLog) else {
+    let alloc = *config.allocator();
+    let Ok(mut log) = Log::new(alloc, NoLog) else {
         return Err(Failure::OutOfMemory);
     };
-    let Ok(sockets) = bind_udp(rt, front, control) else {
-        return Err(Failure::BindFailed);
+    let sockets = match bind_udp(rt, alloc, front, control, workers) {
+        Ok(sockets) => sockets,
+        Err(BindFault::OutOfMemory) => return Err(Failure::OutOfMemory),
+        Err(_) => return Err(Failure::BindFailed),
     };
     serve_bound(rt, config, sockets, workers, gate, out, &mut log)
 }

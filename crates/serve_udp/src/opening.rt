@@ -52,6 +52,7 @@ fn connect<'a, R: Wait + Net>(
 ) -> Result<(Vec<ServiceJob<'a, R>>, Vec<WorkerQueue>, Sockets), Failure>
     requires seats { workers ≤ vec_len seats.old }
     requires counters { workers ≤ vec_len counters.old }
+    requires outlets { workers ≤ vec_len sockets.outlets }
     ensures made { IfOk result (λ parts. AreMade workers seats.old.items seats.new.items counters.old.items counters.new.items
         parts.0.items (vec_len parts.1)) }
     ensures no_input { IfErr result IsServeFailure }
@@ -59,8 +60,15 @@ fn connect<'a, R: Wait + Net>(
     let Ok(room) = Room::new(alloc) else {
         return Err(Failure::OutOfMemory);
     };
-    let (jobs, queues) = jobs(rt, alloc, seats, counters, sockets.address.address, workers)?;
-    let Ok(sockets) = Sockets::open(rt, alloc, sockets, room) else {
+    let BoundSockets {
+        front,
+        address,
+        control,
+        place: _,
+        outlets,
+    } = sockets;
+    let (jobs, queues) = jobs(rt, alloc, seats, counters, outlets, workers)?;
+    let Ok(sockets) = Sockets::open(rt, alloc, front, (address, control), room) else {
         return Err(Failure::PollFailed);
     };
     Ok((jobs, queues, sockets))
@@ -102,6 +110,7 @@ pub fn open_service<'a, R: Wait + Net>(
     requires within { charge_of config ≤ CHARGE_LIMIT }
     requires at_least_one { 1 ≤ workers }
     requires at_most { workers ≤ WORKERS }
+    requires outlets { workers ≤ vec_len sockets.outlets }
     ensures one_a_worker { IfOk result (λ opened. vec_len opened.0 ≡ workers) }
     ensures new_workers { IfOk result (λ opened. HaveNewWorkers config opened.1.receiver.operator.table opened.0.items) }
     ensures opened { IfOk result (λ opened. AreOpened opened.1.tally.table opened.1.spare.items opened.0.items) }

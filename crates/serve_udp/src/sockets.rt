@@ -1,6 +1,6 @@
 //! The sockets of the service, and the turns that they get (docs/COMMANDS.md, "serve").
 
-use crate::bound::{BoundControl, BoundSockets};
+use crate::bound::BoundControl;
 use dispatch::{NamedTally, TallyName};
 use ipv4_fields::Endpoint;
 use mio::net::UdpSocket;
@@ -211,19 +211,15 @@ fn client_turns<N: TallyName, L: LogLines>(
 }
 
 impl Sockets {
-    /// Waits for the sockets from now on.
+    /// Waits for the front, which is bound to the address, and for control from now on.
     pub fn open<N: Net>(
         net: &N,
         alloc: Global,
-        sockets: BoundSockets<'_>,
+        mut front: UdpSocket,
+        bound: (Endpoint, BoundControl),
         room: Room,
     ) -> io::Result<Sockets> {
-        let BoundSockets {
-            mut front,
-            address,
-            control,
-            place: _,
-        } = sockets;
+        let (address, control) = bound;
         let poll = Poll::new(net)?;
         poll.registry()
             .register(&mut front, FRONT, Interest::READABLE)?;
