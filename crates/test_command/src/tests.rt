@@ -3,6 +3,8 @@
 mod failures;
 mod file_faults;
 mod flood;
+mod memory_wire;
+mod refused;
 mod replay;
 mod streams;
 mod telling;
