@@ -224,9 +224,11 @@ pub const SERVE_LOG: &str =
 pub const SERVE_MORE: &str = "\
 Reads UDP datagrams. Each that comes to FRONT is a whole IPv4 packet: the workers take them in turn,
 and send what is to be delivered to the members. Requests come to CONTROL, as `replay` takes them
-but for `packet`, and each has one reply. CONTROL takes two more:
-  totals   the line of totals so far
-  stop     ok stop, and the workers judge what they were given, and end
+but for `packet`, and each has one reply. CONTROL takes four more:
+  totals         the line of totals so far
+  totals KEY     delivered D dropped R nomembers X sendfailed S: those of a group
+  totals KEY ID  delivered D dropped R sendfailed S bytes B: those of a member
+  stop           ok stop, and the workers judge what they were given, and end
 CONTROL is the socket file unix:PATH, or a UDP address. Whoever may enter the folder of PATH
 controls the switch. A UDP address takes requests from everybody who can send to it: give it one
 address, and never 0.0.0.0. What looks like a reply itself is ignored there.

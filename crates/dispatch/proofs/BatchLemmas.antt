@@ -1,5 +1,5 @@
 -- A run and one datagram more.
-use Rattle.std.proofs.Common.{◌≡◌, ◌∙◌, ◌+◌, ◌++◌, ◌∷◌, List, [], ap, append-nil, arith, length, refl, subst, sym, ℕ}
+use Rattle.std.proofs.Common.{◌≡◌, ◌∙◌, ◌+◌, ◌++◌, ◌∷◌, List, Option, [], ap, append-nil, arith, length, refl, subst, sym, ℕ}
 use Rattle.std.proofs.lemmas.List.{map-append}
 use Rattle.std.proofs.lemmas.List.Concat.{flat_map-append}
 use Rattle.std.proofs.lemmas.List.Sums.{sum_by-append, sum_by-cons}
@@ -7,6 +7,7 @@ use Rattle.read_section.specs.Worker.{IsOutside, WorkerValue}
 use Rattle.dispatch.specs.Batch.{AreJudged, IsJudged, IsRun, Judged, Parts, all_counted_for, all_sent, counted_for, one_if, packets_of, sent_of}
 use Rattle.dispatch.specs.Device.{Gives, Takes, Sent}
 use Rattle.dispatch.specs.Tally.{CounterValue}
+use Rattle.dispatch.specs.Told.{Told, all_told, told_of}
 use Rattle.dispatch.specs.WorkerSteps.{AddsOwnSteps}
 use Rattle.dispatch.proofs.DeviceLemmas.{gives_more, gives_nothing, takes_more, takes_nothing}
 
@@ -60,3 +61,15 @@ pub record IsRunOf (room : ℕ) (before after : Parts) (count : ℕ) : Type 0 wh
   pub count_is : length judged ≡ count
   pub outside : IsOutside before.worker.view.stage → IsOutside after.worker.view.stage
   pub own_steps : AddsOwnSteps before.worker after.worker
+
+-- the same, and the outbox was told of each datagram
+pub record IsToldRunOf (room : ℕ) (before after : Parts) (told told' : Option (List Told)) (count : ℕ) : Type 0 where
+  pub so_far : IsRunOf room before after count
+  pub told_each : Takes told told' (all_told so_far.judged)
+
+pub told_more : (told mid told' : Option (List Told)) (judged : List Judged) (one : Judged) → Takes told mid (all_told judged) → Takes mid told' (told_of one)
+    → Takes told told' (all_told (judged ++ one ∷ []))
+told_more told mid told' judged one first second =
+    subst (λ (news : List Told). Takes told told' news)
+    (sym (flat_map-append told_of judged (one ∷ []) ∙ ap (λ (news : List Told). all_told judged ++ news) (append-nil (told_of one))))
+    (takes_more told mid told' (all_told judged) (told_of one) first second)

@@ -2,18 +2,18 @@
 use Rattle.std.proofs.Common.{◌≡◌, ◌∙◌, ◌++◌, ◌∷◌, List, None, Ok, Option, Some, [], ap, append-nil, append_assoc, length, map, refl, subst, sym, take, ℕ}
 use Rattle.std.proofs.lemmas.List.{map-append}
 use Rattle.dispatch.specs.declared.device.Failed.{Failed}
-use Rattle.dispatch.specs.Device.{Gives, Sent, Takes, given_in}
+use Rattle.dispatch.specs.Device.{Gives, Takes, given_in}
 
-pub takes_nothing : (taken : Option (List Sent)) → Takes taken taken []
+pub takes_nothing : {A : Type 0} (taken : Option (List A)) → Takes taken taken []
 takes_nothing None = tt
 takes_nothing (Some sent) = sym (append-nil sent)
 
-pub takes_more : (before mid after : Option (List Sent)) (sent more : List Sent) → Takes before mid sent → Takes mid after more → Takes before after (sent ++ more)
+pub takes_more : {A : Type 0} (before mid after : Option (List A)) (sent more : List A) → Takes before mid sent → Takes mid after more → Takes before after (sent ++ more)
 takes_more before mid None sent more first second = tt
 takes_more before None (Some later) sent more first second = absurd second
 takes_more None (Some taken) (Some later) sent more first second = absurd first
 takes_more (Some earlier) (Some taken) (Some later) sent more first second =
-    second ∙ ap (λ (all : List Sent). all ++ more) first ∙ append_assoc earlier sent more
+    second ∙ ap (λ (all : List A). all ++ more) first ∙ append_assoc earlier sent more
 
 pub gives_nothing : (room : ℕ) (coming : Option (List (List ℕ))) → Gives room coming coming []
 gives_nothing room None = tt

@@ -39,11 +39,11 @@ abbrev pub IsAtEnd : Option (List (List ℕ)) → Type 0
 IsAtEnd None = Unit {0}
 IsAtEnd (Some coming) = coming ≡ []
 
--- what an outbox tells of its sends is what it told before, and then these; it may tell nothing from some call on
-abbrev pub Takes : Option (List Sent) → Option (List Sent) → List Sent → Type 0
-Takes before None sent = Unit {0}
-Takes None (Some later) sent = ⊥
-Takes (Some earlier) (Some later) sent = later ≡ earlier ++ sent
+-- what an outbox tells, as of its sends, is what it told before, and then these; it may tell nothing from some call on
+abbrev pub Takes : {A : Type 0} → Option (List A) → Option (List A) → List A → Type 0
+Takes before None more = Unit {0}
+Takes None (Some later) more = ⊥
+Takes (Some earlier) (Some later) more = later ≡ earlier ++ more
 
 -- what an outbox took that answered so
 abbrev pub taken_by : {A E : Type 0} → Result A E → Endpoint → List ℕ → List Sent

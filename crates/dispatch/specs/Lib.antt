@@ -4,6 +4,7 @@ pub mod Device
 pub mod Job
 pub mod Memory
 pub mod Tally
+pub mod Told
 pub mod Totals
 pub mod WorkerSteps
 pub mod Workers

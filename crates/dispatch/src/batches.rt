@@ -3,12 +3,14 @@
 ghost use Rattle.std.specs.Prelude.{◌≡◌, ◌≤◌, IfErr, length};
 ghost use Rattle.bpf_machine.specs.declared.TheConstants.{MAX_PACKET};
 ghost use Rattle.dispatch.specs.Batch.{IsBatch};
+ghost use Rattle.dispatch.specs.Told.{IsToldBatch};
 ghost use Rattle.dispatch.specs.WorkerSteps.{AddsOwnSteps};
 ghost use Rattle.read_section.specs.Worker.{IsOutside};
 
 use crate::datagram::handle;
 use crate::device::{Failed, Outbox, Source};
 use crate::tally::{CountFull, Counter};
+use crate::told::VerdictOutbox;
 use packet_verdict::Kind;
 use read_section::Worker;
 
@@ -40,6 +42,74 @@ impl From<CountFull> for BatchFault {
     }
 }
 
+// The datagrams of a batch. What the outbox was told last, it may not have handed on.
+fn run_batch<S: Source, O: VerdictOutbox>(
+    worker: &mut Worker,
+    counter: &mut Counter,
+    source: &mut S,
+    outbox: &mut O,
+    buf: &mut [u8],
+    limit: u64,
+) -> Result<BatchDone, BatchFault>
+    requires buffer { length buf.old ≤ MAX_PACKET }
+    ensures batch { IsToldBatch (length buf.old) limit
+        (record { worker = worker.old; counter = counter.old; source = S.state source.old; outbox = O.state outbox.old })
+        (record { worker = worker.new; counter = counter.new; source = S.state source.new; outbox = O.state outbox.new }) result
+        (O.told outbox.old) (O.told outbox.new) }
+    ensures outside { IsOutside worker.old.view.stage → IsOutside worker.new.view.stage }
+    ensures only_own_steps { AddsOwnSteps worker.old worker.new }
+{
+    for judged in 0..limit {
+        if source.would_wait() {
+            outbox.hand_all_on();
+        }
+        let size = match source.next(buf) {
+            Ok(Some(size)) => size,
+            Ok(None) => {
+                return Ok(BatchDone {
+                    judged,
+                    more: false,
+                });
+            }
+            Err(Failed) => {
+                counter.count(Kind::ReceiveFailed)?;
+                return Err(BatchFault::ReceiveFailed);
+            }
+        };
+        handle(worker, counter, outbox, &buf[..size])?;
+    }
+    Ok(BatchDone {
+        judged: limit,
+        more: true,
+    })
+}
+
+/// Judges up to `limit` datagrams, as `batch` does. The outbox is told each verdict once, after that was counted, and each failed
+/// send. Before the source waits, and at the end, the outbox hands on what it was told.
+pub fn batch_told<S: Source, O: VerdictOutbox>(
+    worker: &mut Worker,
+    counter: &mut Counter,
+    source: &mut S,
+    outbox: &mut O,
+    buf: &mut [u8],
+    limit: u64,
+) -> Result<BatchDone, BatchFault>
+    requires buffer { length buf.old ≤ MAX_PACKET }
+    ensures batch { IsToldBatch (length buf.old) limit
+        (record { worker = worker.old; counter = counter.old; source = S.state source.old; outbox = O.state outbox.old })
+        (record { worker = worker.new; counter = counter.new; source = S.state source.new; outbox = O.state outbox.new }) result
+        (O.told outbox.old) (O.told outbox.new) }
+    ensures handed_on { O.IsHandedOn outbox.new }
+
+    // Whatever it answers.
+    ensures outside { IsOutside worker.old.view.stage → IsOutside worker.new.view.stage }
+    ensures only_own_steps { AddsOwnSteps worker.old worker.new }
+{
+    let answer = run_batch(worker, counter, source, outbox, buf, limit);
+    outbox.hand_all_on();
+    answer
+}
+
 /// Judges up to `limit` datagrams, each in a section of its own by the newest version that the worker sees then. After the
 /// section the verdict is counted; then the kept bytes are sent. A failed send is counted, and the batch goes on.
 ///
@@ -61,24 +131,5 @@ pub fn batch<S: Source, O: Outbox>(
     ensures outside { IsOutside worker.old.view.stage → IsOutside worker.new.view.stage }
     ensures only_own_steps { AddsOwnSteps worker.old worker.new }
 {
-    for judged in 0..limit {
-        let size = match source.next(buf) {
-            Ok(Some(size)) => size,
-            Ok(None) => {
-                return Ok(BatchDone {
-                    judged,
-                    more: false,
-                });
-            }
-            Err(Failed) => {
-                counter.count(Kind::ReceiveFailed)?;
-                return Err(BatchFault::ReceiveFailed);
-            }
-        };
-        handle(worker, counter, outbox, &buf[..size])?;
-    }
-    Ok(BatchDone {
-        judged: limit,
-        more: true,
-    })
+    batch_told(worker, counter, source, outbox, buf, limit)
 }

@@ -5,8 +5,9 @@ ghost use Rattle.bpf_machine.specs.declared.TheConstants.{MAX_PACKET};
 ghost use Rattle.dispatch.specs.Batch.{IsFull};
 ghost use Rattle.dispatch.specs.body.Datagram.{IsDelivered, IsHandled, IsNotCounted, IsUndelivered, JudgesInSection, KeepsNoMore};
 
-use crate::device::{Failed, Outbox};
+use crate::device::Failed;
 use crate::tally::{CountFull, Counter};
+use crate::told::VerdictOutbox;
 use packet_verdict::{Kind, Verdict, judge};
 use read_section::Worker;
 
@@ -25,16 +26,17 @@ fn judge_in_section(worker: &mut Worker, packet: &[u8]) -> Verdict
 }
 
 // Sends what the verdict keeps of the packet, if it is to be delivered. A failed send is counted.
-fn deliver<O: Outbox>(
+fn deliver<O: VerdictOutbox>(
     verdict: Verdict,
     packet: &[u8],
     counter: &mut Counter,
     outbox: &mut O,
 ) -> Result<(), CountFull>
     requires { KeepsNoMore verdict packet.now }
-    ensures delivered { OnOk result
-        (IsDelivered verdict packet.now counter.old counter.new (O.state outbox.old) (O.state outbox.new)) }
-    ensures undelivered { OnErr result (IsUndelivered counter.old counter.new (O.state outbox.old) (O.state outbox.new)) }
+    ensures delivered { OnOk result (IsDelivered verdict packet.now counter.old counter.new
+        (O.state outbox.old) (O.state outbox.new) (O.told outbox.old) (O.told outbox.new)) }
+    ensures undelivered { OnErr result (IsUndelivered counter.old counter.new
+        (O.state outbox.old) (O.state outbox.new) (O.told outbox.old) (O.told outbox.new)) }
 {
     let Verdict::Deliver {
         group: _,
@@ -45,26 +47,27 @@ fn deliver<O: Outbox>(
     else {
         return Ok(());
     };
-    match outbox.send(to, &packet[..bytes]) {
+    match outbox.send_kept(to, &packet[..bytes]) {
         Ok(()) => Ok(()),
         Err(Failed) => counter.count(Kind::SendFailed),
     }
 }
 
-// Judges a datagram, counts its verdict, and then sends what is to be delivered.
-pub fn handle<O: Outbox>(
+// Judges a datagram, counts its verdict, tells it to the outbox, and then sends what is to be delivered.
+pub fn handle<O: VerdictOutbox>(
     worker: &mut Worker,
     counter: &mut Counter,
     outbox: &mut O,
     packet: &[u8],
 ) -> Result<(), CountFull>
     requires packet { length packet.now ≤ MAX_PACKET }
-    ensures handled { OnOk result
-        (IsHandled worker.old worker.new counter.old counter.new (O.state outbox.old) (O.state outbox.new) packet.now) }
-    ensures not_counted { OnErr result
-        (IsNotCounted worker.old worker.new counter.old counter.new (O.state outbox.old) (O.state outbox.new) packet.now) }
+    ensures handled { OnOk result (IsHandled worker.old worker.new counter.old counter.new
+        (O.state outbox.old) (O.state outbox.new) (O.told outbox.old) (O.told outbox.new) packet.now) }
+    ensures not_counted { OnErr result (IsNotCounted worker.old worker.new counter.old counter.new
+        (O.state outbox.old) (O.state outbox.new) (O.told outbox.old) (O.told outbox.new) packet.now) }
 {
     let verdict = judge_in_section(worker, packet);
     counter.count(verdict.kind())?;
+    outbox.tell(verdict, packet);
     deliver(verdict, packet, counter, outbox)
 }

@@ -4,6 +4,7 @@ ghost use Rattle.std.specs.Prelude.{◌≡◌, ◌≤◌, IfOk, IfSome, length};
 ghost use Rattle.dispatch.specs.Device.{CountsFailure, Gives, IsAtEnd, OutboxValue, SourceValue, Takes, given_in, taken_by};
 
 use ipv4_fields::Endpoint;
+use packet_verdict::Verdict;
 
 /// A device failed.
 #[derive(Clone, Copy, Debug, PartialEq, Eq, Drop)]
@@ -20,6 +21,13 @@ pub trait Source {
         ensures within { IfOk result (λ answer. IfSome answer (λ size. size ≤ length buf.new)) }
         ensures given_once { Gives (length buf.new) (state self.old).coming (state self.new).coming (given_in buf.new result) }
         ensures end { result ≡ Ok None → IsAtEnd (state self.new).coming };
+
+    /// Tests whether `next` has to wait for a datagram now. Meanwhile the outbox is to keep nothing back.
+    fn would_wait(&mut self) -> bool
+        ensures unchanged { state self.new ≡ state self.old }
+    {
+        false
+    }
 }
 
 /// Where datagrams go.
@@ -30,4 +38,22 @@ pub trait Outbox {
     fn send(&mut self, to: Endpoint, bytes: &[u8]) -> Result<(), Failed>
         ensures device_failed { CountsFailure result (state self.old).failures (state self.new).failures }
         ensures sent_once { Takes (state self.old).taken (state self.new).taken (taken_by result to bytes.now) };
+
+    /// Takes note of a verdict, after it was counted and before what it keeps is sent.
+    fn judged(&mut self, _verdict: &Verdict)
+        ensures unchanged { state self.new ≡ state self.old }
+    {
+    }
+
+    /// Takes note of the group that has no member, after `judged` with such a verdict.
+    fn no_members(&mut self, _group: Endpoint)
+        ensures unchanged { state self.new ≡ state self.old }
+    {
+    }
+
+    /// Hands on what it took note of, after each batch and before the source waits.
+    fn hand_on(&mut self)
+        ensures unchanged { state self.new ≡ state self.old }
+    {
+    }
 }

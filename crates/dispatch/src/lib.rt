@@ -13,10 +13,11 @@ mod memory;
 mod named_tally;
 mod tally;
 mod tally_rule;
+mod told;
 mod worker_job;
 mod workers;
 
-pub use batches::{BatchDone, BatchFault, batch};
+pub use batches::{BatchDone, BatchFault, batch, batch_told};
 pub use counted_jobs::run_counted;
 pub use device::{Failed, Outbox, Source};
 pub use job::{Gate, OpenGate, run_job};
@@ -26,6 +27,7 @@ pub use named_tally::{NamedTally, TallyName};
 pub use packet_verdict::{Kind, Verdict, judge};
 pub use tally::{COUNT_LIMIT, COUNTERS, CountFull, Counter, Tally, gather, limits_as_numbers};
 pub use tally_rule::{CountView, Load, TallyRule};
+pub use told::VerdictOutbox;
 pub use worker_job::{Done, Job, finish};
 pub use workers::{RunFault, run_workers};
 

@@ -1,5 +1,5 @@
 -- Which texts look like replies: what begins so, and every answer.
-use Rattle.std.proofs.Common.{◌≡◌, ◌||◌, ◌∙◌, ◌++◌, Bool, List, codes, false, refl, subst, sym, true, ℕ}
+use Rattle.std.proofs.Common.{◌≡◌, ◌||◌, ◌∙◌, ◌++◌, Bool, List, Option, codes, false, refl, subst, sym, true, ℕ}
 use Rattle.std.proofs.lemmas.Bool.{false≢true}
 use Rattle.std.proofs.lemmas.Slice.Eq.{bytes_eq-Decides}
 use Rattle.std.specs.Prelude.{bytes_eq}
@@ -8,11 +8,13 @@ use Rattle.ipv4_fields.proofs.TextLemmas.{has_separator, lacks-test, one_cut}
 use Rattle.control_line.specs.Reply.{reply_text}
 use Rattle.control_line.specs.declared.reply.LineAnswer.{LineAnswer}
 use Rattle.control_line.specs.declared.reply.LineAnswer.TheVariants.{GroupRead, LineRefused, MemberRead, Published, Refused, Shown, Swept, WordsRead}
-use Rattle.dispatch.specs.Tally.{TallyValue}
+use Rattle.member_counts.specs.Table.{Table}
 use Rattle.read_section.specs.Operator.{OperatorValue}
-use Rattle.serve_control.specs.Answer.{AnswersText, RepliesToLine, answers_line, bytes_of, no_memory, replied, stops, tells_totals}
+use Rattle.serve_control.specs.Answer.{AnswersText, RepliesToLine, Service, answers_line, bytes_of, no_memory, replied, stops, tells_counters, tells_totals}
 use Rattle.serve_control.specs.Ignored.{BeginsReplies, IsAlwaysIgnored, LooksLikeReply, delivered, failed, malformed, ok, ready, reclaimed, refused, reply, version}
+use Rattle.serve_control.specs.Members.{IsCountsReply, no_group, no_member, of_group, of_member}
 use Rattle.serve_control.specs.declared.ControlAnswer.{ControlAnswer}
+use Rattle.serve_control.specs.declared.members.Asked.{Asked}
 
 -- ---- the first word
 
@@ -72,26 +74,19 @@ begins_found word ready = refl
 begun : (word rest : List ℕ) → BeginsReplies word → LooksLikeReply (word ++ (codes " " ++ rest))
 begun word rest begins = record { word = word; rest = rest; begins_replies = begins; whole = refl }
 
-line_answer_looks : (answer : LineAnswer) → LooksLikeReply (reply_text answer)
-line_answer_looks (Refused reason) = begun (codes "refused") _ refused
-line_answer_looks (LineRefused number reason) = begun (codes "refused") _ refused
-line_answer_looks (Published number) = begun (codes "ok") _ ok
-line_answer_looks (Shown number groups members charge) = begun (codes "version") _ version
-line_answer_looks (GroupRead number index groups key members selector) = begun (codes "version") _ version
-line_answer_looks (MemberRead number index members id to filter locked) = begun (codes "version") _ version
-line_answer_looks (WordsRead number place count words) = begun (codes "version") _ version
-line_answer_looks (Swept found) = begun (codes "reclaimed") _ reclaimed
+line_counts_look : (operator : OperatorValue) (table : Option Table) (asked : Asked) (line : List ℕ) → IsCountsReply operator table asked line → LooksLikeReply line
+counts_look operator table asked line (no_group config current none) = begun (codes "refused") _ refused
+counts_look operator table asked line (no_member config group id current found names none) = begun (codes "refused") _ refused
+counts_look operator table asked line (of_group config group counts current found names is) = begun (codes "delivered") _ delivered
+counts_look operator table asked line (of_member config group id counts current found names has is) = begun (codes "delivered") _ delivered
 
-line_reply_looks : (text : List ℕ) (operator operator' : OperatorValue) (line : List ℕ) → RepliesToLine text operator operator' line → LooksLikeReply line
-line_reply_looks text operator operator' line (replied answer is) = line_answer_looks answer
-line_reply_looks text operator operator' line (no_memory same) = begun (codes "failed") _ failed
-
-answer_looks : (text : List ℕ) (operator operator' : OperatorValue) (tally tally' : TallyValue) (answer : ControlAnswer) → AnswersText text operator operator' tally tally' answer
+answer_looks : (text : List ℕ) (before after : Service) (answer : ControlAnswer) → AnswersText text before after answer
     → LooksLikeReply (bytes_of answer)
-answer_looks text operator operator' tally tally' answer (stops is same_operator same_tally) = begun (codes "ok") _ ok
-answer_looks text operator operator' tally tally' answer (tells_totals totals is same_operator loads) = begun (codes "malformed") _ malformed
-answer_looks text operator operator' tally tally' answer (answers_line line other replies same_tally) = line_reply_looks text operator operator' line replies
+answer_looks text before after answer (stops is same) = begun (codes "ok") _ ok
+answer_looks text before after answer (tells_totals totals is same) = begun (codes "malformed") _ malformed
+answer_looks text before after answer (tells_counters asked line able is same settles replies) = counts_look before.operator after.members asked line replies
+answer_looks text before after answer (answers_line line other replies same_tally settles) = line_reply_looks text before.operator after.operator line replies
 
-pub answer_is_ignored : (text : List ℕ) (operator operator' : OperatorValue) (tally tally' : TallyValue) (answer : ControlAnswer) → AnswersText text operator operator' tally tally' answer
+pub answer_is_ignored : (text : List ℕ) (before after : Service) (answer : ControlAnswer) → AnswersText text before after answer
     → IsAlwaysIgnored (bytes_of answer)
-answer_is_ignored text operator operator' tally tally' answer answers bound sender = reply (answer_looks text operator operator' tally tally' answer answers)
+answer_is_ignored text before after answer answers bound sender = reply (answer_looks text before after answer answers)

@@ -1,8 +1,6 @@
 -- What an exchange at the desk does (docs/COMMANDS.md, "serve").
 use Rattle.std.specs.Prelude.{◌≡◌, List, Option, ℕ}
-use Rattle.dispatch.specs.Tally.{TallyValue}
-use Rattle.read_section.specs.Operator.{OperatorValue}
-use Rattle.serve_control.specs.Answer.{AnswersText, bytes_of}
+use Rattle.serve_control.specs.Answer.{AnswersText, Service, bytes_of}
 use Rattle.serve_control.specs.Log.{TellsRequest}
 use Rattle.serve_control.specs.declared.ControlAnswer.{ControlAnswer}
 use Rattle.serve_control.specs.declared.ControlAnswer.TheVariants.{Line, Stop, Totals as TotalsAnswer}
@@ -18,10 +16,10 @@ after_of (TotalsAnswer totals) = GoesOn
 after_of (Line reply) = GoesOn
 
 -- a request is answered as the text of a datagram is; if memory was refused, the rules stay as they were
-abbrev pub AnswersAtDesk : OperatorValue → OperatorValue → TallyValue → TallyValue → Exchange → Type 0
-AnswersAtDesk operator operator' tally tally' (replied request reply after) =
-    (answer : ControlAnswer) × AnswersText request operator operator' tally tally' answer × (reply ≡ bytes_of answer) × (after ≡ after_of answer)
-AnswersAtDesk operator operator' tally tally' (unanswered request) = operator' ≡ operator
+abbrev pub AnswersAtDesk : Service → Service → Exchange → Type 0
+AnswersAtDesk before later (replied request reply after) =
+    (answer : ControlAnswer) × AnswersText request before later answer × (reply ≡ bytes_of answer) × (after ≡ after_of answer)
+AnswersAtDesk before later (unanswered request) = later.operator ≡ before.operator
 
 -- the request has its line in the log, if it is one that is logged; one that was not answered has none
 abbrev pub LogsExchange : Option (List (List ℕ)) → Option (List (List ℕ)) → Peer → Exchange → Type 0

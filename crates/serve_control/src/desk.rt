@@ -8,6 +8,7 @@ ghost use Rattle.serve_control.specs.Log.{TellsRequest};
 
 use crate::ignored::BoundAddresses;
 use crate::log::{Log, LogLines, Peer};
+use crate::members::MemberTotals;
 use crate::{ControlAnswer, answer, answer_request};
 use control_line::{OutOfMemory, REPLY_LIMIT};
 use dispatch::{NamedTally, TallyName};
@@ -18,10 +19,11 @@ use std::alloc::Global;
 
 /// What answers the requests of a peer.
 #[derive(Drop)]
-pub struct Desk<'a, N: TallyName, L: LogLines> {
+pub struct Desk<'a, N: TallyName, L: LogLines, M: MemberTotals> {
     pub alloc: Global,
     pub operator: &'a mut Operator,
     pub tally: &'a mut NamedTally<N>,
+    pub members: &'a mut M,
     pub log: &'a mut Log<L>,
     pub peer: Peer,
 }
@@ -59,47 +61,79 @@ fn tell_answer<L: LogLines>(log: &mut Log<L>, peer: Peer, request: &[u8], answer
 }
 
 /// Answers a control datagram, as `answer` does, and tells the log.
-pub fn answer_from<N: TallyName, L: LogLines>(
+pub fn answer_from<N: TallyName, L: LogLines, M: MemberTotals>(
     alloc: Global,
     bound: &BoundAddresses,
     sender: Endpoint,
     text: &[u8],
     operator: &mut Operator,
     named: &mut NamedTally<N>,
+    members: &mut M,
     log: &mut Log<L>,
 ) -> Option<ControlAnswer>
-    ensures answered { AnswersDatagram bound.now sender text.now operator.old operator.new named.old.tally named.new.tally result }
+    ensures answered { AnswersDatagram bound.now sender text.now
+        (record { operator = operator.old; tally = named.old.tally; members = M.table members.old })
+        (record { operator = operator.new; tally = named.new.tally; members = M.table members.new }) result }
     ensures logged { IfSome result (λ answer. TellsRequest log.old log.new (Peer.Udp sender) text.now (bytes_of answer)) }
     ensures passed_over { result ≡ None → log.new ≡ log.old }
 {
-    let answer = answer(alloc, bound, sender, text, operator, &mut named.tally)?;
+    let answer = answer(
+        alloc,
+        bound,
+        sender,
+        text,
+        operator,
+        &mut named.tally,
+        members,
+    )?;
     tell_answer(log, Peer::Udp(sender), text, &answer);
     Some(answer)
 }
 
 // As `answer_request`, with a tally whose table its type tells.
-fn answer_named<N: TallyName>(
+fn answer_named<N: TallyName, M: MemberTotals>(
     alloc: Global,
     request: &[u8],
     operator: &mut Operator,
     named: &mut NamedTally<N>,
+    members: &mut M,
 ) -> ControlAnswer
-    ensures { AnswersText request.now operator.old operator.new named.old.tally named.new.tally result }
+    ensures { AnswersText request.now
+        (record { operator = operator.old; tally = named.old.tally; members = M.table members.old })
+        (record { operator = operator.new; tally = named.new.tally; members = M.table members.new }) result }
 {
-    answer_request(alloc, request, operator, &mut named.tally)
+    answer_request(alloc, request, operator, &mut named.tally, members)
 }
 
-impl<N: TallyName, L: LogLines> Answers for Desk<'_, N, L> {
+impl<N: TallyName, L: LogLines, M: MemberTotals> Answers for Desk<'_, N, L, M> {
     ghost exchanges = { λ before after exchange.
-        AnswersAtDesk before.operator.now after.operator.now before.tally.now.tally after.tally.now.tally exchange
+        AnswersAtDesk
+            (record { operator = before.operator.now; tally = before.tally.now.tally; members = M.table before.members.now })
+            (record { operator = after.operator.now; tally = after.tally.now.tally; members = M.table after.members.now }) exchange
         × LogsExchange before.log.now after.log.now before.peer exchange × (after.peer ≡ before.peer) };
 
     fn answer(&mut self, request: &[u8], reply: &mut Vec<u8>) -> Result<After, OutOfMemory> {
         // The room is taken before anything is done.
         reply.reserve(REPLY_LIMIT)?;
-        let answer = answer_named(self.alloc, request, self.operator, self.tally);
+        let answer = answer_named(
+            self.alloc,
+            request,
+            self.operator,
+            self.tally,
+            self.members,
+        );
         answer.append_to(reply)?;
         tell_answer(self.log, self.peer, request, &answer);
         Ok(after_of(&answer))
+    }
+
+    fn not_held(&mut self, front: &[u8], reply: &[u8])
+        ensures { length reply.now ≤ REPLY_LIMIT
+            → TellsRequest self.old.log.now self.new.log.now self.old.peer front.now reply.now }
+        ensures operator { self.new.operator.now ≡ self.old.operator.now }
+        ensures tally { self.new.tally.now ≡ self.old.tally.now }
+    {
+        // Only a reply that is longer than a control line's needs memory.
+        let _ = self.log.tell_request(self.peer, front, reply);
     }
 }

@@ -1,5 +1,5 @@
-//! Control datagrams (docs/COMMANDS.md, "serve"): `stop`, `totals`, and every other text as a control line, one answer each. A
-//! datagram that looks like a reply, or that comes from the switch itself, is ignored.
+//! Control datagrams (docs/COMMANDS.md, "serve"): `stop`, `totals`, counters by member, and every other text as a control line, one
+//! answer each. A datagram that looks like a reply, or that comes from the switch itself, is ignored.
 //!
 //! Nothing here knows of a socket: a datagram is its sender's address and the bytes that it carried, and its answer the bytes to
 //! send back.
@@ -9,10 +9,12 @@ ghost use Rattle.std.specs.Prelude.{◌≡◌, ◌⊎◌, ◌+◌, ◌<◌, ◌�
 ghost use Rattle.control_line.specs.declared.reply.TheConstants.{REPLY_LIMIT};
 ghost use Rattle.serve_control.specs.Answer.{AnswersDatagram, AnswersText, IsTotals, RepliesToLine, bytes_of};
 ghost use Rattle.serve_control.specs.Ignored.{IsAlwaysIgnored};
+ghost use Rattle.serve_control.specs.Members.{Settles};
 
 mod desk;
 mod ignored;
 mod log;
+mod members;
 
 use control_line::{Reply, is_word, line};
 pub use desk::{Desk, answer_from};
@@ -21,6 +23,8 @@ pub use ignored::BoundAddresses;
 use ignored::is_ignored;
 use ipv4_fields::Endpoint;
 pub use log::{LOGGED_BYTES, Log, LogLines, NoLog, Peer};
+pub use members::{Asked, MemberTotals};
+use members::{counts_reply, read_asked};
 use read_section::Operator;
 use std::alloc::{AllocError, Global};
 
@@ -31,7 +35,7 @@ pub enum ControlAnswer {
     Stop,
     /// The line of the totals so far.
     Totals(Totals),
-    /// The reply to a control line, or `failed E3`.
+    /// The reply to a control line or to a request for counters by member, or `failed E3`.
     Line(Reply),
 }
 
@@ -75,17 +79,36 @@ fn line_reply(alloc: Global, text: &[u8], operator: &mut Operator) -> Reply
     }
 }
 
+// Answers and does a control line. Then the counters settle by the configuration that is current.
+fn line_answer<M: MemberTotals>(
+    alloc: Global,
+    text: &[u8],
+    operator: &mut Operator,
+    members: &mut M,
+) -> Reply
+    ensures replied { RepliesToLine text.now operator.old operator.new result }
+    ensures settled { Settles operator.new (M.table members.old) (M.table members.new) }
+{
+    let reply = line_reply(alloc, text, operator);
+    members.settle(operator.config());
+    reply
+}
+
 /// Answers a request, and does what it asks for.
 ///
-/// `stop` changes nothing here: its caller stops. `totals` reads each total by one load, in the order of their line. Every other
-/// text is answered and done by `line`; if memory is refused then, the reply is `failed E3` and nothing was changed.
-pub fn answer_request(
+/// `stop` changes nothing here: its caller stops. `totals` reads each total by one load, in the order of their line. `totals KEY` and
+/// `totals KEY ID` read the counters of a group and of a member. Every other text is answered and done by `line`; if memory is refused
+/// then, the reply is `failed E3` and nothing was changed.
+pub fn answer_request<M: MemberTotals>(
     alloc: Global,
     text: &[u8],
     operator: &mut Operator,
     tally: &mut Tally,
+    members: &mut M,
 ) -> ControlAnswer
-    ensures answered { AnswersText text.now operator.old operator.new tally.old tally.new result }
+    ensures answered { AnswersText text.now
+        (record { operator = operator.old; tally = tally.old; members = M.table members.old })
+        (record { operator = operator.new; tally = tally.new; members = M.table members.new }) result }
     ensures table { tally.new.table ≡ tally.old.table }
 {
     if is_word(text, "stop") {
@@ -94,7 +117,10 @@ pub fn answer_request(
     if is_word(text, "totals") {
         return ControlAnswer::Totals(tally.totals());
     }
-    ControlAnswer::Line(line_reply(alloc, text, operator))
+    if let Some(asked) = read_asked(text) {
+        return ControlAnswer::Line(counts_reply(asked, operator, members));
+    }
+    ControlAnswer::Line(line_answer(alloc, text, operator, members))
 }
 
 /// Answers a control datagram, and does what it asks for. `None` if the datagram is ignored; then nothing was done.
@@ -103,20 +129,23 @@ pub fn answer_request(
 /// two sockets. Each answer is such a text, so no switch answers an answer.
 ///
 /// Every other datagram is answered as a request, by `answer_request`.
-pub fn answer(
+pub fn answer<M: MemberTotals>(
     alloc: Global,
     bound: &BoundAddresses,
     sender: Endpoint,
     text: &[u8],
     operator: &mut Operator,
     tally: &mut Tally,
+    members: &mut M,
 ) -> Option<ControlAnswer>
-    ensures answered { AnswersDatagram bound.now sender text.now operator.old operator.new tally.old tally.new result }
+    ensures answered { AnswersDatagram bound.now sender text.now
+        (record { operator = operator.old; tally = tally.old; members = M.table members.old })
+        (record { operator = operator.new; tally = tally.new; members = M.table members.new }) result }
     ensures no_loop { IfSome result (λ answer. IsAlwaysIgnored (bytes_of answer)) }
     ensures table { tally.new.table ≡ tally.old.table }
 {
     if is_ignored(bound, sender, text) {
         return None;
     }
-    Some(answer_request(alloc, text, operator, tally))
+    Some(answer_request(alloc, text, operator, tally, members))
 }

@@ -1,7 +1,9 @@
 -- What contracts see of the devices of a worker that serves (docs/SWITCH.md, "Devices of a server").
-use Rattle.std.specs.Prelude.{◌≡◌, Err, None, Ok, Option, Result, Some, suc, ℕ}
+use Rattle.std.specs.Prelude.{◌≡◌, ◌⊎◌, Err, List, None, Ok, Option, Result, Some, [], length, suc, ℕ}
 use Rattle.dispatch.specs.Device.{OutboxValue, SourceValue}
+use Rattle.member_counts.specs.Log.{Log, marked_failed}
 use Rattle.serve_devices.specs.declared.channel_source.TheConstants.{RECEIVE_LIMIT}
+use Rattle.serve_devices.specs.declared.member_outbox.TheConstants.{LOG_ROOM}
 
 -- a source over a channel: how often it failed, and how many receives it still gives at most
 pub record ChannelSourceValue : Type 0 where
@@ -25,3 +27,27 @@ CountsReceive (Err fault) before after = before ≡ suc after
 -- an outbox that failed so often, and tells nothing of what it sent
 abbrev pub silent_outbox : ℕ → OutboxValue
 silent_outbox failures = record { failures = failures; taken = None }
+
+-- an outbox that counts by member: how often it failed, and what it has not handed on
+pub record MemberOutboxValue : Type 0 where
+  pub failures : ℕ
+  pub log : Log
+
+abbrev pub empty_log : Log
+empty_log = record { entries = []; room = LOG_ROOM }
+
+abbrev pub new_outbox : MemberOutboxValue
+new_outbox = record { failures = 0; log = empty_log }
+
+-- as an outbox it tells nothing of what it sent
+abbrev pub outbox_of : MemberOutboxValue → OutboxValue
+outbox_of outbox = silent_outbox outbox.failures
+
+-- a send that fails is marked in the log
+abbrev pub after_send : {A E : Type 0} → Result A E → Log → Log
+after_send (Ok done) log = log
+after_send (Err fault) log = marked_failed log
+
+-- something was logged; before it a full log was handed on
+abbrev pub Logs : (Log → Log) → Log → Log → Type 0
+Logs logged log log' = (log' ≡ logged log) ⊎ ((length log.entries ≡ LOG_ROOM) × (log' ≡ logged empty_log))

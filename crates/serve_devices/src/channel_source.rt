@@ -23,6 +23,8 @@ pub struct ChannelSource<'a, R: Wait> {
     rt: &'a R,
     // None once it is at its end.
     arriving: Option<ChannelReceiver<Received>>,
+    // The next receive, if it was taken already.
+    ahead: Option<Received>,
     // Where receives go that were opened, so that their memory is used again.
     opened: ChannelSender<Received>,
     left: u64,
@@ -53,6 +55,7 @@ impl<'a, R: Wait> ChannelSource<'a, R> {
         ChannelSource {
             rt,
             arriving: Some(arriving),
+            ahead: None,
             opened,
             left: RECEIVE_LIMIT,
             failures: 0,
@@ -64,9 +67,27 @@ impl<'a, R: Wait> ChannelSource<'a, R> {
         ensures some_left { IsSome result → 0 < self.old.left }
         ensures kept { self.new ≡ self.old }
     {
+        if self.left == 0 {
+            return None;
+        }
+        if let Some(received) = self.ahead.take() {
+            return Some(received);
+        }
         match &mut self.arriving {
-            Some(arriving) if self.left > 0 => arriving.take(self.rt),
-            _ => None,
+            Some(arriving) => arriving.take(self.rt),
+            None => None,
+        }
+    }
+
+    // Takes the next receive ahead, if there is one.
+    fn look_ahead(&mut self)
+        ensures kept { self.new ≡ self.old }
+    {
+        if self.ahead.is_some() {
+            return;
+        }
+        if let Some(arriving) = &mut self.arriving {
+            self.ahead = arriving.poll(self.rt);
         }
     }
 
@@ -104,5 +125,10 @@ impl<'a, R: Wait> Source for ChannelSource<'a, R> {
             return Ok(None);
         };
         Ok(Some(self.open(received, buf)?))
+    }
+
+    fn would_wait(&mut self) -> bool {
+        self.look_ahead();
+        self.ahead.is_none()
     }
 }

@@ -23,4 +23,8 @@ pub trait Answers {
     /// what is there already is another request's. `Err` appends nothing; the client is then told `failed E3`.
     fn answer(&mut self, request: &[u8], reply: &mut Vec<u8>) -> Result<After, OutOfMemory>
         ensures { IsAnswered (exchanges self.old self.new) request.now reply.old.items reply.new.items result };
+
+    /// Takes note of a request that is not answered, since it is too long or memory for it was refused. `front` is a beginning of it,
+    /// and `reply` what the client is told, without an LF.
+    fn not_held(&mut self, _front: &[u8], _reply: &[u8]) {}
 }

@@ -1,10 +1,10 @@
 //! A conversation with a client over its stream.
 
-ghost use Rattle.std.specs.Prelude.{◌≡◌, ◌≢◌, ◌≤◌, ◌<◌, ◌++◌, ◌∷◌, ◌↔◌, if◌then◌else◌, IfOk, IsFalse, IsTrue, List, [], drop, length, ℕ};
+ghost use Rattle.std.specs.Prelude.{◌≡◌, ◌≢◌, ◌≤◌, ◌<◌, ◌++◌, ◌∷◌, ◌↔◌, if◌then◌else◌, IfOk, IsFalse, IsTrue, List, None, Some, [], drop, length, option_map, ℕ};
 ghost use Rattle.serve_stream.specs.Answers.{Exchange, IsStop};
 ghost use Rattle.serve_stream.specs.Standing.{IsAt, IsHindered, IsTurn, Moves, waiting_of};
 ghost use Rattle.serve_stream.specs.Stream.{Event, Logs};
-ghost use Rattle.serve_stream.specs.body.Asked.{IsAsked, stage_of, words_of};
+ghost use Rattle.serve_stream.specs.body.Asked.{IsAsked, IsUnheld, stage_of, words_of};
 ghost use Rattle.serve_stream.specs.body.Waiting.{AnswersFew, IsKept, IsRead, IsSameBut, IsWritten, IsWrittenOut, next_of};
 ghost use Rattle.serve_stream.specs.declared.conversation.Stage.TheVariants as stage;
 
@@ -55,6 +55,8 @@ pub struct Conversation {
     // What comes after the replies, if no more requests are answered.
     last: &'static [u8],
     stage: Stage,
+    // Why the request that came last is not held, until that is told.
+    unheld: Option<HoldFault>,
 }
 
 // How far a conversation is after a request whose last line ended so.
@@ -81,6 +83,7 @@ impl Conversation {
             replies: Replies::new(alloc),
             last: b"",
             stage: Stage::Open,
+            unheld: None,
         })
     }
 
@@ -134,7 +137,9 @@ impl Conversation {
         ensures stage { self.new.stage ≡ stage.Closing }
         ensures replies { self.new.replies ≡ self.old.replies }
         ensures unread { self.new.unread ≡ [] }
+        ensures unheld { self.new.unheld ≡ Some fault }
     {
+        self.unheld = Some(fault);
         self.unread.skip(self.unread.bytes().len());
         self.last = match fault {
             HoldFault::TooLong => TOO_LONG,
@@ -331,6 +336,19 @@ impl Conversation {
             return Turn::Went;
         }
         Turn::Waits
+    }
+
+    /// If the request that came last is not held, and this was not asked since: what was held of it, and what the client is told, without
+    /// the LF.
+    pub fn take_unheld(&mut self) -> Option<(&[u8], &[u8])>
+        ensures unheld { IsUnheld self.old (option_map (λ told. (told.0.now, told.1.now)) result) }
+        ensures once { self.new ≡ record self.old { unheld = None } }
+    {
+        let words = match self.unheld.take()? {
+            HoldFault::TooLong => TOO_LONG,
+            HoldFault::OutOfMemory => NO_MEMORY,
+        };
+        Some((&self.held.bytes, &words[..words.len() - 1]))
     }
 
     /// Tells whether replies wait that the stream has not taken.

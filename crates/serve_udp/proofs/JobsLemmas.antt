@@ -2,23 +2,22 @@
 use Rattle.std.proofs.Common.{◌≡◌, ◌+◌, ◌++◌, ◌∷◌, List, Some, [], ap, arith, length, length-append, subst, sym, ℕ}
 use Rattle.std.specs.List.{All}
 use Rattle.std.proofs.lemmas.List.Elements.{All-nil, All-pop, All-push, All-same}
-use Rattle.dispatch.specs.Device.{OutboxValue}
 use Rattle.dispatch.specs.Tally.{CounterValue}
 use Rattle.dispatch.specs.declared.device.Outbox as Outbox
 use Rattle.dispatch.specs.declared.device.Source as Source
 use Rattle.dispatch.specs.declared.worker_job.Job.{Job}
 use Rattle.dispatch.specs.Counted.{IsNew, IsNewWorker}
 use Rattle.read_section.specs.Worker.{WorkerValue}
-use Rattle.serve_devices.specs.Devices.{ChannelSourceValue}
+use Rattle.serve_devices.specs.Devices.{ChannelSourceValue, MemberOutboxValue}
 use Rattle.serve_udp.specs.Service.{HasNewDevices, HasRoom}
 use Rattle.serve_udp.specs.body.Jobs.{AreMade}
 
-module _ {source : Source.Ghosts ChannelSourceValue} {outbox : Outbox.Ghosts OutboxValue} where
-  no_job : (P : Job ChannelSourceValue OutboxValue source outbox → Type 0) (jobs : List (Job ChannelSourceValue OutboxValue source outbox)) → jobs ≡ []
+module _ {source : Source.Ghosts ChannelSourceValue} {outbox : Outbox.Ghosts MemberOutboxValue} where
+  no_job : (P : Job ChannelSourceValue MemberOutboxValue source outbox → Type 0) (jobs : List (Job ChannelSourceValue MemberOutboxValue source outbox)) → jobs ≡ []
       → All P jobs
   no_job P jobs none = All-same P jobs [] none (All-nil P)
 
-  pub none_made : (workers : List WorkerValue) (counters : List CounterValue) (jobs : List (Job ChannelSourceValue OutboxValue source outbox)) (queues : ℕ) → jobs ≡ [] → queues ≡ 0
+  pub none_made : (workers : List WorkerValue) (counters : List CounterValue) (jobs : List (Job ChannelSourceValue MemberOutboxValue source outbox)) (queues : ℕ) → jobs ≡ [] → queues ≡ 0
       → AreMade 0 workers workers counters counters jobs queues
   none_made workers counters jobs queues none no_queues = record {
     job_count = ap length none;
@@ -31,18 +30,18 @@ module _ {source : Source.Ghosts ChannelSourceValue} {outbox : Outbox.Ghosts Out
     new_counters = λ table new. (new, no_job (λ job. IsNew table job.counter) jobs none);
   }
 
-  all_pushed : (P : Job ChannelSourceValue OutboxValue source outbox → Type 0) (jobs jobs' : List (Job ChannelSourceValue OutboxValue source outbox)) (job : Job ChannelSourceValue OutboxValue source outbox) → jobs' ≡ jobs ++ job ∷ []
+  all_pushed : (P : Job ChannelSourceValue MemberOutboxValue source outbox → Type 0) (jobs jobs' : List (Job ChannelSourceValue MemberOutboxValue source outbox)) (job : Job ChannelSourceValue MemberOutboxValue source outbox) → jobs' ≡ jobs ++ job ∷ []
       → All P jobs → P job → All P jobs'
   all_pushed P jobs jobs' job pushed all holds = All-same P jobs' (jobs ++ job ∷ []) pushed (All-push P jobs job all holds)
 
   -- one more, of the last worker and the last counter
-  pub one_more : (many : ℕ) (workers left : List WorkerValue) (counters counters_left : List CounterValue) (jobs : List (Job ChannelSourceValue OutboxValue source outbox)) (queues : ℕ)
+  pub one_more : (many : ℕ) (workers left : List WorkerValue) (counters counters_left : List CounterValue) (jobs : List (Job ChannelSourceValue MemberOutboxValue source outbox)) (queues : ℕ)
       → AreMade many workers left counters counters_left jobs queues
       → (left' : List WorkerValue) (counters_left' : List CounterValue) (worker : WorkerValue) (counter : CounterValue)
       → left ≡ left' ++ worker ∷ [] → counters_left ≡ counters_left' ++ counter ∷ []
-      → (job : Job ChannelSourceValue OutboxValue source outbox) → job.worker ≡ worker → job.counter ≡ counter → HasNewDevices job.source job.outbox
+      → (job : Job ChannelSourceValue MemberOutboxValue source outbox) → job.worker ≡ worker → job.counter ≡ counter → HasNewDevices job.source job.outbox
       → HasRoom (length job.buffer.items) job.limit
-      → (jobs' : List (Job ChannelSourceValue OutboxValue source outbox)) (queues' : ℕ) → jobs' ≡ jobs ++ job ∷ [] → queues' ≡ queues + 1
+      → (jobs' : List (Job ChannelSourceValue MemberOutboxValue source outbox)) (queues' : ℕ) → jobs' ≡ jobs ++ job ∷ [] → queues' ≡ queues + 1
       → AreMade (many + 1) workers left' counters counters_left' jobs' queues'
   one_more many workers left counters counters_left jobs queues made left' counters_left' worker counter taken counted job of_worker of_counter devices room jobs' queues' pushed queued =
       let job_more = ap length pushed in

@@ -11,7 +11,7 @@ use crate::sockets::LONGEST_DATAGRAM;
 use command_line::Failure;
 use dispatch::{Counter, Job};
 use read_section::Worker;
-use serve_devices::{ChannelSource, SocketOutbox, WorkerQueue, open_queue};
+use serve_devices::{ChannelSource, MemberOutbox, SharedCounts, WorkerQueue, open_queue};
 use std::alloc::Global;
 use std::net::{Net, UdpSocket};
 use std::sync::Wait;
@@ -20,13 +20,13 @@ use std::sync::Wait;
 const LIMIT: u64 = 64;
 
 /// A job of the service.
-pub type ServiceJob<'a, R> = Job<ChannelSource<'a, R>, SocketOutbox>;
+pub type ServiceJob<'a, R> = Job<ChannelSource<'a, R>, MemberOutbox<'a, R>>;
 
 // What a job has beside its worker and its counter, and the end of its queue that is told.
 struct Devices<'a, R: Wait + Net> {
     source: ChannelSource<'a, R>,
     queue: WorkerQueue,
-    outbox: SocketOutbox,
+    outbox: MemberOutbox<'a, R>,
     buffer: Vec<u8>,
 }
 
@@ -34,6 +34,7 @@ struct Devices<'a, R: Wait + Net> {
 fn open_devices<'a, R: Wait + Net>(
     rt: &'a R,
     alloc: Global,
+    counts: &'a SharedCounts,
     outlet: UdpSocket,
 ) -> Result<Devices<'a, R>, Failure>
     ensures new { IfOk result (λ devices. HasNewDevices devices.source devices.outbox) }
@@ -46,10 +47,13 @@ fn open_devices<'a, R: Wait + Net>(
     let Ok(buffer) = vec![in alloc; 0; LONGEST_DATAGRAM] else {
         return Err(Failure::OutOfMemory);
     };
+    let Ok(outbox) = MemberOutbox::new(rt, alloc, outlet, counts) else {
+        return Err(Failure::OutOfMemory);
+    };
     Ok(Devices {
         source,
         queue,
-        outbox: SocketOutbox::new(outlet),
+        outbox,
         buffer,
     })
 }
@@ -102,10 +106,11 @@ fn add_job<'a, R: Wait + Net>(
     };
 }
 
-/// Takes a worker, a counter and a socket for each job, and returns the jobs and their queues.
+/// Takes a worker, a counter and a socket for each job, and returns the jobs and their queues. All count by member in one table.
 pub fn jobs<'a, R: Wait + Net>(
     rt: &'a R,
     alloc: Global,
+    counts: &'a SharedCounts,
     seats: &mut Vec<Worker>,
     counters: &mut Vec<Counter>,
     mut outlets: Vec<UdpSocket>,
@@ -128,7 +133,7 @@ pub fn jobs<'a, R: Wait + Net>(
         let Some(outlet) = outlets.pop() else {
             unreachable!()
         };
-        let devices = open_devices(rt, alloc, outlet)?;
+        let devices = open_devices(rt, alloc, counts, outlet)?;
         add_job(devices, seats, counters, &mut jobs, &mut queues);
     }
     Ok((jobs, queues))

@@ -19,6 +19,7 @@ mod jobs;
 mod opening;
 mod ready;
 mod receiving;
+mod shared_totals;
 mod sockets;
 
 pub use bound::{BindFault, BoundSockets, bind_udp, bind_unix};
@@ -26,18 +27,20 @@ use command_line::Failure;
 use dispatch::{Gate, NamedTally, RunFault, TallyName, Totals, gather, run_counted, write_totals};
 use ipv4_fields::Endpoint;
 use jobs::ServiceJob;
+use member_counts::MemberTable;
 use member_group::Config;
 use opening::{Service, open_service};
 use read_section::WORKERS;
 use ready::write_ready;
 use receiving::Ended;
 use serve_control::{Log, LogLines, NoLog};
+use serve_devices::SharedCounts;
 pub use sockets::LONGEST_DATAGRAM;
 use std::alloc::Global;
 use std::io::Write;
 use std::marker::Brand;
 use std::net::Net;
-use std::sync::Wait;
+use std::sync::{Mutex, Wait};
 use std::thread::Threads;
 
 /// Law: the limits, as numbers. It runs nothing.
@@ -62,6 +65,7 @@ fn count_served<N: TallyName, L: LogLines, R: Threads + Wait + Sync, G: Gate + S
     alloc: Global,
     jobs: Vec<ServiceJob<'_, R>>,
     service: Service,
+    counts: &SharedCounts,
     gate: &G,
     log: &mut Log<L>,
 ) -> Result<Totals, Failure>
@@ -78,7 +82,7 @@ fn count_served<N: TallyName, L: LogLines, R: Threads + Wait + Sync, G: Gate + S
     let told = &mut ended;
     let mut receiver = service.receiver;
     let counters = match run_counted(rt, alloc, jobs, service.spare, gate, move || {
-        *told = receiver.receive(rt, alloc, lent, log);
+        *told = receiver.receive(rt, alloc, lent, counts, log);
     }) {
         Ok(counters) => counters,
         Err(fault) => return Err(failed(fault)),
@@ -95,8 +99,8 @@ fn count_served<N: TallyName, L: LogLines, R: Threads + Wait + Sync, G: Gate + S
 /// received. Of the switch's workers each receives through a queue, in turn, and sends by one of the sockets for workers.
 /// Each control request that changes something or is not done is a line of the log.
 ///
-/// All memory but that of the threads, of queued datagrams and of control is taken before the line `ready`, from the configuration's
-/// allocator. It may wait, since nothing says that it is ever asked to stop.
+/// All memory but that of the threads, of queued datagrams, of control and of counters by member is taken before the line `ready`, from
+/// the configuration's allocator. It may wait, since nothing says that it is ever asked to stop.
 pub fn serve_bound<R: Threads + Wait + Net + Sync, G: Gate + Sync, W: Write, L: LogLines>(
     rt: &R,
     config: Config,
@@ -117,9 +121,10 @@ pub fn serve_bound<R: Threads + Wait + Net + Sync, G: Gate + Sync, W: Write, L: 
 {
     let alloc = *config.allocator();
     let (front, control) = (sockets.address, sockets.place);
-    let (jobs, service) = open_service(rt, config, sockets, workers)?;
+    let counts = Mutex::new(MemberTable::new(alloc));
+    let (jobs, service) = open_service(rt, &counts, config, sockets, workers)?;
     write_ready(front, control, out)?;
-    let totals = count_served::<Brand, L, R, G>(rt, alloc, jobs, service, gate, log)?;
+    let totals = count_served::<Brand, L, R, G>(rt, alloc, jobs, service, &counts, gate, log)?;
     write_totals(&totals, out).map_err(|_| Failure::WriteFailed)
 }
 

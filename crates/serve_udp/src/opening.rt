@@ -16,7 +16,7 @@ use command_line::Failure;
 use dispatch::{Counter, Tally};
 use member_group::Config;
 use read_section::{Operator, WORKERS, Worker, open_within, spread};
-use serve_devices::{WorkerQueue, WorkerQueues};
+use serve_devices::{SharedCounts, WorkerQueue, WorkerQueues};
 use std::alloc::{AllocError, Global};
 use std::net::Net;
 use std::sync::Wait;
@@ -45,6 +45,7 @@ fn open_table(config: Config) -> Result<(Operator, Vec<Worker>), AllocError>
 fn connect<'a, R: Wait + Net>(
     rt: &'a R,
     alloc: Global,
+    counts: &'a SharedCounts,
     sockets: BoundSockets<'_>,
     seats: &mut Vec<Worker>,
     counters: &mut Vec<Counter>,
@@ -67,7 +68,7 @@ fn connect<'a, R: Wait + Net>(
         place: _,
         outlets,
     } = sockets;
-    let (jobs, queues) = jobs(rt, alloc, seats, counters, outlets, workers)?;
+    let (jobs, queues) = jobs(rt, alloc, counts, seats, counters, outlets, workers)?;
     let Ok(sockets) = Sockets::open(rt, alloc, front, (address, control), room) else {
         return Err(Failure::PollFailed);
     };
@@ -100,9 +101,10 @@ fn service_of(
 }
 
 /// Makes so many jobs and all that they and receiving need. The jobs have new workers of the operator's
-/// table, which opens with the configuration, and new counters of the tally.
+/// table, which opens with the configuration, and new counters of the tally, and count by member in the shared table.
 pub fn open_service<'a, R: Wait + Net>(
     rt: &'a R,
+    counts: &'a SharedCounts,
     config: Config,
     sockets: BoundSockets<'_>,
     workers: usize,
@@ -123,7 +125,7 @@ pub fn open_service<'a, R: Wait + Net>(
     let Ok((tally, mut spare)) = Tally::open(alloc) else {
         return Err(Failure::OutOfMemory);
     };
-    let (jobs, queues, sockets) = connect(rt, alloc, sockets, &mut seats, &mut spare, workers)?;
+    let (jobs, queues, sockets) = connect(rt, alloc, counts, sockets, &mut seats, &mut spare, workers)?;
     Ok((
         jobs,
         service_of(alloc, sockets, queues, operator, tally, spare),

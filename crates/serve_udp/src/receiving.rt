@@ -1,10 +1,11 @@
 //! The caller's thread of the service: it hands over what comes, and answers control, until it is asked to stop.
 
+use crate::shared_totals::SharedTotals;
 use crate::sockets::Sockets;
 use dispatch::{NamedTally, TallyName};
 use read_section::Operator;
 use serve_control::{Log, LogLines};
-use serve_devices::WorkerQueues;
+use serve_devices::{SharedCounts, WorkerQueues};
 use std::alloc::Global;
 use std::sync::Wait;
 
@@ -32,8 +33,10 @@ impl Receiver {
         rt: &R,
         alloc: Global,
         named: &mut NamedTally<N>,
+        counts: &SharedCounts,
         log: &mut Log<L>,
     ) -> Ended {
+        let mut members = SharedTotals { rt, counts };
         for _ in rt.forever() {
             if self.sockets.wait().is_err() {
                 return Ended::PollFailed;
@@ -41,7 +44,7 @@ impl Receiver {
             self.sockets.receive(rt, &mut self.queues);
             if self
                 .sockets
-                .answer_control(alloc, &mut self.operator, named, log)
+                .answer_control(alloc, &mut self.operator, named, &mut members, log)
             {
                 return Ended::Stopped;
             }

@@ -6,7 +6,9 @@ use ipv4_fields::Endpoint;
 use mio::net::UdpSocket;
 use mio::{Events, Interest, Poll, Registry, Token};
 use read_section::Operator;
-use serve_control::{BoundAddresses, ControlAnswer, Desk, Log, LogLines, Peer, answer_from};
+use serve_control::{
+    BoundAddresses, ControlAnswer, Desk, Log, LogLines, MemberTotals, Peer, answer_from,
+};
 use serve_devices::WorkerQueues;
 use serve_stream::Turn;
 use serve_unix::{CLIENTS, UnixControl};
@@ -140,12 +142,13 @@ fn send_reply(socket: &UdpSocket, reply: &mut Vec<u8>, answer: &ControlAnswer, t
 impl UdpControl {
     // Answers the next datagrams by one datagram each to their senders, but for those that are ignored. True if the switch is asked to
     // stop.
-    fn turn<N: TallyName, L: LogLines>(
+    fn turn<N: TallyName, L: LogLines, M: MemberTotals>(
         &mut self,
         alloc: Global,
         room: &mut Room,
         operator: &mut Operator,
         named: &mut NamedTally<N>,
+        members: &mut M,
         log: &mut Log<L>,
     ) -> bool {
         for _datagram in 0..CONTROL_TURN {
@@ -162,6 +165,7 @@ impl UdpControl {
                         text,
                         operator,
                         named,
+                        members,
                         log,
                     );
                     let Some(answer) = answered else {
@@ -185,11 +189,12 @@ impl UdpControl {
 }
 
 // Gives the next clients their turns. True if the switch is asked to stop.
-fn client_turns<N: TallyName, L: LogLines>(
+fn client_turns<N: TallyName, L: LogLines, M: MemberTotals>(
     control: &mut UnixControl,
     alloc: Global,
     operator: &mut Operator,
     named: &mut NamedTally<N>,
+    members: &mut M,
     log: &mut Log<L>,
 ) -> bool {
     for _client in 0..CONTROL_TURN {
@@ -200,6 +205,7 @@ fn client_turns<N: TallyName, L: LogLines>(
             alloc,
             operator,
             tally: named,
+            members,
             log,
             peer: Peer::Unix(control.number(place)),
         };
@@ -268,20 +274,21 @@ impl Sockets {
     }
 
     /// Gives control its turn: requests are answered. True if the switch is asked to stop.
-    pub fn answer_control<N: TallyName, L: LogLines>(
+    pub fn answer_control<N: TallyName, L: LogLines, M: MemberTotals>(
         &mut self,
         alloc: Global,
         operator: &mut Operator,
         named: &mut NamedTally<N>,
+        members: &mut M,
         log: &mut Log<L>,
     ) -> bool {
         match &mut self.control {
             Control::Udp(control) => {
-                control.is_ready && control.turn(alloc, &mut self.room, operator, named, log)
+                control.is_ready && control.turn(alloc, &mut self.room, operator, named, members, log)
             }
             Control::Unix(control) => {
                 control.accept(alloc, self.poll.registry());
-                client_turns(control, alloc, operator, named, log)
+                client_turns(control, alloc, operator, named, members, log)
             }
         }
     }

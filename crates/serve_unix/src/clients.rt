@@ -160,6 +160,9 @@ impl<S: Stream> Clients<S> {
             return Turn::Closed;
         };
         let turn = client.conversation.turn(&mut client.stream, answers, TURN);
+        if let Some((front, reply)) = client.conversation.take_unheld() {
+            answers.not_held(front, reply);
+        }
         match turn {
             Turn::Went => {}
             Turn::Waits => client.is_active = false,

@@ -1,5 +1,5 @@
 -- What becomes of one datagram.
-use Rattle.std.specs.Prelude.{◌≡◌, ◌+◌, ◌≤◌, Bool, List, [], length, suc, ℕ}
+use Rattle.std.specs.Prelude.{◌≡◌, ◌+◌, ◌∷◌, ◌≤◌, Bool, List, Option, [], length, suc, ℕ}
 use Rattle.read_section.specs.Worker.{WorkerValue}
 use Rattle.packet_verdict.specs.declared.kind.Kind.TheVariants as kind
 use Rattle.packet_verdict.specs.declared.verdict.Verdict.{Verdict}
@@ -7,6 +7,7 @@ use Rattle.packet_verdict.specs.declared.verdict.Verdict.TheVariants.{Deliver, D
 use Rattle.dispatch.specs.Batch.{IsFull, IsJudged, Judged, counted_but_last, counted_for, counted_if, delivery, one_if, sent_of, sent_unless}
 use Rattle.dispatch.specs.Device.{OutboxValue, Takes}
 use Rattle.dispatch.specs.Tally.{CounterValue}
+use Rattle.dispatch.specs.Told.{Told, failure_told, send_failed, told_of, told_of_last}
 
 -- a verdict delivers no more bytes than there are
 abbrev pub KeepsNoMore : Verdict → List ℕ → Type 0
@@ -22,21 +23,25 @@ JudgesInSection before after packet verdict =
     (inside : WorkerValue) × ((failed : Bool) → IsJudged before (record { packet = packet; inside = inside; after = after; verdict = verdict; failed = failed }))
 
 -- what is to be delivered was sent, or that failed and was counted
-pub record IsDelivered (verdict : Verdict) (packet : List ℕ) (counter counter' : CounterValue) (outbox outbox' : OutboxValue) : Type 0 where
+pub record IsDelivered (verdict : Verdict) (packet : List ℕ) (counter counter' : CounterValue) (outbox outbox' : OutboxValue)
+    (told told' : Option (List Told)) : Type 0 where
   pub failed : Bool
   pub sent_once : Takes outbox.taken outbox'.taken (sent_unless failed (delivery verdict packet))
   pub counted_once : counter' ≡ counted_if failed kind.SendFailed counter
   pub outbox_failures : outbox'.failures ≡ one_if failed + outbox.failures
+  pub told_once : Takes told told' (failure_told failed)
 
 -- it failed, and could not be counted
-pub record IsUndelivered (counter counter' : CounterValue) (outbox outbox' : OutboxValue) : Type 0 where
+pub record IsUndelivered (counter counter' : CounterValue) (outbox outbox' : OutboxValue) (told told' : Option (List Told)) : Type 0 where
   pub full : IsFull counter
   pub counter_kept : counter' ≡ counter
   pub sent_nothing : Takes outbox.taken outbox'.taken []
   pub one_failure : outbox'.failures ≡ suc outbox.failures
+  pub told_once : Takes told told' (send_failed ∷ [])
 
 -- it was judged, its verdict was counted, and it was delivered
-pub record IsHandled (worker worker' : WorkerValue) (counter counter' : CounterValue) (outbox outbox' : OutboxValue) (packet : List ℕ) : Type 0 where
+pub record IsHandled (worker worker' : WorkerValue) (counter counter' : CounterValue) (outbox outbox' : OutboxValue)
+    (told told' : Option (List Told)) (packet : List ℕ) : Type 0 where
   pub judged : Judged
   pub packet_is : judged.packet ≡ packet
   pub own_section : IsJudged worker judged
@@ -44,9 +49,11 @@ pub record IsHandled (worker worker' : WorkerValue) (counter counter' : CounterV
   pub counted_once : counter' ≡ counted_for judged counter
   pub sent_once : Takes outbox.taken outbox'.taken (sent_of judged)
   pub outbox_failures : outbox'.failures ≡ one_if judged.failed + outbox.failures
+  pub told_once : Takes told told' (told_of judged)
 
 -- it was judged, but its verdict could not be counted, or its failed send
-pub record IsNotCounted (worker worker' : WorkerValue) (counter counter' : CounterValue) (outbox outbox' : OutboxValue) (packet : List ℕ) : Type 0 where
+pub record IsNotCounted (worker worker' : WorkerValue) (counter counter' : CounterValue) (outbox outbox' : OutboxValue)
+    (told told' : Option (List Told)) (packet : List ℕ) : Type 0 where
   pub judged : Judged
   pub packet_is : judged.packet ≡ packet
   pub own_section : IsJudged worker judged
@@ -55,3 +62,4 @@ pub record IsNotCounted (worker worker' : WorkerValue) (counter counter' : Count
   pub counted_before : counter' ≡ counted_but_last judged counter
   pub sent_nothing : Takes outbox.taken outbox'.taken []
   pub outbox_failures : outbox'.failures ≡ one_if judged.failed + outbox.failures
+  pub told_once : Takes told told' (told_of_last judged)

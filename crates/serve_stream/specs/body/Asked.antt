@@ -1,5 +1,5 @@
 -- A request that is whole and not answered yet.
-use Rattle.std.specs.Prelude.{◌++◌, ◌∷◌, List, None, Option, Some, [], ℕ}
+use Rattle.std.specs.Prelude.{◌≡◌, ◌++◌, ◌∷◌, List, None, Option, Some, [], ℕ}
 use Rattle.std.specs.List.{All}
 use Rattle.serve_stream.specs.declared.answers.After.{After}
 use Rattle.serve_stream.specs.declared.answers.After.TheVariants.{GoesOn, Stops}
@@ -43,3 +43,12 @@ stage_of Request None = Open
 abbrev pub words_of : HoldFault → List ℕ
 words_of TooLong = too_long_words
 words_of OutOfMemory = no_memory_words
+
+-- why the request that came last is not held: what is held of it, and the last words without their LF
+abbrev pub IsUnheld : Conversation → Option (List ℕ × List ℕ) → Type 0
+IsUnheld conversation told = tells conversation.unheld told
+  where
+    tells : Option HoldFault → Option (List ℕ × List ℕ) → Type 0
+    tells None told = told ≡ None
+    tells (Some fault) None = ⊥
+    tells (Some fault) (Some (front, reply)) = (front ≡ conversation.held.bytes.items) × (reply ++ 10 ∷ [] ≡ words_of fault)

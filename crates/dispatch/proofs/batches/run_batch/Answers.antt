@@ -5,19 +5,22 @@ use Rattle.dispatch.specs.Batch.{Parts}
 use Rattle.dispatch.proofs.BatchLemmas.{run_more, run_of_none}
 use Rattle.dispatch.proofs.DeviceLemmas.{gives_one}
 use Rattle.dispatch.proofs.StepLemmas.{adds_more, adds_nothing, judging_adds, judging_leaves}
-use Rattle.dispatch.proofs.batches.batch.Goals as goal
+use Rattle.dispatch.proofs.batches.run_batch.Goals as goal
 
 pub loop-judged-init : goal.loop-judged-init
 loop-judged-init g c =
-    let begun : Parts = record { worker = c.args.worker.now; counter = c.args.counter.now; source = g.S.Source.state c.args.source.now; outbox = g.O.Outbox.state c.args.outbox.now } in
-    record { judged = []; run = run_of_none (length c.args.buf.now) begun; count_is = refl; outside = λ outside. outside; own_steps = adds_nothing begun.worker }
+    let begun : Parts = record { worker = c.args.worker.now; counter = c.args.counter.now; source = g.S.Source.state c.args.source.now; outbox = g.O.VerdictOutbox.state c.args.outbox.now } in
+    record {
+      so_far = record { judged = []; run = run_of_none (length c.args.buf.now) begun; count_is = refl; outside = λ outside. outside; own_steps = adds_nothing begun.worker };
+      told_each = takes_nothing (g.O.VerdictOutbox.told c.args.outbox.now);
+    }
 
 pub loop-judged-preserved : goal.loop-judged-preserved
 loop-judged-preserved g c =
     let so_far = c.loop-judged.invariant in let one = c.in_ok-handle.ensures.handled in let some = c.in-Ok-Some in
-    let before : Parts = record { worker = c.args.worker.now; counter = c.args.counter.now; source = g.S.Source.state c.args.source.now; outbox = g.O.Outbox.state c.args.outbox.now } in
-    let mid : Parts = record { worker = c.loop-judged.worker; counter = c.loop-judged.counter; source = g.S.Source.state c.loop-judged.source; outbox = g.O.Outbox.state c.loop-judged.outbox } in
-    let after : Parts = record { worker = c.handle.new.worker; counter = c.handle.new.counter; source = g.S.Source.state c.next.new.self; outbox = g.O.Outbox.state c.handle.new.outbox } in
+    let before : Parts = record { worker = c.args.worker.now; counter = c.args.counter.now; source = g.S.Source.state c.args.source.now; outbox = g.O.VerdictOutbox.state c.args.outbox.now } in
+    let mid : Parts = record { worker = c.loop-judged.worker; counter = c.loop-judged.counter; source = g.S.Source.state c.loop-judged.source; outbox = g.O.VerdictOutbox.state c.loop-judged.outbox } in
+    let after : Parts = record { worker = c.handle.new.worker; counter = c.handle.new.counter; source = g.S.Source.state c.next.new.self; outbox = g.O.VerdictOutbox.state c.handle.new.outbox } in
     let longer = length-append so_far.judged (one.judged ∷ []) in let count = so_far.count_is in
     record {
       judged = so_far.judged ++ one.judged ∷ [];

@@ -1,0 +1,133 @@
+//! The outbox of a worker that counts by member (docs/SWITCH.md, "Devices of a server"): a socket of its own, a log of its own, and
+//! the table that all workers count in.
+
+ghost use Rattle.std.specs.Prelude.{◌≡◌, IfOk, [], length};
+ghost use Rattle.dispatch.specs.Device.{CountsFailure, Takes, taken_by};
+ghost use Rattle.member_counts.specs.Log.{with_no_members, with_verdict};
+ghost use Rattle.member_counts.specs.Table.{CountsLog};
+ghost use Rattle.serve_devices.specs.Devices.{Logs, after_send, empty_log, new_outbox, outbox_of};
+
+use crate::socket_outbox::SocketOutbox;
+use dispatch::{Failed, Outbox};
+use ipv4_fields::Endpoint;
+use member_counts::{MemberTable, VerdictLog};
+use packet_verdict::Verdict;
+use std::alloc::{AllocError, Global};
+use std::marker::Model;
+use std::net::UdpSocket;
+use std::sync::{Mutex, Wait};
+
+/// How many verdicts a worker keeps for itself at most.
+pub const LOG_ROOM: usize = 64;
+
+/// The table that all workers count in.
+pub type SharedCounts = Mutex<MemberTable>;
+
+/// An outbox over a socket, which counts by member.
+///
+/// It keeps the verdicts of a batch in a log of its own. It takes the lock of the table when the log is handed on, and never while a
+/// packet is judged. Contracts see how often a send failed, and what is in the log.
+#[derive(Drop)]
+pub struct MemberOutbox<'a, R: Wait> {
+    rt: &'a R,
+    outbox: SocketOutbox,
+    log: VerdictLog,
+    counts: &'a SharedCounts,
+}
+
+impl<'a, R: Wait> Model for MemberOutbox<'a, R> {
+    ghost use Rattle.std.specs.Prelude.{◌≡◌};
+    ghost use Rattle.serve_devices.specs.Devices.{MemberOutboxValue};
+    ghost use Rattle.serve_devices.specs.declared.member_outbox.TheConstants.{LOG_ROOM};
+
+    ghost Value = { MemberOutboxValue };
+
+    ghost view = { λ o. record { failures = o.outbox.failures; log = o.log } };
+
+    ghost invariant = { λ o. o.log.room ≡ LOG_ROOM };
+}
+
+// Adds the log to the table, and empties it.
+fn hand_log_on(log: &mut VerdictLog, table: &mut MemberTable)
+    ensures counted { CountsLog table.old log.old.entries table.new }
+    ensures empty { log.new ≡ record log.old { entries = [] } }
+{
+    table.count(log);
+    log.clear();
+}
+
+impl<'a, R: Wait> MemberOutbox<'a, R> {
+    /// Takes the socket, and the memory for the log.
+    pub fn new(
+        rt: &'a R,
+        alloc: Global,
+        socket: UdpSocket,
+        counts: &'a SharedCounts,
+    ) -> Result<MemberOutbox<'a, R>, AllocError>
+        ensures new { IfOk result (λ outbox. outbox ≡ new_outbox) }
+    {
+        Ok(MemberOutbox {
+            rt,
+            outbox: SocketOutbox::new(socket),
+            log: VerdictLog::new(alloc, LOG_ROOM)?,
+            counts,
+        })
+    }
+
+    // Hands the log on, if there is something in it.
+    fn empty_log(&mut self)
+        ensures empty { self.new.log ≡ empty_log }
+        ensures failures { self.new.failures ≡ self.old.failures }
+    {
+        if self.log.is_empty() {
+            return;
+        }
+        let mut table = self.counts.lock(self.rt);
+        hand_log_on(&mut self.log, &mut table);
+    }
+}
+
+impl<'a, R: Wait> Outbox for MemberOutbox<'a, R> {
+    ghost use Rattle.serve_devices.specs.Devices.{outbox_of};
+
+    ghost state = { outbox_of };
+
+    fn send(&mut self, to: Endpoint, bytes: &[u8]) -> Result<(), Failed>
+        ensures device_failed { CountsFailure result self.old.failures self.new.failures }
+        ensures sent_once { Takes (outbox_of self.old).taken (outbox_of self.new).taken (taken_by result to bytes.now) }
+        ensures logged { self.new.log ≡ after_send result self.old.log }
+    {
+        let sent = self.outbox.send(to, bytes);
+        if sent.is_err() {
+            self.log.send_failed();
+        }
+        sent
+    }
+
+    fn judged(&mut self, verdict: &Verdict)
+        ensures unchanged { outbox_of self.new ≡ outbox_of self.old }
+        ensures logged { Logs (with_verdict verdict.now) self.old.log self.new.log }
+    {
+        if self.log.is_full() {
+            self.empty_log();
+        }
+        self.log.judged(verdict);
+    }
+
+    fn no_members(&mut self, group: Endpoint)
+        ensures unchanged { outbox_of self.new ≡ outbox_of self.old }
+        ensures logged { Logs (with_no_members group) self.old.log self.new.log }
+    {
+        if self.log.is_full() {
+            self.empty_log();
+        }
+        self.log.no_members(group);
+    }
+
+    fn hand_on(&mut self)
+        ensures unchanged { outbox_of self.new ≡ outbox_of self.old }
+        ensures handed_on { self.new.log ≡ empty_log }
+    {
+        self.empty_log();
+    }
+}
