@@ -10,7 +10,7 @@ ghost use Rattle.std.specs.Prelude.{◌≡◌, ◌≤◌, ◌⊎◌, length};
 mod rounds;
 mod script;
 
-use rounds::{change, judge_rounds, line_rounds, section_rounds};
+use rounds::{change, count_rounds, judge_rounds, line_rounds, section_rounds};
 use script::opened;
 use std::alloc::Global;
 
@@ -33,6 +33,27 @@ pub extern "C" fn measured_judge(alloc: Global, script: &[u8], packet: &[u8], ro
 {
     match opened(alloc, script) {
         Some((_operator, mut worker)) => judge_rounds(&mut worker, packet, rounds),
+        None => 0,
+    }
+}
+
+/// Judges a packet, as `measured_judge` does, and logs each verdict. After each batch of 64 the log is added to a table of counters if
+/// `adds` is not 0, and emptied.
+#[unsafe(no_mangle)]
+pub extern "C" fn measured_count(
+    alloc: Global,
+    script: &[u8],
+    packet: &[u8],
+    adds: u64,
+    rounds: u64,
+) -> u64
+    requires packet { length packet.now ≤ 65535 }
+    ensures rounds { (result ≡ rounds) ⊎ (result ≡ 0) }
+{
+    match opened(alloc, script) {
+        Some((_operator, mut worker)) => {
+            count_rounds(alloc, &mut worker, packet, adds != 0, rounds)
+        }
         None => 0,
     }
 }

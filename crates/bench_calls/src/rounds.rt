@@ -1,13 +1,14 @@
 //! The calls, repeated.
 
-ghost use Rattle.std.specs.Prelude.{◌≡◌, ◌≤◌, length};
+ghost use Rattle.std.specs.Prelude.{◌≡◌, ◌≤◌, ◌<◌, ◌⊎◌, [], length};
 
 use bpf_insn::Words;
 use bpf_verify::Program;
 use control_line::line;
 use ipv4_fields::Endpoint;
+use member_counts::{MemberTable, VerdictLog};
 use member_group::{Command, Config};
-use packet_verdict::judge;
+use packet_verdict::{Verdict, judge};
 use read_section::{Operator, Worker};
 use retire::Retire;
 use std::alloc::Global;
@@ -27,12 +28,13 @@ pub(crate) fn section_rounds(worker: &mut Worker, rounds: u64) -> u64
 
 // Not inlined, as what judges packets in dispatch is not.
 #[inline(never)]
-fn judge_in_section(worker: &mut Worker, packet: &[u8])
+fn judge_in_section(worker: &mut Worker, packet: &[u8]) -> Verdict
     requires { length packet.now ≤ 65535 }
 {
     let mut section = worker.enter();
-    let _ = judge(&mut section, packet);
+    let verdict = judge(&mut section, packet);
     section.leave();
+    verdict
 }
 
 pub(crate) fn judge_rounds(worker: &mut Worker, packet: &[u8], rounds: u64) -> u64
@@ -40,7 +42,59 @@ pub(crate) fn judge_rounds(worker: &mut Worker, packet: &[u8], rounds: u64) -> u
     ensures { result ≡ rounds }
 {
     for _ in 0..rounds {
-        judge_in_section(worker, packet);
+        let _ = judge_in_section(worker, packet);
+    }
+    rounds
+}
+
+// A worker's log is handed on after so many verdicts.
+const BATCH: usize = 64;
+
+// Adds the log to the table, if that is asked, and empties it.
+fn hand_on(log: &mut VerdictLog, table: &mut MemberTable, adds: bool)
+    ensures empty { log.new ≡ record log.old { entries = [] } }
+{
+    if adds {
+        table.count(log);
+    }
+    log.clear();
+}
+
+// Judges the packet and logs the verdict. A full log is handed on before.
+fn judge_and_log(
+    worker: &mut Worker,
+    packet: &[u8],
+    log: &mut VerdictLog,
+    table: &mut MemberTable,
+    adds: bool,
+)
+    requires packet { length packet.now ≤ 65535 }
+    requires room { 0 < log.old.room }
+    ensures room { log.new.room ≡ log.old.room }
+{
+    let verdict = judge_in_section(worker, packet);
+    if log.is_full() {
+        hand_on(log, table, adds);
+    }
+    log.judged(&verdict);
+}
+
+pub(crate) fn count_rounds(
+    alloc: Global,
+    worker: &mut Worker,
+    packet: &[u8],
+    adds: bool,
+    rounds: u64,
+) -> u64
+    requires { length packet.now ≤ 65535 }
+    ensures { (result ≡ rounds) ⊎ (result ≡ 0) }
+{
+    let mut table = MemberTable::new(alloc);
+    let Ok(mut log) = VerdictLog::new(alloc, BATCH) else {
+        return 0;
+    };
+    for _ in 0..rounds {
+        judge_and_log(worker, packet, &mut log, &mut table, adds);
     }
     rounds
 }
