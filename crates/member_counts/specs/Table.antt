@@ -1,0 +1,100 @@
+-- What a contract sees of a MemberTable.
+use Rattle.std.specs.Prelude.{◌≡◌, ◌+◌, ◌<◌, ◌^◌, ◌++◌, ◌∷◌, Bool, IsSome, IsTrue, List, None, Option, Some, [], if◌then◌else◌, length, nat_lt, not, sum_by, true, ℕ}
+use Rattle.std.specs.List.{All, filter, fold}
+use Rattle.std.specs.Map.{lookup}
+use Rattle.std.specs.Option.{unwrap_or}
+use Rattle.bpf_verify.specs.Program.{ProgramValue}
+use Rattle.ipv4_fields.specs.declared.endpoint.Endpoint.{Endpoint}
+use Rattle.member_group.specs.Group.{GroupOf}
+use Rattle.member_counts.specs.declared.TheConstants.{KEPT_LIMIT}
+use Rattle.member_counts.specs.declared.counts.Counts.{Counts}
+use Rattle.member_counts.specs.declared.counts.GroupCounts.{GroupCounts}
+use Rattle.member_counts.specs.declared.counts.MemberCounts.{MemberCounts}
+use Rattle.member_counts.specs.declared.key.CountKey.{CountKey}
+use Rattle.member_counts.specs.declared.log.Counted.{Counted}
+use Rattle.member_counts.specs.Counts.{capped, counts_of, group_part, member_part, no_counts, plus}
+use Rattle.member_counts.specs.Key.{has, member_key, same_group, same_key}
+use Rattle.member_counts.specs.Log.{is_for}
+
+-- the keys that are kept, with what was counted at each, and the sum of what is gone
+pub record Table : Type 0 where
+  pub entries : List (CountKey × Counts)
+  pub gone : Counts
+
+-- what was counted at a key, if it is kept
+abbrev pub kept_at : CountKey → Table → Option Counts
+kept_at key table = lookup (same_key key) table.entries
+
+-- of a member, zeros if its key is not kept
+abbrev pub member_counts : Endpoint → ℕ → Table → MemberCounts
+member_counts group member table = member_part (unwrap_or (kept_at (member_key group member) table) no_counts)
+
+-- the sum over some keys
+abbrev pub sum_of : List (CountKey × Counts) → Counts
+sum_of entries = record {
+  delivered = capped (sum_by (λ entry. entry.1.delivered) entries);
+  dropped = capped (sum_by (λ entry. entry.1.dropped) entries);
+  no_members = capped (sum_by (λ entry. entry.1.no_members) entries);
+  send_failed = capped (sum_by (λ entry. entry.1.send_failed) entries);
+  bytes = capped (sum_by (λ entry. entry.1.bytes) entries);
+}
+
+-- of a group: the sum over its kept keys, also those of members that left
+abbrev pub group_counts : Endpoint → Table → GroupCounts
+group_counts group table = group_part (sum_of (filter (λ entry. same_group group entry.0.group) table.entries))
+
+-- what is kept at a key, if anything, and more
+abbrev pub joined : Option Counts → Counts → Counts
+joined None more = more
+joined (Some counts) more = plus counts more
+
+-- what is kept at a key after entries of that key, each added in turn
+abbrev pub kept_after : Option Counts → List Counted → Option Counts
+kept_after kept entries = fold (λ sum entry. Some (joined sum (counts_of entry))) kept entries
+
+-- counts after entries, each added in turn
+abbrev pub plus_all : Counts → List Counted → Counts
+plus_all counts entries = fold (λ sum entry. plus sum (counts_of entry)) counts entries
+
+-- each element is in one of two lists, and both are in its order
+pub data IsSplit {X : Type 0} : List X → List X → List X → Type 0 where
+  nothing : IsSplit [] [] []
+  one_added : (all added lost : List X) (x : X) → IsSplit all added lost → IsSplit (all ++ x ∷ []) (added ++ x ∷ []) lost
+  one_lost : (all added lost : List X) (x : X) → IsSplit all added lost → IsSplit (all ++ x ∷ []) added (lost ++ x ∷ [])
+
+-- Of the entries of a log some are added at their keys, and the others to what is gone. A key that was kept loses none, and a key of
+-- which no entry is added stays as it was.
+pub record CountsLog (old : Table) (log : List Counted) (new : Table) : Type 0 where
+  pub added : List Counted
+  pub lost : List Counted
+  pub split : IsSplit log added lost
+  pub at_each_key : (key : CountKey) → kept_at key new ≡ kept_after (kept_at key old) (filter (is_for key) added)
+  pub gone : new.gone ≡ plus_all old.gone lost
+  pub kept_loses_none : All (λ entry. (key : CountKey) → is_for key entry ≡ true → kept_at key old ≡ None) lost
+
+-- what is counted of one kind in all, kept or gone
+abbrev pub total : (Counts → ℕ) → Table → ℕ
+total kind table = sum_by (λ entry. kind entry.1) table.entries + kind table.gone
+
+-- a total grows by so much, as long as it stays below 2^64
+abbrev pub GrowsBy : ℕ → ℕ → ℕ → Type 0
+GrowsBy before more after = before + more < 2 ^ 64 → after ≡ before + more
+
+-- the totals grow by what the entries count, and by nothing else
+pub record Conserves (old : Table) (entries : List Counted) (new : Table) : Type 0 where
+  pub delivered : GrowsBy (total (λ c. c.delivered) old) (sum_by (λ entry. (counts_of entry).delivered) entries) (total (λ c. c.delivered) new)
+  pub dropped : GrowsBy (total (λ c. c.dropped) old) (sum_by (λ entry. (counts_of entry).dropped) entries) (total (λ c. c.dropped) new)
+  pub no_members : GrowsBy (total (λ c. c.no_members) old) (sum_by (λ entry. (counts_of entry).no_members) entries) (total (λ c. c.no_members) new)
+  pub send_failed : GrowsBy (total (λ c. c.send_failed) old) (sum_by (λ entry. (counts_of entry).send_failed) entries) (total (λ c. c.send_failed) new)
+  pub bytes : GrowsBy (total (λ c. c.bytes) old) (sum_by (λ entry. (counts_of entry).bytes) entries) (total (λ c. c.bytes) new)
+
+-- the keys that a configuration lacks are gone, and their counts are added in turn to what is gone
+abbrev pub without_lacking : List (GroupOf ProgramValue) → Table → Table
+without_lacking config table = record {
+  entries = filter (λ entry. has config entry.0) table.entries;
+  gone = fold (λ sum entry. plus sum entry.1) table.gone (filter (λ entry. not (has config entry.0)) table.entries);
+}
+
+-- that, if more keys are kept than the limit
+abbrev pub settled : List (GroupOf ProgramValue) → Table → Table
+settled config table = if nat_lt KEPT_LIMIT (length table.entries) then without_lacking config table else table

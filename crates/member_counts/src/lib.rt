@@ -1,0 +1,30 @@
+//! Verdicts counted by group and member, whatever the versions that judged them (docs/SWITCH.md, "Counts by member").
+//!
+//! A worker keeps its verdicts in a `VerdictLog` of its own. `MemberTable::count` adds a log to the table that all workers share.
+#![tactic(auto)]
+
+ghost use Rattle.std.specs.Prelude.{◌≡◌};
+
+mod counts;
+mod key;
+mod log;
+mod table;
+#[cfg(test)]
+mod tests;
+
+pub use counts::{Counts, GroupCounts, MemberCounts};
+pub use key::CountKey;
+pub use log::{Counted, Outcome, VerdictLog};
+pub use table::MemberTable;
+
+/// The greatest number of keys that `settle` leaves, unless the configuration has more.
+pub const KEPT_LIMIT: usize = 8192;
+
+/// The greatest number of keys that a table keeps between two calls of `settle`.
+pub const ROOM_LIMIT: usize = 16384;
+
+/// Law: the limits, as numbers. It runs nothing.
+pub fn limits_as_numbers()
+    ensures kept { KEPT_LIMIT ≡ 8192 }
+    ensures room { ROOM_LIMIT ≡ 16384 }
+{}

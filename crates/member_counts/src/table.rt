@@ -1,0 +1,144 @@
+//! The counts of all workers, by key (docs/SWITCH.md, "Counts by member").
+
+ghost use Rattle.std.specs.Prelude.{◌≡◌, ◌≤◌, IsSome, IsTrue, [], length};
+ghost use Rattle.std.specs.List.{IsDistinct, filter};
+ghost use Rattle.std.specs.Map.{keys_of};
+ghost use Rattle.member_counts.specs.Counts.{no_counts};
+ghost use Rattle.member_counts.specs.Key.{has, same_key};
+ghost use Rattle.member_counts.specs.Log.{is_for};
+ghost use Rattle.member_counts.specs.Table.{Conserves, CountsLog, group_counts, kept_after, kept_at, member_counts, settled};
+ghost use Rattle.member_counts.specs.body.Step.{AddsAt, GrowsEach};
+
+use crate::counts::{Counts, GroupCounts, MemberCounts};
+use crate::key::{CountKey, has};
+use crate::log::VerdictLog;
+use crate::{KEPT_LIMIT, ROOM_LIMIT};
+use ipv4_fields::Endpoint;
+use member_group::Config;
+use std::alloc::Global;
+use std::collections::BTreeMap;
+use std::marker::Model;
+
+/// What was counted at each key that is kept, and the sum of what is gone.
+#[derive(Drop)]
+pub struct MemberTable {
+    entries: BTreeMap<CountKey, Counts>,
+    gone: Counts,
+}
+
+impl Model for MemberTable {
+    ghost use Rattle.std.specs.Prelude.{◌≤◌, length};
+    ghost use Rattle.member_counts.specs.declared.TheConstants.{ROOM_LIMIT};
+    ghost use Rattle.member_counts.specs.Table.{Table};
+
+    ghost Value = { Table };
+
+    ghost view = { λ table. record { entries = table.entries.entries; gone = table.gone } };
+
+    ghost invariant = { λ table. length table.entries.entries ≤ ROOM_LIMIT };
+}
+
+impl MemberTable {
+    /// Makes a table in which nothing is counted. Takes no memory: `count` takes it from `alloc` later.
+    pub fn new(alloc: Global) -> MemberTable
+        ensures { result ≡ record { entries = []; gone = no_counts } }
+    {
+        MemberTable {
+            entries: BTreeMap::new(alloc),
+            gone: Counts::none(),
+        }
+    }
+
+    /// Tells how many keys are kept. No key is kept twice.
+    pub fn len(&self) -> usize
+        ensures len { result ≡ length self.now.entries }
+        ensures once { IsDistinct same_key (keys_of self.now.entries) }
+    {
+        self.entries.len()
+    }
+
+    // Adds counts at a key, or to what is gone if the key is not kept and there is no room for it.
+    fn add(&mut self, key: CountKey, counts: Counts)
+        ensures adds { AddsAt key counts self.old self.new }
+        ensures conserved { GrowsEach self.old counts self.new }
+    {
+        if let Some(sum) = self.entries.get_mut(&key) {
+            *sum = sum.plus(counts);
+            return;
+        }
+        if self.entries.len() < ROOM_LIMIT && self.entries.insert(key, counts).is_ok() {
+            return;
+        }
+        self.gone = self.gone.plus(counts);
+    }
+
+    /// Adds each entry of a log at its key.
+    ///
+    /// A key that is not kept needs room: fewer than `ROOM_LIMIT` keys, and memory. Without room its entry is added to what is gone.
+    pub fn count(&mut self, log: &VerdictLog)
+        ensures counts { CountsLog self.old log.now.entries self.new }
+        ensures kept_exact { (key : CountKey) → IsSome (kept_at key self.old)
+            → kept_at key self.new ≡ kept_after (kept_at key self.old) (filter (is_for key) log.now.entries) }
+        ensures conserved { Conserves self.old log.now.entries self.new }
+        ensures room { length self.new.entries ≤ ROOM_LIMIT }
+    {
+        for entry in log.entries() {
+            self.add(entry.outcome.key(), entry.counts());
+        }
+    }
+
+    /// If more than `KEPT_LIMIT` keys are kept, removes those that the configuration lacks, and adds their counts to what is gone.
+    /// Otherwise changes nothing.
+    pub fn settle(&mut self, config: &Config<Global>)
+        ensures settled { self.new ≡ settled config.now self.old }
+        ensures current_kept { (key : CountKey) → IsTrue (has config.now key) → kept_at key self.new ≡ kept_at key self.old }
+        ensures conserved { Conserves self.old [] self.new }
+        ensures limited { length self.new.entries ≤ KEPT_LIMIT }
+    {
+        if self.entries.len() <= KEPT_LIMIT {
+            return;
+        }
+        let mut gone = self.gone;
+        for (key, counts) in self.entries.iter() {
+            if !has(config, key) {
+                gone = gone.plus(*counts);
+            }
+        }
+        self.entries.retain(|key, _counts| has(config, key));
+        self.gone = gone;
+    }
+
+    /// Returns what was counted of a member, zeros if its key is not kept.
+    pub fn member(&self, group: Endpoint, member: u32) -> MemberCounts
+        ensures { result ≡ member_counts group member self.now }
+    {
+        let key = CountKey {
+            group,
+            member: Some(member),
+        };
+        match self.entries.get(&key) {
+            Some(counts) => counts.member_part(),
+            None => Counts::none().member_part(),
+        }
+    }
+
+    /// Returns what was counted of a group: the sum over its kept keys, also those of members that left.
+    pub fn group(&self, group: Endpoint) -> GroupCounts
+        ensures { result ≡ group_counts group self.now }
+    {
+        let mut sum = Counts::none();
+        for (key, counts) in self.entries.iter() {
+            if key.group == group {
+                sum = sum.plus(*counts);
+            }
+        }
+        sum.group_part()
+    }
+
+    /// Returns the sum of what is gone.
+    pub fn gone(&self) -> Counts
+        ensures { result ≡ self.now.gone }
+    {
+        self.gone
+    }
+}
