@@ -1,13 +1,18 @@
 -- A run and one datagram more.
-use Rattle.std.proofs.Common.{◌≡◌, ◌∙◌, ◌+◌, ◌++◌, ◌∷◌, List, Option, [], ap, append-nil, arith, length, refl, subst, sym, ℕ}
+use Rattle.std.proofs.Common.{◌≡◌, ◌∙◌, ◌+◌, ◌++◌, ◌<◌, ◌∷◌, Err, List, Ok, Option, Result, [], ap, append-nil, arith, false, inl, inr, length, refl, subst, sym, true, ℕ}
 use Rattle.std.proofs.lemmas.List.{map-append}
 use Rattle.std.proofs.lemmas.List.Concat.{flat_map-append}
 use Rattle.std.proofs.lemmas.List.Sums.{sum_by-append, sum_by-cons}
 use Rattle.read_section.specs.Worker.{IsOutside, WorkerValue}
-use Rattle.dispatch.specs.Batch.{AreJudged, IsJudged, IsRun, Judged, Parts, all_counted_for, all_sent, counted_for, one_if, packets_of, sent_of}
-use Rattle.dispatch.specs.Device.{Gives, Takes, Sent}
+use Rattle.std.specs.Result.{IsErrAnd}
+use Rattle.dispatch.specs.declared.batches.BatchDone.{BatchDone}
+use Rattle.dispatch.specs.declared.batches.BatchFault.{BatchFault}
+use Rattle.dispatch.specs.declared.batches.BatchFault.TheVariants as fault
+use Rattle.packet_verdict.specs.declared.kind.Kind.TheVariants as kind
+use Rattle.dispatch.specs.Batch.{AreJudged, FailsToReceive, IsCutShort, IsFull, IsJudged, IsRun, Judged, Parts, all_counted_for, all_sent, counted_as, counted_for, one_if, packets_of, sent_of}
+use Rattle.dispatch.specs.Device.{Gives, IsAtEnd, OutboxValue, Sent, Takes}
 use Rattle.dispatch.specs.Tally.{CounterValue}
-use Rattle.dispatch.specs.Told.{Told, all_told, told_of}
+use Rattle.dispatch.specs.Told.{IsToldBatch, Told, all_told, told_of, told_of_last}
 use Rattle.dispatch.specs.WorkerSteps.{AddsOwnSteps}
 use Rattle.dispatch.proofs.DeviceLemmas.{gives_more, gives_nothing, takes_more, takes_nothing}
 
@@ -73,3 +78,76 @@ told_more told mid told' judged one first second =
     subst (λ (news : List Told). Takes told told' news)
     (sym (flat_map-append told_of judged (one ∷ []) ∙ ap (λ (news : List Told). all_told judged ++ news) (append-nil (told_of one))))
     (takes_more told mid told' (all_told judged) (told_of one) first second)
+
+-- a run after which the source gave nothing, and nothing else happened
+pub run_on : (room : ℕ) (before mid after : Parts) (judged : List Judged) → IsRun room before mid judged → after.worker ≡ mid.worker → after.counter ≡ mid.counter
+    → after.outbox ≡ mid.outbox → Gives room mid.source.coming after.source.coming [] → after.source.failures ≡ mid.source.failures → IsRun room before after judged
+run_on room before mid after judged run worker counter outbox given healthy = record {
+  own_section_each = subst (λ (w : WorkerValue). AreJudged before.worker judged w) (sym worker) run.own_section_each;
+  given_once = subst (λ (given : List (List ℕ)). Gives room before.source.coming after.source.coming given) (append-nil (packets_of judged))
+      (gives_more room before.source.coming mid.source.coming after.source.coming (packets_of judged) [] run.given_once given);
+  counted_once = counter ∙ run.counted_once;
+  sent_once = subst (λ (o : OutboxValue). Takes before.outbox.taken o.taken (all_sent judged)) (sym outbox) run.sent_once;
+  source_healthy = healthy ∙ run.source_healthy;
+  outbox_failures = ap (λ (o : OutboxValue). o.failures) outbox ∙ run.outbox_failures;
+}
+
+told_no_more : (told told' : Option (List Told)) (judged : List Judged) → Takes told told' (all_told judged) → Takes told told' (all_told judged ++ [])
+told_no_more told told' judged each = subst (λ (news : List Told). Takes told told' news) (sym (append-nil (all_told judged))) each
+
+-- a batch that came to an end
+module _ (room limit : ℕ) (before mid after : Parts) (told told' : Option (List Told)) (count : ℕ) (run : IsToldRunOf room before mid told told' count) where
+  pub at_limit : count ≡ limit → after ≡ mid → IsToldBatch room limit before after (Ok (record { judged = limit; more = true })) told told'
+  at_limit all same = record {
+    batch = record { judged = run.so_far.judged; last = mid; run = run.so_far.run; end = (same, sym (run.so_far.count_is ∙ all), run.so_far.count_is ∙ all) };
+    last = [];
+    at_end = refl;
+    told_once = told_no_more told told' run.so_far.judged run.told_each;
+  }
+
+  pub at_end : count < limit → IsRun room before after run.so_far.judged → IsAtEnd after.source.coming
+      → IsToldBatch room limit before after (Ok (record { judged = count; more = false })) told told'
+  at_end few run_to ends = record {
+    batch = record { judged = run.so_far.judged; last = after; run = run_to; end = (refl, sym run.so_far.count_is, (omega (arith, run.so_far.count_is), ends)) };
+    last = [];
+    at_end = refl;
+    told_once = told_no_more told told' run.so_far.judged run.told_each;
+  }
+
+  pub failed : count < limit → FailsToReceive room mid after → after.counter ≡ counted_as kind.ReceiveFailed mid.counter
+      → IsToldBatch room limit before after (Err fault.ReceiveFailed) told told'
+  failed few fails counted = record {
+    batch = record { judged = run.so_far.judged; last = mid; run = run.so_far.run; end = (omega (arith, run.so_far.count_is), fails, counted) };
+    last = [];
+    at_end = refl;
+    told_once = told_no_more told told' run.so_far.judged run.told_each;
+  }
+
+  pub failed_full : count < limit → FailsToReceive room mid after → after.counter ≡ mid.counter → IsFull after.counter
+      → IsToldBatch room limit before after (Err fault.CountFull) told told'
+  failed_full few fails same full = record {
+    batch = record { judged = run.so_far.judged; last = mid; run = run.so_far.run; end = (omega (arith, run.so_far.count_is), full, inl (fails, same)) };
+    last = [];
+    at_end = inl (fails, refl);
+    told_once = told_no_more told told' run.so_far.judged run.told_each;
+  }
+
+  pub cut_short : count < limit → (last : Judged) → IsCutShort room mid after last → IsFull after.counter → (told'' : Option (List Told))
+      → Takes told' told'' (told_of_last last) → IsToldBatch room limit before after (Err fault.CountFull) told told''
+  cut_short few last cut full told'' more = record {
+    batch = record { judged = run.so_far.judged; last = mid; run = run.so_far.run; end = (omega (arith, run.so_far.count_is), full, inr (last, cut)) };
+    last = told_of_last last;
+    at_end = inr (last, cut, refl);
+    told_once = takes_more told told' told'' (all_told run.so_far.judged) (told_of_last last) run.told_each more;
+  }
+
+-- what the outbox tells is the same
+pub still_told : (room : ℕ) (before after : Parts) (told told' : Option (List Told)) {told'' : Option (List Told)} (count : ℕ) → told' ≡ told'' → IsToldRunOf room before after told told'' count
+    → IsToldRunOf room before after told told' count
+still_told room before after told told' count same run = subst (λ (t : Option (List Told)). IsToldRunOf room before after told t count) (sym same) run
+
+-- the answer is that the counter is full
+pub answered : (room limit : ℕ) (before after : Parts) (told told' : Option (List Told)) (answer : Result BatchDone BatchFault) → IsErrAnd answer (λ f. f ≡ fault.CountFull)
+    → IsToldBatch room limit before after (Err fault.CountFull) told told' → IsToldBatch room limit before after answer told told'
+answered room limit before after told told' (Ok done) is batch = absurd is
+answered room limit before after told told' (Err f) is batch = subst (λ (f : BatchFault). IsToldBatch room limit before after (Err f) told told') (sym is) batch

@@ -5,14 +5,14 @@ use Rattle.dispatch.specs.declared.device.Failed.{Failed}
 use Rattle.dispatch.specs.Device.{Gives, Takes, given_in}
 
 pub takes_nothing : {A : Type 0} (taken : Option (List A)) → Takes taken taken []
-takes_nothing None = tt
-takes_nothing (Some sent) = sym (append-nil sent)
+takes_nothing {A = A} None = tt
+takes_nothing {A = A} (Some sent) = sym (append-nil sent)
 
 pub takes_more : {A : Type 0} (before mid after : Option (List A)) (sent more : List A) → Takes before mid sent → Takes mid after more → Takes before after (sent ++ more)
-takes_more before mid None sent more first second = tt
-takes_more before None (Some later) sent more first second = absurd second
-takes_more None (Some taken) (Some later) sent more first second = absurd first
-takes_more (Some earlier) (Some taken) (Some later) sent more first second =
+takes_more {A = A} before mid None sent more first second = tt
+takes_more {A = A} before None (Some later) sent more first second = absurd second
+takes_more {A = A} None (Some taken) (Some later) sent more first second = absurd first
+takes_more {A = A} (Some earlier) (Some taken) (Some later) sent more first second =
     second ∙ ap (λ (all : List A). all ++ more) first ∙ append_assoc earlier sent more
 
 pub gives_nothing : (room : ℕ) (coming : Option (List (List ℕ))) → Gives room coming coming []
@@ -30,6 +30,13 @@ gives_more room (Some coming) (Some later) (Some last) given more first second =
   ap (λ (g : List (List ℕ)). g ++ more) first.2 ∙ ap (λ (m : List (List ℕ)). map (take room) first.0 ++ m) second.2 ∙ sym (map-append (take room) first.0 second.0),
 )
 
+-- nothing was given, whatever the room
+pub gives_nothing_to : (room other : ℕ) (before after : Option (List (List ℕ))) → Gives other before after [] → Gives room before after []
+gives_nothing_to room other None after given = tt
+gives_nothing_to room other (Some coming) None given = absurd given
+gives_nothing_to room other (Some coming) (Some later) ([], whole, none) = ([], whole, refl)
+gives_nothing_to room other (Some coming) (Some later) (first ∷ rest, whole, none) = cc
+
 -- a datagram was received into a buffer of so much room
 pub gives_one : (room : ℕ) (before after : Option (List (List ℕ))) (bytes packet : List ℕ) (size : ℕ) (answer : Option ℕ) → answer ≡ Some size
     → length bytes ≡ room → packet ≡ take size bytes → Gives (length bytes) before after (given_in {E = Failed} bytes (Ok answer)) → Gives room before after (packet ∷ [])
@@ -37,3 +44,9 @@ gives_one room before after bytes packet size answer some same is given =
     let cut = subst (λ (a : Option ℕ). Gives (length bytes) before after (given_in {E = Failed} bytes (Ok a))) some given in
     let roomy = subst (λ (n : ℕ). Gives n before after (take size bytes ∷ [])) same cut in
     subst (λ (p : List ℕ). Gives room before after (p ∷ [])) (sym is) roomy
+
+-- nothing was received into a buffer
+pub gives_none : (room : ℕ) (before after : Option (List (List ℕ))) (bytes : List ℕ) (answer : Option ℕ) → answer ≡ None
+    → Gives (length bytes) before after (given_in {E = Failed} bytes (Ok answer)) → Gives room before after []
+gives_none room before after bytes answer none given =
+    gives_nothing_to room (length bytes) before after (subst (λ (a : Option ℕ). Gives (length bytes) before after (given_in {E = Failed} bytes (Ok a))) none given)

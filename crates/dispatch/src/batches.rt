@@ -1,8 +1,9 @@
 //! Batches: datagrams from a source, each judged, counted and sent (docs/SWITCH.md, "Batches").
 
-ghost use Rattle.std.specs.Prelude.{◌≡◌, ◌≤◌, IfErr, length};
+ghost use Rattle.std.specs.Prelude.{◌≡◌, ◌≤◌, IfErr, IfOk, IfSome, length};
 ghost use Rattle.bpf_machine.specs.declared.TheConstants.{MAX_PACKET};
 ghost use Rattle.dispatch.specs.Batch.{IsBatch};
+ghost use Rattle.dispatch.specs.Device.{CountsFailure, Gives, IsAtEnd, given_in};
 ghost use Rattle.dispatch.specs.Told.{IsToldBatch};
 ghost use Rattle.dispatch.specs.WorkerSteps.{AddsOwnSteps};
 ghost use Rattle.read_section.specs.Worker.{IsOutside};
@@ -42,6 +43,25 @@ impl From<CountFull> for BatchFault {
     }
 }
 
+// Receives a datagram. Before the source waits, the outbox hands on what it was told.
+fn receive<S: Source, O: VerdictOutbox>(
+    source: &mut S,
+    outbox: &mut O,
+    buf: &mut [u8],
+) -> Result<Option<usize>, Failed>
+    ensures device_failed { CountsFailure result (S.state source.old).failures (S.state source.new).failures }
+    ensures within { IfOk result (λ answer. IfSome answer (λ size. size ≤ length buf.new)) }
+    ensures given_once { Gives (length buf.new) (S.state source.old).coming (S.state source.new).coming (given_in buf.new result) }
+    ensures end { result ≡ Ok None → IsAtEnd (S.state source.new).coming }
+    ensures outbox_kept { O.state outbox.new ≡ O.state outbox.old }
+    ensures told_kept { O.told outbox.new ≡ O.told outbox.old }
+{
+    if source.would_wait() {
+        outbox.hand_all_on();
+    }
+    source.next(buf)
+}
+
 // The datagrams of a batch. What the outbox was told last, it may not have handed on.
 fn run_batch<S: Source, O: VerdictOutbox>(
     worker: &mut Worker,
@@ -60,10 +80,7 @@ fn run_batch<S: Source, O: VerdictOutbox>(
     ensures only_own_steps { AddsOwnSteps worker.old worker.new }
 {
     for judged in 0..limit {
-        if source.would_wait() {
-            outbox.hand_all_on();
-        }
-        let size = match source.next(buf) {
+        let size = match receive(source, outbox, buf) {
             Ok(Some(size)) => size,
             Ok(None) => {
                 return Ok(BatchDone {

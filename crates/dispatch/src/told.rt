@@ -37,7 +37,7 @@ pub trait VerdictOutbox {
 }
 
 impl<O: Outbox> VerdictOutbox for O {
-    ghost use Rattle.std.specs.Prelude.{None, Unit};
+    ghost use Rattle.std.specs.Prelude.{None};
 
     ghost state = { O.state };
 

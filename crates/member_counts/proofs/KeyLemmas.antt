@@ -1,14 +1,19 @@
 -- Keys are the same by their order exactly if their groups and members are.
-use Rattle.std.proofs.Common.{◌≡◌, ◌==◌, ◌&&◌, ◌∙◌, Bool, Equal, Greater, Less, List, None, Option, Ordering, Some, ap, arith, cond, false, is_eq, nat_cmp, nat_eq, refl, sym, true, ℕ}
+use Rattle.std.proofs.Common.{◌≡◌, ◌==◌, ◌&&◌, ◌∙◌, Bool, Equal, Greater, Less, List, None, Option, Ordering, Some, ap, ap₂, arith, cond, false, is_eq, nat_cmp, nat_eq, refl, subst, sym, true, ℕ}
 use Rattle.std.proofs.Math.Path.{fun_ext}
 use Rattle.std.proofs.lemmas.Bool.Decides.{Decides-and, Decides-eqb, Decides-like, nat_tests, same_from_decides}
 use Rattle.std.specs.BTreeMap.{is_at}
 use Rattle.std.specs.Bool.{Decides}
-use Rattle.std.specs.Map.{lookup}
+use Rattle.std.proofs.lemmas.Map.Keys.{IsDistinct-from_sorted}
+use Rattle.std.specs.Cmp.{IsEquivalence}
+use Rattle.std.specs.List.{IsDistinct}
+use Rattle.std.specs.List.Sorted.{IsStrictlySortedBy}
+use Rattle.std.specs.Map.{keys_of}
 use Rattle.std.specs.Option.{option_cmp, option_eq}
-use Rattle.std.specs.Ordering.{ordering_then}
+use Rattle.std.specs.Ordering.{eq_by_cmp, ordering_then}
 use Rattle.ipv4_fields.specs.declared.endpoint.Endpoint.{Endpoint}
 use Rattle.member_counts.specs.contracts.key.CountKeyOrd.TheImpl as key_ord
+use Rattle.member_counts.specs.declared.counts.Counts.{Counts}
 use Rattle.member_counts.specs.declared.key.CountKey.{CountKey}
 use Rattle.member_counts.specs.Key.{same_group, same_key}
 
@@ -46,7 +51,10 @@ same_groups : {group other : Endpoint} → group ≡ other → (group.address �
 same_groups same = (ap (λ g. g.address) same, ap (λ g. g.port) same)
 
 same_parts : (key other : CountKey) → (key.group.address ≡ other.group.address) × (key.group.port ≡ other.group.port) → key.member ≡ other.member → key ≡ other
-same_parts key other group member = cc
+same_parts key other group member =
+    let endpoint : ℕ → ℕ → Endpoint = λ address port. record { address = address; port = port } in
+    let make : Endpoint → Option ℕ → CountKey = λ group member. record { group = group; member = member } in
+    ap₂ make (ap₂ endpoint group.0 group.1) member
 
 pub Decides-same_key : (key other : CountKey) → Decides (same_key key other) (key ≡ other)
 Decides-same_key key other =
@@ -64,3 +72,15 @@ same_from_same_key key other = (Decides-same_key key other).0
 pub same_key-symm : (key other : CountKey) → same_key key other ≡ same_key other key
 same_key-symm key other = same_from_decides (same_key key other) (same_key other key) (Decides-same_key key other)
     (Decides-like (same_key other key) sym sym (Decides-same_key other key))
+
+pub same_keys_laws : IsEquivalence same_key
+same_keys_laws = record {
+  refl = same_key_itself;
+  symm = same_key-symm;
+  congr = λ key other third same. ap (λ k. same_key k third) (same_from_same_key key other same);
+}
+
+pub distinct_keys : (entries : List (CountKey × Counts)) → IsStrictlySortedBy order (keys_of entries) → IsDistinct same_key (keys_of entries)
+distinct_keys entries rising =
+    let same : eq_by_cmp order ≡ same_key = fun_ext same_test in
+    subst (λ (test : CountKey → CountKey → Bool). IsDistinct test (keys_of entries)) same (IsDistinct-from_sorted order (keys_of entries) rising)

@@ -1,3 +1,6 @@
 pub mod KeyLemmas
+pub mod LogLemmas
+pub mod SettleLemmas
+pub mod StepLemmas
 pub mod SumLemmas
 pub mod TableLemmas

@@ -1,6 +1,7 @@
 -- What the additions of a log's entries leave at each key.
-use Rattle.std.proofs.Common.{◌≡◌, ◌≢◌, ◌+◌, ◌<◌, ◌^◌, ◌∙◌, ◌++◌, ◌∷◌, ◌⊎◌, ◌&&◌, Bool, IsSome, List, None, Option, Ordering, Some, [], ap, append-nil, arith, cond, false, inl, inr, nat_eq, refl, subst, sym, true, ℕ}
+use Rattle.std.proofs.Common.{◌≡◌, ◌≢◌, ◌+◌, ◌<◌, ◌^◌, ◌∙◌, ◌++◌, ◌∷◌, ◌⊎◌, ◌&&◌, Bool, IsSome, List, None, Option, Ordering, Some, [], ap, append-nil, arith, cond, false, get_or, inl, inr, length, refl, subst, sym, take, true, ℕ}
 use Rattle.std.proofs.lemmas.Bool.Decides.{Decides-and, Decides-eqb}
+use Rattle.std.proofs.lemmas.List.{take_more}
 use Rattle.std.proofs.lemmas.List.Elements.{All-pop, All-push, All-weaker, filter-append}
 use Rattle.std.proofs.lemmas.List.Sums.{fold_push, sum_by_push}
 use Rattle.std.specs.BTreeMap.{is_at}
@@ -79,10 +80,10 @@ module _ (old mid : Table) (log : List Counted) (so_far : CountsLog old log mid)
     split = one_lost log so_far.added so_far.lost entry so_far.split;
     at_each_key = λ other. ap (λ entries. lookup (same_key other) entries) step.entries ∙ so_far.at_each_key other;
     gone = step.gone ∙ ap (λ gone. plus gone (counts_of entry)) so_far.gone ∙ sym (fold_push (λ (sum : Counts) (e : Counted). plus sum (counts_of e)) old.gone so_far.lost entry);
-    kept_loses_none = All-push _ so_far.lost entry so_far.kept_loses_none (λ other own.
-      let one : other ≡ key = same_from_same_key other key (sym (ap (same_key other) is_key_of) ∙ own) in
-      let none : kept_at other mid ≡ None = ap (λ k. kept_at k mid) one ∙ step.absent in
-      kept_after-none (kept_at other old) (filter (is_for other) so_far.added) (sym (so_far.at_each_key other) ∙ none));
+    kept_loses_none = All-push (λ lost. (other : CountKey) → is_for other lost ≡ true → kept_at other old ≡ None) so_far.lost entry so_far.kept_loses_none (λ other own.
+        let one : other ≡ key = same_from_same_key other key (sym (ap (same_key other) is_key_of) ∙ own) in
+        let none : kept_at other mid ≡ None = ap (λ k. kept_at k mid) one ∙ step.absent in
+        kept_after-none (kept_at other old) (filter (is_for other) so_far.added) (sym (so_far.at_each_key other) ∙ none));
   }
 
   pub steps : (new : Table) (key : CountKey) → key_of entry.outcome ≡ key → AddsAt key (counts_of entry) mid new → CountsLog old (log ++ entry ∷ []) new
@@ -109,8 +110,9 @@ kept_exact old log new counts key kept =
     apart entry none = by (is_for key entry) refl
       where
         by : (own : Bool) → is_for key entry ≡ own → is_for key entry ≡ false
-        by true is = absurd (subst (λ (o : Option Counts). IsSome o) (none key is) kept)
+        by true is = let impossible : IsSome {T = Counts} None = subst (λ (o : Option Counts). IsSome o) (none key is) kept in cc
         by false is = is
+
     others : All (λ entry. is_for key entry ≡ false) counts.lost
     others = All-weaker (λ entry. (other : CountKey) → is_for other entry ≡ true → kept_at other old ≡ None) _ apart counts.lost counts.kept_loses_none
 
@@ -140,3 +142,24 @@ conserves_step old mid new log entry before step = record {
   send_failed = grows (λ c. c.send_failed) old mid new log entry before.send_failed step.send_failed;
   bytes = grows (λ c. c.bytes) old mid new log entry before.bytes step.bytes;
 }
+
+-- what a loop over a log keeps
+pub record IsCountedSoFar (old : Table) (log : List Counted) (now : Table) : Type 0 where
+  pub counts : CountsLog old log now
+  pub conserved : Conserves old log now
+
+pub counted_none : (table : Table) → IsCountedSoFar table [] table
+counted_none table = record { counts = none_yet table; conserved = conserves_nothing table }
+
+pub counted_step : (old mid new : Table) (log : List Counted) (entry : Counted) (key : CountKey) (counts : Counts) → IsCountedSoFar old log mid → key ≡ key_of entry.outcome
+    → counts ≡ counts_of entry → AddsAt key counts mid new → GrowsEach mid counts new → IsCountedSoFar old (log ++ entry ∷ []) new
+counted_step old mid new log entry key counts so_far is_key is adds grows = record {
+  counts = steps old mid log so_far.counts entry new key (sym is_key) (subst (λ (c : Counts). AddsAt key c mid new) is adds);
+  conserved = conserves_step old mid new log entry so_far.conserved (subst (λ (c : Counts). GrowsEach mid c new) is grows);
+}
+
+-- the same at a place of a log
+pub counted_step_at : (old mid new : Table) (log : List Counted) (i : ℕ) (d : Counted) (key : CountKey) (counts : Counts) → i < length log → IsCountedSoFar old (take i log) mid
+    → key ≡ key_of (get_or log i d).outcome → counts ≡ counts_of (get_or log i d) → AddsAt key counts mid new → GrowsEach mid counts new → IsCountedSoFar old (take (i + 1) log) new
+counted_step_at old mid new log i d key counts inside so_far is_key is adds grows =
+    rw (take_more log i d inside) (counted_step old mid new (take i log) (get_or log i d) key counts so_far is_key is adds grows)

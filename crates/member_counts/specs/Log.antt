@@ -37,15 +37,18 @@ abbrev pub with_no_members : Endpoint → Log → Log
 with_no_members group log = with_outcome (NoMembers group) log
 
 -- only what is delivered has a send that fails
-abbrev pub fails : Outcome → Bool → Bool
-fails (Delivered group member bytes) failed = true
-fails (Dropped group member) failed = failed
-fails (NoMembers group) failed = failed
+abbrev pub send_fails : Outcome → Bool → Bool
+send_fails (NoMembers group) failed = failed
+send_fails (Dropped group member) failed = failed
+send_fails (Delivered group member bytes) failed = true
+
+abbrev pub with_failed_send : Counted → Counted
+with_failed_send entry = record entry { failed = send_fails entry.outcome entry.failed }
 
 -- the last entry is marked, if there is one and it was delivered
 abbrev pub last_failed : List Counted → List Counted
 last_failed [] = []
-last_failed (entry ∷ []) = record entry { failed = fails entry.outcome entry.failed } ∷ []
+last_failed (entry ∷ []) = with_failed_send entry ∷ []
 last_failed (entry ∷ (next ∷ rest)) = entry ∷ last_failed (next ∷ rest)
 
 abbrev pub marked_failed : Log → Log

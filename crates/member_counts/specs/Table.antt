@@ -41,7 +41,7 @@ sum_of entries = record {
 
 -- of a group: the sum over its kept keys, also those of members that left
 abbrev pub group_counts : Endpoint → Table → GroupCounts
-group_counts group table = group_part (sum_of (filter (λ entry. same_group group entry.0.group) table.entries))
+group_counts group table = group_part (sum_of (filter (λ entry. same_group entry.0.group group) table.entries))
 
 -- what is kept at a key, if anything, and more
 abbrev pub joined : Option Counts → Counts → Counts
@@ -55,6 +55,10 @@ kept_after kept entries = fold (λ sum entry. Some (joined sum (counts_of entry)
 -- counts after entries, each added in turn
 abbrev pub plus_all : Counts → List Counted → Counts
 plus_all counts entries = fold (λ sum entry. plus sum (counts_of entry)) counts entries
+
+-- counts after those of some keys, each added in turn
+abbrev pub plus_kept : Counts → List (CountKey × Counts) → Counts
+plus_kept counts entries = fold (λ sum entry. plus sum entry.1) counts entries
 
 -- each element is in one of two lists, and both are in its order
 pub data IsSplit {X : Type 0} : List X → List X → List X → Type 0 where
@@ -92,7 +96,7 @@ pub record Conserves (old : Table) (entries : List Counted) (new : Table) : Type
 abbrev pub without_lacking : List (GroupOf ProgramValue) → Table → Table
 without_lacking config table = record {
   entries = filter (λ entry. has config entry.0) table.entries;
-  gone = fold (λ sum entry. plus sum entry.1) table.gone (filter (λ entry. not (has config entry.0)) table.entries);
+  gone = plus_kept table.gone (filter (λ entry. not (has config entry.0)) table.entries);
 }
 
 -- that, if more keys are kept than the limit

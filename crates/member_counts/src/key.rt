@@ -1,17 +1,25 @@
-//! By which keys verdicts are counted (docs/SWITCH.md, "Counts by member").
+//! By which keys outcomes are counted (docs/SWITCH.md, "Counts by member").
 
 ghost use Rattle.std.specs.Prelude.{◌≡◌};
+ghost use Rattle.std.specs.List.{list_any};
+ghost use Rattle.member_group.specs.Group.{has_id};
 ghost use Rattle.member_counts.specs.Key.{group_has, has};
 
 use ipv4_fields::Endpoint;
-use member_group::{Config, Group};
+use member_group::Group;
 use std::alloc::Global;
 
-/// By which verdicts are counted: the group's key with a member's number, or with none for the packets that found the group without members.
+/// The key that outcomes are counted by: a group's key with a member's number, or without one if the group had no member.
 #[derive(Clone, Copy, Debug, PartialEq, Eq, PartialOrd, Ord)]
 pub struct CountKey {
     pub group: Endpoint,
     pub member: Option<u32>,
+}
+
+fn has_member(group: &Group<Global>, id: u32) -> bool
+    ensures { result ≡ list_any (has_id id) group.now.members }
+{
+    group.members().iter().any(|member| member.id == id)
 }
 
 fn group_has(group: &Group<Global>, key: &CountKey) -> bool
@@ -20,15 +28,15 @@ fn group_has(group: &Group<Global>, key: &CountKey) -> bool
     if key.group != group.key() {
         return false;
     }
-    let Some(id) = key.member else {
-        return true;
-    };
-    group.members().iter().any(|member| member.id == id)
+    match key.member {
+        None => true,
+        Some(id) => has_member(group, id),
+    }
 }
 
-/// Tests whether a configuration has the key: its group, and its member if it has one.
-pub fn has(config: &Config<Global>, key: &CountKey) -> bool
-    ensures { result ≡ has config.now key.now }
+/// Tests whether one of a configuration's groups has the key.
+pub(crate) fn has(groups: &[Group<Global>], key: &CountKey) -> bool
+    ensures { result ≡ has groups.now key.now }
 {
-    config.groups().iter().any(|group| group_has(group, key))
+    groups.iter().any(|group| group_has(group, key))
 }

@@ -3,7 +3,7 @@
 ghost use Rattle.std.specs.Prelude.{◌≡◌, ◌<◌, ◌≤◌, ◌↔◌, IfOk, IsTrue, [], length};
 ghost use Rattle.member_counts.specs.Counts.{counts_of};
 ghost use Rattle.member_counts.specs.Key.{key_of};
-ghost use Rattle.member_counts.specs.Log.{Log, marked_failed, outcome_of, with_no_members, with_outcome, with_verdict};
+ghost use Rattle.member_counts.specs.Log.{Log, marked_failed, outcome_of, with_failed_send, with_no_members, with_outcome, with_verdict};
 
 use crate::counts::Counts;
 use crate::key::CountKey;
@@ -83,6 +83,19 @@ impl Outcome {
 }
 
 impl Counted {
+    // The same after its send failed. Only what is delivered has one.
+    fn with_failed_send(self) -> Counted
+        ensures { result ≡ with_failed_send self }
+    {
+        match self.outcome {
+            Outcome::Delivered { .. } => Counted {
+                failed: true,
+                ..self
+            },
+            _ => self,
+        }
+    }
+
     /// Returns what is counted of it.
     pub fn counts(&self) -> Counts
         ensures { result ≡ counts_of self.now }
@@ -196,9 +209,7 @@ impl VerdictLog {
         ensures { self.new ≡ marked_failed self.old }
     {
         if let Some(last) = self.entries.last_mut() {
-            if let Outcome::Delivered { .. } = last.outcome {
-                last.failed = true;
-            }
+            *last = last.with_failed_send();
         }
     }
 

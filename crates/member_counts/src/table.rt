@@ -6,7 +6,7 @@ ghost use Rattle.std.specs.Map.{keys_of};
 ghost use Rattle.member_counts.specs.Counts.{no_counts};
 ghost use Rattle.member_counts.specs.Key.{has, same_key};
 ghost use Rattle.member_counts.specs.Log.{is_for};
-ghost use Rattle.member_counts.specs.Table.{Conserves, CountsLog, group_counts, kept_after, kept_at, member_counts, settled};
+ghost use Rattle.member_counts.specs.Table.{Conserves, CountsLog, group_counts, kept_after, kept_at, member_counts, settled, without_lacking};
 ghost use Rattle.member_counts.specs.body.Step.{AddsAt, GrowsEach};
 
 use crate::counts::{Counts, GroupCounts, MemberCounts};
@@ -14,7 +14,7 @@ use crate::key::{CountKey, has};
 use crate::log::VerdictLog;
 use crate::{KEPT_LIMIT, ROOM_LIMIT};
 use ipv4_fields::Endpoint;
-use member_group::Config;
+use member_group::{Config, Group};
 use std::alloc::Global;
 use std::collections::BTreeMap;
 use std::marker::Model;
@@ -52,6 +52,7 @@ impl MemberTable {
     /// Tells how many keys are kept. No key is kept twice.
     pub fn len(&self) -> usize
         ensures len { result ≡ length self.now.entries }
+        ensures room { result ≤ ROOM_LIMIT }
         ensures once { IsDistinct same_key (keys_of self.now.entries) }
     {
         self.entries.len()
@@ -80,11 +81,25 @@ impl MemberTable {
         ensures kept_exact { (key : CountKey) → IsSome (kept_at key self.old)
             → kept_at key self.new ≡ kept_after (kept_at key self.old) (filter (is_for key) log.now.entries) }
         ensures conserved { Conserves self.old log.now.entries self.new }
-        ensures room { length self.new.entries ≤ ROOM_LIMIT }
     {
         for entry in log.entries() {
             self.add(entry.outcome.key(), entry.counts());
         }
+    }
+
+    // Removes the keys that the groups lack, and adds their counts to what is gone.
+    fn remove_lacking(&mut self, groups: &[Group<Global>])
+        ensures removed { self.new ≡ without_lacking groups.now self.old }
+        ensures once { IsDistinct same_key (keys_of self.new.entries) }
+    {
+        let mut gone = self.gone;
+        for (key, counts) in self.entries.iter() {
+            if !has(groups, key) {
+                gone = gone.plus(*counts);
+            }
+        }
+        self.entries.retain(|key, _counts| has(groups, key));
+        self.gone = gone;
     }
 
     /// If more than `KEPT_LIMIT` keys are kept, removes those that the configuration lacks, and adds their counts to what is gone.
@@ -98,14 +113,7 @@ impl MemberTable {
         if self.entries.len() <= KEPT_LIMIT {
             return;
         }
-        let mut gone = self.gone;
-        for (key, counts) in self.entries.iter() {
-            if !has(config, key) {
-                gone = gone.plus(*counts);
-            }
-        }
-        self.entries.retain(|key, _counts| has(config, key));
-        self.gone = gone;
+        self.remove_lacking(config.groups());
     }
 
     /// Returns what was counted of a member, zeros if its key is not kept.

@@ -19,6 +19,13 @@ const OTHER: Endpoint = Endpoint {
     port: 53,
 };
 
+// What is given to a log: a verdict, and whether its send failed; or the key of a group without members.
+#[derive(Clone, Copy)]
+enum Given {
+    Verdict(Verdict, bool),
+    NoMembers(Endpoint),
+}
+
 const fn delivered(group: Endpoint, member: u32, bytes: usize) -> Verdict {
     Verdict::Deliver {
         group,
@@ -28,17 +35,23 @@ const fn delivered(group: Endpoint, member: u32, bytes: usize) -> Verdict {
     }
 }
 
-fn count_all(table: &mut MemberTable, log: &mut VerdictLog, entries: &[(Verdict, bool)]) {
-    for (verdict, failed) in entries {
+fn count_all(table: &mut MemberTable, log: &mut VerdictLog, given: &[Given]) {
+    for one in given {
         if log.is_full() {
             table.count(log);
             log.clear();
         }
-        if !log.is_full() {
-            log.judged(verdict);
+        if log.is_full() {
+            return;
         }
-        if *failed {
-            log.send_failed();
+        match one {
+            Given::NoMembers(group) => log.no_members(*group),
+            Given::Verdict(verdict, failed) => {
+                log.judged(verdict);
+                if *failed {
+                    log.send_failed();
+                }
+            }
         }
     }
     table.count(log);
@@ -49,24 +62,25 @@ fn count_all(table: &mut MemberTable, log: &mut VerdictLog, entries: &[(Verdict,
 fn counts_are_printed(rt: HostRuntime) -> Result<(), Fail> {
     let mut table = MemberTable::new(rt.alloc());
     let mut log = VerdictLog::new(rt.alloc(), 3)?;
-    let entries = [
-        (Verdict::Malformed, false),
-        (delivered(GROUP, 1, 28), false),
-        (delivered(GROUP, 1, 28), true),
-        (Verdict::NoGroup, false),
-        (
+    let given = [
+        Given::Verdict(Verdict::Malformed, false),
+        Given::Verdict(delivered(GROUP, 1, 28), false),
+        Given::Verdict(delivered(GROUP, 1, 28), true),
+        Given::Verdict(Verdict::NoGroup, false),
+        Given::Verdict(
             Verdict::Dropped {
                 group: GROUP,
                 member: 2,
             },
             true,
         ),
-        (delivered(OTHER, 1, 100), false),
-        (Verdict::NoMembers { group: OTHER }, false),
-        (Verdict::NoMembers { group: OTHER }, false),
-        (delivered(GROUP, 1, usize::MAX), false),
+        Given::Verdict(delivered(OTHER, 1, 100), false),
+        Given::Verdict(Verdict::NoMembers, false),
+        Given::NoMembers(OTHER),
+        Given::NoMembers(OTHER),
+        Given::Verdict(delivered(GROUP, 1, usize::MAX), false),
     ];
-    count_all(&mut table, &mut log, &entries);
+    count_all(&mut table, &mut log, &given);
     assert!(rt; log.is_empty());
     assert!(rt; table.len() == 4);
     let first = format!(in rt.alloc(); "{}", table.member(GROUP, 1))?;
@@ -110,17 +124,13 @@ fn lacking_keys_are_gone(rt: HostRuntime) -> Result<(), Fail> {
         count_all(
             &mut table,
             &mut log,
-            &[(delivered(GROUP, member, 1), false)],
+            &[Given::Verdict(delivered(GROUP, member, 1), false)],
         );
     }
     table.settle(&config);
     assert!(rt; table.len() == KEPT_LIMIT);
     assert!(rt; table.gone() == Counts::none());
-    count_all(
-        &mut table,
-        &mut log,
-        &[(Verdict::NoMembers { group: OTHER }, false)],
-    );
+    count_all(&mut table, &mut log, &[Given::NoMembers(OTHER)]);
     table.settle(&config);
     assert!(rt; table.len() == 1);
     assert!(rt; table.member(GROUP, 7).delivered == 1);
