@@ -1,5 +1,5 @@
 -- What contracts see of the devices of a worker that serves (docs/SWITCH.md, "Devices of a server").
-use Rattle.std.specs.Prelude.{◌≡◌, ◌⊎◌, Err, List, None, Ok, Option, Result, Some, [], length, suc, ℕ}
+use Rattle.std.specs.Prelude.{◌≡◌, ◌≤◌, ◌⊎◌, Err, List, None, Ok, Option, Result, Some, [], length, suc, ℕ}
 use Rattle.dispatch.specs.Device.{OutboxValue, SourceValue}
 use Rattle.member_counts.specs.Log.{Log, marked_failed}
 use Rattle.serve_devices.specs.declared.channel_source.TheConstants.{RECEIVE_LIMIT}
@@ -48,6 +48,10 @@ abbrev pub after_send : {A E : Type 0} → Result A E → Log → Log
 after_send (Ok done) log = log
 after_send (Err fault) log = marked_failed log
 
--- something was logged; before it a full log was handed on
+-- a full log was handed on, and another one stays as it was
+abbrev pub MakesRoom : Log → Log → Type 0
+MakesRoom log log' = (log' ≡ log) ⊎ ((LOG_ROOM ≤ length log.entries) × (log' ≡ empty_log))
+
+-- after that something was logged
 abbrev pub Logs : (Log → Log) → Log → Log → Type 0
-Logs logged log log' = (log' ≡ logged log) ⊎ ((length log.entries ≡ LOG_ROOM) × (log' ≡ logged empty_log))
+Logs logged log log' = (room : Log) × MakesRoom log room × (log' ≡ logged room)

@@ -1,11 +1,12 @@
 //! The outbox of a worker that counts by member (docs/SWITCH.md, "Devices of a server"): a socket of its own, a log of its own, and
 //! the table that all workers count in.
 
-ghost use Rattle.std.specs.Prelude.{◌≡◌, IfOk, [], length};
+ghost use Rattle.std.specs.Prelude.{◌≡◌, ◌<◌, IfOk, [], length};
 ghost use Rattle.dispatch.specs.Device.{CountsFailure, Takes, taken_by};
 ghost use Rattle.member_counts.specs.Log.{with_no_members, with_verdict};
 ghost use Rattle.member_counts.specs.Table.{CountsLog};
-ghost use Rattle.serve_devices.specs.Devices.{Logs, after_send, empty_log, new_outbox, outbox_of};
+ghost use Rattle.serve_devices.specs.Devices.{Logs, MakesRoom, after_send, empty_log, new_outbox, outbox_of};
+ghost use Rattle.serve_devices.specs.declared.member_outbox.TheConstants.{LOG_ROOM};
 
 use crate::socket_outbox::SocketOutbox;
 use dispatch::{Failed, Outbox};
@@ -85,6 +86,18 @@ impl<'a, R: Wait> MemberOutbox<'a, R> {
         let mut table = self.counts.lock(self.rt);
         hand_log_on(&mut self.log, &mut table);
     }
+
+    // Hands a full log on.
+    #[inline]
+    fn make_room(&mut self)
+        ensures made { MakesRoom self.old.log self.new.log }
+        ensures room { length self.new.log.entries < LOG_ROOM }
+        ensures failures { self.new.failures ≡ self.old.failures }
+    {
+        if self.log.is_full() {
+            self.empty_log();
+        }
+    }
 }
 
 impl<'a, R: Wait> Outbox for MemberOutbox<'a, R> {
@@ -108,9 +121,7 @@ impl<'a, R: Wait> Outbox for MemberOutbox<'a, R> {
         ensures unchanged { outbox_of self.new ≡ outbox_of self.old }
         ensures logged { Logs (with_verdict verdict.now) self.old.log self.new.log }
     {
-        if self.log.is_full() {
-            self.empty_log();
-        }
+        self.make_room();
         self.log.judged(verdict);
     }
 
@@ -118,9 +129,7 @@ impl<'a, R: Wait> Outbox for MemberOutbox<'a, R> {
         ensures unchanged { outbox_of self.new ≡ outbox_of self.old }
         ensures logged { Logs (with_no_members group) self.old.log self.new.log }
     {
-        if self.log.is_full() {
-            self.empty_log();
-        }
+        self.make_room();
         self.log.no_members(group);
     }
 
