@@ -42,18 +42,15 @@ pub trait Outbox {
     /// Takes note of a verdict, after it was counted and before what it keeps is sent.
     fn judged(&mut self, _verdict: &Verdict)
         ensures unchanged { state self.new ≡ state self.old }
-    {
-    }
+    {}
 
     /// Takes note of the group that has no member, after `judged` with such a verdict.
     fn no_members(&mut self, _group: Endpoint)
         ensures unchanged { state self.new ≡ state self.old }
-    {
-    }
+    {}
 
     /// Hands on what it took note of, after each batch and before the source waits.
     fn hand_on(&mut self)
         ensures unchanged { state self.new ≡ state self.old }
-    {
-    }
+    {}
 }

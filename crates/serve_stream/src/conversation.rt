@@ -338,17 +338,23 @@ impl Conversation {
         Turn::Waits
     }
 
-    /// If the request that came last is not held, and this was not asked since: what was held of it, and what the client is told, without
-    /// the LF.
-    pub fn take_unheld(&mut self) -> Option<(&[u8], &[u8])>
-        ensures unheld { IsUnheld self.old (option_map (λ told. (told.0.now, told.1.now)) result) }
-        ensures once { self.new ≡ record self.old { unheld = None } }
+    /// If the request that came last is not held, and that was not noted: what was held of it, and what the client is told, without the
+    /// LF.
+    pub fn unheld(&self) -> Option<(&[u8], &[u8])>
+        ensures { IsUnheld self.now (option_map (λ told. (told.0.now, told.1.now)) result) }
     {
-        let words = match self.unheld.take()? {
+        let words = match self.unheld? {
             HoldFault::TooLong => TOO_LONG,
             HoldFault::OutOfMemory => NO_MEMORY,
         };
         Some((&self.held.bytes, &words[..words.len() - 1]))
+    }
+
+    /// Says that it was noted.
+    pub fn note_unheld(&mut self)
+        ensures { self.new ≡ record self.old { unheld = None } }
+    {
+        self.unheld = None;
     }
 
     /// Tells whether replies wait that the stream has not taken.

@@ -125,7 +125,9 @@ pub fn open_service<'a, R: Wait + Net>(
     let Ok((tally, mut spare)) = Tally::open(alloc) else {
         return Err(Failure::OutOfMemory);
     };
-    let (jobs, queues, sockets) = connect(rt, alloc, counts, sockets, &mut seats, &mut spare, workers)?;
+    let (jobs, queues, sockets) = connect(
+        rt, alloc, counts, sockets, &mut seats, &mut spare, workers,
+    )?;
     Ok((
         jobs,
         service_of(alloc, sockets, queues, operator, tally, spare),

@@ -284,7 +284,8 @@ impl Sockets {
     ) -> bool {
         match &mut self.control {
             Control::Udp(control) => {
-                control.is_ready && control.turn(alloc, &mut self.room, operator, named, members, log)
+                control.is_ready
+                    && control.turn(alloc, &mut self.room, operator, named, members, log)
             }
             Control::Unix(control) => {
                 control.accept(alloc, self.poll.registry());

@@ -160,9 +160,10 @@ impl<S: Stream> Clients<S> {
             return Turn::Closed;
         };
         let turn = client.conversation.turn(&mut client.stream, answers, TURN);
-        if let Some((front, reply)) = client.conversation.take_unheld() {
+        if let Some((front, reply)) = client.conversation.unheld() {
             answers.not_held(front, reply);
         }
+        client.conversation.note_unheld();
         match turn {
             Turn::Went => {}
             Turn::Waits => client.is_active = false,
