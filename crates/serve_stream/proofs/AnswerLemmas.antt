@@ -69,7 +69,7 @@ module _ (c : Conversation) (no_last : c.last.now ≡ []) (end : LineEnd) (event
 
   -- the next request may come
   goes_on : (answered : Answered) (held : Held) → rest ≡ answered.last.now → stage_of end answered.after ≡ Open → Holds held → held.bytes.items ≡ [] → GoesOnAfter last
-      → IsAt (record { unread = c.unread; held = held; replies = replies; last = answered.last; stage = stage_of end answered.after }) events (exchanges ++ last ∷ [])
+      → IsAt (record { unread = c.unread; held = held; replies = replies; last = answered.last; stage = stage_of end answered.after; unheld = c.unheld }) events (exchanges ++ last ∷ [])
   goes_on answered held is stage holds none go_on =
       going stage holds (All-push GoesOnAfter exchanges last before.go_on go_on)
       (subst (λ (left : List ℕ). IsConversation events (exchanges ++ last ∷ []) left (replies ++ answered.last.now) []) (ap (λ t. t ++ c.unread) (sym none))
@@ -78,7 +78,7 @@ module _ (c : Conversation) (no_last : c.last.now ≡ []) (end : LineEnd) (event
 pub answered_at : (c : Conversation) → c.last.now ≡ [] → (end : LineEnd) (exchange : Exchange) (held : Held) (replies : List ℕ) (answered : Answered)
     → request_of exchange ≡ c.held.bytes.items → IsReply exchange c.replies replies answered → Holds held → held.bytes.items ≡ []
     → (events : List Event) (exchanges : List Exchange) → IsAsked c end events exchanges
-    → IsAt (record { unread = c.unread; held = held; replies = replies; last = answered.last; stage = stage_of end answered.after }) events (exchanges ++ exchange ∷ [])
+    → IsAt (record { unread = c.unread; held = held; replies = replies; last = answered.last; stage = stage_of end answered.after; unheld = c.unheld }) events (exchanges ++ exchange ∷ [])
 answered_at c no_last end (replied request reply Stops) held replies answered same is holds none events exchanges before =
     stopping c.unread (ap (stage_of end) is.0) (with_answer c no_last end events exchanges before (replied request reply Stops) same replies answered.last.now is.1)
     (record { earlier = exchanges; request = request; reply = reply; is = refl; go_on = before.go_on })
