@@ -35,7 +35,7 @@ fn group_has(group: &Group<Global>, key: &CountKey) -> bool
 }
 
 /// Tests whether one of a configuration's groups has the key.
-pub(crate) fn has(groups: &[Group<Global>], key: &CountKey) -> bool
+pub fn has(groups: &[Group<Global>], key: &CountKey) -> bool
     ensures { result ≡ has groups.now key.now }
 {
     groups.iter().any(|group| group_has(group, key))

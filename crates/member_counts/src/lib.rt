@@ -13,7 +13,7 @@ mod table;
 mod tests;
 
 pub use counts::{Counts, GroupCounts, MemberCounts};
-pub use key::CountKey;
+pub use key::{CountKey, has};
 pub use log::{Counted, Outcome, VerdictLog};
 pub use table::MemberTable;
 

@@ -14,7 +14,7 @@ use Rattle.serve_control.specs.Answer.{AnswersText, RepliesToLine, Service, answ
 use Rattle.serve_control.specs.Ignored.{BeginsReplies, IsAlwaysIgnored, LooksLikeReply, delivered, failed, malformed, ok, ready, reclaimed, refused, reply, version}
 use Rattle.serve_control.specs.Members.{IsCountsReply, no_group, no_member, of_group, of_member}
 use Rattle.serve_control.specs.declared.ControlAnswer.{ControlAnswer}
-use Rattle.serve_control.specs.declared.members.Asked.{Asked}
+use Rattle.member_counts.specs.declared.key.CountKey.{CountKey}
 
 -- ---- the first word
 
@@ -74,11 +74,11 @@ begins_found word ready = refl
 begun : (word rest : List ℕ) → BeginsReplies word → LooksLikeReply (word ++ (codes " " ++ rest))
 begun word rest begins = record { word = word; rest = rest; begins_replies = begins; whole = refl }
 
-line_counts_look : (operator : OperatorValue) (table : Option Table) (asked : Asked) (line : List ℕ) → IsCountsReply operator table asked line → LooksLikeReply line
-counts_look operator table asked line (no_group config current none) = begun (codes "refused") _ refused
-counts_look operator table asked line (no_member config group id current found names none) = begun (codes "refused") _ refused
-counts_look operator table asked line (of_group config group counts current found names is) = begun (codes "delivered") _ delivered
-counts_look operator table asked line (of_member config group id counts current found names has is) = begun (codes "delivered") _ delivered
+line_counts_look : (operator : OperatorValue) (table : Option Table) (asked : CountKey) (line : List ℕ) → IsCountsReply operator table asked line → LooksLikeReply line
+counts_look operator table asked line (no_group config current lacks) = begun (codes "refused") _ refused
+counts_look operator table asked line (no_member config current has lacks) = begun (codes "refused") _ refused
+counts_look operator table asked line (of_group config counts current names has is) = begun (codes "delivered") _ delivered
+counts_look operator table asked line (of_member config id counts current names has is) = begun (codes "delivered") _ delivered
 
 answer_looks : (text : List ℕ) (before after : Service) (answer : ControlAnswer) → AnswersText text before after answer
     → LooksLikeReply (bytes_of answer)

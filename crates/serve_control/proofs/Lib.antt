@@ -1,3 +1,4 @@
 mod IgnoredLemmas
 mod LogLemmas
 mod DeskLemmas
+mod MembersLemmas

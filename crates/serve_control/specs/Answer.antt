@@ -11,7 +11,7 @@ use Rattle.member_counts.specs.Table.{Table}
 use Rattle.read_section.specs.Operator.{OperatorValue}
 use Rattle.serve_control.specs.Ignored.{IsIgnored}
 use Rattle.serve_control.specs.Members.{IsAskable, IsCountsReply, Settles, asked_text}
-use Rattle.serve_control.specs.declared.members.Asked.{Asked}
+use Rattle.member_counts.specs.declared.key.CountKey.{CountKey}
 use Rattle.serve_control.specs.declared.ignored.BoundAddresses.{BoundAddresses}
 use Rattle.serve_control.specs.declared.ControlAnswer.{ControlAnswer}
 use Rattle.serve_control.specs.declared.ControlAnswer.TheVariants.{Line, Stop, Totals as TotalsAnswer}
@@ -20,7 +20,7 @@ use Rattle.serve_control.specs.declared.ControlAnswer.TheVariants.{Line, Stop, T
 pub record IsOther (text : List ℕ) : Type 0 where
   pub not_stop : text ≢ codes "stop"
   pub not_totals : text ≢ codes "totals"
-  pub not_counters : (asked : Asked) → IsAskable asked → text ≢ asked_text asked
+  pub not_counters : (asked : CountKey) → IsAskable asked → text ≢ asked_text asked
 
 -- the reply to a control line, or what is told where memory was refused and so nothing was done
 pub data RepliesToLine (text : List ℕ) (before after : OperatorValue) : List ℕ → Type 0 where
@@ -38,7 +38,7 @@ pub data AnswersText (text : List ℕ) (before after : Service) : ControlAnswer 
   stops : text ≡ codes "stop" → after ≡ before → AnswersText text before after Stop
   tells_totals : (totals : Totals) → text ≡ codes "totals" → after ≡ record before { tally = all_loaded totals before.tally } →
       AnswersText text before after (TotalsAnswer totals)
-  tells_counters : (asked : Asked) (reply : List ℕ) → IsAskable asked → text ≡ asked_text asked → after ≡ record before { members = after.members } →
+  tells_counters : (asked : CountKey) (reply : List ℕ) → IsAskable asked → text ≡ asked_text asked → after ≡ record before { members = after.members } →
       Settles before.operator before.members after.members → IsCountsReply before.operator after.members asked reply →
       AnswersText text before after (Line reply)
   answers_line : (reply : List ℕ) → IsOther text → RepliesToLine text before.operator after.operator reply → after.tally ≡ before.tally →

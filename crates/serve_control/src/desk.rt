@@ -122,7 +122,7 @@ impl<N: TallyName, L: LogLines, M: MemberTotals> Answers for Desk<'_, N, L, M> {
     }
 
     fn not_held(&mut self, front: &[u8], reply: &[u8])
-        ensures { length reply.now ≤ REPLY_LIMIT
+        ensures logged { length reply.now ≤ REPLY_LIMIT
             → TellsRequest self.old.log.now self.new.log.now self.old.peer front.now reply.now }
         ensures operator { self.new.operator.now ≡ self.old.operator.now }
         ensures tally { self.new.tally.now ≡ self.old.tally.now }

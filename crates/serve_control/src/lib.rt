@@ -23,7 +23,7 @@ pub use ignored::BoundAddresses;
 use ignored::is_ignored;
 use ipv4_fields::Endpoint;
 pub use log::{LOGGED_BYTES, Log, LogLines, NoLog, Peer};
-pub use members::{Asked, MemberTotals};
+pub use members::MemberTotals;
 use members::{counts_reply, read_asked};
 use read_section::Operator;
 use std::alloc::{AllocError, Global};

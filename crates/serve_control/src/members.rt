@@ -1,19 +1,16 @@
 //! Requests for the counters of a group or of a member, `totals KEY` and `totals KEY ID` (docs/COMMANDS.md, "serve").
 
-ghost use Rattle.std.specs.Prelude.{◌≡◌, ◌≢◌, ◌<◌, ◌≤◌, ◌+◌, ◌++◌, ◌∷◌, IfSome, MatchOption, Option, length, option_map};
+ghost use Rattle.std.specs.Prelude.{◌≡◌, ◌≢◌, ◌≤◌, ◌+◌, ◌++◌, IfSome, MatchOption, Option, decimal, length};
 ghost use Rattle.member_counts.specs.Counts.{group_text, member_text};
 ghost use Rattle.member_counts.specs.Table.{Table, group_counts, member_counts};
-ghost use Rattle.member_group.specs.Group.{group_of, member_of};
 ghost use Rattle.control_line.specs.declared.reply.TheConstants.{REPLY_LIMIT};
-ghost use Rattle.serve_control.specs.Members.{IsAskable, IsCountsReply, Settles, SettlesBy, asked_text};
+ghost use Rattle.serve_control.specs.Members.{IsAskable, IsCountsReply, Settles, SettlesBy, asked_text, names_text};
 
-use bpf_verify::Program;
 use control_line::{Reason, Reply, is_word};
 use ipv4_fields::{Endpoint, read_number, split_at};
-use member_counts::{GroupCounts, MemberCounts, MemberTable};
-use member_group::{Config, Group, Member, Refusal};
+use member_counts::{CountKey, GroupCounts, MemberCounts, MemberTable, has};
+use member_group::{Config, Refusal};
 use read_section::Operator;
-use std::alloc::Global;
 
 /// The counters by member.
 pub trait MemberTotals {
@@ -53,31 +50,31 @@ impl MemberTotals for MemberTable {
     }
 }
 
-/// Whose counters a request asks for: a group's, or those of a member of it.
-#[derive(Clone, Copy, Debug, PartialEq, Eq)]
-pub struct Asked {
-    pub key: Endpoint,
-    pub member: Option<u32>,
-}
-
-// Reads what follows `totals `.
-fn read_names(names: &[u8]) -> Option<Asked> {
+// Reads whose counters are asked for: a group's key, or that and a member's number.
+fn read_names(names: &[u8]) -> Option<CountKey>
+    ensures { MatchOption result
+        ((asked : CountKey) → IsAskable asked → names.now ≢ names_text asked)
+        (λ asked. IsAskable asked × (names.now ≡ names_text asked)) }
+{
     let Some((key, id)) = split_at(b' ', names) else {
-        return Some(Asked {
-            key: Endpoint::from_text(names)?,
+        let group = Endpoint::from_text(names)?;
+        return Some(CountKey {
+            group,
             member: None,
         });
     };
-    Some(Asked {
-        key: Endpoint::from_text(key)?,
-        member: Some(read_number(u32::MAX, id)?),
+    let group = Endpoint::from_text(key)?;
+    let id = read_number(u32::MAX, id)?;
+    Some(CountKey {
+        group,
+        member: Some(id),
     })
 }
 
 /// Reads a request for counters.
-pub fn read_asked(text: &[u8]) -> Option<Asked>
+pub fn read_asked(text: &[u8]) -> Option<CountKey>
     ensures { MatchOption result
-        ((asked : Asked) → IsAskable asked → text.now ≢ asked_text asked)
+        ((asked : CountKey) → IsAskable asked → text.now ≢ asked_text asked)
         (λ asked. IsAskable asked × (text.now ≡ asked_text asked)) }
 {
     let (word, names) = split_at(b' ', text)?;
@@ -85,28 +82,6 @@ pub fn read_asked(text: &[u8]) -> Option<Asked>
         return None;
     }
     read_names(names)
-}
-
-fn find_group(groups: &[Group<Global>], key: Endpoint) -> Option<&Group<Global>>
-    ensures { option_map (λ group. group.now) result ≡ group_of key groups.now }
-{
-    for group in groups {
-        if group.key().number() == key.number() {
-            return Some(group);
-        }
-    }
-    None
-}
-
-fn find_member(group: &Group<Global>, id: u32) -> Option<&Member<Program<Global>>>
-    ensures { option_map (λ member. member.now) result ≡ member_of id group.now }
-{
-    for member in group.members() {
-        if member.id == id {
-            return Some(member);
-        }
-    }
-    None
 }
 
 fn push_count(reply: &mut Reply, name: &str, count: u64)
@@ -142,20 +117,24 @@ fn member_reply(counts: MemberCounts) -> Reply
 
 /// Answers a request for counters from the current configuration. `refused G1` if it lacks the group, `refused G3` if it lacks the
 /// member. Takes no memory.
-pub fn counts_reply<M: MemberTotals>(asked: Asked, operator: &Operator, members: &mut M) -> Reply
+pub fn counts_reply<M: MemberTotals>(asked: CountKey, operator: &Operator, members: &mut M) -> Reply
     ensures settled { Settles operator.now (M.table members.old) (M.table members.new) }
     ensures reply { IsCountsReply operator.now (M.table members.new) asked result }
 {
     let config = operator.config();
     members.settle(config);
-    let Some(group) = find_group(config.groups(), asked.key) else {
+    let group = CountKey {
+        group: asked.group,
+        member: None,
+    };
+    if !has(config.groups(), &group) {
         return Reply::refused(Reason::Command(Refusal::NoGroup));
-    };
+    }
     let Some(id) = asked.member else {
-        return group_reply(members.group(asked.key));
+        return group_reply(members.group(asked.group));
     };
-    if find_member(group, id).is_none() {
+    if !has(config.groups(), &asked) {
         return Reply::refused(Reason::Command(Refusal::NoMember));
     }
-    member_reply(members.member(asked.key, id))
+    member_reply(members.member(asked.group, id))
 }
