@@ -1,5 +1,5 @@
 -- Keys are the same by their order exactly if their groups and members are.
-use Rattle.std.proofs.Common.{◌≡◌, ◌==◌, ◌&&◌, ◌∙◌, Bool, Equal, Greater, Less, List, None, Option, Ordering, Some, ap, ap₂, arith, cond, false, is_eq, nat_cmp, nat_eq, refl, subst, sym, true, ℕ}
+use Rattle.std.proofs.Common.{◌≡◌, ◌==◌, ◌&&◌, Bool, Equal, Greater, Less, List, None, Option, Ordering, Some, ap, ap₂, arith, is_eq, nat_cmp, nat_eq, refl, subst, sym, true, ℕ}
 use Rattle.std.proofs.Math.Path.{fun_ext}
 use Rattle.std.proofs.lemmas.Bool.Decides.{Decides-and, Decides-eqb, Decides-like, nat_tests, same_from_decides}
 use Rattle.std.specs.BTreeMap.{is_at}

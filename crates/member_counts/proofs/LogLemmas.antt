@@ -1,5 +1,5 @@
 -- The last entry of a log, written in its place.
-use Rattle.std.proofs.Common.{◌≡◌, ◌<◌, ◌≤◌, ◌-◌, ◌∷◌, List, [], ap, arith, get_or, length, refl, set, suc, ℕ}
+use Rattle.std.proofs.Common.{◌≡◌, ◌≤◌, ◌-◌, ◌∷◌, List, [], ap, arith, get_or, length, refl, set, suc, ℕ}
 use Rattle.member_counts.specs.declared.log.Counted.{Counted}
 use Rattle.member_counts.specs.Log.{last_failed, with_failed_send}
 

@@ -1,5 +1,5 @@
 -- What is left after the keys that a configuration lacks are removed.
-use Rattle.std.proofs.Common.{◌==◌, ◌≡◌, ◌+◌, ◌*◌, ◌<◌, ◌≤◌, ◌^◌, ◌∙◌, ◌++◌, ◌∷◌, ◌&&◌, ◌||◌, Bool, List, None, Option, Some, [], ap, ap₂, arith, cond, false, length, length-append, lt-ltb, map, not, refl, subst, sym, true, ℕ}
+use Rattle.std.proofs.Common.{◌==◌, ◌≡◌, ◌*◌, ◌<◌, ◌≤◌, ◌∙◌, ◌++◌, ◌∷◌, ◌||◌, Bool, List, None, Option, Some, [], ap, ap₂, arith, false, length, length-append, lt-ltb, map, not, refl, sym, true, ℕ}
 use Rattle.std.proofs.lemmas.Bool.Decides.{Decides-eqb}
 use Rattle.std.proofs.lemmas.List.{length-map}
 use Rattle.std.proofs.lemmas.List.Elements.{All-head, All-tail}
@@ -7,10 +7,8 @@ use Rattle.std.proofs.lemmas.List.Filters.{sum_by-filter_both}
 use Rattle.std.proofs.lemmas.List.Folds.{list_any-append}
 use Rattle.std.proofs.lemmas.Map.Entries.{length-keys_of, lookup-filter-keys}
 use Rattle.std.proofs.lemmas.Map.Made.{is_some-lookup, length-le_from_is_member}
-use Rattle.std.specs.List.{All, IsDistinct, filter, list_any, sum_by}
-use Rattle.std.specs.Map.{keys_of, lookup}
-use Rattle.std.specs.Option.{option_eq}
-use Rattle.std.specs.Set.{is_member}
+use Rattle.std.specs.List.{All, IsDistinct, filter, list_any}
+use Rattle.std.specs.Map.{keys_of}
 use Rattle.bpf_verify.specs.Program.{ProgramValue}
 use Rattle.ipv4_fields.specs.declared.endpoint.Endpoint.{Endpoint}
 use Rattle.member_group.specs.Group.{GroupOf, IsConfig, IsGroup, has_id}
@@ -18,10 +16,10 @@ use Rattle.member_group.specs.declared.member.Member.{Member}
 use Rattle.member_counts.specs.declared.TheConstants.{KEPT_LIMIT}
 use Rattle.member_counts.specs.declared.counts.Counts.{Counts}
 use Rattle.member_counts.specs.declared.key.CountKey.{CountKey}
-use Rattle.member_counts.specs.Key.{group_has, has, has_member, member_key, same_group, same_key}
+use Rattle.member_counts.specs.Key.{group_has, has, member_key, same_group, same_key}
 use Rattle.member_counts.specs.Table.{Conserves, GrowsBy, Table, kept_at, plus_kept, settled, total, without_lacking}
 use Rattle.member_counts.proofs.KeyLemmas.{same_from_same_key, same_keys_laws}
-use Rattle.member_counts.proofs.SumLemmas.{Bytes, Delivered, Dropped, Kind, NoMembers, SendFailed, kept_sum, of, of-plus_kept-below}
+use Rattle.member_counts.proofs.SumLemmas.{Bytes, Delivered, Dropped, Kind, NoMembers, SendFailed, of, of-plus_kept-below}
 
 module _ (config : List (GroupOf ProgramValue)) (table : Table) where
   -- a key that the configuration has is as it was

@@ -1,5 +1,5 @@
 -- Sums of one kind of count over the kept keys, and how an addition changes them.
-use Rattle.std.proofs.Common.{◌≡◌, ◌+◌, ◌-◌, ◌<◌, ◌≤◌, ◌^◌, ◌∙◌, ◌∷◌, ◌⊎◌, Bool, Equal, Greater, Less, List, None, Option, Ordering, Some, [], ap, ap₂, arith, cond, false, inl, inr, is_eq, leb, min, refl, subst, sym, true, unwrap_or, zero-add, ℕ}
+use Rattle.std.proofs.Common.{◌≡◌, ◌+◌, ◌-◌, ◌<◌, ◌≤◌, ◌^◌, ◌∙◌, ◌∷◌, ◌⊎◌, Bool, Equal, Greater, Less, List, None, Ordering, Some, [], ap, ap₂, arith, false, inl, inr, leb, refl, sym, true, unwrap_or, zero-add, ℕ}
 use Rattle.std.proofs.Math.Nat.{min-eq_left, min-eq_right}
 use Rattle.std.proofs.lemmas.Bool.Decides.{leb_tells}
 use Rattle.std.proofs.lemmas.List.Folds.{fold-map}
@@ -7,7 +7,7 @@ use Rattle.std.proofs.lemmas.List.Sums.{sum_by-cons}
 use Rattle.std.proofs.lemmas.Map.Entries.{sum_by-remove_entry, sum_by-set_value}
 use Rattle.std.specs.BTreeMap.{insert_entry, is_at}
 use Rattle.std.specs.List.{sum_by}
-use Rattle.std.specs.Map.{lookup, remove_entry, set_value, values_of}
+use Rattle.std.specs.Map.{lookup, set_value, values_of}
 use Rattle.std.specs.Option.{option_map}
 use Rattle.member_counts.specs.declared.counts.Counts.{Counts}
 use Rattle.member_counts.specs.declared.key.CountKey.{CountKey}

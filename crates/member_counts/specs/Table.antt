@@ -1,5 +1,5 @@
 -- What a contract sees of a MemberTable.
-use Rattle.std.specs.Prelude.{◌≡◌, ◌+◌, ◌<◌, ◌^◌, ◌++◌, ◌∷◌, Bool, IsSome, IsTrue, List, None, Option, Some, [], if◌then◌else◌, length, nat_lt, not, sum_by, true, ℕ}
+use Rattle.std.specs.Prelude.{◌≡◌, ◌+◌, ◌<◌, ◌^◌, ◌++◌, ◌∷◌, List, None, Option, Some, [], if◌then◌else◌, length, nat_lt, not, sum_by, true, ℕ}
 use Rattle.std.specs.List.{All, filter, fold}
 use Rattle.std.specs.Map.{lookup}
 use Rattle.std.specs.Option.{unwrap_or}

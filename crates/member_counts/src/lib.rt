@@ -17,7 +17,7 @@ pub use key::{CountKey, has};
 pub use log::{Counted, Outcome, VerdictLog};
 pub use table::MemberTable;
 
-/// The greatest number of keys that `settle` leaves, unless the configuration has more.
+/// The greatest number of keys that `settle` leaves.
 pub const KEPT_LIMIT: usize = 8192;
 
 /// The greatest number of keys that a table keeps between two calls of `settle`.

@@ -1,5 +1,5 @@
 -- What one addition to a MemberTable does.
-use Rattle.std.specs.Prelude.{◌≡◌, ◌+◌, ◌⊎◌, None, Some, cond, ℕ}
+use Rattle.std.specs.Prelude.{◌≡◌, ◌⊎◌, None, Some, cond}
 use Rattle.member_counts.specs.declared.counts.Counts.{Counts}
 use Rattle.member_counts.specs.declared.key.CountKey.{CountKey}
 use Rattle.member_counts.specs.Counts.{plus}

@@ -1,6 +1,3 @@
-use Rattle.std.proofs.Common.{subst}
-use Rattle.std.specs.List.{IsDistinct}
-use Rattle.std.specs.Map.{keys_of}
 use Rattle.member_counts.proofs.KeyLemmas.{distinct_keys}
 use Rattle.member_counts.proofs.table.MemberTable.len.Goals as goal
 
