@@ -14,14 +14,13 @@ no_space group = lacks-endpoint 32 group (omega arith)
 module _ (names : List ℕ) where
   -- a text without a space is a group's key or nothing
   pub no_key : Lacks 32 names → ((e : Endpoint) → IsEndpoint e → names ≢ endpoint_text e) → (asked : CountKey) → IsAskable asked → names ≢ names_text asked
-  pub is_key : (e : Endpoint) → names ≡ endpoint_text e → names ≡ names_text (record { group = e; member = None })
-
   no_key lacks none asked able same = of asked.member same
     where
       of : (member : Option ℕ) → names ≡ endpoint_text asked.group ++ id_text member → ⊥
       of None is = none asked.group able.group (is ∙ append-nil (endpoint_text asked.group))
       of (Some id) is = has_separator 32 (endpoint_text asked.group) (decimal id) (subst (Lacks 32) is lacks)
 
+  pub is_key : (e : Endpoint) → names ≡ endpoint_text e → names ≡ names_text (record { group = e; member = None })
   is_key e is = is ∙ sym (append-nil (endpoint_text e))
 
   module _ (key id : List ℕ) (cut : IsSplitAt 32 names key id) where
@@ -36,13 +35,13 @@ module _ (names : List ℕ) where
             let both = one_cut 32 key (endpoint_text asked.group) id (decimal n) cut.lacks (no_space asked.group) (sym cut.whole ∙ is) in (n, of_asked, both.0, both.1)
 
     pub no_group : ((e : Endpoint) → IsEndpoint e → key ≢ endpoint_text e) → (asked : CountKey) → IsAskable asked → names ≢ names_text asked
-    no_group none asked able same = let found = parts asked same in none asked.group able.group found.2.0
+    no_group none asked able same = let found = parts asked same in none asked.group able.group found.2
 
     pub no_number : ((n : ℕ) → n ≤ 4294967295 → id ≢ decimal n) → (asked : CountKey) → IsAskable asked → names ≢ names_text asked
     no_number none asked able same =
         let found = parts asked same in
         let small = subst (λ (member : Option ℕ). IfSome member (λ n. n < 4294967296)) found.1 able.member in
-        none found.0 (omega (arith, small)) found.2.1
+        none found.0 (omega (arith, small)) found.3
 
     pub is_member : (e : Endpoint) (n : ℕ) → key ≡ endpoint_text e → id ≡ decimal n → names ≡ names_text (record { group = e; member = Some n })
     is_member e n of_key of_id = cut.whole ∙ (ap (λ t. t ++ 32 ∷ id) of_key ∙ ap (λ t. endpoint_text e ++ 32 ∷ t) of_id)

@@ -2,23 +2,34 @@
 
 use dispatch::{Counter, Kind, Tally};
 use ipv4_fields::Endpoint;
+use member_counts::{MemberTable, VerdictLog};
 use member_group::Config;
+use packet_verdict::Verdict;
 use read_section::{Operator, open};
 use serve_control::{BoundAddresses, ControlAnswer, answer};
 use std::alloc::Global;
 use std::process::Abort;
 
-// What answers: a table without groups, and the tally of all workers.
+// What answers: a table without groups, the tally of all workers, and the counters by member.
 #[derive(Drop)]
 struct Switch {
     operator: Operator,
     tally: Tally,
+    members: MemberTable,
 }
 
 fn opened(rt: &impl Abort, alloc: Global) -> (Switch, Vec<Counter>) {
     let (operator, _workers) = open(Config::new(alloc)).expect(rt, "a table");
     let (tally, counters) = Tally::open(alloc).expect(rt, "a tally");
-    (Switch { operator, tally }, counters)
+    let members = MemberTable::new(alloc);
+    (
+        Switch {
+            operator,
+            tally,
+            members,
+        },
+        counters,
+    )
 }
 
 // 127.0.0.1
@@ -50,6 +61,7 @@ impl Switch {
             text,
             &mut self.operator,
             &mut self.tally,
+            &mut self.members,
         )
     }
 }
@@ -202,6 +214,62 @@ fn totals_tell_each_kind(rt: HostRuntime) {
     let (mut switch, mut counters) = opened(&rt, rt.alloc());
     count_each(&rt, counters.last_mut().expect(&rt, "a counter"));
     expect(&rt, rt.alloc(), &mut switch, b"totals", COUNTED);
+}
+
+const GROUP: Endpoint = Endpoint {
+    address: 0x0a00_0002,
+    port: 53,
+};
+
+// Lines, and what they are answered after member 1 of 10.0.0.2:53 got 28 bytes and dropped a packet, and member 2, which has left, got 9.
+const COUNTERS: [(&[u8], &[u8]); 12] = [
+    (b"totals 10.0.0.2:53", b"refused G1"),
+    (b"totals 10.0.0.2:53 1", b"refused G1"),
+    (b"add 10.0.0.2:53", b"ok version 1"),
+    (
+        b"totals 10.0.0.2:53",
+        b"delivered 2 dropped 1 nomembers 1 sendfailed 0",
+    ),
+    (b"totals 10.0.0.2:53 1", b"refused G3"),
+    (b"join 10.0.0.2:53 1 127.0.0.1:9001", b"ok version 2"),
+    (
+        b"totals 10.0.0.2:53 1",
+        b"delivered 1 dropped 1 sendfailed 0 bytes 28",
+    ),
+    (b"totals 10.0.0.2:53 2", b"refused G3"),
+    (b"totals 10.0.0.2:54 1", b"refused G1"),
+    (b"totals 10.0.0.2:53 01", b"refused C1"),
+    (b"totals 10.0.0.2:53 1 ", b"refused C1"),
+    (b"totals 10.0.0.2", b"refused C1"),
+];
+
+fn delivered(member: u32, bytes: usize) -> Verdict {
+    Verdict::Deliver {
+        group: GROUP,
+        member,
+        to: CLIENT,
+        bytes,
+    }
+}
+
+#[test]
+fn counters_by_member(rt: HostRuntime) {
+    let (mut switch, _counters) = opened(&rt, rt.alloc());
+    let dropped = Verdict::Dropped {
+        group: GROUP,
+        member: 1,
+    };
+    let mut log = VerdictLog::new(rt.alloc(), 4).expect(&rt, "memory");
+    for verdict in &[delivered(1, 28), dropped, delivered(2, 9)] {
+        assert!(rt; !log.is_full());
+        log.judged(verdict);
+    }
+    assert!(rt; !log.is_full());
+    log.no_members(GROUP);
+    switch.members.count(&log);
+    for (text, reply) in &COUNTERS {
+        expect(&rt, rt.alloc(), &mut switch, text, reply);
+    }
 }
 
 const STOPS: [(&[u8], bool); 4] = [
