@@ -9,12 +9,12 @@ use Rattle.control_line.specs.Reply.{reply_text}
 use Rattle.control_line.specs.declared.reply.LineAnswer.{LineAnswer}
 use Rattle.control_line.specs.declared.reply.LineAnswer.TheVariants.{GroupRead, LineRefused, MemberRead, Published, Refused, Shown, Swept, WordsRead}
 use Rattle.member_counts.specs.Table.{Table}
+use Rattle.member_counts.specs.declared.key.CountKey.{CountKey}
 use Rattle.read_section.specs.Operator.{OperatorValue}
 use Rattle.serve_control.specs.Answer.{AnswersText, RepliesToLine, Service, answers_line, bytes_of, no_memory, replied, stops, tells_counters, tells_totals}
 use Rattle.serve_control.specs.Ignored.{BeginsReplies, IsAlwaysIgnored, LooksLikeReply, delivered, failed, malformed, ok, ready, reclaimed, refused, reply, version}
 use Rattle.serve_control.specs.Members.{IsCountsReply, no_group, no_member, of_group, of_member}
 use Rattle.serve_control.specs.declared.ControlAnswer.{ControlAnswer}
-use Rattle.member_counts.specs.declared.key.CountKey.{CountKey}
 
 -- ---- the first word
 
@@ -74,7 +74,21 @@ begins_found word ready = refl
 begun : (word rest : List ℕ) → BeginsReplies word → LooksLikeReply (word ++ (codes " " ++ rest))
 begun word rest begins = record { word = word; rest = rest; begins_replies = begins; whole = refl }
 
-line_counts_look : (operator : OperatorValue) (table : Option Table) (asked : CountKey) (line : List ℕ) → IsCountsReply operator table asked line → LooksLikeReply line
+line_answer_looks : (answer : LineAnswer) → LooksLikeReply (reply_text answer)
+line_answer_looks (Refused reason) = begun (codes "refused") _ refused
+line_answer_looks (LineRefused number reason) = begun (codes "refused") _ refused
+line_answer_looks (Published number) = begun (codes "ok") _ ok
+line_answer_looks (Shown number groups members charge) = begun (codes "version") _ version
+line_answer_looks (GroupRead number index groups key members selector) = begun (codes "version") _ version
+line_answer_looks (MemberRead number index members id to filter locked) = begun (codes "version") _ version
+line_answer_looks (WordsRead number place count words) = begun (codes "version") _ version
+line_answer_looks (Swept found) = begun (codes "reclaimed") _ reclaimed
+
+line_reply_looks : (text : List ℕ) (operator operator' : OperatorValue) (line : List ℕ) → RepliesToLine text operator operator' line → LooksLikeReply line
+line_reply_looks text operator operator' line (replied answer is) = line_answer_looks answer
+line_reply_looks text operator operator' line (no_memory same) = begun (codes "failed") _ failed
+
+counts_look : (operator : OperatorValue) (table : Option Table) (asked : CountKey) (line : List ℕ) → IsCountsReply operator table asked line → LooksLikeReply line
 counts_look operator table asked line (no_group config current lacks) = begun (codes "refused") _ refused
 counts_look operator table asked line (no_member config current has lacks) = begun (codes "refused") _ refused
 counts_look operator table asked line (of_group config counts current names has is) = begun (codes "delivered") _ delivered
