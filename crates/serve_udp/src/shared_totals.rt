@@ -8,6 +8,7 @@ use serve_devices::SharedCounts;
 use std::sync::Wait;
 
 /// Takes the table's lock for each reading. Of the table nothing is known, since the workers count meanwhile.
+#[derive(Drop)]
 pub struct SharedTotals<'a, R: Wait> {
     pub rt: &'a R,
     pub counts: &'a SharedCounts,
