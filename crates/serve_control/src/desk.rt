@@ -23,7 +23,7 @@ pub struct Desk<'a, N: TallyName, L: LogLines, M: MemberTotals> {
     pub alloc: Global,
     pub operator: &'a mut Operator,
     pub tally: &'a mut NamedTally<N>,
-    pub members: &'a mut M,
+    pub members: M,
     pub log: &'a mut Log<L>,
     pub peer: Peer,
 }
@@ -108,14 +108,20 @@ fn answer_named<N: TallyName, M: MemberTotals>(
 impl<N: TallyName, L: LogLines, M: MemberTotals> Answers for Desk<'_, N, L, M> {
     ghost exchanges = { λ before after exchange.
         AnswersAtDesk
-        (record { operator = before.operator.now; tally = before.tally.now.tally; members = M.table before.members.now })
-        (record { operator = after.operator.now; tally = after.tally.now.tally; members = M.table after.members.now }) exchange
+        (record { operator = before.operator.now; tally = before.tally.now.tally; members = M.table before.members })
+        (record { operator = after.operator.now; tally = after.tally.now.tally; members = M.table after.members }) exchange
         × LogsExchange before.log.now after.log.now before.peer exchange × (after.peer ≡ before.peer) };
 
     fn answer(&mut self, request: &[u8], reply: &mut Vec<u8>) -> Result<After, OutOfMemory> {
         // The room is taken before anything is done.
         reply.reserve(REPLY_LIMIT)?;
-        let answer = answer_named(self.alloc, request, self.operator, self.tally, self.members);
+        let answer = answer_named(
+            self.alloc,
+            request,
+            self.operator,
+            self.tally,
+            &mut self.members,
+        );
         answer.append_to(reply)?;
         tell_answer(self.log, self.peer, request, &answer);
         Ok(after_of(&answer))

@@ -36,7 +36,7 @@ impl Receiver {
         counts: &SharedCounts,
         log: &mut Log<L>,
     ) -> Ended {
-        let mut members = SharedTotals { rt, counts };
+        let mut totals = SharedTotals { rt, counts };
         for _ in rt.forever() {
             if self.sockets.wait().is_err() {
                 return Ended::PollFailed;
@@ -44,7 +44,7 @@ impl Receiver {
             self.sockets.receive(rt, &mut self.queues);
             if self
                 .sockets
-                .answer_control(alloc, &mut self.operator, named, &mut members, log)
+                .answer_control(alloc, &mut self.operator, named, &mut totals, log)
             {
                 return Ended::Stopped;
             }

@@ -1,14 +1,13 @@
 //! The sockets of the service, and the turns that they get (docs/COMMANDS.md, "serve").
 
 use crate::bound::BoundControl;
+use crate::shared_totals::SharedTotals;
 use dispatch::{NamedTally, TallyName};
 use ipv4_fields::Endpoint;
 use mio::net::UdpSocket;
 use mio::{Events, Interest, Poll, Registry, Token};
 use read_section::Operator;
-use serve_control::{
-    BoundAddresses, ControlAnswer, Desk, Log, LogLines, MemberTotals, Peer, answer_from,
-};
+use serve_control::{BoundAddresses, ControlAnswer, Desk, Log, LogLines, Peer, answer_from};
 use serve_devices::WorkerQueues;
 use serve_stream::Turn;
 use serve_unix::{CLIENTS, UnixControl};
@@ -142,13 +141,13 @@ fn send_reply(socket: &UdpSocket, reply: &mut Vec<u8>, answer: &ControlAnswer, t
 impl UdpControl {
     // Answers the next datagrams by one datagram each to their senders, but for those that are ignored. True if the switch is asked to
     // stop.
-    fn turn<N: TallyName, L: LogLines, M: MemberTotals>(
+    fn turn<N: TallyName, L: LogLines, R: Wait>(
         &mut self,
         alloc: Global,
         room: &mut Room,
         operator: &mut Operator,
         named: &mut NamedTally<N>,
-        members: &mut M,
+        totals: &mut SharedTotals<'_, R>,
         log: &mut Log<L>,
     ) -> bool {
         for _datagram in 0..CONTROL_TURN {
@@ -165,7 +164,7 @@ impl UdpControl {
                         text,
                         operator,
                         named,
-                        members,
+                        totals,
                         log,
                     );
                     let Some(answer) = answered else {
@@ -189,12 +188,12 @@ impl UdpControl {
 }
 
 // Gives the next clients their turns. True if the switch is asked to stop.
-fn client_turns<N: TallyName, L: LogLines, M: MemberTotals>(
+fn client_turns<N: TallyName, L: LogLines, R: Wait>(
     control: &mut UnixControl,
     alloc: Global,
     operator: &mut Operator,
     named: &mut NamedTally<N>,
-    members: &mut M,
+    totals: &SharedTotals<'_, R>,
     log: &mut Log<L>,
 ) -> bool {
     for _client in 0..CONTROL_TURN {
@@ -205,7 +204,7 @@ fn client_turns<N: TallyName, L: LogLines, M: MemberTotals>(
             alloc,
             operator,
             tally: named,
-            members,
+            members: totals.again(),
             log,
             peer: Peer::Unix(control.number(place)),
         };
@@ -274,22 +273,22 @@ impl Sockets {
     }
 
     /// Gives control its turn: requests are answered. True if the switch is asked to stop.
-    pub fn answer_control<N: TallyName, L: LogLines, M: MemberTotals>(
+    pub fn answer_control<N: TallyName, L: LogLines, R: Wait>(
         &mut self,
         alloc: Global,
         operator: &mut Operator,
         named: &mut NamedTally<N>,
-        members: &mut M,
+        totals: &mut SharedTotals<'_, R>,
         log: &mut Log<L>,
     ) -> bool {
         match &mut self.control {
             Control::Udp(control) => {
                 control.is_ready
-                    && control.turn(alloc, &mut self.room, operator, named, members, log)
+                    && control.turn(alloc, &mut self.room, operator, named, totals, log)
             }
             Control::Unix(control) => {
                 control.accept(alloc, self.poll.registry());
-                client_turns(control, alloc, operator, named, members, log)
+                client_turns(control, alloc, operator, named, totals, log)
             }
         }
     }
