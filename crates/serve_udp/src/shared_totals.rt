@@ -14,16 +14,6 @@ pub struct SharedTotals<'a, R: Wait> {
     pub counts: &'a SharedCounts,
 }
 
-impl<'a, R: Wait> SharedTotals<'a, R> {
-    /// The same once more.
-    pub fn again(&self) -> SharedTotals<'a, R> {
-        SharedTotals {
-            rt: self.rt,
-            counts: self.counts,
-        }
-    }
-}
-
 impl<'a, R: Wait> MemberTotals for SharedTotals<'a, R> {
     ghost use Rattle.std.specs.Prelude.{None};
 

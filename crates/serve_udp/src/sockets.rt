@@ -187,6 +187,15 @@ impl UdpControl {
     }
 }
 
+// Gives the client in a place its turn at a desk.
+fn client_turn<'a, N: TallyName, L: LogLines, R: Wait>(
+    control: &mut UnixControl,
+    place: usize,
+    mut desk: Desk<'a, N, L, SharedTotals<'a, R>>,
+) -> Turn {
+    control.turn(place, &mut desk)
+}
+
 // Gives the next clients their turns. True if the switch is asked to stop.
 fn client_turns<N: TallyName, L: LogLines, R: Wait>(
     control: &mut UnixControl,
@@ -200,15 +209,18 @@ fn client_turns<N: TallyName, L: LogLines, R: Wait>(
         let Some(place) = control.next_turn() else {
             return false;
         };
-        let mut desk = Desk {
+        let desk = Desk {
             alloc,
             operator,
             tally: named,
-            members: totals.again(),
+            members: SharedTotals {
+                rt: totals.rt,
+                counts: totals.counts,
+            },
             log,
             peer: Peer::Unix(control.number(place)),
         };
-        if let Turn::Stop = control.turn(place, &mut desk) {
+        if let Turn::Stop = client_turn(control, place, desk) {
             return true;
         }
     }
