@@ -9,21 +9,25 @@ ghost use Rattle.serve_control.specs.Log.{TellsRequest};
 use crate::ignored::BoundAddresses;
 use crate::log::{Log, LogLines, Peer};
 use crate::members::MemberTotals;
+use crate::shared_totals::SharedTotals;
 use crate::{ControlAnswer, answer, answer_request};
 use control_line::{OutOfMemory, REPLY_LIMIT};
 use dispatch::{NamedTally, TallyName};
 use ipv4_fields::Endpoint;
+use member_counts::MemberTable;
 use read_section::Operator;
 use serve_stream::{After, Answers};
 use std::alloc::Global;
+use std::sync::{Mutex, Wait};
 
 /// What answers the requests of a peer.
 #[derive(Drop)]
-pub struct Desk<'a, N: TallyName, L: LogLines, M: MemberTotals> {
+pub struct Desk<'a, N: TallyName, L: LogLines, R: Wait> {
+    pub rt: &'a R,
     pub alloc: Global,
     pub operator: &'a mut Operator,
     pub tally: &'a mut NamedTally<N>,
-    pub members: M,
+    pub counts: &'a Mutex<MemberTable>,
     pub log: &'a mut Log<L>,
     pub peer: Peer,
 }
@@ -105,23 +109,21 @@ fn answer_named<N: TallyName, M: MemberTotals>(
     answer_request(alloc, request, operator, &mut named.tally, members)
 }
 
-impl<N: TallyName, L: LogLines, M: MemberTotals> Answers for Desk<'_, N, L, M> {
+impl<N: TallyName, L: LogLines, R: Wait> Answers for Desk<'_, N, L, R> {
     ghost exchanges = { λ before after exchange.
         AnswersAtDesk
-        (record { operator = before.operator.now; tally = before.tally.now.tally; members = M.table before.members })
-        (record { operator = after.operator.now; tally = after.tally.now.tally; members = M.table after.members }) exchange
+        (record { operator = before.operator.now; tally = before.tally.now.tally; members = None })
+        (record { operator = after.operator.now; tally = after.tally.now.tally; members = None }) exchange
         × LogsExchange before.log.now after.log.now before.peer exchange × (after.peer ≡ before.peer) };
 
     fn answer(&mut self, request: &[u8], reply: &mut Vec<u8>) -> Result<After, OutOfMemory> {
         // The room is taken before anything is done.
         reply.reserve(REPLY_LIMIT)?;
-        let answer = answer_named(
-            self.alloc,
-            request,
-            self.operator,
-            self.tally,
-            &mut self.members,
-        );
+        let mut totals = SharedTotals {
+            rt: self.rt,
+            counts: self.counts,
+        };
+        let answer = answer_named(self.alloc, request, self.operator, self.tally, &mut totals);
         answer.append_to(reply)?;
         tell_answer(self.log, self.peer, request, &answer);
         Ok(after_of(&answer))

@@ -15,6 +15,7 @@ mod desk;
 mod ignored;
 mod log;
 mod members;
+mod shared_totals;
 
 use control_line::{Reply, is_word, line};
 pub use desk::{Desk, answer_from};
@@ -26,6 +27,7 @@ pub use log::{LOGGED_BYTES, Log, LogLines, NoLog, Peer};
 pub use members::MemberTotals;
 use members::{counts_reply, read_asked};
 use read_section::Operator;
+pub use shared_totals::SharedTotals;
 use std::alloc::{AllocError, Global};
 
 /// The answer to a control datagram.

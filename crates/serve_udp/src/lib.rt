@@ -19,7 +19,6 @@ mod jobs;
 mod opening;
 mod ready;
 mod receiving;
-mod shared_totals;
 mod sockets;
 
 pub use bound::{BindFault, BoundSockets, bind_udp, bind_unix};

@@ -1,10 +1,9 @@
 //! The caller's thread of the service: it hands over what comes, and answers control, until it is asked to stop.
 
-use crate::shared_totals::SharedTotals;
 use crate::sockets::Sockets;
 use dispatch::{NamedTally, TallyName};
 use read_section::Operator;
-use serve_control::{Log, LogLines};
+use serve_control::{Log, LogLines, SharedTotals};
 use serve_devices::{SharedCounts, WorkerQueues};
 use std::alloc::Global;
 use std::sync::Wait;

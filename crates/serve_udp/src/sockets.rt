@@ -1,13 +1,14 @@
 //! The sockets of the service, and the turns that they get (docs/COMMANDS.md, "serve").
 
 use crate::bound::BoundControl;
-use crate::shared_totals::SharedTotals;
 use dispatch::{NamedTally, TallyName};
 use ipv4_fields::Endpoint;
 use mio::net::UdpSocket;
 use mio::{Events, Interest, Poll, Registry, Token};
 use read_section::Operator;
-use serve_control::{BoundAddresses, ControlAnswer, Desk, Log, LogLines, Peer, answer_from};
+use serve_control::{
+    BoundAddresses, ControlAnswer, Desk, Log, LogLines, Peer, SharedTotals, answer_from,
+};
 use serve_devices::WorkerQueues;
 use serve_stream::Turn;
 use serve_unix::{CLIENTS, UnixControl};
@@ -187,15 +188,6 @@ impl UdpControl {
     }
 }
 
-// Gives the client in a place its turn at a desk.
-fn client_turn<'a, N: TallyName, L: LogLines, R: Wait>(
-    control: &mut UnixControl,
-    place: usize,
-    mut desk: Desk<'a, N, L, SharedTotals<'a, R>>,
-) -> Turn {
-    control.turn(place, &mut desk)
-}
-
 // Gives the next clients their turns. True if the switch is asked to stop.
 fn client_turns<N: TallyName, L: LogLines, R: Wait>(
     control: &mut UnixControl,
@@ -209,18 +201,16 @@ fn client_turns<N: TallyName, L: LogLines, R: Wait>(
         let Some(place) = control.next_turn() else {
             return false;
         };
-        let desk = Desk {
+        let mut desk = Desk {
+            rt: totals.rt,
             alloc,
             operator,
             tally: named,
-            members: SharedTotals {
-                rt: totals.rt,
-                counts: totals.counts,
-            },
+            counts: totals.counts,
             log,
             peer: Peer::Unix(control.number(place)),
         };
-        if let Turn::Stop = client_turn(control, place, desk) {
+        if let Turn::Stop = control.turn(place, &mut desk) {
             return true;
         }
     }

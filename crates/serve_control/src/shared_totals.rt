@@ -1,17 +1,16 @@
 //! The counters by member, read from the table that all workers count in.
 
+use crate::members::MemberTotals;
 use ipv4_fields::Endpoint;
-use member_counts::{GroupCounts, MemberCounts};
+use member_counts::{GroupCounts, MemberCounts, MemberTable};
 use member_group::Config;
-use serve_control::MemberTotals;
-use serve_devices::SharedCounts;
-use std::sync::Wait;
+use std::sync::{Mutex, Wait};
 
 /// Takes the table's lock for each reading. Of the table nothing is known, since the workers count meanwhile.
 #[derive(Drop)]
 pub struct SharedTotals<'a, R: Wait> {
     pub rt: &'a R,
-    pub counts: &'a SharedCounts,
+    pub counts: &'a Mutex<MemberTable>,
 }
 
 impl<'a, R: Wait> MemberTotals for SharedTotals<'a, R> {
