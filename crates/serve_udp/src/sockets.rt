@@ -9,7 +9,7 @@ use read_section::Operator;
 use serve_control::{
     BoundAddresses, ControlAnswer, Desk, Log, LogLines, Peer, SharedTotals, answer_from,
 };
-use serve_devices::WorkerQueues;
+use serve_devices::{SharedCounts, WorkerQueues};
 use serve_stream::Turn;
 use serve_unix::{CLIENTS, UnixControl};
 use std::alloc::{AllocError, Global};
@@ -188,6 +188,29 @@ impl UdpControl {
     }
 }
 
+// Gives the client in a place its turn, at a desk of its own.
+fn client_turn<'a, N: TallyName, L: LogLines, R: Wait>(
+    control: &mut UnixControl,
+    place: usize,
+    alloc: Global,
+    rt: &'a R,
+    counts: &'a SharedCounts,
+    operator: &'a mut Operator,
+    named: &'a mut NamedTally<N>,
+    log: &'a mut Log<L>,
+) -> Turn {
+    let mut desk = Desk {
+        rt,
+        alloc,
+        operator,
+        tally: named,
+        counts,
+        log,
+        peer: Peer::Unix(control.number(place)),
+    };
+    control.turn(place, &mut desk)
+}
+
 // Gives the next clients their turns. True if the switch is asked to stop.
 fn client_turns<N: TallyName, L: LogLines, R: Wait>(
     control: &mut UnixControl,
@@ -201,16 +224,9 @@ fn client_turns<N: TallyName, L: LogLines, R: Wait>(
         let Some(place) = control.next_turn() else {
             return false;
         };
-        let mut desk = Desk {
-            rt: totals.rt,
-            alloc,
-            operator,
-            tally: named,
-            counts: totals.counts,
-            log,
-            peer: Peer::Unix(control.number(place)),
-        };
-        if let Turn::Stop = control.turn(place, &mut desk) {
+        let (rt, counts) = (totals.rt, totals.counts);
+        let turn = client_turn(control, place, alloc, rt, counts, operator, named, log);
+        if let Turn::Stop = turn {
             return true;
         }
     }
