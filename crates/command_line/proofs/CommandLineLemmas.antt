@@ -1,5 +1,5 @@
 -- The command that a parse of the program's words has met, where `clap` finds no fault in them.
-use Rattle.std.proofs.Common.{◌≡◌, ◌∙◌, ◌∷◌, ◌&&◌, ◌||◌, ◌-◌, ◌^◌, [], ℕ, List, Bool, Err, IsErrAnd, Ok, Result, true, false, not, cond, Option, Some, None, is_some, inl, inr, ap, ap₂, subst, sym, refl, codes, ◌++◌, take, slice_index_or}
+use Rattle.std.proofs.Common.{◌≡◌, ◌∙◌, ◌∷◌, ◌&&◌, ◌||◌, [], ℕ, List, Bool, Err, IsErrAnd, Ok, Result, true, false, not, cond, Option, Some, None, is_some, inl, inr, ap, ap₂, subst, sym, refl, codes, ◌++◌, take, slice_index_or}
 use Rattle.std.specs.Prelude.{find, fold, option_and_then, option_map, unwrap_or}
 use Rattle.std.specs.Borrow.{Bor}
 use Rattle.std.specs.Str.{bytes_eq}
@@ -25,8 +25,8 @@ use Rattle.clap.specs.declared.parser.matches.SubCommand.{SubCommand}
 use Rattle.std.specs.Prelude.{Box}
 use Rattle.std.specs.Box.{box_value}
 use Rattle.clap.specs.Lexer.{long_of, short_of}
-use Rattle.command_line.specs.CommandLine.{Command, command_in, command_line, command_named, count_in, datagrams_in, faults_in, interval_in, number_in, timeout_in, workers_in}
-use Rattle.command_line.specs.declared.command.TheConstants.{MAX_DATAGRAMS, MAX_INTERVAL, MAX_TIMEOUT}
+use Rattle.command_line.specs.CommandLine.{Command, command_in, command_line, command_named, datagrams_in, faults_in, number_in, timeout_in, workers_in}
+use Rattle.command_line.specs.declared.command.TheConstants.{MAX_DATAGRAMS, MAX_TIMEOUT}
 use Rattle.command_line.proofs.ValueLemmas.{AreRead, accepted, level_fine, none_of_both, value_passes}
 
 module _ (s : Shape) where
@@ -118,10 +118,10 @@ top = (built command_line).top
 
 -- the commands, and behind them `clap`'s own, `help`
 abbrev commands : List Shape
-commands = take 14 (built command_line).subs
+commands = take 12 (built command_line).subs
 
 abbrev help_command : Shape
-help_command = slice_index_or (built command_line).subs 14 top
+help_command = slice_index_or (built command_line).subs 12 top
 
 has_met : (rows : List Row) (has : Bool) → check_fault top rows has ≡ [] → has ≡ true
 has_met rows true none = refl
@@ -219,16 +219,6 @@ rules_shape = slice_index_or commands 10 top
 abbrev load_shape : Shape
 load_shape = slice_index_or commands 11 top
 
-abbrev metrics_shape : Shape
-metrics_shape = slice_index_or commands 12 top
-
-abbrev top_shape : Shape
-top_shape = slice_index_or commands 13 top
-
--- the most screens
-abbrev MOST : ℕ
-MOST = 2 ^ 64 - 1
-
 -- the checks at the end of a level
 abbrev rows_of_command : Shape → List Text → List Row
 rows_of_command s words = rows_after s.rules [] words
@@ -262,18 +252,6 @@ rules_timeout = (inl refl, λ same. cc, (inl refl, λ same. (refl, reads MAX_TIM
 load_timeout : AreRead load_shape (codes "timeout") (IsNumber MAX_TIMEOUT) load_shape.rules
 load_timeout = (inl refl, λ same. cc, (inl refl, λ same. (refl, reads MAX_TIMEOUT), (inr refl, λ same. cc, (inr refl, λ same. cc, (inl refl, λ same. cc, (inl refl, λ same. cc, tt))))))
 
-metrics_timeout : AreRead metrics_shape (codes "timeout") (IsNumber MAX_TIMEOUT) metrics_shape.rules
-metrics_timeout = (inl refl, λ same. cc, (inl refl, λ same. cc, (inl refl, λ same. (refl, reads MAX_TIMEOUT), (inl refl, λ same. cc, tt))))
-
-top_interval : AreRead top_shape (codes "interval") (IsNumber MAX_INTERVAL) top_shape.rules
-top_interval = (inl refl, λ same. cc, (inl refl, λ same. (refl, reads MAX_INTERVAL), (inl refl, λ same. cc, (inl refl, λ same. cc, (inl refl, λ same. cc, tt)))))
-
-top_count : AreRead top_shape (codes "count") (IsNumber MOST) top_shape.rules
-top_count = (inl refl, λ same. cc, (inl refl, λ same. cc, (inl refl, λ same. (refl, reads MOST), (inl refl, λ same. cc, (inl refl, λ same. cc, tt)))))
-
-top_timeout : AreRead top_shape (codes "timeout") (IsNumber MAX_TIMEOUT) top_shape.rules
-top_timeout = (inl refl, λ same. cc, (inl refl, λ same. cc, (inl refl, λ same. cc, (inl refl, λ same. (refl, reads MAX_TIMEOUT), (inl refl, λ same. cc, tt)))))
-
 -- a number of workers and one of datagrams make a command
 both_numbers : {A B C : Type 0} (f : A → B → C) (a : Option A) (b : Option B) → is_some a ≡ true → is_some b ≡ true
     → is_some (option_and_then (λ x. option_map (λ y. f x y) b) a) ≡ true
@@ -284,13 +262,6 @@ both_numbers f (Some x) (Some y) has has' = refl
 one_number : {A C : Type 0} (f : A → C) (a : Option A) → is_some a ≡ true → is_some (option_map (λ x. f x) a) ≡ true
 one_number f None has = cc
 one_number f (Some x) has = refl
-
-three_numbers : {A B C D : Type 0} (f : A → B → C → D) (a : Option A) (b : Option B) (c : Option C) → is_some a ≡ true → is_some b ≡ true
-    → is_some c ≡ true → is_some (option_and_then (λ x. option_and_then (λ y. option_map (λ z. f x y z) c) b) a) ≡ true
-three_numbers f None b c has has' has'' = cc
-three_numbers f (Some x) None c has has' has'' = cc
-three_numbers f (Some x) (Some y) None has has' has'' = cc
-three_numbers f (Some x) (Some y) (Some z) has has' has'' = refl
 
 is_flood : IsCommand flood_shape
 is_flood words none =
@@ -325,25 +296,8 @@ is_load words none =
     let timeout = value_passes load_shape (codes "timeout") (IsNumber MAX_TIMEOUT) rows (codes "1") (level_fine load_shape (codes "timeout") (IsNumber MAX_TIMEOUT) load_timeout words none) (inr refl) in
     one_number _ (timeout_in rows) (is_number MAX_TIMEOUT (unwrap_or (first_of (codes "timeout") rows) (codes "1")) timeout)
 
-is_metrics : IsCommand metrics_shape
-is_metrics words none =
-    let rows = rows_of_command metrics_shape words in
-    let timeout = value_passes metrics_shape (codes "timeout") (IsNumber MAX_TIMEOUT) rows (codes "1") (level_fine metrics_shape (codes "timeout") (IsNumber MAX_TIMEOUT) metrics_timeout words none) (inr refl) in
-    one_number _ (timeout_in rows) (is_number MAX_TIMEOUT (unwrap_or (first_of (codes "timeout") rows) (codes "1")) timeout)
-
-is_top : IsCommand top_shape
-is_top words none =
-    let rows = rows_of_command top_shape words in
-    let interval = value_passes top_shape (codes "interval") (IsNumber MAX_INTERVAL) rows (codes "1") (level_fine top_shape (codes "interval") (IsNumber MAX_INTERVAL) top_interval words none) (inr refl) in
-    let count = value_passes top_shape (codes "count") (IsNumber MOST) rows (codes "18446744073709551615") (level_fine top_shape (codes "count") (IsNumber MOST) top_count words none) (inr refl) in
-    let timeout = value_passes top_shape (codes "timeout") (IsNumber MAX_TIMEOUT) rows (codes "1") (level_fine top_shape (codes "timeout") (IsNumber MAX_TIMEOUT) top_timeout words none) (inr refl) in
-    three_numbers _ (interval_in rows) (count_in rows) (timeout_in rows)
-    (is_number MAX_INTERVAL (unwrap_or (first_of (codes "interval") rows) (codes "1")) interval)
-    (is_number MOST (unwrap_or (first_of (codes "count") rows) (codes "18446744073709551615")) count)
-    (is_number MAX_TIMEOUT (unwrap_or (first_of (codes "timeout") rows) (codes "1")) timeout)
-
 are_commands : AreCommands commands
-are_commands = ((λ words none. refl), ((λ words none. refl), ((λ words none. refl), ((λ words none. refl), ((λ words none. refl), ((λ words none. refl), ((λ words none. refl), (is_flood, (is_serve, (is_tell, (is_rules, (is_load, (is_metrics, (is_top, tt))))))))))))))
+are_commands = ((λ words none. refl), ((λ words none. refl), ((λ words none. refl), ((λ words none. refl), ((λ words none. refl), ((λ words none. refl), ((λ words none. refl), (is_flood, (is_serve, (is_tell, (is_rules, (is_load, tt))))))))))))
 
 entered_command : (stop : Stop) → IsNoHelp top stop → entered_fault (built command_line) stop ≡ [] → is_some (entered (built command_line) stop) ≡ true
     → is_some (command_met (entered (built command_line) stop)) ≡ true

@@ -2,7 +2,7 @@
 use Rattle.std.proofs.Common.{◌≡◌, ◌∷◌, [], None, Some, codes, false, refl, true}
 use Rattle.clap.proofs.OnLiterals.{clap_on_literals}
 use Rattle.clap.specs.declared.error.kind.ErrorKind.TheVariants.{ArgumentConflict, DisplayHelp, DisplayVersion, InvalidSubcommand, MissingRequiredArgument, MissingSubcommand, TooManyValues, UnknownArgument, ValueValidation}
-use Rattle.command_line.specs.CommandLine.{check, command_in, compile, explain, faults_in, flood, judge, load, metrics, replay, returning, rules, run, serve, tell, top, waiting}
+use Rattle.command_line.specs.CommandLine.{check, command_in, compile, explain, faults_in, flood, judge, load, replay, returning, rules, run, serve, tell, waiting}
 
 in_first : faults_in (codes "first" ∷ []) ≡ []
 unfolding clap_on_literals
@@ -214,29 +214,3 @@ in_load_that_shows = refl
 in_load_of_no_file : faults_in (codes "load" ∷ codes "--control" ∷ codes "A" ∷ []) ≡ MissingRequiredArgument ∷ []
 unfolding clap_on_literals
 in_load_of_no_file = refl
-
-in_metrics : command_in (codes "metrics" ∷ codes "--control" ∷ codes "0.0.0.0:2" ∷ []) ≡ Some (waiting (metrics (codes "0.0.0.0:2") None 1))
-unfolding clap_on_literals
-in_metrics = refl
-
-in_metrics_with_a_front : command_in (codes "metrics" ∷ codes "--front" ∷ codes "0.0.0.0:1" ∷ codes "--control" ∷ codes "0.0.0.0:2" ∷ codes "--timeout" ∷ codes "5" ∷ [])
-    ≡ Some (waiting (metrics (codes "0.0.0.0:2") (Some (codes "0.0.0.0:1")) 5))
-unfolding clap_on_literals
-in_metrics_with_a_front = refl
-
-in_top : command_in (codes "top" ∷ codes "--control" ∷ codes "0.0.0.0:2" ∷ []) ≡ Some (waiting (top (codes "0.0.0.0:2") 1 18446744073709551615 1))
-unfolding clap_on_literals
-in_top = refl
-
-in_top_with_all : command_in (codes "top" ∷ codes "--control" ∷ codes "0.0.0.0:2" ∷ codes "--interval" ∷ codes "3600" ∷ codes "--count" ∷ codes "2" ∷ codes "--timeout" ∷ codes "5" ∷ [])
-    ≡ Some (waiting (top (codes "0.0.0.0:2") 3600 2 5))
-unfolding clap_on_literals
-in_top_with_all = refl
-
-in_top_without_screens : faults_in (codes "top" ∷ codes "--control" ∷ codes "0.0.0.0:2" ∷ codes "--count" ∷ codes "0" ∷ []) ≡ ValueValidation ∷ []
-unfolding clap_on_literals
-in_top_without_screens = refl
-
-in_top_of_a_long_interval : faults_in (codes "top" ∷ codes "--control" ∷ codes "0.0.0.0:2" ∷ codes "--interval" ∷ codes "3601" ∷ []) ≡ ValueValidation ∷ []
-unfolding clap_on_literals
-in_top_of_a_long_interval = refl

@@ -1,5 +1,5 @@
 -- The program's command line, as the contracts of `clap` see it.
-use Rattle.std.specs.Prelude.{◌≢◌, ◌⊎◌, ◌-◌, ◌^◌, [], Bool, List, None, Option, Some, codes, false, if◌then◌else◌, map, option_and_then, option_map, true, unwrap_or, ℕ}
+use Rattle.std.specs.Prelude.{◌≢◌, ◌⊎◌, [], Bool, List, None, Option, Some, codes, false, if◌then◌else◌, map, option_and_then, option_map, true, unwrap_or, ℕ}
 use Rattle.std.specs.Str.{bytes_eq}
 use Rattle.std.specs.Str.Parse.{digits_value, without_leading_plus}
 use Rattle.clap.specs.ValueTests.{accepts}
@@ -17,7 +17,7 @@ use Rattle.command_line.specs.declared.command.Subcommand.{Subcommand}
 use Rattle.command_line.specs.declared.command.Subcommand.TheVariants as subcommand
 use Rattle.command_line.specs.declared.command.Waiting.{Waiting}
 use Rattle.command_line.specs.declared.command.Waiting.TheVariants as waited
-use Rattle.command_line.specs.declared.command.TheConstants.{MAX_DATAGRAMS, MAX_INTERVAL, MAX_TIMEOUT}
+use Rattle.command_line.specs.declared.command.TheConstants.{MAX_DATAGRAMS, MAX_TIMEOUT}
 use Rattle.versions.specs.declared.layout.TheConstants.{WORKERS}
 
 -- a required argument by place, one by name, and a required one by name
@@ -121,28 +121,6 @@ load_line =
     (flag (codes "diff")))
     (required_argument (codes "FILE"))
 
--- `metrics --control A`, with a front or none, and a timeout or none
-abbrev pub metrics_line : App
-metrics_line =
-    with_rule
-    (with_rule (with_rule (new_app (codes "metrics")) (required_named_argument (codes "control"))) (named_argument (codes "front")))
-    timeout_argument
-
--- `--interval SECONDS`, from 1 on
-abbrev pub interval_argument : Rule
-interval_argument = record (named_argument (codes "interval")) { parser = Some (Unsigned 1 MAX_INTERVAL) }
-
--- `--count N`, from 1 on
-abbrev pub count_argument : Rule
-count_argument = record (named_argument (codes "count")) { parser = Some (Unsigned 1 (2 ^ 64 - 1)) }
-
--- `top --control A`, with an interval, a count and a timeout, or without
-abbrev pub top_line : App
-top_line =
-    with_rule
-    (with_rule (with_rule (with_rule (new_app (codes "top")) (required_named_argument (codes "control"))) interval_argument) count_argument)
-    timeout_argument
-
 abbrev pub bare : Shape
 bare = (new_app (codes "dswitch")).top
 
@@ -163,8 +141,6 @@ command_line =
     (with_subcommand
     (with_subcommand
     (with_subcommand
-    (with_subcommand
-    (with_subcommand
     (with_subcommand (with_subcommand (with_subcommand (with_subcommand without_commands first_line.top) check_line.top) compile_line.top)
     run_line.top)
     explain_line.top)
@@ -174,9 +150,7 @@ command_line =
     serve_line.top)
     tell_line.top)
     rules_line.top)
-    load_line.top)
-    metrics_line.top)
-    top_line.top
+    load_line.top
 
 -- what `clap` finds in the words after the program's name: nothing, where they name a command
 abbrev pub faults_in : List Text → Kinds
@@ -210,8 +184,6 @@ pub data WaitingRequest : Type 0 where
   tell : (control : Text) (timeout : ℕ) (all : Bool) (lines : List Text) → WaitingRequest
   rules : (control : Text) (timeout : ℕ) → WaitingRequest
   load : (control : Option Text) (timeout : ℕ) (rules_file : Text) (only_check only_diff : Bool) → WaitingRequest
-  metrics : (control : Text) (front : Option Text) (timeout : ℕ) → WaitingRequest
-  top : (control : Text) (interval count timeout : ℕ) → WaitingRequest
 
 pub data Command : Type 0 where
   returning : Request → Command
@@ -238,8 +210,6 @@ waiting_of (waited.Tell control timeout all lines) = tell control.now timeout al
 waiting_of (waited.Rules control timeout) = rules control.now timeout
 waiting_of (waited.Load control timeout file only_check only_diff) =
     load (option_map (λ address. address.now) control) timeout file.now only_check only_diff
-waiting_of (waited.Metrics control front timeout) = metrics control.now (option_map (λ address. address.now) front) timeout
-waiting_of (waited.Top control interval count timeout) = top control.now interval count timeout
 
 abbrev pub command_of : Subcommand → Command
 command_of (subcommand.Returning asked) = returning (request_of asked)
@@ -268,14 +238,6 @@ workers_in rows = number_in WORKERS (value_in rows (codes "workers"))
 -- a second, where no other number is given
 abbrev pub timeout_in : List Row → Option ℕ
 timeout_in rows = number_in MAX_TIMEOUT (unwrap_or (first_of (codes "timeout") rows) (codes "1"))
-
--- a second between screens, if no other number is given
-abbrev pub interval_in : List Row → Option ℕ
-interval_in rows = number_in MAX_INTERVAL (unwrap_or (first_of (codes "interval") rows) (codes "1"))
-
--- 2^64 - 1 screens, if no other number is given
-abbrev pub count_in : List Row → Option ℕ
-count_in rows = number_in (2 ^ 64 - 1) (unwrap_or (first_of (codes "count") rows) (codes "18446744073709551615"))
 
 -- 4096 datagrams, where no other number is given
 abbrev pub datagrams_in : List Row → Option ℕ
@@ -313,17 +275,6 @@ load_in rows =
     (λ timeout. waiting (load (first_of (codes "control") rows) timeout (value_in rows (codes "FILE")) (is_set rows (codes "check")) (is_set rows (codes "diff"))))
     (timeout_in rows)
 
-abbrev pub metrics_in : List Row → Option Command
-metrics_in rows =
-    option_map (λ timeout. waiting (metrics (value_in rows (codes "control")) (first_of (codes "front") rows) timeout)) (timeout_in rows)
-
-abbrev pub top_in : List Row → Option Command
-top_in rows =
-    option_and_then
-    (λ interval. option_and_then (λ count. option_map (λ timeout. waiting (top (value_in rows (codes "control")) interval count timeout)) (timeout_in rows))
-    (count_in rows))
-    (interval_in rows)
-
 abbrev pub command_named : Text → List Row → Option Command
 command_named name rows =
     if bytes_eq name (codes "first")
@@ -350,10 +301,6 @@ command_named name rows =
     then rules_in rows
     else if bytes_eq name (codes "load")
     then load_in rows
-    else if bytes_eq name (codes "metrics")
-    then metrics_in rows
-    else if bytes_eq name (codes "top")
-    then top_in rows
     else None
 
 -- the command that the words name, with the values that they give its arguments

@@ -3,14 +3,13 @@
 ghost use Rattle.std.specs.Prelude.{◌≡◌, IfOk, false};
 ghost use Rattle.clap.specs.Words.{App, Rule, app_of, new_app, rule_of, with_rule, with_subcommand};
 ghost use Rattle.clap.specs.declared.builder.command.Command.TheViews.{out-Command};
-ghost use Rattle.command_line.specs.CommandLine.{check_line, command_line, compile_line, explain_line, flood_line, load_line, metrics_line, replay_line, rules_line, run_line, serve_line, tell_line, top_line, without_commands};
-ghost use Rattle.command_line.specs.body.Half.{with_queries, with_rules, with_workers};
+ghost use Rattle.command_line.specs.CommandLine.{check_line, command_line, compile_line, explain_line, flood_line, load_line, replay_line, rules_line, run_line, serve_line, tell_line, without_commands};
+ghost use Rattle.command_line.specs.body.Half.{with_queries, with_workers};
 
 use crate::arguments::{
-    address_argument, control_argument, count_argument, datagrams_argument, expression_argument,
-    flag_argument, format_argument, front_argument, interval_argument, lines_argument,
-    packet_argument, positional_argument, rules_argument, timeout_argument, words_argument,
-    workers_argument,
+    address_argument, control_argument, datagrams_argument, expression_argument, flag_argument,
+    format_argument, lines_argument, packet_argument, positional_argument, rules_argument,
+    timeout_argument, words_argument, workers_argument,
 };
 use crate::help;
 use clap::{Arg, Command};
@@ -149,29 +148,6 @@ fn load_command<'a>(alloc: Global) -> Result<Command<'a>, AllocError>
     with_argument(command, file)
 }
 
-fn metrics_command<'a>(alloc: Global) -> Result<Command<'a>, AllocError>
-    ensures app { IfOk result (λ command. app_of command ≡ metrics_line) }
-    ensures local { IfOk result (λ command. (out-Command command).has_globals ≡ false) }
-{
-    let control = address_argument(alloc, "control", help::TELL_CONTROL);
-    let command = plain_command(alloc, "metrics", help::METRICS, help::METRICS_MORE);
-    let command = with_argument(Ok(command), control);
-    let command = with_argument(command, front_argument(alloc));
-    with_argument(command, timeout_argument(alloc))
-}
-
-fn top_command<'a>(alloc: Global) -> Result<Command<'a>, AllocError>
-    ensures app { IfOk result (λ command. app_of command ≡ top_line) }
-    ensures local { IfOk result (λ command. (out-Command command).has_globals ≡ false) }
-{
-    let control = address_argument(alloc, "control", help::TELL_CONTROL);
-    let command = plain_command(alloc, "top", help::TOP, help::TOP_MORE);
-    let command = with_argument(Ok(command), control);
-    let command = with_argument(command, interval_argument(alloc));
-    let command = with_argument(command, count_argument(alloc));
-    with_argument(command, timeout_argument(alloc))
-}
-
 // The program before its commands.
 fn without_commands<'a>(alloc: Global) -> Result<Command<'a>, AllocError>
     ensures { IfOk result (λ program. app_of program ≡ without_commands) }
@@ -223,18 +199,10 @@ fn with_workers<'a>(alloc: Global) -> Result<Command<'a>, AllocError>
     with_command(program, serve_command(alloc))
 }
 
-// The program with its commands up to `load`.
-fn with_rules<'a>(alloc: Global) -> Result<Command<'a>, AllocError>
-    ensures { IfOk result (λ program. app_of program ≡ with_rules) }
+pub(crate) fn program<'a>(alloc: Global) -> Result<Command<'a>, AllocError>
+    ensures { IfOk result (λ program. app_of program ≡ command_line) }
 {
     let program = with_command(with_workers(alloc), tell_command(alloc));
     let program = with_command(program, rules_command(alloc));
     with_command(program, load_command(alloc))
-}
-
-pub(crate) fn program<'a>(alloc: Global) -> Result<Command<'a>, AllocError>
-    ensures { IfOk result (λ program. app_of program ≡ command_line) }
-{
-    let program = with_command(with_rules(alloc), metrics_command(alloc));
-    with_command(program, top_command(alloc))
 }

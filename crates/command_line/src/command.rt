@@ -9,9 +9,6 @@ pub const MAX_TIMEOUT: u64 = 3600;
 /// The most datagrams of `flood`.
 pub const MAX_DATAGRAMS: u64 = 1 << 24;
 
-/// The longest interval between two screens of `top`, in seconds.
-pub const MAX_INTERVAL: u64 = 3600;
-
 /// A command that has one result.
 #[derive(Drop)]
 pub enum Query<'a> {
@@ -88,19 +85,6 @@ pub enum Waiting<'a> {
         file: &'a str,
         check: bool,
         diff: bool,
-    },
-    /// `front` is the front whose drops in the kernel are wanted, if they are.
-    Metrics {
-        control: &'a str,
-        front: Option<&'a str>,
-        timeout: u64,
-    },
-    /// `interval` is a number of seconds. `count` is how many screens are written: 2^64 - 1 if no number is given.
-    Top {
-        control: &'a str,
-        interval: u64,
-        count: u64,
-        timeout: u64,
     },
 }
 

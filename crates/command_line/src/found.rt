@@ -4,12 +4,10 @@ ghost use Rattle.std.specs.Prelude.{◌≡◌, ◌≤◌, IfOk, IfSome, Some, co
 ghost use Rattle.std.specs.Option.{option_map};
 ghost use Rattle.clap.specs.Walk.{first_of};
 ghost use Rattle.clap.specs.Words.{FailsBy, found_of, rows_of};
-ghost use Rattle.command_line.specs.CommandLine.{command_in, command_named, command_of, count_in, datagrams_in, explain, faults_in, flood_in, format_in, interval_in, is_set, load_in, metrics_in, number_in, query_request, request_of, returning, rules_in, run_or_judge, serve_in, tell_in, timeout_in, top_in, value_in, values_in, workers_in};
+ghost use Rattle.command_line.specs.CommandLine.{command_in, command_named, command_of, datagrams_in, explain, faults_in, flood_in, format_in, is_set, load_in, number_in, query_request, request_of, returning, rules_in, run_or_judge, serve_in, tell_in, timeout_in, value_in, values_in, workers_in};
 
 use crate::builders::program;
-use crate::command::{
-    MAX_DATAGRAMS, MAX_INTERVAL, MAX_TIMEOUT, Query, Returning, Subcommand, Waiting, Workers,
-};
+use crate::command::{MAX_DATAGRAMS, MAX_TIMEOUT, Query, Returning, Subcommand, Waiting, Workers};
 use clap::{ArgMatches, Error};
 use std::alloc::{AllocError, Global};
 use versions::WORKERS;
@@ -68,19 +66,6 @@ fn timeout_of(found: &ArgMatches) -> Option<u64>
     ensures { result ≡ timeout_in (rows_of (found_of found.now)) }
 {
     number(MAX_TIMEOUT, found.get_str("timeout").unwrap_or("1"))
-}
-
-fn interval_of(found: &ArgMatches) -> Option<u64>
-    ensures { result ≡ interval_in (rows_of (found_of found.now)) }
-{
-    number(MAX_INTERVAL, found.get_str("interval").unwrap_or("1"))
-}
-
-fn count_of(found: &ArgMatches) -> Option<u64>
-    ensures { result ≡ count_in (rows_of (found_of found.now)) }
-{
-    let text = found.get_str("count").unwrap_or("18446744073709551615");
-    number(u64::MAX, text)
 }
 
 fn datagrams_of(found: &ArgMatches) -> Option<u64>
@@ -160,31 +145,6 @@ fn load<'a>(found: &ArgMatches<'a>) -> Option<Subcommand<'a>>
     }))
 }
 
-fn metrics<'a>(found: &ArgMatches<'a>) -> Option<Subcommand<'a>>
-    ensures { option_map command_of result ≡ metrics_in (rows_of (found_of found.now)) }
-{
-    let timeout = timeout_of(found)?;
-    Some(Subcommand::Waiting(Waiting::Metrics {
-        control: value_of(found, "control"),
-        front: given(found, "front"),
-        timeout,
-    }))
-}
-
-fn top<'a>(found: &ArgMatches<'a>) -> Option<Subcommand<'a>>
-    ensures { option_map command_of result ≡ top_in (rows_of (found_of found.now)) }
-{
-    let interval = interval_of(found)?;
-    let count = count_of(found)?;
-    let timeout = timeout_of(found)?;
-    Some(Subcommand::Waiting(Waiting::Top {
-        control: value_of(found, "control"),
-        interval,
-        count,
-        timeout,
-    }))
-}
-
 // `tell` takes memory for its arguments, too.
 fn explain<'a>(alloc: Global, found: &ArgMatches<'a>) -> Result<Option<Subcommand<'a>>, AllocError>
     ensures { IfOk result (λ command. option_map command_of command ≡ Some (returning (explain (values_in (rows_of (found_of found.now)) (codes "WORD"))))) }
@@ -244,8 +204,6 @@ fn subcommand_of<'a>(
         "tell" => tell(alloc, found),
         "rules" => Ok(rules(found)),
         "load" => Ok(load(found)),
-        "metrics" => Ok(metrics(found)),
-        "top" => Ok(top(found)),
         _ => Ok(None),
     }
 }

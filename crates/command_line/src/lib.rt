@@ -17,9 +17,7 @@ mod input;
 mod sample;
 mod words;
 
-pub use command::{
-    MAX_DATAGRAMS, MAX_INTERVAL, MAX_TIMEOUT, Query, Returning, Subcommand, Waiting, Workers,
-};
+pub use command::{MAX_DATAGRAMS, MAX_TIMEOUT, Query, Returning, Subcommand, Waiting, Workers};
 pub use control_address::ControlAddress;
 pub use ending::{Failure, Status, refuse_arguments, reported, write_whole};
 pub use found::read_words;
@@ -31,5 +29,4 @@ pub use words::{wants_control, with_control};
 pub fn limits_as_numbers()
     ensures timeout { MAX_TIMEOUT ≡ 3600 }
     ensures datagrams { MAX_DATAGRAMS ≡ 16777216 }
-    ensures interval { MAX_INTERVAL ≡ 3600 }
 {}

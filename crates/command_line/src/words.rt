@@ -8,12 +8,7 @@ use std::alloc::{AllocError, Global};
 fn takes_control(name: &str) -> bool
     ensures { result ≡ takes_control name.now }
 {
-    name == "serve"
-        || name == "tell"
-        || name == "rules"
-        || name == "load"
-        || name == "metrics"
-        || name == "top"
+    name == "serve" || name == "tell" || name == "rules" || name == "load"
 }
 
 fn names_control(word: &str) -> bool

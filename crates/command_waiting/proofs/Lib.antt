@@ -1,5 +1,4 @@
 mod ShowingLemmas
-mod MeasuringLemmas
 mod TellingLemmas
 mod OpeningLemmas
 mod ReportLemmas

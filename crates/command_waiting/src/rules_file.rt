@@ -155,8 +155,7 @@ fn file_of<I: Read + Drop, W: Write, E: Write>(
     }
 }
 
-/// Why a file could not be opened.
-pub(crate) fn open_failure(error: &io::Error) -> Failure
+fn open_failure(error: &io::Error) -> Failure
     ensures { (result ≡ Failure.ReadFailed) ⊎ (result ≡ Failure.OutOfMemory) }
 {
     if error.kind() == ErrorKind::OutOfMemory {

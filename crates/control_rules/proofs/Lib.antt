@@ -1,12 +1,12 @@
-pub mod FieldLemmas
+mod FieldLemmas
 mod LineLemmas
-pub mod LearnLemmas
+mod LearnLemmas
 mod WordLemmas
 mod ReplyLemmas
 mod ResultLemmas
-pub mod FoundLemmas
-pub mod ShownLemmas
-pub mod AddedLemmas
+mod FoundLemmas
+mod ShownLemmas
+mod AddedLemmas
 mod FileLemmas
 mod TextLemmas
 mod LengthLemmas

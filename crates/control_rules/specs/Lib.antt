@@ -1,7 +1,6 @@
 pub mod Fields
 pub mod Text
 pub mod History
-pub mod Shown
 pub mod Rules
 pub mod Load
 pub mod body

@@ -1,6 +1,7 @@
 pub mod Left
 pub mod Replies
 pub mod Start
+pub mod Shown
 pub mod Lines
 pub mod Added
 pub mod Progress

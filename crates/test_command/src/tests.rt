@@ -1,6 +1,5 @@
 //! The program's commands over streams in memory: what no session on the built program shows.
 
-mod counters;
 mod failures;
 mod file_faults;
 mod flood;
@@ -107,7 +106,6 @@ fn wait_for<R: Threads + Wait + Net + Clock + Files + Sync + Abort>(
                     command,
                     input,
                     log,
-                    false,
                     &mut told.out,
                     &mut told.errs,
                 );

@@ -101,33 +101,3 @@ impl Wire for MemoryWire {
         }
     }
 }
-
-// It is sent these lines in their order, and gives the reply of each, or none in time. Another line is not sent.
-#[derive(Drop)]
-pub struct ScriptWire {
-    pub left: &'static [(&'static str, Option<&'static str>)],
-}
-
-impl Wire for ScriptWire {
-    ghost use Rattle.std.specs.Prelude.{None};
-
-    ghost log = { λ _. None };
-
-    fn send(&mut self, _to: Peer, bytes: &[u8]) -> Result<(), WireFailed> {
-        match self.left.first() {
-            Some((line, _)) if line.as_bytes() == bytes => Ok(()),
-            _ => Err(WireFailed),
-        }
-    }
-
-    fn receive(&mut self, buf: &mut [u8]) -> Result<Option<Came>, WireFailed> {
-        let Some(((_, reply), left)) = self.left.split_first() else {
-            return Ok(None);
-        };
-        self.left = left;
-        match reply {
-            Some(text) => Ok(put(SWITCH, text, buf)),
-            None => Ok(None),
-        }
-    }
-}

@@ -1,5 +1,5 @@
 -- What a reply shows of a configuration.
-use Rattle.std.specs.Prelude.{◌≡◌, ◌≤◌, ◌∷◌, List, None, Option, Some, [], codes, decimal, drop, length, option_and_then, slice_get, take, ℕ}
+use Rattle.std.specs.Prelude.{◌≡◌, List, None, Option, Some, decimal, drop, length, option_and_then, slice_get, take, ℕ}
 use Rattle.ipv4_fields.specs.declared.endpoint.Endpoint.{Endpoint}
 use Rattle.bpf_verify.specs.Program.{ProgramValue}
 use Rattle.config_image.specs.Image.{Group}
@@ -8,21 +8,10 @@ use Rattle.member_group.specs.Group.{group_of, member_of}
 use Rattle.member_group.specs.declared.member.Member.{Member}
 use Rattle.control_line.specs.Reading.{count_of}
 use Rattle.control_line.specs.declared.reply.TheConstants.{WINDOW}
-use Rattle.versions.specs.declared.layout.TheConstants.{LAST_NUMBER}
-use Rattle.control_rules.specs.Fields.{fields_in}
 use Rattle.control_rules.specs.declared.replies.GroupShown.{GroupShown}
 use Rattle.control_rules.specs.declared.replies.MemberShown.{MemberShown}
 use Rattle.control_rules.specs.declared.replies.Shown.{Shown}
 use Rattle.control_rules.specs.declared.replies.WordsShown.{WordsShown}
-
--- a reply to `show`, by its fields
-pub record IsShownReply (reply : List ℕ) (shown : Shown) : Type 0 where
-  pub version : shown.version ≤ LAST_NUMBER
-  pub groups : shown.groups ≤ 4294967295
-  pub members : shown.members ≤ 4294967295
-  pub charge : shown.charge ≤ 4294967295
-  pub fields : fields_in reply ≡ codes "version" ∷ decimal shown.version ∷ codes "groups" ∷ decimal shown.groups
-      ∷ codes "members" ∷ decimal shown.members ∷ codes "charge" ∷ decimal shown.charge ∷ []
 
 pub record IsShownOf (config : List Group) (shown : Shown) : Type 0 where
   pub groups : shown.groups ≡ length config

@@ -1,4 +1,0 @@
-pub mod WatchLemmas
-mod TextLemmas
-mod FrameLemmas
-mod ReadingLemmas

@@ -1,5 +1,0 @@
-pub mod Counts
-pub mod Frame
-pub mod Watching
-pub mod Reading
-pub mod body

@@ -1,3 +1,0 @@
-mod DropLemmas
-mod PieceLemmas
-mod RateLemmas

@@ -1,4 +1,0 @@
-pub mod Growth
-pub mod Metrics
-pub mod Screen
-pub mod Sockets
