@@ -30,7 +30,7 @@ use command_line::{Failure, Status, Waiting};
 use loading::{Loading, run_load};
 use logging::ServeLog;
 use measuring::run_metrics;
-pub use serve_udp::{serve, serve_with};
+pub use serve_udp::{serve, serve_direct, serve_with};
 use serving::run_serve;
 use showing::run_rules;
 use std::alloc::Global;
@@ -103,11 +103,14 @@ pub fn run_waiting<
             workers,
             rules,
             log: logs,
+            receive,
+            buffer,
         } => run_serve(
             rt,
             alloc,
             (front, control),
             workers,
+            (receive, buffer),
             rules,
             ServeLog::new(logs, log),
             out,

@@ -7,15 +7,23 @@
 #![tactic(auto)]
 
 mod channel;
-mod channel_source;
+mod egress;
+mod ingress;
 mod member_outbox;
+mod queue_ingress;
 mod received;
+mod socket_ingress;
 mod socket_outbox;
 mod worker_queues;
+mod worker_source;
 
 pub use channel::{ChannelReceiver, ChannelSender, open_channel};
-pub use channel_source::{ChannelSource, RECEIVE_LIMIT};
+pub use egress::Egress;
+pub use ingress::Ingress;
 pub use member_outbox::{LOG_ROOM, MemberOutbox, SharedCounts};
+pub use queue_ingress::QueueIngress;
 pub use received::Received;
+pub use socket_ingress::{SocketIngress, StopReceiving};
 pub use socket_outbox::SocketOutbox;
 pub use worker_queues::{QUEUE_PLACES, WorkerQueue, WorkerQueues, limits_as_numbers, open_queue};
+pub use worker_source::{RECEIVE_LIMIT, WorkerSource};
