@@ -1,6 +1,6 @@
 //! How the datagrams of the front come to the workers (docs/COMMANDS.md, "How it receives").
 
-ghost use Rattle.std.specs.Prelude.{◌≡◌, ◌≤◌, IfErr, IfOk, None, OnOk, length, vec_len};
+ghost use Rattle.std.specs.Prelude.{◌≡◌, ◌≤◌, IfErr, IfOk, None, OnOk, length, suc, ℕ};
 ghost use Rattle.serve_udp.specs.body.Jobs.{AreNewSources};
 
 use crate::sockets::LONGEST_DATAGRAM;
