@@ -10,7 +10,7 @@
  * standard input, one a line, and prints a line of names and numbers for each:
  *
  *   probe PORT                            one datagram of each sender
- *   load PORT WINDOW MILLISECONDS PID..   keeps WINDOW datagrams in flight; the processor time is that of the processes PID..
+ *   load PORT WINDOW MILLISECONDS PID..   at most WINDOW datagrams in flight; `used` is the processor time of the processes PID..
  *   trips PORT MILLISECONDS               one datagram at a time, all of one sender
  *   paced PORT RATE MILLISECONDS          RATE datagrams a second, whatever comes back
  *
