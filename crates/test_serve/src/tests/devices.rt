@@ -9,8 +9,8 @@ use ipv4_fields::Endpoint;
 use member_group::{Command, Config};
 use read_section::{Worker, open};
 use serve_devices::{
-    ChannelReceiver, ChannelSender, Ingress, QUEUE_PLACES, QueueIngress, Received, SocketIngress,
-    SocketOutbox, StopReceiving, WorkerQueue, WorkerQueues, WorkerSource, open_channel, open_queue,
+    ChannelReceiver, ChannelSender, Ingress, QUEUE_PLACES, QueueIngress, Received, Receives,
+    SocketIngress, SocketOutbox, StopReceiving, WorkerQueue, WorkerQueues, WorkerSource, open_channel, open_queue,
 };
 use std::alloc::Global;
 use std::io;
@@ -139,7 +139,7 @@ const RECEIVES: [(Result<Option<usize>, Failed>, [u8; 3]); 6] = [
     (Ok(None), [3, 4, 5]),
 ];
 
-fn come_in_order<R: Abort + Wait>(rt: &R, source: &mut QueueSource<'_, R>) {
+fn come_in_order<S: Source>(rt: &impl Abort, source: &mut S) {
     let mut buf = [0; 3];
     for (place, wanted) in RECEIVES.iter().enumerate() {
         let answer = source.next(&mut buf);
@@ -153,6 +153,39 @@ fn receives_come_in_order_and_cut(rt: HostRuntime) {
     let (mut source, queues) = one_queue(&rt, rt.alloc());
     put_bytes(&rt, queues);
     come_in_order(&rt, &mut source);
+}
+
+// The same receives in memory.
+fn in_memory(rt: &impl Abort, alloc: Global) -> WorkerSource<Receives> {
+    let mut receives = Receives::new(alloc);
+    for datagram in [[1, 2].as_slice(), &[]] {
+        let next = received(rt, alloc, datagram);
+        receives.push(next).expect(rt, "memory");
+    }
+    receives.push(Received::new(alloc)).expect(rt, "memory");
+    let last = received(rt, alloc, &[3, 4, 5, 6]);
+    receives.push(last).expect(rt, "memory");
+    let room = vec![in alloc; 0; 4].expect(rt, "memory");
+    WorkerSource::new(receives, room)
+}
+
+#[test]
+fn receives_in_memory_come_in_order(rt: HostRuntime) {
+    let mut source = in_memory(&rt, rt.alloc());
+    come_in_order(&rt, &mut source);
+}
+
+// It is asked twice before each receive whether it would wait.
+#[test]
+fn receives_ahead_come_in_order(rt: HostRuntime) {
+    let mut source = in_memory(&rt, rt.alloc());
+    let mut buf = [0; 3];
+    for (place, wanted) in RECEIVES.iter().enumerate() {
+        let waits = (source.would_wait(), source.would_wait());
+        assert!(rt; waits == (place >= 4, place >= 4), "receive {place}: {waits:?}");
+        let answer = source.next(&mut buf);
+        assert!(rt; (answer, buf) == *wanted, "receive {place}: {answer:?}");
+    }
 }
 
 fn received(rt: &impl Abort, alloc: Global, datagram: &[u8]) -> Received {
