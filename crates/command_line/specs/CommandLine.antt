@@ -6,7 +6,7 @@ use Rattle.clap.specs.ValueTests.{accepts}
 use Rattle.clap.specs.Walk.{all_of, first_of}
 use Rattle.clap.specs.Words.{App, IsAmong, Kinds, Row, Rule, Shape, Text, fault_of, new_app, new_rule, subcommand_of, with_rule, with_subcommand}
 use Rattle.clap.specs.declared.builder.action.ArgAction.TheVariants.{Append, SetTrue}
-use Rattle.clap.specs.declared.builder.value_parser.ValueParser.TheVariants.{Unsigned}
+use Rattle.clap.specs.declared.builder.value_parser.ValueParser.TheVariants.{Names, Unsigned}
 use Rattle.clap.specs.declared.error.kind.ErrorKind.{ErrorKind}
 use Rattle.clap.specs.declared.error.kind.ErrorKind.TheVariants.{DisplayHelp, DisplayVersion}
 use Rattle.command_line.specs.declared.command.Query.{Query}
@@ -18,6 +18,9 @@ use Rattle.command_line.specs.declared.command.Subcommand.TheVariants as subcomm
 use Rattle.command_line.specs.declared.command.Waiting.{Waiting}
 use Rattle.command_line.specs.declared.command.Waiting.TheVariants as waited
 use Rattle.command_line.specs.declared.command.TheConstants.{MAX_DATAGRAMS, MAX_INTERVAL, MAX_TIMEOUT}
+use Rattle.command_line.specs.declared.receive.ReceiveWay.{ReceiveWay}
+use Rattle.command_line.specs.declared.receive.ReceiveWay.TheVariants.{Direct, Queued}
+use Rattle.command_line.specs.declared.receive.TheConstants.{MAX_RECEIVE_BUFFER, RECEIVE_WAYS}
 use Rattle.versions.specs.declared.layout.TheConstants.{WORKERS}
 
 -- a required argument by place, one by name, and a required one by name
@@ -86,16 +89,28 @@ datagrams_argument = record (named_argument (codes "datagrams")) { parser = Some
 abbrev pub flood_line : App
 flood_line = with_rule (with_rule (new_app (codes "flood")) workers_argument) datagrams_argument
 
--- `serve --front A --control A --workers N`, with a rules file or none, and its flag or not
+-- `--receive WAY`
+abbrev pub receive_argument : Rule
+receive_argument = record (named_argument (codes "receive")) { parser = Some (Names RECEIVE_WAYS) }
+
+-- `--receive-buffer BYTES`, from 1 on
+abbrev pub receive_buffer_argument : Rule
+receive_buffer_argument = record (named_argument (codes "receive-buffer")) { parser = Some (Unsigned 1 MAX_RECEIVE_BUFFER) }
+
+-- `serve --front A --control A --workers N`, with a rules file or none, its flag or not, a way to receive or none, and a receive buffer or none
 abbrev pub serve_line : App
 serve_line =
     with_rule
     (with_rule
     (with_rule
+    (with_rule
+    (with_rule
     (with_rule (with_rule (new_app (codes "serve")) (required_named_argument (codes "front"))) (required_named_argument (codes "control")))
     workers_argument)
     (named_argument (codes "rules")))
-    (flag (codes "log"))
+    (flag (codes "log")))
+    receive_argument)
+    receive_buffer_argument
 
 -- `--timeout SECONDS`, from 1 on
 abbrev pub timeout_argument : Rule
@@ -206,7 +221,7 @@ pub data Request : Type 0 where
 -- a command that may wait: it runs worker threads, or awaits replies
 pub data WaitingRequest : Type 0 where
   flood : (workers datagrams : ℕ) → WaitingRequest
-  serve : (front control : Text) (workers : ℕ) (rules_file : Option Text) (logs : Bool) → WaitingRequest
+  serve : (front control : Text) (workers : ℕ) (rules_file : Option Text) (logs : Bool) (receive : ReceiveWay) (buffer : Option ℕ) → WaitingRequest
   tell : (control : Text) (timeout : ℕ) (all : Bool) (lines : List Text) → WaitingRequest
   rules : (control : Text) (timeout : ℕ) → WaitingRequest
   load : (control : Option Text) (timeout : ℕ) (rules_file : Text) (only_check only_diff : Bool) → WaitingRequest
@@ -232,8 +247,8 @@ request_of returned.Packets = packets
 
 abbrev pub waiting_of : Waiting → WaitingRequest
 waiting_of (waited.Flood workers datagrams) = flood workers.count datagrams
-waiting_of (waited.Serve front control workers file logs) =
-    serve front.now control.now workers.count (option_map (λ name. name.now) file) logs
+waiting_of (waited.Serve front control workers file logs receive buffer) =
+    serve front.now control.now workers.count (option_map (λ name. name.now) file) logs receive (option_map (λ asked. asked.bytes) buffer)
 waiting_of (waited.Tell control timeout all lines) = tell control.now timeout all (map (λ line. line.now) lines.items)
 waiting_of (waited.Rules control timeout) = rules control.now timeout
 waiting_of (waited.Load control timeout file only_check only_diff) =
@@ -281,6 +296,24 @@ count_in rows = number_in (2 ^ 64 - 1) (unwrap_or (first_of (codes "count") rows
 abbrev pub datagrams_in : List Row → Option ℕ
 datagrams_in rows = number_in MAX_DATAGRAMS (unwrap_or (first_of (codes "datagrams") rows) (codes "4096"))
 
+-- the way to receive that a text names
+abbrev pub receive_named : Text → Option ReceiveWay
+receive_named text =
+    if bytes_eq text (codes "queued") then Some Queued else if bytes_eq text (codes "direct") then Some Direct else None
+
+-- in turn, if no other way is given
+abbrev pub receive_in : List Row → Option ReceiveWay
+receive_in rows = receive_named (unwrap_or (first_of (codes "receive") rows) (codes "queued"))
+
+-- the number of a text, if there is a text
+abbrev pub number_if_given : ℕ → Option Text → Option (Option ℕ)
+number_if_given most None = Some None
+number_if_given most (Some text) = option_map (λ number. Some number) (number_in most text)
+
+-- a number of bytes, if it is given
+abbrev pub receive_buffer_in : List Row → Option (Option ℕ)
+receive_buffer_in rows = number_if_given MAX_RECEIVE_BUFFER (first_of (codes "receive-buffer") rows)
+
 -- a flag is given
 abbrev pub is_set : List Row → Text → Bool
 is_set rows id = bytes_eq (value_in rows id) (codes "true")
@@ -294,9 +327,13 @@ flood_in rows = option_and_then (λ workers. option_map (λ datagrams. waiting (
 
 abbrev pub serve_in : List Row → Option Command
 serve_in rows =
-    option_map
-    (λ workers. waiting
-    (serve (value_in rows (codes "front")) (value_in rows (codes "control")) workers (first_of (codes "rules") rows) (is_set rows (codes "log"))))
+    option_and_then
+    (λ workers. option_and_then
+    (λ receive. option_map
+    (λ buffer. waiting
+    (serve (value_in rows (codes "front")) (value_in rows (codes "control")) workers (first_of (codes "rules") rows) (is_set rows (codes "log")) receive buffer))
+    (receive_buffer_in rows))
+    (receive_in rows))
     (workers_in rows)
 
 abbrev pub tell_in : List Row → Option Command

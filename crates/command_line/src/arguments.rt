@@ -2,10 +2,11 @@
 
 ghost use Rattle.std.specs.Prelude.{◌≡◌, codes, false};
 ghost use Rattle.clap.specs.Words.{rule_of};
-ghost use Rattle.command_line.specs.CommandLine.{any_number_of, count_argument, datagrams_argument, flag, interval_argument, named_argument, required_argument, required_named_argument, some_number_of, timeout_argument, workers_argument};
+ghost use Rattle.command_line.specs.CommandLine.{any_number_of, count_argument, datagrams_argument, flag, interval_argument, named_argument, receive_argument, receive_buffer_argument, required_argument, required_named_argument, some_number_of, timeout_argument, workers_argument};
 
 use crate::command::{MAX_DATAGRAMS, MAX_INTERVAL, MAX_TIMEOUT};
 use crate::help;
+use crate::receive::{MAX_RECEIVE_BUFFER, RECEIVE_WAYS};
 use clap::builder::ValueParser;
 use clap::{Arg, ArgAction};
 use std::alloc::Global;
@@ -109,6 +110,30 @@ pub(crate) fn rules_argument<'a>(alloc: Global) -> Arg<'a>
         .long("rules")
         .value_name("FILE")
         .help(help::SERVE_RULES)
+}
+
+// `--receive WAY`
+pub(crate) fn receive_argument<'a>(alloc: Global) -> Arg<'a>
+    ensures rule { rule_of result ≡ receive_argument }
+    ensures local { result.global ≡ false }
+{
+    Arg::new(alloc, "receive")
+        .long("receive")
+        .value_name("WAY")
+        .value_parser(ValueParser::Names(RECEIVE_WAYS))
+        .help(help::SERVE_RECEIVE)
+}
+
+// `--receive-buffer BYTES`
+pub(crate) fn receive_buffer_argument<'a>(alloc: Global) -> Arg<'a>
+    ensures rule { rule_of result ≡ receive_buffer_argument }
+    ensures local { result.global ≡ false }
+{
+    Arg::new(alloc, "receive-buffer")
+        .long("receive-buffer")
+        .value_name("BYTES")
+        .value_parser(ValueParser::unsigned(1, MAX_RECEIVE_BUFFER as u64))
+        .help(help::SERVE_RECEIVE_BUFFER)
 }
 
 // `--datagrams D`

@@ -9,8 +9,8 @@ ghost use Rattle.command_line.specs.body.Half.{with_queries, with_rules, with_wo
 use crate::arguments::{
     address_argument, control_argument, count_argument, datagrams_argument, expression_argument,
     flag_argument, format_argument, front_argument, interval_argument, lines_argument,
-    packet_argument, positional_argument, rules_argument, timeout_argument, words_argument,
-    workers_argument,
+    packet_argument, positional_argument, receive_argument, receive_buffer_argument,
+    rules_argument, timeout_argument, words_argument, workers_argument,
 };
 use crate::help;
 use clap::{Arg, Command};
@@ -108,7 +108,9 @@ fn serve_command<'a>(alloc: Global) -> Result<Command<'a>, AllocError>
     let log = flag_argument(alloc, "log", help::SERVE_LOG);
     let command = with_argument(command, workers_argument(alloc, help::SERVE_WORKERS));
     let command = with_argument(command, rules_argument(alloc));
-    with_argument(command, log)
+    let command = with_argument(command, log);
+    let command = with_argument(command, receive_argument(alloc));
+    with_argument(command, receive_buffer_argument(alloc))
 }
 
 fn tell_command<'a>(alloc: Global) -> Result<Command<'a>, AllocError>

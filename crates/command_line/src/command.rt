@@ -3,6 +3,8 @@
 ghost use Rattle.std.specs.Prelude.{◌≤◌};
 ghost use Rattle.versions.specs.declared.layout.TheConstants.{WORKERS};
 
+use crate::receive::{ReceiveBuffer, ReceiveWay};
+
 /// The longest wait for a reply, in seconds.
 pub const MAX_TIMEOUT: u64 = 3600;
 
@@ -62,13 +64,16 @@ pub enum Waiting<'a> {
         workers: Workers,
         datagrams: usize,
     },
-    /// `rules` is the name of a rules file, if there is one. `log` says whether the flag is given.
+    /// `rules` is the name of a rules file, if there is one. `log` says whether the flag is given. `receive` is `Queued` if no way is given.
+    /// `buffer` is the receive buffer of the front, if one is given.
     Serve {
         front: &'a str,
         control: &'a str,
         workers: Workers,
         rules: Option<&'a str>,
         log: bool,
+        receive: ReceiveWay,
+        buffer: Option<ReceiveBuffer>,
     },
     /// `timeout` is a number of seconds. `all` says whether the lines are one change. `lines` are in the order of the words.
     Tell {

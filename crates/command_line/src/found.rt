@@ -4,12 +4,13 @@ ghost use Rattle.std.specs.Prelude.{◌≡◌, ◌≤◌, IfOk, IfSome, Some, co
 ghost use Rattle.std.specs.Option.{option_map};
 ghost use Rattle.clap.specs.Walk.{first_of};
 ghost use Rattle.clap.specs.Words.{FailsBy, found_of, rows_of};
-ghost use Rattle.command_line.specs.CommandLine.{command_in, command_named, command_of, count_in, datagrams_in, explain, faults_in, flood_in, format_in, interval_in, is_set, load_in, metrics_in, number_in, query_request, request_of, returning, rules_in, run_or_judge, serve_in, tell_in, timeout_in, top_in, value_in, values_in, workers_in};
+ghost use Rattle.command_line.specs.CommandLine.{command_in, command_named, command_of, count_in, datagrams_in, explain, faults_in, flood_in, format_in, interval_in, is_set, load_in, metrics_in, number_in, query_request, receive_buffer_in, receive_in, request_of, returning, rules_in, run_or_judge, serve_in, tell_in, timeout_in, top_in, value_in, values_in, workers_in};
 
 use crate::builders::program;
 use crate::command::{
     MAX_DATAGRAMS, MAX_INTERVAL, MAX_TIMEOUT, Query, Returning, Subcommand, Waiting, Workers,
 };
+use crate::receive::{MAX_RECEIVE_BUFFER, ReceiveBuffer, ReceiveWay};
 use clap::{ArgMatches, Error};
 use std::alloc::{AllocError, Global};
 use versions::WORKERS;
@@ -90,6 +91,31 @@ fn datagrams_of(found: &ArgMatches) -> Option<u64>
     number(MAX_DATAGRAMS, text)
 }
 
+fn receive_of(found: &ArgMatches) -> Option<ReceiveWay>
+    ensures { result ≡ receive_in (rows_of (found_of found.now)) }
+{
+    match found.get_str("receive").unwrap_or("queued") {
+        "queued" => Some(ReceiveWay::Queued),
+        "direct" => Some(ReceiveWay::Direct),
+        _ => None,
+    }
+}
+
+// The receive buffer, if it is given; `None` if what is given is none.
+fn receive_buffer_of(found: &ArgMatches) -> Option<Option<ReceiveBuffer>>
+    ensures { option_map (λ given. option_map (λ buffer. buffer.bytes) given) result ≡ receive_buffer_in (rows_of (found_of found.now)) }
+{
+    let Some(text) = given(found, "receive-buffer") else {
+        return Some(None);
+    };
+    let Some(bytes) = number(MAX_RECEIVE_BUFFER as u64, text) else {
+        return None;
+    };
+    Some(Some(ReceiveBuffer {
+        bytes: bytes as u32,
+    }))
+}
+
 // Whether a flag is given.
 fn is_set(found: &ArgMatches, id: &str) -> bool
     ensures { result ≡ is_set (rows_of (found_of found.now)) id.now }
@@ -128,12 +154,16 @@ fn serve<'a>(found: &ArgMatches<'a>) -> Option<Subcommand<'a>>
     ensures { option_map command_of result ≡ serve_in (rows_of (found_of found.now)) }
 {
     let workers = workers_of(found)?;
+    let receive = receive_of(found)?;
+    let buffer = receive_buffer_of(found)?;
     Some(Subcommand::Waiting(Waiting::Serve {
         front: value_of(found, "front"),
         control: value_of(found, "control"),
         workers,
         rules: given(found, "rules"),
         log: is_set(found, "log"),
+        receive,
+        buffer,
     }))
 }
 

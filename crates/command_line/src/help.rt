@@ -221,6 +221,12 @@ pub const SERVE_RULES: &str = "A rules file to begin with; without it there are 
 pub const SERVE_LOG: &str =
     "Log each control request that changes something or is not done, on standard error";
 
+pub const SERVE_RECEIVE: &str =
+    "Who receives at the front: one thread for all workers, or each worker; without it queued";
+
+pub const SERVE_RECEIVE_BUFFER: &str =
+    "How many bytes of receive buffer the front asks for, from 1 to 2147483647";
+
 pub const SERVE_MORE: &str = "\
 Reads UDP datagrams. Each that comes to FRONT is a whole IPv4 packet: the workers take them in turn,
 and send what is to be delivered to the members. Requests come to CONTROL, as `replay` takes them

@@ -14,6 +14,7 @@ mod ending;
 mod found;
 mod help;
 mod input;
+mod receive;
 mod sample;
 mod words;
 
@@ -24,6 +25,7 @@ pub use control_address::ControlAddress;
 pub use ending::{Failure, Status, refuse_arguments, reported, write_whole};
 pub use found::read_words;
 pub use input::read_whole;
+pub use receive::{MAX_RECEIVE_BUFFER, ReceiveBuffer, ReceiveWay};
 pub use sample::{SAMPLE_GROUP, SAMPLE_PACKET, applied, program};
 pub use words::{wants_control, with_control};
 
@@ -32,4 +34,5 @@ pub fn limits_as_numbers()
     ensures timeout { MAX_TIMEOUT ≡ 3600 }
     ensures datagrams { MAX_DATAGRAMS ≡ 16777216 }
     ensures interval { MAX_INTERVAL ≡ 3600 }
+    ensures receive_buffer { MAX_RECEIVE_BUFFER ≡ 2147483647 }
 {}

@@ -42,7 +42,7 @@ pub record WritesService (front control : Text) (workers : ℕ) (file : Option T
 -- what the command writes was written
 abbrev pub WritesFor : (terminal : Bool) → WaitingRequest → (input before after told_before told_after : Option (List ℕ)) → Type 0
 WritesFor terminal (flood workers datagrams) input before after told_before told_after = WritesFlood workers datagrams before after
-WritesFor terminal (serve front control workers file logs) input before after told_before told_after = WritesService front control workers file before after
+WritesFor terminal (serve front control workers file logs receive buffer) input before after told_before told_after = WritesService front control workers file before after
 WritesFor terminal (tell control timeout all words) input before after told_before told_after = WritesReplies control all words input before after told_before told_after false
 WritesFor terminal (rules control timeout) input before after told_before told_after = WritesRules control before after
 WritesFor terminal (load control timeout file only_check only_diff) input before after told_before told_after = WritesLoad control before after only_check only_diff
@@ -65,7 +65,7 @@ pub data RefusesService (front control : Text) (file : Option Text) (before afte
 -- a refusal of the command is not shown on standard error: it has no rules file, and no line was told
 abbrev pub ShowsNoRefusal : WaitingRequest → Type 0
 ShowsNoRefusal (flood workers datagrams) = Unit {0}
-ShowsNoRefusal (serve front control workers file logs) = file ≡ None
+ShowsNoRefusal (serve front control workers file logs receive buffer) = file ≡ None
 ShowsNoRefusal (tell control timeout all words) = IsNoControlAddress control
 ShowsNoRefusal (rules control timeout) = Unit {0}
 ShowsNoRefusal (load control timeout file only_check only_diff) = ⊥
@@ -75,7 +75,7 @@ ShowsNoRefusal (top control interval count timeout) = Unit {0}
 -- what was refused is written
 abbrev pub WritesRefusal : WaitingRequest → (input before after told_before told_after : Option (List ℕ)) → Type 0
 WritesRefusal (flood workers datagrams) input before after told_before told_after = ⊥
-WritesRefusal (serve front control workers file logs) input before after told_before told_after = RefusesService front control file before after
+WritesRefusal (serve front control workers file logs receive buffer) input before after told_before told_after = RefusesService front control file before after
 WritesRefusal (tell control timeout all words) input before after told_before told_after = IsToldRefusal control all words input before after told_before told_after
 WritesRefusal (rules control timeout) input before after told_before told_after = IsNoControlAddress control × Appends before after (codes "refused C1\n")
 WritesRefusal (load control timeout file only_check only_diff) input before after told_before told_after = RefusesLoad control before after only_check only_diff
@@ -99,7 +99,7 @@ pub record EndsInServeFailure (front control : Text) (file : Option Text) (befor
 -- the command failed
 abbrev pub EndsInWaitingFailure : (terminal : Bool) → WaitingRequest → (input before after told_before told_after : Option (List ℕ)) → Type 0
 EndsInWaitingFailure terminal (flood workers datagrams) input before after told_before told_after = EndsInFloodFailure before after told_before told_after
-EndsInWaitingFailure terminal (serve front control workers file logs) input before after told_before told_after =
+EndsInWaitingFailure terminal (serve front control workers file logs receive buffer) input before after told_before told_after =
     EndsInServeFailure front control file before after told_before told_after
 EndsInWaitingFailure terminal (tell control timeout all lines) input before after told_before told_after =
     EndsInTellFailure control all lines input before after told_before told_after

@@ -103,6 +103,7 @@ pub fn run_waiting<
             workers,
             rules,
             log: logs,
+            ..
         } => run_serve(
             rt,
             alloc,
