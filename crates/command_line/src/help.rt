@@ -222,7 +222,7 @@ pub const SERVE_LOG: &str =
     "Log each control request that changes something or is not done, on standard error";
 
 pub const SERVE_RECEIVE: &str =
-    "Who receives at the front: one thread for all workers (queued), or each worker (direct); without it queued";
+    "Who receives at the front: one thread (queued) or each worker (direct); without it queued";
 
 pub const SERVE_RECEIVE_BUFFER: &str =
     "How many bytes of receive buffer the front asks for, from 1 to 2147483647";
