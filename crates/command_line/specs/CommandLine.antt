@@ -1,14 +1,15 @@
 -- The program's command line, as the contracts of `clap` see it.
-use Rattle.std.specs.Prelude.{◌≢◌, ◌⊎◌, ◌-◌, ◌^◌, [], Bool, List, None, Option, Some, codes, false, if◌then◌else◌, map, option_and_then, option_map, true, unwrap_or, ℕ}
+use Rattle.std.specs.Prelude.{◌≢◌, ◌⊎◌, ◌∷◌, ◌&&◌, ◌-◌, ◌^◌, [], Bool, List, None, Option, Some, codes, false, if◌then◌else◌, is_some, map, not, option_and_then, option_map, true, unwrap_or, ℕ}
 use Rattle.std.specs.Str.{bytes_eq}
 use Rattle.std.specs.Str.Parse.{digits_value, without_leading_plus}
+use Rattle.clap.specs.Kinds.{or_else}
 use Rattle.clap.specs.ValueTests.{accepts}
 use Rattle.clap.specs.Walk.{all_of, first_of}
 use Rattle.clap.specs.Words.{App, IsAmong, Kinds, Row, Rule, Shape, Text, fault_of, new_app, new_rule, subcommand_of, with_rule, with_subcommand}
 use Rattle.clap.specs.declared.builder.action.ArgAction.TheVariants.{Append, SetTrue}
-use Rattle.clap.specs.declared.builder.value_parser.ValueParser.TheVariants.{Names, Unsigned}
+use Rattle.clap.specs.declared.builder.value_parser.ValueParser.TheVariants.{Unsigned}
 use Rattle.clap.specs.declared.error.kind.ErrorKind.{ErrorKind}
-use Rattle.clap.specs.declared.error.kind.ErrorKind.TheVariants.{DisplayHelp, DisplayVersion}
+use Rattle.clap.specs.declared.error.kind.ErrorKind.TheVariants.{DisplayHelp, DisplayVersion, InvalidValue}
 use Rattle.command_line.specs.declared.command.Query.{Query}
 use Rattle.command_line.specs.declared.command.Query.TheVariants as query
 use Rattle.command_line.specs.declared.command.Returning.{Returning}
@@ -20,7 +21,7 @@ use Rattle.command_line.specs.declared.command.Waiting.TheVariants as waited
 use Rattle.command_line.specs.declared.command.TheConstants.{MAX_DATAGRAMS, MAX_INTERVAL, MAX_TIMEOUT}
 use Rattle.command_line.specs.declared.receive.ReceiveWay.{ReceiveWay}
 use Rattle.command_line.specs.declared.receive.ReceiveWay.TheVariants.{Direct, Queued}
-use Rattle.command_line.specs.declared.receive.TheConstants.{MAX_RECEIVE_BUFFER, RECEIVE_WAYS}
+use Rattle.command_line.specs.declared.receive.TheConstants.{MAX_RECEIVE_BUFFER}
 use Rattle.versions.specs.declared.layout.TheConstants.{WORKERS}
 
 -- a required argument by place, one by name, and a required one by name
@@ -89,10 +90,6 @@ datagrams_argument = record (named_argument (codes "datagrams")) { parser = Some
 abbrev pub flood_line : App
 flood_line = with_rule (with_rule (new_app (codes "flood")) workers_argument) datagrams_argument
 
--- `--receive WAY`
-abbrev pub receive_argument : Rule
-receive_argument = record (named_argument (codes "receive")) { parser = Some (Names RECEIVE_WAYS) }
-
 -- `--receive-buffer BYTES`, from 1 on
 abbrev pub receive_buffer_argument : Rule
 receive_buffer_argument = record (named_argument (codes "receive-buffer")) { parser = Some (Unsigned 1 MAX_RECEIVE_BUFFER) }
@@ -109,7 +106,7 @@ serve_line =
     workers_argument)
     (named_argument (codes "rules")))
     (flag (codes "log")))
-    receive_argument)
+    (named_argument (codes "receive")))
     receive_buffer_argument
 
 -- `--timeout SECONDS`, from 1 on
@@ -192,10 +189,6 @@ command_line =
     load_line.top)
     metrics_line.top)
     top_line.top
-
--- what `clap` finds in the words after the program's name: nothing, where they name a command
-abbrev pub faults_in : List Text → Kinds
-faults_in = fault_of command_line
 
 -- the help or the version is asked for
 abbrev pub AsksForText : Kinds → Type 0
@@ -392,6 +385,16 @@ command_named name rows =
     else if bytes_eq name (codes "top")
     then top_in rows
     else None
+
+-- the fault of words in which `clap` finds none: `serve` is given a way to receive that is none
+abbrev pub way_faults : Option (Text × List Row) → Kinds
+way_faults None = []
+way_faults (Some named) =
+    if bytes_eq named.0 (codes "serve") && not (is_some (receive_in named.1)) then InvalidValue ∷ [] else []
+
+-- what `clap` finds in the words after the program's name, or else that fault: nothing, if they name a command
+abbrev pub faults_in : List Text → Kinds
+faults_in words = or_else (fault_of command_line words) (way_faults (subcommand_of command_line words))
 
 -- the command that the words name, with the values that they give its arguments
 abbrev pub command_in : List Text → Option Command

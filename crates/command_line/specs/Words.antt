@@ -1,5 +1,5 @@
 -- The words with the address of control that the environment gives (docs/COMMANDS.md, "The address of control").
-use Rattle.std.specs.Prelude.{◌∷◌, ◌||◌, ◌&&◌, [], Bool, List, codes, false, if◌then◌else◌, nat_eq, true, ℕ}
+use Rattle.std.specs.Prelude.{◌∷◌, ◌||◌, [], Bool, List, codes, false, if◌then◌else◌, nat_eq, true, ℕ}
 use Rattle.std.specs.List.{starts_with}
 use Rattle.std.specs.Str.{bytes_eq}
 

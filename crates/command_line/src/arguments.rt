@@ -2,11 +2,11 @@
 
 ghost use Rattle.std.specs.Prelude.{◌≡◌, codes, false};
 ghost use Rattle.clap.specs.Words.{rule_of};
-ghost use Rattle.command_line.specs.CommandLine.{any_number_of, count_argument, datagrams_argument, flag, interval_argument, named_argument, receive_argument, receive_buffer_argument, required_argument, required_named_argument, some_number_of, timeout_argument, workers_argument};
+ghost use Rattle.command_line.specs.CommandLine.{any_number_of, count_argument, datagrams_argument, flag, interval_argument, named_argument, receive_buffer_argument, required_argument, required_named_argument, some_number_of, timeout_argument, workers_argument};
 
 use crate::command::{MAX_DATAGRAMS, MAX_INTERVAL, MAX_TIMEOUT};
 use crate::help;
-use crate::receive::{MAX_RECEIVE_BUFFER, RECEIVE_WAYS};
+use crate::receive::MAX_RECEIVE_BUFFER;
 use clap::builder::ValueParser;
 use clap::{Arg, ArgAction};
 use std::alloc::Global;
@@ -112,15 +112,14 @@ pub(crate) fn rules_argument<'a>(alloc: Global) -> Arg<'a>
         .help(help::SERVE_RULES)
 }
 
-// `--receive WAY`
+// `--receive WAY`. `clap` takes any text: no definition can name a reference, so none can have a list of names to choose from.
 pub(crate) fn receive_argument<'a>(alloc: Global) -> Arg<'a>
-    ensures rule { rule_of result ≡ receive_argument }
+    ensures rule { rule_of result ≡ named_argument (codes "receive") }
     ensures local { result.global ≡ false }
 {
     Arg::new(alloc, "receive")
         .long("receive")
         .value_name("WAY")
-        .value_parser(ValueParser::Names(RECEIVE_WAYS))
         .help(help::SERVE_RECEIVE)
 }
 

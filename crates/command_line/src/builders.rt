@@ -96,7 +96,7 @@ fn flood_command<'a>(alloc: Global) -> Result<Command<'a>, AllocError>
     with_argument(command, datagrams_argument(alloc))
 }
 
-fn serve_command<'a>(alloc: Global) -> Result<Command<'a>, AllocError>
+pub(crate) fn serve_command<'a>(alloc: Global) -> Result<Command<'a>, AllocError>
     ensures app { IfOk result (λ command. app_of command ≡ serve_line) }
     ensures local { IfOk result (λ command. (out-Command command).has_globals ≡ false) }
 {

@@ -3,14 +3,15 @@
 ghost use Rattle.std.specs.Prelude.{◌≡◌, ◌≤◌, IfOk, IfSome, Some, codes, map, string_bytes};
 ghost use Rattle.std.specs.Option.{option_map};
 ghost use Rattle.clap.specs.Walk.{first_of};
-ghost use Rattle.clap.specs.Words.{FailsBy, found_of, rows_of};
-ghost use Rattle.command_line.specs.CommandLine.{command_in, command_named, command_of, count_in, datagrams_in, explain, faults_in, flood_in, format_in, interval_in, is_set, load_in, metrics_in, number_in, query_request, receive_buffer_in, receive_in, request_of, returning, rules_in, run_or_judge, serve_in, tell_in, timeout_in, top_in, value_in, values_in, workers_in};
+ghost use Rattle.clap.specs.Words.{FailsBy, found_of, kind_of, rows_of};
+ghost use Rattle.command_line.specs.CommandLine.{command_in, command_named, command_of, count_in, datagrams_in, explain, faults_in, flood_in, format_in, interval_in, is_set, load_in, metrics_in, number_in, query_request, receive_buffer_in, receive_in, receive_named, request_of, returning, rules_in, run_or_judge, serve_in, tell_in, timeout_in, top_in, value_in, values_in, workers_in};
 
-use crate::builders::program;
+use crate::builders::{program, serve_command};
 use crate::command::{
     MAX_DATAGRAMS, MAX_INTERVAL, MAX_TIMEOUT, Query, Returning, Subcommand, Waiting, Workers,
 };
 use crate::receive::{MAX_RECEIVE_BUFFER, ReceiveBuffer, ReceiveWay};
+use clap::error::ErrorKind;
 use clap::{ArgMatches, Error};
 use std::alloc::{AllocError, Global};
 use versions::WORKERS;
@@ -91,14 +92,21 @@ fn datagrams_of(found: &ArgMatches) -> Option<u64>
     number(MAX_DATAGRAMS, text)
 }
 
-fn receive_of(found: &ArgMatches) -> Option<ReceiveWay>
-    ensures { result ≡ receive_in (rows_of (found_of found.now)) }
+// The way to receive that a text names.
+fn receive_named(text: &str) -> Option<ReceiveWay>
+    ensures { result ≡ receive_named text.now }
 {
-    match found.get_str("receive").unwrap_or("queued") {
+    match text {
         "queued" => Some(ReceiveWay::Queued),
         "direct" => Some(ReceiveWay::Direct),
         _ => None,
     }
+}
+
+fn receive_of(found: &ArgMatches) -> Option<ReceiveWay>
+    ensures { result ≡ receive_in (rows_of (found_of found.now)) }
+{
+    receive_named(found.get_str("receive").unwrap_or("queued"))
 }
 
 // The receive buffer, if it is given; `None` if what is given is none.
@@ -280,6 +288,17 @@ fn subcommand_of<'a>(
     }
 }
 
+// The fault of a text that names no way to receive.
+fn way_fault(alloc: Global, text: &str) -> Result<Error, AllocError>
+    ensures { IfOk result (λ fault. kind_of fault ≡ ErrorKind.InvalidValue) }
+{
+    let message = format!(in alloc;
+        "invalid value '{text}' for '--receive <WAY>'\n  [possible values: queued, direct]"
+    )?;
+    let mut command = serve_command(alloc)?.bin_name("dswitch serve")?;
+    command.error(ErrorKind::InvalidValue, message.as_str())
+}
+
 /// Reads the words after the program's name. `Err` is a fault of the words, or the help or the version that they ask for.
 pub fn read_words<'a>(alloc: Global, words: &'a [String]) -> Result<Subcommand<'a>, Error>
     ensures faults { FailsBy (faults_in (map string_bytes words.entry.now)) result }
@@ -292,6 +311,6 @@ pub fn read_words<'a>(alloc: Global, words: &'a [String]) -> Result<Subcommand<'
     };
     match subcommand_of(alloc, name, found)? {
         Some(command) => Ok(command),
-        None => unreachable!(),
+        None => Err(way_fault(alloc, value_of(found, "receive"))?),
     }
 }

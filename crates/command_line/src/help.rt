@@ -222,15 +222,15 @@ pub const SERVE_LOG: &str =
     "Log each control request that changes something or is not done, on standard error";
 
 pub const SERVE_RECEIVE: &str =
-    "Who receives at the front: one thread for all workers, or each worker; without it queued";
+    "Who receives at the front: one thread (queued) or each worker (direct); without it queued";
 
 pub const SERVE_RECEIVE_BUFFER: &str =
     "How many bytes of receive buffer the front asks for, from 1 to 2147483647";
 
 pub const SERVE_MORE: &str = "\
-Reads UDP datagrams. Each that comes to FRONT is a whole IPv4 packet: the workers take them in turn,
-and send what is to be delivered to the members. Requests come to CONTROL, as `replay` takes them
-but for `packet`, and each has one reply. CONTROL takes four more:
+Reads UDP datagrams. Each that comes to FRONT is a whole IPv4 packet: a worker judges it, and sends
+what is to be delivered to the members. Requests come to CONTROL, as `replay` takes them but for
+`packet`, and each has one reply. CONTROL takes four more:
   totals         the line of totals so far
   totals KEY     delivered D dropped R nomembers X sendfailed S: those of a group
   totals KEY ID  delivered D dropped R sendfailed S bytes B: those of a member
@@ -240,6 +240,11 @@ controls the switch. A UDP address takes requests from everybody who can send to
 address, and never 0.0.0.0. What looks like a reply itself is ignored there.
 A new switch has no groups. With --rules it has those of FILE: lines that change the configuration,
 from no groups on, together version 0. Empty lines, and lines that begin with #, are skipped.
+With --receive queued one thread receives at FRONT, and hands the packets to the workers in turn.
+With --receive direct each worker receives, from a separate socket at FRONT. The kernel gives all
+packets of a sender, an address and port, to one worker: they keep their order, and one sender
+uses one worker only. --receive-buffer asks for SO_RCVBUF of these sockets, which the kernel doubles
+and caps at net.core.rmem_max; without it they have the system's default.
 With port 0 the system picks a port. Prints `ready FRONT CONTROL` with the bound addresses before it
 reads, and the line of totals after `stop`, with status 0:
   malformed A nogroup B nomembers C dropped D delivered E sendfailed F receivefailed G

@@ -6,9 +6,6 @@ ghost use Rattle.command_line.specs.declared.receive.TheConstants.{MAX_RECEIVE_B
 /// The most bytes of a socket's receive buffer that can be asked for: the range of the kernel's number.
 pub const MAX_RECEIVE_BUFFER: u32 = 2_147_483_647;
 
-// The names of the ways, in their order.
-pub(crate) const RECEIVE_WAYS: &[&str] = &["queued", "direct"];
-
 /// Who receives the datagrams that come to the front.
 #[derive(Clone, Copy, Debug, PartialEq, Eq)]
 pub enum ReceiveWay {
