@@ -1,9 +1,9 @@
 -- What a source takes of its ingress, and gives.
-use Rattle.std.proofs.Common.{◌≡◌, ◌∙◌, ◌∷◌, List, None, Ok, Err, Option, Result, Some, [], ap, length, map, option_map, refl, suc, sym, take, zero, ℕ}
+use Rattle.std.proofs.Common.{◌≡◌, ◌∷◌, Err, List, None, Ok, Option, Some, [], ap, option_map, refl, suc, take, ℕ}
 use Rattle.dispatch.specs.declared.device.Failed.{Failed}
 use Rattle.dispatch.specs.Device.{Gives}
 use Rattle.serve_devices.specs.Devices.{datagrams_of}
-use Rattle.serve_devices.specs.Ingress.{GivesReceive, Receive, cut_to, with_ahead}
+use Rattle.serve_devices.specs.Ingress.{Receive, with_ahead}
 
 -- a datagram that was taken first is given
 pub gives_taken : (left left' room size : ℕ) (bytes copied : List ℕ) (before after : Option (List Receive)) → left ≡ suc left'

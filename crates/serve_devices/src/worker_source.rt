@@ -36,9 +36,9 @@ impl<I: Ingress + Drop> Model for WorkerSource<I> {
     ghost Value = { WorkerSourceValue };
 
     ghost view = { λ s. record {
-        failures = s.failures;
-        left = s.left;
-        coming = coming_of s.room.items s.ahead (option_map I.coming s.ingress);
+      failures = s.failures;
+      left = s.left;
+      coming = coming_of s.room.items s.ahead (option_map I.coming s.ingress);
     } };
 
     ghost invariant = { λ s.

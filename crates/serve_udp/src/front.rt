@@ -19,6 +19,7 @@ use std::{io, net};
 
 // How many bytes an int has, and an IPv4 socket address (ip(7)).
 const INT_SIZE: u32 = 4;
+
 const ADDRESS_SIZE: u32 = 16;
 
 /// Where the front is, and how it receives.

@@ -10,7 +10,8 @@ use member_group::{Command, Config};
 use read_section::{Worker, open};
 use serve_devices::{
     ChannelReceiver, ChannelSender, Ingress, QUEUE_PLACES, QueueIngress, Received, Receives,
-    SocketIngress, SocketOutbox, StopReceiving, WorkerQueue, WorkerQueues, WorkerSource, open_channel, open_queue,
+    SocketIngress, SocketOutbox, StopReceiving, WorkerQueue, WorkerQueues, WorkerSource,
+    open_channel, open_queue,
 };
 use std::alloc::Global;
 use std::io;
@@ -182,7 +183,10 @@ fn receives_ahead_come_in_order(rt: HostRuntime) {
     let mut buf = [0; 3];
     for (place, wanted) in RECEIVES.iter().enumerate() {
         let waits = (source.would_wait(), source.would_wait());
-        assert!(rt; waits == (place >= 4, place >= 4), "receive {place}: {waits:?}");
+        assert!(rt;
+            waits == (place >= 4, place >= 4),
+            "receive {place}: {waits:?}"
+        );
         let answer = source.next(&mut buf);
         assert!(rt; (answer, buf) == *wanted, "receive {place}: {answer:?}");
     }

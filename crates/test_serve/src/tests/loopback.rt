@@ -218,7 +218,14 @@ fn replies_are_not_answered(rt: HostRuntime) {
         let (mut out, ports) = new_output(&rt, rt.alloc());
         let (served, found) = thread::join(
             &rt,
-            || serve_by(&rt, rt.alloc(), way, Workers { count: 1 }, &OpenGate, &mut out),
+            || serve_by(
+                &rt,
+                rt.alloc(),
+                way,
+                Workers { count: 1 },
+                &OpenGate,
+                &mut out,
+            ),
             || answered(&rt, &ports),
         );
         assert!(rt; served == Ok(()), "{way:?}: {served:?}");
@@ -335,7 +342,14 @@ fn unusual_datagrams(rt: HostRuntime) {
         let (mut out, ports) = new_output(&rt, rt.alloc());
         let (served, found) = thread::join(
             &rt,
-            || serve_by(&rt, rt.alloc(), way, Workers { count: 64 }, &OpenGate, &mut out),
+            || serve_by(
+                &rt,
+                rt.alloc(),
+                way,
+                Workers { count: 64 },
+                &OpenGate,
+                &mut out,
+            ),
             || unusual(&rt, rt.alloc(), &ports, &member, &mut longest),
         );
         assert!(rt; served == Ok(()), "{way:?}: {served:?}");
@@ -356,7 +370,14 @@ fn workers_that_wait_end(rt: HostRuntime) {
         let (mut out, ports) = new_output(&rt, rt.alloc());
         let (served, wrong) = thread::join(
             &rt,
-            || serve_by(&rt, rt.alloc(), way, Workers { count: 64 }, &OpenGate, &mut out),
+            || serve_by(
+                &rt,
+                rt.alloc(),
+                way,
+                Workers { count: 64 },
+                &OpenGate,
+                &mut out,
+            ),
             || stopped_at_once(&rt, &ports),
         );
         assert!(rt; served == Ok(()), "{way:?}: {served:?}");
