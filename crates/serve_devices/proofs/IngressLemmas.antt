@@ -3,7 +3,8 @@ use Rattle.std.proofs.Common.{◌≡◌, ◌∷◌, Err, List, None, Ok, Option,
 use Rattle.dispatch.specs.declared.device.Failed.{Failed}
 use Rattle.dispatch.specs.Device.{Gives}
 use Rattle.serve_devices.specs.Devices.{datagrams_of}
-use Rattle.serve_devices.specs.Ingress.{Receive, with_ahead}
+use Rattle.serve_devices.specs.Ingress.{Receive}
+use Rattle.serve_devices.specs.body.Ahead.{with_ahead}
 
 -- a datagram that was taken first is given
 pub gives_taken : (left left' room size : ℕ) (bytes copied : List ℕ) (before after : Option (List Receive)) → left ≡ suc left'

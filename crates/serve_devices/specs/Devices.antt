@@ -1,20 +1,31 @@
 -- What contracts see of the devices of a worker that serves (docs/SWITCH.md, "Devices of a server").
-use Rattle.std.specs.Prelude.{◌==◌, ◌-◌, ◌≡◌, ◌≤◌, ◌⊎◌, ◌^◌, if◌then◌else◌, Err, List, None, Ok, Option, Result, Some, [], filter_map, length, option_map, suc, take, ℕ}
+use Rattle.std.specs.Prelude.{◌==◌, ◌-◌, ◌≡◌, ◌≤◌, ◌⊎◌, ◌∷◌, ◌^◌, if◌then◌else◌, Err, List, None, Ok, Option, Result, Some, [], filter_map, length, option_map, suc, take, ℕ}
 use Rattle.dispatch.specs.Device.{OutboxValue, Sent, SourceValue}
 use Rattle.member_counts.specs.Log.{Log, marked_failed}
-use Rattle.serve_devices.specs.Ingress.{Receive}
+use Rattle.serve_devices.specs.Ingress.{IsEnded, Receive}
 use Rattle.serve_devices.specs.declared.member_outbox.TheConstants.{LOG_ROOM}
 use Rattle.serve_devices.specs.declared.worker_source.TheConstants.{RECEIVE_LIMIT}
 
--- the source of a worker: how often it failed, how many receives it still gives at most, and those to come, if they are known
+-- the source of a worker: how often it failed, how many receives it still gives at most, its room for a datagram, and the receives to come, if
+-- they are known
 pub record WorkerSourceValue : Type 0 where
   pub failures : ℕ
   pub left : ℕ
+  pub room : ℕ
   pub coming : Option (List Receive)
 
 -- one that gave none yet
-abbrev pub new_source : Option (List Receive) → WorkerSourceValue
-new_source coming = record { failures = 0; left = RECEIVE_LIMIT; coming = coming }
+abbrev pub new_source : ℕ → Option (List Receive) → WorkerSourceValue
+new_source room coming = record { failures = 0; left = RECEIVE_LIMIT; room = room; coming = coming }
+
+-- the receive that was given is no longer to come: a datagram, cut to the buffer with these bytes, or a failure. At the end none is to come, and
+-- none was, but for those above the limit
+abbrev pub GivesNext : {E : Type 0} → List ℕ → Result (Option ℕ) E → WorkerSourceValue → WorkerSourceValue → Type 0
+GivesNext bytes (Ok (Some size)) before after =
+    (whole : List ℕ) × (before.coming ≡ option_map (λ (later : List Receive). Some whole ∷ later) after.coming)
+    × (take size bytes ≡ take (length bytes) whole)
+GivesNext bytes (Ok None) before after = (after.coming ≡ Some []) × ((before.left ≡ 0) ⊎ IsEnded before.coming)
+GivesNext bytes (Err fault) before after = before.coming ≡ option_map (λ (later : List Receive). None ∷ later) after.coming
 
 -- the datagrams of the first so many receives
 abbrev pub datagrams_of : ℕ → List Receive → List (List ℕ)

@@ -13,11 +13,11 @@ pub trait Ingress {
     /// more come.
     fn receive(&mut self, buf: &mut [u8]) -> Option<Result<usize, Failed>>
         ensures within { IfSome result (λ received. IfOk received (λ size. size ≤ length buf.new)) }
-        ensures given { GivesReceive (length buf.new) buf.new result (coming self.old) (coming self.new) }
+        ensures given { GivesReceive buf.new result (coming self.old) (coming self.new) }
         ensures end { result ≡ None → IsEnded (coming self.new) };
 
     /// Receives the next datagram as `receive` does, but does not wait: `None` if there is none yet, or no more come.
     fn try_receive(&mut self, buf: &mut [u8]) -> Option<Result<usize, Failed>>
         ensures within { IfSome result (λ received. IfOk received (λ size. size ≤ length buf.new)) }
-        ensures given { GivesReceive (length buf.new) buf.new result (coming self.old) (coming self.new) };
+        ensures given { GivesReceive buf.new result (coming self.old) (coming self.new) };
 }

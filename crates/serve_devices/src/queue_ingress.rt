@@ -1,6 +1,6 @@
 //! The end of a worker's queue: what another thread receives, through a channel (docs/SWITCH.md, "Devices of a server").
 
-ghost use Rattle.std.specs.Prelude.{◌≡◌, ◌↔◌, IfOk, IfSome, IsErr, None, length, min};
+ghost use Rattle.std.specs.Prelude.{◌≡◌, ◌↔◌, ◌++◌, IfOk, IfSome, IsErr, None, OnErr, drop, length, min, take};
 
 use crate::channel::{ChannelReceiver, ChannelSender};
 use crate::ingress::Ingress;
@@ -34,7 +34,9 @@ impl<'a, R: Wait> QueueIngress<'a, R> {
     // Opens a receive into the buffer, and gives it back.
     fn open(&mut self, received: Received, buf: &mut [u8]) -> Result<usize, Failed>
         ensures failed { IsErr result ↔ (received ≡ None) }
-        ensures size { IfOk result (λ size. IfSome received (λ datagram. size ≡ min (length datagram) (length buf.new))) }
+        ensures size { IfOk result (λ size. IfSome received (λ datagram. size ≡ min (length datagram) (length buf.old))) }
+        ensures copied { IfOk result (λ size. IfSome received (λ datagram. buf.new ≡ take size datagram ++ drop size buf.old)) }
+        ensures kept { OnErr result (buf.new ≡ buf.old) }
     {
         let size = received.open(buf);
         self.opened.offer(self.rt, received);

@@ -54,7 +54,7 @@ impl<'a, R: Wait> Ingress for SocketIngress<'a, R> {
 
     ghost coming = { λ _. None };
 
-    // A socket that was shut down receives nothing, as if an empty datagram had come. So the flag is read again then.
+    // Once the socket is shut down and empty, a receive that waits ends as if an empty datagram had come. So the flag is read again then.
     fn receive(&mut self, buf: &mut [u8]) -> Option<Result<usize, Failed>> {
         for _ in self.rt.forever() {
             if self.is_stopped() {
@@ -74,10 +74,7 @@ impl<'a, R: Wait> Ingress for SocketIngress<'a, R> {
         if self.is_stopped() {
             return None;
         }
-        match self.poll(buf) {
-            Some(Ok(0)) if self.is_stopped() => None,
-            received => received,
-        }
+        self.poll(buf)
     }
 }
 

@@ -1,9 +1,10 @@
 //! The source of a worker: what comes in, with one receive ahead (docs/SWITCH.md, "Devices of a server").
 
-ghost use Rattle.std.specs.Prelude.{◌≡◌, ◌≤◌, ◌<◌, IfOk, IfSome, None, length, option_map, take};
+ghost use Rattle.std.specs.Prelude.{◌≡◌, ◌≢◌, ◌≤◌, IfOk, IfSome, None, Some, [], false, length, option_map, take};
 ghost use Rattle.dispatch.specs.Device.{CountsFailure, Gives, IsAtEnd, given_in};
-ghost use Rattle.serve_devices.specs.Devices.{CountsReceive, new_source, source_of};
-ghost use Rattle.serve_devices.specs.Ingress.{IsEnded, coming_of, cut_to, with_ahead};
+ghost use Rattle.serve_devices.specs.Devices.{CountsReceive, GivesNext, new_source, source_of};
+ghost use Rattle.serve_devices.specs.Ingress.{IsEnded, cut_to};
+ghost use Rattle.serve_devices.specs.body.Ahead.{coming_of, with_ahead};
 
 use crate::ingress::Ingress;
 use dispatch::{COUNT_LIMIT, Failed, Source};
@@ -30,7 +31,7 @@ pub struct WorkerSource<I: Ingress + Drop> {
 impl<I: Ingress + Drop> Model for WorkerSource<I> {
     ghost use Rattle.std.specs.Prelude.{◌+◌, ◌≤◌, IfOk, IfSome, length, option_map};
     ghost use Rattle.serve_devices.specs.Devices.{WorkerSourceValue};
-    ghost use Rattle.serve_devices.specs.Ingress.{coming_of};
+    ghost use Rattle.serve_devices.specs.body.Ahead.{coming_of};
     ghost use Rattle.serve_devices.specs.declared.worker_source.TheConstants.{RECEIVE_LIMIT};
 
     ghost Value = { WorkerSourceValue };
@@ -38,6 +39,7 @@ impl<I: Ingress + Drop> Model for WorkerSource<I> {
     ghost view = { λ s. record {
       failures = s.failures;
       left = s.left;
+      room = length s.room.items;
       coming = coming_of s.room.items s.ahead (option_map I.coming s.ingress);
     } };
 
@@ -86,6 +88,7 @@ fn look_ahead<I: Ingress>(
 )
     requires within { IfSome ahead.old (λ received. IfOk received (λ size. size ≤ length room.old.items)) }
     ensures within { IfSome ahead.new (λ received. IfOk received (λ size. size ≤ length room.new.items)) }
+    ensures room { length room.new.items ≡ length room.old.items }
     ensures kept { coming_of room.new.items ahead.new (option_map I.coming ingress.new)
         ≡ coming_of room.old.items ahead.old (option_map I.coming ingress.old) }
 {
@@ -100,7 +103,7 @@ fn look_ahead<I: Ingress>(
 impl<I: Ingress + Drop> WorkerSource<I> {
     /// Takes the ingress, and the room for the longest datagram: a longer one is cut to it.
     pub fn new(ingress: I, room: Vec<u8>) -> WorkerSource<I>
-        ensures new { result ≡ new_source (option_map (cut_to (length room.items)) (I.coming ingress)) }
+        ensures new { result ≡ new_source (length room.items) (option_map (cut_to (length room.items)) (I.coming ingress)) }
     {
         WorkerSource {
             ingress: Some(ingress),
@@ -109,6 +112,15 @@ impl<I: Ingress + Drop> WorkerSource<I> {
             left: RECEIVE_LIMIT,
             failures: 0,
         }
+    }
+
+    // Gives no more, and drops the ingress.
+    fn end(&mut self)
+        ensures ended { self.new ≡ record self.old { left = 0; coming = Some [] } }
+    {
+        self.ingress = None;
+        self.ahead = None;
+        self.left = 0;
     }
 }
 
@@ -123,9 +135,11 @@ impl<I: Ingress + Drop> Source for WorkerSource<I> {
         ensures given_once { Gives (length buf.new) (source_of self.old).coming (source_of self.new).coming (given_in buf.new result) }
         ensures end { result ≡ Ok None → IsAtEnd (source_of self.new).coming }
         ensures counts_receive { CountsReceive result self.old.left self.new.left }
+        ensures next { GivesNext buf.new result self.old self.new }
+        ensures room { self.new.room ≡ self.old.room }
     {
         if self.left == 0 {
-            self.ingress = None;
+            self.end();
             return Ok(None);
         }
         match take_next(&mut self.ingress, &mut self.ahead, &mut self.room) {
@@ -139,15 +153,19 @@ impl<I: Ingress + Drop> Source for WorkerSource<I> {
                 Err(failed)
             }
             None => {
-                self.ingress = None;
-                self.left = 0;
+                self.end();
                 Ok(None)
             }
         }
     }
 
-    fn would_wait(&mut self) -> bool {
-        look_ahead(&mut self.ingress, &mut self.ahead, &mut self.room);
+    fn would_wait(&mut self) -> bool
+        ensures same { self.new ≡ self.old }
+        ensures has_one { result ≡ false → self.new.coming ≢ Some [] }
+    {
+        if self.left > 0 {
+            look_ahead(&mut self.ingress, &mut self.ahead, &mut self.room);
+        }
         self.ahead.is_none()
     }
 }

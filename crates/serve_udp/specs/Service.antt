@@ -23,7 +23,7 @@ HasRoom room limit = (room ≡ LONGEST_DATAGRAM) × (limit ≡ LIMIT)
 
 -- the devices of a job, as they are made
 abbrev pub HasNewDevices : WorkerSourceValue → MemberOutboxValue → Type 0
-HasNewDevices source outbox = (source ≡ new_source None) × (outbox ≡ new_outbox None)
+HasNewDevices source outbox = (source ≡ new_source LONGEST_DATAGRAM None) × (outbox ≡ new_outbox None)
 
 -- devices that have not failed yet, and tell nothing of their datagrams
 abbrev pub HasSilentDevices : Parts → Type 0

@@ -60,6 +60,14 @@ fn share_port<S: AsRawFd>(socket: &S) -> io::Result<()> {
     check(unsafe { setsockopt(fd, SOL_SOCKET, SO_REUSEPORT, &value, INT_SIZE) })
 }
 
+// Does so if there is more than one worker: a port that needs no other socket stays closed to them.
+fn share_port_with<S: AsRawFd>(socket: &S, workers: usize) -> io::Result<()> {
+    if workers > 1 {
+        share_port(socket)?;
+    }
+    Ok(())
+}
+
 // Asks for a receive buffer, if one is wanted.
 fn ask_for_buffer(socket: &net::UdpSocket, buffer: Option<ReceiveBuffer>) -> io::Result<()> {
     let Some(buffer) = buffer else {
@@ -100,7 +108,7 @@ fn bind_first<N: Net>(net: &N, front: FrontRequest) -> io::Result<(net::UdpSocke
     }
 }
 
-// A socket for each worker: the first one, which shares its port from now on, and others at its address.
+// A socket for each worker: the first one, which shares its port from now on, and the others at its address.
 fn bind_others(
     alloc: Global,
     first: net::UdpSocket,
@@ -110,7 +118,7 @@ fn bind_others(
 ) -> Result<Vec<net::UdpSocket>, BindFault>
     ensures { IfOk result (λ fronts. vec_len fronts ≡ workers) }
 {
-    if let Err(error) = share_port(&first) {
+    if let Err(error) = share_port_with(&first, workers) {
         return Err(BindFault::Front(error));
     }
     let Ok(mut fronts) = Vec::with_capacity(alloc, workers) else {

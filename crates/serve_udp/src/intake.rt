@@ -15,7 +15,7 @@ use std::net::UdpSocket;
 use std::sync::Wait;
 use std::sync::atomic::AtomicBool;
 
-/// The front of a switch whose caller's thread receives.
+/// The socket at the front, if the caller's thread receives, and the queues by which it hands on what comes.
 #[derive(Drop)]
 pub struct QueuedFront {
     pub socket: net::UdpSocket,
@@ -24,13 +24,13 @@ pub struct QueuedFront {
     pub is_ready: bool,
 }
 
-/// Who receives at the front. When it is dropped no more datagrams come to the workers, so that they end.
+/// Who receives at the front: the caller's thread, if there is a front for it, and otherwise the workers.
+///
+/// When it is dropped no more datagrams come to the workers, so that they end.
 #[derive(Drop)]
-pub enum Receiving<'a> {
-    /// The caller's thread, which hands them to the workers in turn.
-    Queued(QueuedFront),
-    /// The workers.
-    Direct(StopReceiving<'a>),
+pub struct Receiving<'a> {
+    pub front: Option<QueuedFront>,
+    pub stop: StopReceiving<'a>,
 }
 
 /// The sources of all workers, and who receives.
@@ -64,6 +64,7 @@ pub fn queued_intake<'a, R: Wait>(
     rt: &'a R,
     alloc: Global,
     socket: net::UdpSocket,
+    stopped: &'a AtomicBool,
     workers: usize,
 ) -> Result<Intake<'a, QueueIngress<'a, R>>, Failure>
     requires some { 1 ≤ workers }
@@ -83,11 +84,17 @@ pub fn queued_intake<'a, R: Wait>(
     }
     Ok(Intake {
         sources,
-        receiving: Receiving::Queued(QueuedFront {
-            socket,
-            queues: WorkerQueues::new(alloc, queues),
-            is_ready: true,
-        }),
+        receiving: Receiving {
+            front: Some(QueuedFront {
+                socket,
+                queues: WorkerQueues::new(alloc, queues),
+                is_ready: true,
+            }),
+            stop: StopReceiving {
+                stopped,
+                sockets: &[],
+            },
+        },
     })
 }
 
@@ -110,6 +117,9 @@ pub fn direct_intake<'a, R: Wait>(
     }
     Ok(Intake {
         sources,
-        receiving: Receiving::Direct(StopReceiving { stopped, sockets }),
+        receiving: Receiving {
+            front: None,
+            stop: StopReceiving { stopped, sockets },
+        },
     })
 }

@@ -12,21 +12,22 @@ use crate::sockets::LONGEST_DATAGRAM;
 use command_line::Failure;
 use dispatch::{Counter, Job};
 use read_section::Worker;
-use serve_devices::{Ingress, MemberOutbox, SharedCounts, WorkerSource};
+use serve_devices::{Ingress, MemberOutbox, SharedCounts, SocketEgress, WorkerSource};
 use std::alloc::Global;
 use std::net::{Net, UdpSocket};
 use std::sync::Wait;
+use std::sync::atomic::AtomicBool;
 
 // How many datagrams a batch judges at most.
 const LIMIT: u64 = 64;
 
 /// A job of the service.
-pub type ServiceJob<'a, I, R> = Job<WorkerSource<I>, MemberOutbox<'a, UdpSocket, R>>;
+pub type ServiceJob<'a, I, R> = Job<WorkerSource<I>, MemberOutbox<'a, SocketEgress<'a, R>, R>>;
 
 // What a job has beside its worker and its counter.
 struct Devices<'a, I: Ingress + Drop, R: Wait + Net> {
     source: WorkerSource<I>,
-    outbox: MemberOutbox<'a, UdpSocket, R>,
+    outbox: MemberOutbox<'a, SocketEgress<'a, R>, R>,
     buffer: Vec<u8>,
 }
 
@@ -35,10 +36,11 @@ fn open_devices<'a, I: Ingress + Drop, R: Wait + Net>(
     rt: &'a R,
     alloc: Global,
     counts: &'a SharedCounts,
+    stopped: &'a AtomicBool,
     source: WorkerSource<I>,
     outlet: UdpSocket,
 ) -> Result<Devices<'a, I, R>, Failure>
-    requires new { source ≡ new_source None }
+    requires new { source ≡ new_source LONGEST_DATAGRAM None }
     ensures new { IfOk result (λ devices. HasNewDevices devices.source devices.outbox) }
     ensures room { IfOk result (λ devices. HasRoom (length devices.buffer.items) LIMIT) }
     ensures no_input { IfErr result IsServeFailure }
@@ -46,7 +48,10 @@ fn open_devices<'a, I: Ingress + Drop, R: Wait + Net>(
     let Ok(buffer) = vec![in alloc; 0; LONGEST_DATAGRAM] else {
         return Err(Failure::OutOfMemory);
     };
-    let Ok(outbox) = MemberOutbox::new(rt, alloc, outlet, counts) else {
+    let Ok(egress) = SocketEgress::new(rt, outlet, stopped) else {
+        return Err(Failure::PollFailed);
+    };
+    let Ok(outbox) = MemberOutbox::new(rt, alloc, egress, counts) else {
         return Err(Failure::OutOfMemory);
     };
     Ok(Devices {
@@ -97,11 +102,13 @@ fn add_job<'a, I: Ingress + Drop, R: Wait + Net>(
     };
 }
 
-/// Takes a worker, a counter, a source and a socket for each job, and returns the jobs. All count by member in one table.
+/// Takes a worker, a counter, a source and a socket for each job, and returns the jobs. All count by member in one table, and no send waits once
+/// the flag is set.
 pub fn jobs<'a, I: Ingress + Drop, R: Wait + Net>(
     rt: &'a R,
     alloc: Global,
     counts: &'a SharedCounts,
+    stopped: &'a AtomicBool,
     seats: &mut Vec<Worker>,
     counters: &mut Vec<Counter>,
     mut sources: Vec<WorkerSource<I>>,
@@ -125,7 +132,7 @@ pub fn jobs<'a, I: Ingress + Drop, R: Wait + Net>(
         let Some(outlet) = outlets.pop() else {
             unreachable!()
         };
-        let devices = open_devices(rt, alloc, counts, source, outlet)?;
+        let devices = open_devices(rt, alloc, counts, stopped, source, outlet)?;
         add_job(devices, seats, counters, &mut jobs);
     }
     Ok(jobs)

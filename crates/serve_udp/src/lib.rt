@@ -183,15 +183,15 @@ pub fn serve_bound<R: Threads + Wait + Net + Sync, G: Gate + Sync, W: Write, L: 
         control,
         outlets,
     };
+    let stopped = AtomicBool::new(false);
     match front {
         BoundFront::Queued(socket) => {
-            let intake = queued_intake(rt, alloc, socket, workers)?;
+            let intake = queued_intake(rt, alloc, socket, &stopped, workers)?;
             serve_intake(
                 rt, config, &counts, intake, rest, place, workers, gate, out, log,
             )
         }
         BoundFront::Direct(fronts) => {
-            let stopped = AtomicBool::new(false);
             let intake = direct_intake(rt, alloc, &fronts, &stopped, workers)?;
             serve_intake(
                 rt, config, &counts, intake, rest, place, workers, gate, out, log,

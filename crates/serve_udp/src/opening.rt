@@ -103,8 +103,9 @@ pub fn open_service<'a, I: Ingress + Drop, R: Wait + Net>(
         control,
         outlets,
     } = sockets;
+    let stopped = receiving.stop.stopped;
     let jobs = jobs(
-        rt, alloc, counts, &mut seats, &mut spare, sources, outlets, workers,
+        rt, alloc, counts, stopped, &mut seats, &mut spare, sources, outlets, workers,
     )?;
     let sockets = open_sockets(rt, alloc, receiving, address, control)?;
     let receiver = Receiver { sockets, operator };

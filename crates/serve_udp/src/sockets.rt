@@ -110,24 +110,22 @@ impl QueuedFront {
 impl Receiving<'_> {
     // Waits for the front from now on, unless the workers do.
     fn register(&mut self, registry: &Registry) -> io::Result<()> {
-        match self {
-            Receiving::Queued(front) => {
-                registry.register(&mut front.socket, FRONT, Interest::READABLE)
-            }
-            Receiving::Direct(_) => Ok(()),
+        match &mut self.front {
+            Some(front) => registry.register(&mut front.socket, FRONT, Interest::READABLE),
+            None => Ok(()),
         }
     }
 
     fn is_ready(&self) -> bool {
-        match self {
-            Receiving::Queued(front) => front.is_ready,
-            Receiving::Direct(_) => false,
+        match &self.front {
+            Some(front) => front.is_ready,
+            None => false,
         }
     }
 
     // Notes an event.
     fn wake(&mut self) {
-        if let Receiving::Queued(front) = self {
+        if let Some(front) = &mut self.front {
             front.is_ready = true;
         }
     }
@@ -317,7 +315,7 @@ impl<'a> Sockets<'a> {
 
     /// Gives the front its turn, unless the workers receive from it: what comes goes to the workers in turn, a failed receive too.
     pub fn receive<R: Wait>(&mut self, rt: &R) {
-        if let Receiving::Queued(front) = &mut self.receiving {
+        if let Some(front) = &mut self.receiving.front {
             front.turn(rt, &mut self.room.buf);
         }
     }

@@ -15,7 +15,7 @@ use Rattle.serve_udp.specs.Service.{HasNewDevices, HasRoom}
 
 -- so many sources that gave none yet, and whose datagrams are not known
 abbrev pub AreNewSources : ℕ → List WorkerSourceValue → Type 0
-AreNewSources many sources = (length sources ≡ many) × All (λ (source : WorkerSourceValue). source ≡ new_source None) sources
+AreNewSources many sources = (length sources ≡ many) × All (λ (source : WorkerSourceValue). source ≡ new_source LONGEST_DATAGRAM None) sources
 
 module _ {source : Source.Ghosts WorkerSourceValue} {outbox : Outbox.Ghosts MemberOutboxValue} where
   -- the jobs have new workers of a table, whose version 0 is the configuration

@@ -10,7 +10,7 @@ use member_group::{Command, Config};
 use read_section::{Worker, open};
 use serve_devices::{
     ChannelReceiver, ChannelSender, Ingress, QUEUE_PLACES, QueueIngress, Received, Receives,
-    SocketIngress, SocketOutbox, StopReceiving, WorkerQueue, WorkerQueues, WorkerSource,
+    SocketEgress, SocketIngress, SocketOutbox, StopReceiving, WorkerQueue, WorkerQueues, WorkerSource,
     open_channel, open_queue,
 };
 use std::alloc::Global;
@@ -370,9 +370,9 @@ fn two_workers_take_turns(rt: HostRuntime) {
     turns_were_taken(&rt, &mut tally, &dones);
 }
 
-fn is_sent_whole(
+fn is_sent_whole<O: Outbox>(
     member: &UdpSocket,
-    outbox: &mut SocketOutbox<UdpSocket>,
+    outbox: &mut O,
     to: Endpoint,
     datagram: &[u8],
     buf: &mut [u8],
@@ -385,10 +385,10 @@ fn is_sent_whole(
 }
 
 // 65,507 bytes are the most that UDP over IPv4 takes. Nothing is sent to port 0.
-fn datagrams_are_sent(
+fn datagrams_are_sent<O: Outbox>(
     rt: &impl Abort,
     member: &UdpSocket,
-    outbox: &mut SocketOutbox<UdpSocket>,
+    outbox: &mut O,
     longest: &[u8],
     too_long: &[u8],
     buf: &mut [u8],
@@ -407,7 +407,9 @@ fn datagrams_are_sent(
 fn outbox_sends_whole_datagrams(rt: HostRuntime) -> Result<(), Fail> {
     let member = UdpSocket::bind(&rt, "127.0.0.1:0")?;
     member.set_read_timeout(Some(Duration::from_secs(5)))?;
-    let mut outbox = SocketOutbox::new(UdpSocket::bind(&rt, "127.0.0.1:0")?);
+    let stopped = AtomicBool::new(false);
+    let socket = UdpSocket::bind(&rt, "127.0.0.1:0")?;
+    let mut outbox = SocketOutbox::new(SocketEgress::new(&rt, socket, &stopped)?);
     let longest = vec![in rt.alloc(); 7; 65_507].expect(&rt, "memory");
     let too_long = vec![in rt.alloc(); 7; 65_508].expect(&rt, "memory");
     let mut buf = vec![in rt.alloc(); 0; 65_535].expect(&rt, "memory");

@@ -8,6 +8,6 @@ abbrev pub invariant-loop-job : goal.invariant-loop-job
 invariant-loop-job g l =
     (l.workers ≤ vec_capacity l.jobs)
     × (l._job + length l.sources.items ≡ l.workers)
-    × All (λ (source : WorkerSourceValue). source ≡ new_source None) l.sources.items
+    × All (λ (source : WorkerSourceValue). source ≡ new_source LONGEST_DATAGRAM None) l.sources.items
     × (l.workers ≤ l._job + vec_len l.outlets)
     × AreMade l._job l.fn.seats.items l.seats.items l.fn.counters.items l.counters.items l.jobs.items

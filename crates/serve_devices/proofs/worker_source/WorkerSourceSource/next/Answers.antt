@@ -1,7 +1,7 @@
 use Rattle.std.proofs.Common.{◌∙◌, List, Result, Some, ap, arith, length, option_map, sym, take, ℕ}
 use Rattle.dispatch.specs.declared.device.Failed.{Failed}
 use Rattle.serve_devices.specs.Devices.{WorkerSourceValue}
-use Rattle.serve_devices.specs.Ingress.{coming_of, with_ahead}
+use Rattle.serve_devices.specs.body.Ahead.{coming_of, with_ahead}
 use Rattle.serve_devices.proofs.IngressLemmas.{gives_failure, gives_taken}
 use Rattle.serve_devices.proofs.worker_source.WorkerSourceSource.next.Goals as goal
 
