@@ -10,8 +10,8 @@ use member_group::{Command, Config};
 use read_section::{Worker, open};
 use serve_devices::{
     ChannelReceiver, ChannelSender, Ingress, QUEUE_PLACES, QueueIngress, Received, Receives,
-    SocketEgress, SocketIngress, SocketOutbox, StopReceiving, WorkerQueue, WorkerQueues, WorkerSource,
-    open_channel, open_queue,
+    SocketEgress, SocketIngress, SocketOutbox, StopReceiving, WorkerQueue, WorkerQueues,
+    WorkerSource, open_channel, open_queue,
 };
 use std::alloc::Global;
 use std::io;
