@@ -112,7 +112,8 @@ pub(crate) fn rules_argument<'a>(alloc: Global) -> Arg<'a>
         .help(help::SERVE_RULES)
 }
 
-// `--receive WAY`. `clap` takes any text: no definition can name a reference, so none can have a list of names to choose from.
+// `--receive WAY`, where `clap` takes any text: a parser that has a list of names has a reference, which no definition can name.
+// `read_words` refuses a text that names no way.
 pub(crate) fn receive_argument<'a>(alloc: Global) -> Arg<'a>
     ensures rule { rule_of result ≡ named_argument (codes "receive") }
     ensures local { result.global ≡ false }
