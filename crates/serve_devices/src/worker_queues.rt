@@ -5,6 +5,7 @@ ghost use Rattle.std.specs.Option.{option_map};
 ghost use Rattle.serve_devices.specs.Devices.{new_source};
 ghost use Rattle.serve_devices.specs.Queues.{next_turn};
 ghost use Rattle.serve_devices.specs.declared.channel_source.TheConstants.{RECEIVE_LIMIT};
+ghost use Rattle.serve_devices.specs.declared.member_outbox.TheConstants.{LOG_ROOM};
 
 use crate::channel::{ChannelReceiver, ChannelSender, open_channel};
 use crate::channel_source::ChannelSource;
@@ -20,6 +21,7 @@ pub const QUEUE_PLACES: usize = 64;
 pub fn limits_as_numbers()
     ensures receives { RECEIVE_LIMIT ≡ 140737488355327 }
     ensures places { QUEUE_PLACES ≡ 64 }
+    ensures log_room { LOG_ROOM ≡ 64 }
 {}
 
 /// The way to one worker's source, and the way back of what that has opened.
