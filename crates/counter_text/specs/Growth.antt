@@ -35,13 +35,9 @@ totals_grown earlier later = let again = totals_again earlier later in record {
 
 -- ---- groups
 
--- the counts of a group that is not there
-abbrev pub no_group : GroupCount → GroupCount
-no_group later = record { key = later.key; delivered = 0; dropped = 0; nomembers = 0; sendfailed = 0 }
-
--- the counts of the same group before
+-- the counts of the same group before; one that was not there may have kept counts of an earlier time, and has not grown
 abbrev pub group_before : List GroupCount → GroupCount → GroupCount
-group_before [] later = no_group later
+group_before [] later = later
 group_before (one ∷ rest) later = if is_same one.key later.key then one else group_before rest later
 
 abbrev pub group_again : GroupCount → GroupCount → Bool
@@ -61,12 +57,9 @@ group_growth earlier later =
 
 -- ---- members
 
-abbrev pub no_member : MemberCount → MemberCount
-no_member later = record { key = later.key; id = later.id; to = later.to; delivered = 0; dropped = 0; sendfailed = 0; bytes = 0 }
-
--- the counts of the same member before
+-- the counts of the same member before, or its own
 abbrev pub member_before : List MemberCount → MemberCount → MemberCount
-member_before [] later = no_member later
+member_before [] later = later
 member_before (one ∷ rest) later = if is_same one.key later.key && nat_eq one.id later.id then one else member_before rest later
 
 abbrev pub member_again : MemberCount → MemberCount → Bool

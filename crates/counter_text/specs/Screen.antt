@@ -1,5 +1,5 @@
 -- What `top` writes at each interval (docs/COMMANDS.md, "top").
-use Rattle.std.specs.Prelude.{◌/◌, ◌%◌, ◌-◌, ◌++◌, List, [], codes, decimal, length, replicate, sum_by, ℕ}
+use Rattle.std.specs.Prelude.{◌/◌, ◌%◌, ◌-◌, ◌++◌, List, codes, decimal, length, replicate, sum_by, ℕ}
 use Rattle.std.specs.List.{filter, flat_map}
 use Rattle.ipv4_fields.specs.Endpoint.{endpoint_text}
 use Rattle.ipv4_fields.specs.declared.endpoint.Endpoint.{Endpoint}

@@ -53,7 +53,7 @@ pub(crate) fn totals_grown(earlier: Totals, later: Totals) -> Totals
     }
 }
 
-/// The counts of the same group before, or zeros.
+/// The counts of the same group before. A group that was not there may have kept counts of an earlier time: it has not grown.
 pub(crate) fn group_before(before: &[GroupCount], later: GroupCount) -> GroupCount
     ensures { result ≡ group_before before.now later }
 {
@@ -64,13 +64,7 @@ pub(crate) fn group_before(before: &[GroupCount], later: GroupCount) -> GroupCou
         }
         left = rest;
     }
-    GroupCount {
-        key: later.key,
-        delivered: 0,
-        dropped: 0,
-        nomembers: 0,
-        sendfailed: 0,
-    }
+    later
 }
 
 fn group_again(earlier: GroupCount, later: GroupCount) -> bool
@@ -99,7 +93,7 @@ pub(crate) fn group_growth(earlier: GroupCount, later: GroupCount) -> Growth
     }
 }
 
-/// The counts of the same member before, or zeros.
+/// The counts of the same member before. A member that was not there has not grown, either.
 pub(crate) fn member_before(before: &[MemberCount], later: MemberCount) -> MemberCount
     ensures { result ≡ member_before before.now later }
 {
@@ -110,15 +104,7 @@ pub(crate) fn member_before(before: &[MemberCount], later: MemberCount) -> Membe
         }
         left = rest;
     }
-    MemberCount {
-        key: later.key,
-        id: later.id,
-        to: later.to,
-        delivered: 0,
-        dropped: 0,
-        sendfailed: 0,
-        bytes: 0,
-    }
+    later
 }
 
 fn member_again(earlier: MemberCount, later: MemberCount) -> bool

@@ -13,6 +13,6 @@ mod sockets;
 
 pub use counters::{Counters, FrontDrops, GroupCount, MemberCount, Totals};
 pub use growth::totals_again;
-pub use metrics::{CHARGE_LIMIT, metrics_text};
+pub use metrics::{CHARGE_LIMIT, limit_as_number, metrics_text};
 pub use screen::screen_text;
 pub use sockets::drops_at;

@@ -10,6 +10,11 @@ use std::alloc::{AllocError, Global};
 /// The largest charge of a configuration.
 pub const CHARGE_LIMIT: u64 = 8192;
 
+/// Law: the limit, as a number. It runs nothing.
+pub fn limit_as_number()
+    ensures { CHARGE_LIMIT ≡ 8192 }
+{}
+
 /// A metric that each group has.
 #[derive(Clone, Copy)]
 pub(crate) enum GroupMetric {

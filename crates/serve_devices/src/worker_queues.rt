@@ -3,6 +3,7 @@
 ghost use Rattle.std.specs.Prelude.{◌≡◌, ◌<◌, IfOk, vec_len};
 ghost use Rattle.std.specs.Option.{option_map};
 ghost use Rattle.serve_devices.specs.Queues.{next_turn};
+ghost use Rattle.serve_devices.specs.declared.member_outbox.TheConstants.{LOG_ROOM};
 ghost use Rattle.serve_devices.specs.declared.worker_source.TheConstants.{RECEIVE_LIMIT};
 
 use crate::channel::{ChannelReceiver, ChannelSender, open_channel};
@@ -20,6 +21,7 @@ pub const QUEUE_PLACES: usize = 64;
 pub fn limits_as_numbers()
     ensures receives { RECEIVE_LIMIT ≡ 140737488355327 }
     ensures places { QUEUE_PLACES ≡ 64 }
+    ensures log_room { LOG_ROOM ≡ 64 }
 {}
 
 /// The way to one worker, and the way back of what that has opened.

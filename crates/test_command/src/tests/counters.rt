@@ -229,6 +229,28 @@ fn two_readings_are_a_screen(rt: HostRuntime) -> Result<(), Fail> {
     Ok(())
 }
 
+// No group was there at the first reading. Its counts may be of an earlier time.
+const NOTHING: &[Told] = &[EMPTY, TOTALS];
+
+const SCREEN_OF_NEW: &str = "\
+totals malformed 1 nogroup 2 nomembers 3 dropped 4 delivered 5 sendfailed 6 receivefailed 7
+rates malformed 0 nogroup 0 nomembers 0 dropped 0 delivered 0 sendfailed 0 receivefailed 0
+GROUP                     MEMBER    PACKETS/S         BYTES/S    DROPPED/S     FAILED  SHARE
+10.0.0.2:53                    -            0               0            0          0      -
+10.0.0.2:53                    7            0               0            0          0    0.0
+
+";
+
+#[test]
+fn what_was_not_there_has_not_grown(rt: HostRuntime) -> Result<(), Fail> {
+    let alloc = rt.alloc();
+    let first = read(&rt, alloc, NOTHING, None)?.ok_or("no counters")?;
+    let later = read(&rt, alloc, ROWS[0].0, Some(&first))?.ok_or("no counters")?;
+    let text = screen_text(alloc, &first, &later, 1000)?;
+    assert!(rt; text.as_str() == SCREEN_OF_NEW, "{}", text.as_str());
+    Ok(())
+}
+
 // The switch is another one: a total fell.
 const RESTARTED: &[Told] = &[
     SHOWN,

@@ -1,4 +1,4 @@
-use Rattle.std.proofs.Common.{◌≡◌, ◌∙◌, ◌-◌, ◌++◌, ap, ap₂, append_assoc, arith, codes, length, refl, replicate}
+use Rattle.std.proofs.Common.{◌≡◌, ◌∙◌, ◌-◌, ◌++◌, ap, append_assoc, arith, codes, length, refl, replicate}
 use Rattle.counter_text.specs.Screen.{column}
 use Rattle.counter_text.proofs.PieceLemmas.{add, one_more_space}
 use Rattle.counter_text.proofs.screen.column.Goals as goal

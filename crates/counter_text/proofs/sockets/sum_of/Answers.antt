@@ -1,6 +1,5 @@
 use Rattle.std.proofs.Common.{◌≡◌, ◌≢◌, ◌≤◌, ◌+◌, ◌==◌, ◌∷◌, Bool, List, [], ap, arith, drop, false, length, refl, rules, suc, take, zero, ℕ}
 use Rattle.std.specs.Borrow.{Bor}
-use Rattle.counter_text.specs.Sockets.{AreCounts}
 use Rattle.counter_text.proofs.DropLemmas.{AreSummed, no_count, one_more, text_at, texts, texts-next, texts-split, too_great}
 use Rattle.counter_text.proofs.sockets.sum_of.Goals as goal
 
