@@ -225,7 +225,7 @@ pub const SERVE_RECEIVE: &str =
     "Who receives at the front: one thread (queued) or each worker (direct); without it queued";
 
 pub const SERVE_RECEIVE_BUFFER: &str =
-    "How many bytes of receive buffer the front asks for, from 1 to 2147483647";
+    "How many bytes of receive buffer each socket at the front asks for, from 1 to 2147483647";
 
 pub const SERVE_MORE: &str = "\
 Reads UDP datagrams. Each that comes to FRONT is a whole IPv4 packet: a worker judges it, and sends
