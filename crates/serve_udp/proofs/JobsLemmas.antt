@@ -1,5 +1,5 @@
 -- Jobs that are made one after the other.
-use Rattle.std.proofs.Common.{◌≡◌, ◌+◌, ◌++◌, ◌∷◌, List, Some, [], ap, arith, length, length-append, subst, sym, ℕ}
+use Rattle.std.proofs.Common.{◌≡◌, ◌+◌, ◌++◌, ◌∷◌, List, None, Some, [], ap, arith, length, length-append, subst, sym, ℕ}
 use Rattle.std.specs.List.{All}
 use Rattle.std.proofs.lemmas.List.Elements.{All-nil, All-pop, All-push, All-same}
 use Rattle.dispatch.specs.Tally.{CounterValue}
@@ -8,9 +8,24 @@ use Rattle.dispatch.specs.declared.device.Source as Source
 use Rattle.dispatch.specs.declared.worker_job.Job.{Job}
 use Rattle.dispatch.specs.Counted.{IsNew, IsNewWorker}
 use Rattle.read_section.specs.Worker.{WorkerValue}
-use Rattle.serve_devices.specs.Devices.{MemberOutboxValue, WorkerSourceValue}
+use Rattle.serve_devices.specs.Devices.{MemberOutboxValue, WorkerSourceValue, new_source}
 use Rattle.serve_udp.specs.Service.{HasNewDevices, HasRoom}
-use Rattle.serve_udp.specs.body.Jobs.{AreMade}
+use Rattle.serve_udp.specs.body.Jobs.{AreMade, AreNewSources}
+use Rattle.serve_udp.specs.declared.sockets.TheConstants.{LONGEST_DATAGRAM}
+
+pub no_source : (sources : List WorkerSourceValue) → sources ≡ [] → AreNewSources 0 sources
+no_source sources none = (ap length none, All-same (λ source. source ≡ new_source LONGEST_DATAGRAM None) sources [] none (All-nil (λ source. source ≡ new_source LONGEST_DATAGRAM None)))
+
+pub one_source : (many : ℕ) (sources sources' : List WorkerSourceValue) (source : WorkerSourceValue) → sources' ≡ sources ++ source ∷ []
+    → source ≡ new_source LONGEST_DATAGRAM None → AreNewSources many sources → AreNewSources (many + 1) sources'
+one_source many sources sources' source pushed new all =
+    let more = ap length pushed in
+    let one = length-append sources (source ∷ []) in
+    let before = all.0 in (
+      omega (arith, more, one, before),
+      All-same (λ s. s ≡ new_source LONGEST_DATAGRAM None) sources' (sources ++ source ∷ []) pushed
+          (All-push (λ s. s ≡ new_source LONGEST_DATAGRAM None) sources source all.1 new),
+    )
 
 module _ {source : Source.Ghosts WorkerSourceValue} {outbox : Outbox.Ghosts MemberOutboxValue} where
   no_job : (P : Job WorkerSourceValue MemberOutboxValue source outbox → Type 0) (jobs : List (Job WorkerSourceValue MemberOutboxValue source outbox)) → jobs ≡ []

@@ -89,7 +89,9 @@ fn address_bytes(at: Endpoint) -> [u8; _SS_SIZE] {
 // Binds one more socket to a port that is shared.
 fn bind_another(at: Endpoint, buffer: Option<ReceiveBuffer>) -> io::Result<net::UdpSocket> {
     let fd = unsafe { libc::net::socket(AF_INET, SOCK_DGRAM | SOCK_CLOEXEC, 0) };
-    check(fd)?;
+    if fd < 0 {
+        return Err(io::Error::from_raw_os_error(os::errno()));
+    }
     let owned = unsafe { OwnedFd::from_raw_fd(fd) };
     share_port(&owned)?;
     check(unsafe { libc::net::bind(fd, &address_bytes(at), ADDRESS_SIZE) })?;

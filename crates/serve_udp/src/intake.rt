@@ -1,6 +1,8 @@
 //! How the datagrams of the front come to the workers (docs/COMMANDS.md, "How it receives").
 
-ghost use Rattle.std.specs.Prelude.{◌≡◌, ◌≤◌, IfErr, IfOk, None, OnOk, length, suc, ℕ};
+ghost use Rattle.std.specs.Prelude.{◌≡◌, ◌≤◌, ◌++◌, ◌∷◌, IfErr, IfOk, None, OnOk, [], length};
+ghost use Rattle.serve_devices.specs.Devices.{new_source};
+ghost use Rattle.serve_udp.specs.declared.sockets.TheConstants.{LONGEST_DATAGRAM};
 ghost use Rattle.serve_udp.specs.body.Jobs.{AreNewSources};
 
 use crate::sockets::LONGEST_DATAGRAM;
@@ -40,6 +42,17 @@ pub struct Intake<'a, I: Ingress + Drop> {
     pub receiving: Receiving<'a>,
 }
 
+// Room for the longest datagram.
+fn new_room(alloc: Global) -> Result<Vec<u8>, Failure>
+    ensures room { IfOk result (λ room. length room.items ≡ LONGEST_DATAGRAM) }
+    ensures failed { IfErr result (λ failure. failure ≡ Failure.OutOfMemory) }
+{
+    let Ok(room) = vec![in alloc; 0; LONGEST_DATAGRAM] else {
+        return Err(Failure::OutOfMemory);
+    };
+    Ok(room)
+}
+
 // Makes a worker's source.
 fn add_source<I: Ingress + Drop>(
     alloc: Global,
@@ -47,16 +60,15 @@ fn add_source<I: Ingress + Drop>(
     sources: &mut Vec<WorkerSource<I>>,
 ) -> Result<(), Failure>
     requires silent { I.coming ingress ≡ None }
-    ensures added { (many : ℕ) → OnOk result (AreNewSources many sources.old.items → AreNewSources (suc many) sources.new.items) }
+    ensures added { OnOk result (sources.new.items ≡ sources.old.items ++ new_source LONGEST_DATAGRAM None ∷ []) }
     ensures failed { IfErr result (λ failure. failure ≡ Failure.OutOfMemory) }
 {
-    let Ok(room) = vec![in alloc; 0; LONGEST_DATAGRAM] else {
+    let room = new_room(alloc)?;
+    let source = WorkerSource::new(ingress, room);
+    let Ok(()) = sources.push(source) else {
         return Err(Failure::OutOfMemory);
     };
-    match sources.push(WorkerSource::new(ingress, room)) {
-        Ok(()) => Ok(()),
-        Err(_) => Err(Failure::OutOfMemory),
-    }
+    Ok(())
 }
 
 /// The sources of workers to whom the caller's thread hands what comes.

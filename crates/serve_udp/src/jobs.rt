@@ -7,6 +7,7 @@ ghost use Rattle.serve_devices.specs.Devices.{new_source};
 ghost use Rattle.serve_udp.specs.Service.{HasNewDevices, HasRoom, IsServeFailure};
 ghost use Rattle.serve_udp.specs.body.Jobs.{AreMade, AreNewSources};
 ghost use Rattle.serve_udp.specs.declared.jobs.TheConstants.{LIMIT};
+ghost use Rattle.serve_udp.specs.declared.sockets.TheConstants.{LONGEST_DATAGRAM};
 
 use crate::sockets::LONGEST_DATAGRAM;
 use command_line::Failure;

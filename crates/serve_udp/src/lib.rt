@@ -10,6 +10,7 @@ ghost use Rattle.atomic_table.specs.Seated.{TableId};
 ghost use Rattle.config_image.specs.Image.{Group};
 ghost use Rattle.member_group.specs.Charge.{charge_of};
 ghost use Rattle.versions.specs.declared.layout.TheConstants.{CHARGE_LIMIT, WORKERS};
+ghost use Rattle.dispatch.specs.Totals.{WritesTotals};
 ghost use Rattle.serve_udp.specs.declared.jobs.TheConstants.{LIMIT};
 ghost use Rattle.serve_udp.specs.Service.{IsServeFailure, IsServedFrom, WritesReadyOrNothing, WritesServed, WritesServedAt, WritesServedFrom};
 ghost use Rattle.serve_udp.specs.Front.{HasFronts};
@@ -105,6 +106,14 @@ fn count_served<
     }
 }
 
+// Writes the line of the totals.
+fn write_last<W: Write>(totals: &Totals, out: &mut W) -> Result<(), Failure>
+    ensures written { OnOk result (WritesTotals totals.now (W.contents out.old) (W.contents out.new)) }
+    ensures failed { IfErr result (λ failure. failure ≡ Failure.WriteFailed) }
+{
+    write_totals(totals, out).map_err(|_| Failure::WriteFailed)
+}
+
 // Runs the service once it is known who receives.
 fn serve_intake<
     'a,
@@ -137,9 +146,11 @@ fn serve_intake<
     let alloc = *config.allocator();
     let front = sockets.address;
     let (jobs, service) = open_service(rt, counts, config, intake, sockets, workers)?;
-    write_ready(front, control, out)?;
+    if let Err(failure) = write_ready(front, control, out) {
+        return Err(failure);
+    }
     let totals = count_served::<Brand, L, I, R, G>(rt, alloc, jobs, service, counts, gate, log)?;
-    write_totals(&totals, out).map_err(|_| Failure::WriteFailed)
+    write_last(&totals, out)
 }
 
 /// Runs the switch on its sockets until a control request says `stop`, and then writes the line of the totals.

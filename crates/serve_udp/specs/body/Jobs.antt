@@ -12,6 +12,7 @@ use Rattle.dispatch.specs.Counted.{IsNew, IsNewWorker}
 use Rattle.read_section.specs.Worker.{WorkerValue}
 use Rattle.serve_devices.specs.Devices.{MemberOutboxValue, WorkerSourceValue, new_source}
 use Rattle.serve_udp.specs.Service.{HasNewDevices, HasRoom}
+use Rattle.serve_udp.specs.declared.sockets.TheConstants.{LONGEST_DATAGRAM}
 
 -- so many sources that gave none yet, and whose datagrams are not known
 abbrev pub AreNewSources : ℕ → List WorkerSourceValue → Type 0

@@ -2,6 +2,7 @@ use Rattle.std.proofs.Common.{◌≡◌, ◌≤◌, ◌+◌, None, length, vec_c
 use Rattle.std.specs.List.{All}
 use Rattle.serve_devices.specs.Devices.{WorkerSourceValue, new_source}
 use Rattle.serve_udp.specs.body.Jobs.{AreMade}
+use Rattle.serve_udp.specs.declared.sockets.TheConstants.{LONGEST_DATAGRAM}
 use Rattle.serve_udp.proofs.jobs.jobs.Given as goal
 
 abbrev pub invariant-loop-job : goal.invariant-loop-job
