@@ -448,23 +448,32 @@ fn datagrams_are_received<I: Ingress>(
     Ok(())
 }
 
-// An empty datagram does not end it, and once it is ended a datagram that is there is not received.
-#[test]
-fn socket_receives_until_it_is_stopped(rt: HostRuntime) -> Result<(), Fail> {
-    let sockets = [UdpSocket::bind(&rt, "127.0.0.1:0")?];
-    let to = sockets[0].local_addr()?;
-    let sender = UdpSocket::bind(&rt, "127.0.0.1:0")?;
+fn is_received_until_stopped<R: Abort + Wait>(
+    rt: &R,
+    sockets: &[UdpSocket],
+    sender: &UdpSocket,
+) -> Result<(), Fail> {
+    let socket = sockets.first().expect(rt, "a socket");
+    let to = socket.local_addr()?;
     let stopped = AtomicBool::new(false);
-    let mut ingress = SocketIngress::new(&rt, &sockets[0], &stopped);
-    datagrams_are_received(&rt, &mut ingress, &sender, to)?;
+    let mut ingress = SocketIngress::new(rt, socket, &stopped);
+    datagrams_are_received(rt, &mut ingress, sender, to)?;
     sender.send_to(&[7], to)?;
     drop(StopReceiving {
         stopped: &stopped,
-        sockets: &sockets,
+        sockets,
     });
     assert_eq!(rt; tried_into(&mut ingress), (None, [0, 0, 0]));
     assert_eq!(rt; received_into(&mut ingress), (None, [0, 0, 0]));
     Ok(())
+}
+
+// An empty datagram does not end it, and once it is ended a datagram that is there is not received.
+#[test]
+fn socket_receives_until_it_is_stopped(rt: HostRuntime) -> Result<(), Fail> {
+    let sockets = [UdpSocket::bind(&rt, "127.0.0.1:0")?];
+    let sender = UdpSocket::bind(&rt, "127.0.0.1:0")?;
+    is_received_until_stopped(&rt, &sockets, &sender)
 }
 
 // What was received ahead is still given.
