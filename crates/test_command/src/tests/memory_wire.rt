@@ -121,13 +121,13 @@ impl Wire for ScriptWire {
     }
 
     fn receive(&mut self, buf: &mut [u8]) -> Result<Option<Came>, WireFailed> {
-        let Some(((_, reply), left)) = self.left.split_first() else {
+        let Some((first, left)) = self.left.split_first() else {
             return Ok(None);
         };
         self.left = left;
-        match reply {
-            Some(text) => Ok(put(SWITCH, text, buf)),
-            None => Ok(None),
+        match *first {
+            (_, Some(text)) => Ok(put(SWITCH, text, buf)),
+            (_, None) => Ok(None),
         }
     }
 }
