@@ -91,7 +91,7 @@ fn read<R: Clock>(
     lines: &'static [Told],
     earlier: Option<&Counters>,
 ) -> Result<Option<Counters>, Failure> {
-    let wire = ScriptWire { left: lines };
+    let wire = ScriptWire { lines, next: 0 };
     let mut client = Client::new(alloc, wire, SWITCH)?;
     match read_counters(clock, &mut client, earlier)? {
         Some(reading) => Ok(Some(reading.counters)),
