@@ -17,7 +17,7 @@ mod table_to_g;
 
 pub use file_fault::{FaultPlace, SHOWN_LIMIT, file_fault_text, line_fault_text};
 pub use meaning::{cause_line, push_meaning};
-pub use printed::{ShownCode, shown_code};
+pub use printed::{ShownCode, number_of, shown_code};
 pub use shown::push_shown;
 use table_from_i::EXPLANATIONS_FROM_I;
 use table_to_g::EXPLANATIONS_TO_G;

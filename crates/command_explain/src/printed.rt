@@ -46,8 +46,8 @@ fn is_plain(field: &[u8]) -> bool
     !field.is_empty() && field[0] != b'+' && (field.len() == 1 || field[0] != b'0')
 }
 
-// Reads a number, decimal and without leading zeros.
-fn number_of(field: &[u8]) -> Option<u64>
+/// Reads a number, decimal, without leading zeros and below 2^64.
+pub fn number_of(field: &[u8]) -> Option<u64>
     ensures { MatchOption result ((n : ℕ) → n < 2 ^ 64 → field.now ≢ decimal n) (λ n. field.now ≡ decimal n) }
 {
     if !is_plain(field) {

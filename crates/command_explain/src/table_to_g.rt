@@ -118,7 +118,10 @@ E1: The input could not be read.
 Reading standard input failed, a script has 2^63 bytes, or the file of
 `--rules` or of `load` could not be opened or read. The input is a directory,
 there is no such file, the user may not read it, or its device failed; give a
-file or a pipe, as in `dswitch replay <FILE`.",
+file or a pipe, as in `dswitch replay <FILE`. With `metrics --front`,
+/proc/net/udp could not be read, or has no socket at that address: the switch
+runs on another machine or in another network namespace, or its front has
+another address (`ss -ulpn`); correct the address, or leave `--front` out.",
     ),
     (
         "E2",
@@ -156,12 +159,13 @@ file a reply to `show` does not prove that; look at the rules (`rules`). After
         "E5",
         "\
 E5: The rules of the switch changed while they were read.
-`rules` and `load` read the rules by many requests, and start again if the
-version has changed meanwhile, or if another change came between reading and
-replacing; after 16 more attempts they give up. Another program changes the
-rules all the time, readers held all rows (B2) each time, or a reply was none
-to its line, as when a network delivers one twice. Find who changes the rules,
-and run the command again when they rest.",
+`rules`, `load`, `metrics` and `top` read the rules by many requests, and start
+again if the version has changed meanwhile, if a group or member that is
+counted has gone, or if another change came between reading and replacing;
+after 16 more attempts they give up. Another program changes the rules all the
+time, readers held all rows (B2) each time, or a reply was none to its line, as
+when a network delivers one twice. Find who changes the rules, and run the
+command again when they rest.",
     ),
     (
         "F1",

@@ -1,8 +1,9 @@
 -- What `clap` finds in words that are written out.
 use Rattle.std.proofs.Common.{◌≡◌, ◌∷◌, [], None, Some, codes, false, refl, true}
 use Rattle.clap.proofs.OnLiterals.{clap_on_literals}
-use Rattle.clap.specs.declared.error.kind.ErrorKind.TheVariants.{ArgumentConflict, DisplayHelp, DisplayVersion, InvalidSubcommand, MissingRequiredArgument, MissingSubcommand, TooManyValues, UnknownArgument, ValueValidation}
-use Rattle.command_line.specs.CommandLine.{check, command_in, compile, explain, faults_in, flood, judge, load, replay, returning, rules, run, serve, tell, waiting}
+use Rattle.clap.specs.declared.error.kind.ErrorKind.TheVariants.{ArgumentConflict, DisplayHelp, DisplayVersion, InvalidSubcommand, InvalidValue, MissingRequiredArgument, MissingSubcommand, TooManyValues, UnknownArgument, ValueValidation}
+use Rattle.command_line.specs.declared.receive.ReceiveWay.TheVariants.{Direct, Queued}
+use Rattle.command_line.specs.CommandLine.{check, command_in, compile, explain, faults_in, flood, judge, load, metrics, replay, returning, rules, run, serve, tell, top, waiting}
 
 in_first : faults_in (codes "first" ∷ []) ≡ []
 unfolding clap_on_literals
@@ -106,17 +107,17 @@ unfolding clap_on_literals
 in_serve = refl
 
 in_serve_request : command_in (codes "serve" ∷ codes "--front" ∷ codes "0.0.0.0:1" ∷ codes "--control" ∷ codes "0.0.0.0:2" ∷ codes "--workers" ∷ codes "64" ∷ [])
-    ≡ Some (waiting (serve (codes "0.0.0.0:1") (codes "0.0.0.0:2") 64 None false))
+    ≡ Some (waiting (serve (codes "0.0.0.0:1") (codes "0.0.0.0:2") 64 None false Queued None))
 unfolding clap_on_literals
 in_serve_request = refl
 
 in_serve_with_rules : command_in (codes "serve" ∷ codes "--rules" ∷ codes "r" ∷ codes "--front" ∷ codes "0.0.0.0:1" ∷ codes "--control" ∷ codes "0.0.0.0:2" ∷ codes "--workers" ∷ codes "64" ∷ [])
-    ≡ Some (waiting (serve (codes "0.0.0.0:1") (codes "0.0.0.0:2") 64 (Some (codes "r")) false))
+    ≡ Some (waiting (serve (codes "0.0.0.0:1") (codes "0.0.0.0:2") 64 (Some (codes "r")) false Queued None))
 unfolding clap_on_literals
 in_serve_with_rules = refl
 
 in_serve_with_log : command_in (codes "serve" ∷ codes "--front" ∷ codes "0.0.0.0:1" ∷ codes "--log" ∷ codes "--control" ∷ codes "0.0.0.0:2" ∷ codes "--workers" ∷ codes "64" ∷ [])
-    ≡ Some (waiting (serve (codes "0.0.0.0:1") (codes "0.0.0.0:2") 64 None true))
+    ≡ Some (waiting (serve (codes "0.0.0.0:1") (codes "0.0.0.0:2") 64 None true Queued None))
 unfolding clap_on_literals
 in_serve_with_log = refl
 
@@ -128,6 +129,71 @@ in_serve_of_too_many : faults_in (codes "serve" ∷ codes "--front" ∷ codes "0
     ≡ ValueValidation ∷ []
 unfolding clap_on_literals
 in_serve_of_too_many = refl
+
+in_serve_that_receives_queued : command_in (codes "serve" ∷ codes "--front" ∷ codes "0.0.0.0:1" ∷ codes "--control" ∷ codes "0.0.0.0:2" ∷ codes "--workers" ∷ codes "64" ∷ codes "--receive" ∷ codes "queued" ∷ [])
+    ≡ Some (waiting (serve (codes "0.0.0.0:1") (codes "0.0.0.0:2") 64 None false Queued None))
+unfolding clap_on_literals
+in_serve_that_receives_queued = refl
+
+in_serve_that_receives_directly : command_in (codes "serve" ∷ codes "--front" ∷ codes "0.0.0.0:1" ∷ codes "--control" ∷ codes "0.0.0.0:2" ∷ codes "--workers" ∷ codes "64" ∷ codes "--receive" ∷ codes "direct" ∷ [])
+    ≡ Some (waiting (serve (codes "0.0.0.0:1") (codes "0.0.0.0:2") 64 None false Direct None))
+unfolding clap_on_literals
+in_serve_that_receives_directly = refl
+
+in_serve_that_receives_directly_has_no_fault : faults_in (codes "serve" ∷ codes "--front" ∷ codes "0.0.0.0:1" ∷ codes "--control" ∷ codes "0.0.0.0:2" ∷ codes "--workers" ∷ codes "64" ∷ codes "--receive" ∷ codes "direct" ∷ [])
+    ≡ []
+unfolding clap_on_literals
+in_serve_that_receives_directly_has_no_fault = refl
+
+in_serve_with_the_least_buffer : command_in (codes "serve" ∷ codes "--front" ∷ codes "0.0.0.0:1" ∷ codes "--receive-buffer" ∷ codes "1" ∷ codes "--control" ∷ codes "0.0.0.0:2" ∷ codes "--workers" ∷ codes "64" ∷ [])
+    ≡ Some (waiting (serve (codes "0.0.0.0:1") (codes "0.0.0.0:2") 64 None false Queued (Some 1)))
+unfolding clap_on_literals
+in_serve_with_the_least_buffer = refl
+
+in_serve_with_both : command_in (codes "serve" ∷ codes "--receive-buffer=2147483647" ∷ codes "--receive=direct" ∷ codes "--log" ∷ codes "--front" ∷ codes "0.0.0.0:1" ∷ codes "--control" ∷ codes "0.0.0.0:2" ∷ codes "--workers" ∷ codes "64" ∷ [])
+    ≡ Some (waiting (serve (codes "0.0.0.0:1") (codes "0.0.0.0:2") 64 None true Direct (Some 2147483647)))
+unfolding clap_on_literals
+in_serve_with_both = refl
+
+in_serve_with_both_has_no_fault : faults_in (codes "serve" ∷ codes "--receive-buffer=2147483647" ∷ codes "--receive=direct" ∷ codes "--log" ∷ codes "--front" ∷ codes "0.0.0.0:1" ∷ codes "--control" ∷ codes "0.0.0.0:2" ∷ codes "--workers" ∷ codes "64" ∷ [])
+    ≡ []
+unfolding clap_on_literals
+in_serve_with_both_has_no_fault = refl
+
+in_serve_of_another_way : faults_in (codes "serve" ∷ codes "--front" ∷ codes "0.0.0.0:1" ∷ codes "--control" ∷ codes "0.0.0.0:2" ∷ codes "--workers" ∷ codes "64" ∷ codes "--receive" ∷ codes "Direct" ∷ [])
+    ≡ InvalidValue ∷ []
+unfolding clap_on_literals
+in_serve_of_another_way = refl
+
+in_serve_of_an_empty_way : faults_in (codes "serve" ∷ codes "--front" ∷ codes "0.0.0.0:1" ∷ codes "--control" ∷ codes "0.0.0.0:2" ∷ codes "--workers" ∷ codes "64" ∷ codes "--receive" ∷ codes "" ∷ [])
+    ≡ InvalidValue ∷ []
+unfolding clap_on_literals
+in_serve_of_an_empty_way = refl
+
+in_serve_of_two_ways : faults_in (codes "serve" ∷ codes "--front" ∷ codes "0.0.0.0:1" ∷ codes "--control" ∷ codes "0.0.0.0:2" ∷ codes "--workers" ∷ codes "64" ∷ codes "--receive" ∷ codes "direct" ∷ codes "--receive" ∷ codes "direct" ∷ [])
+    ≡ ArgumentConflict ∷ []
+unfolding clap_on_literals
+in_serve_of_two_ways = refl
+
+in_serve_of_no_buffer : faults_in (codes "serve" ∷ codes "--front" ∷ codes "0.0.0.0:1" ∷ codes "--control" ∷ codes "0.0.0.0:2" ∷ codes "--workers" ∷ codes "64" ∷ codes "--receive-buffer" ∷ codes "0" ∷ [])
+    ≡ ValueValidation ∷ []
+unfolding clap_on_literals
+in_serve_of_no_buffer = refl
+
+in_serve_of_too_large_a_buffer : faults_in (codes "serve" ∷ codes "--front" ∷ codes "0.0.0.0:1" ∷ codes "--control" ∷ codes "0.0.0.0:2" ∷ codes "--workers" ∷ codes "64" ∷ codes "--receive-buffer" ∷ codes "2147483648" ∷ [])
+    ≡ ValueValidation ∷ []
+unfolding clap_on_literals
+in_serve_of_too_large_a_buffer = refl
+
+in_serve_of_a_buffer_in_letters : faults_in (codes "serve" ∷ codes "--front" ∷ codes "0.0.0.0:1" ∷ codes "--control" ∷ codes "0.0.0.0:2" ∷ codes "--workers" ∷ codes "64" ∷ codes "--receive-buffer" ∷ codes "1M" ∷ [])
+    ≡ ValueValidation ∷ []
+unfolding clap_on_literals
+in_serve_of_a_buffer_in_letters = refl
+
+in_serve_of_two_buffers : faults_in (codes "serve" ∷ codes "--front" ∷ codes "0.0.0.0:1" ∷ codes "--control" ∷ codes "0.0.0.0:2" ∷ codes "--workers" ∷ codes "64" ∷ codes "--receive-buffer" ∷ codes "1" ∷ codes "--receive-buffer" ∷ codes "1" ∷ [])
+    ≡ ArgumentConflict ∷ []
+unfolding clap_on_literals
+in_serve_of_two_buffers = refl
 
 in_explain : command_in (codes "explain" ∷ codes "G3" ∷ []) ≡ Some (returning (explain (codes "G3" ∷ [])))
 unfolding clap_on_literals
@@ -214,3 +280,29 @@ in_load_that_shows = refl
 in_load_of_no_file : faults_in (codes "load" ∷ codes "--control" ∷ codes "A" ∷ []) ≡ MissingRequiredArgument ∷ []
 unfolding clap_on_literals
 in_load_of_no_file = refl
+
+in_metrics : command_in (codes "metrics" ∷ codes "--control" ∷ codes "0.0.0.0:2" ∷ []) ≡ Some (waiting (metrics (codes "0.0.0.0:2") None 1))
+unfolding clap_on_literals
+in_metrics = refl
+
+in_metrics_with_a_front : command_in (codes "metrics" ∷ codes "--front" ∷ codes "0.0.0.0:1" ∷ codes "--control" ∷ codes "0.0.0.0:2" ∷ codes "--timeout" ∷ codes "5" ∷ [])
+    ≡ Some (waiting (metrics (codes "0.0.0.0:2") (Some (codes "0.0.0.0:1")) 5))
+unfolding clap_on_literals
+in_metrics_with_a_front = refl
+
+in_top : command_in (codes "top" ∷ codes "--control" ∷ codes "0.0.0.0:2" ∷ []) ≡ Some (waiting (top (codes "0.0.0.0:2") 1 18446744073709551615 1))
+unfolding clap_on_literals
+in_top = refl
+
+in_top_with_all : command_in (codes "top" ∷ codes "--control" ∷ codes "0.0.0.0:2" ∷ codes "--interval" ∷ codes "3600" ∷ codes "--count" ∷ codes "2" ∷ codes "--timeout" ∷ codes "5" ∷ [])
+    ≡ Some (waiting (top (codes "0.0.0.0:2") 3600 2 5))
+unfolding clap_on_literals
+in_top_with_all = refl
+
+in_top_without_screens : faults_in (codes "top" ∷ codes "--control" ∷ codes "0.0.0.0:2" ∷ codes "--count" ∷ codes "0" ∷ []) ≡ ValueValidation ∷ []
+unfolding clap_on_literals
+in_top_without_screens = refl
+
+in_top_of_a_long_interval : faults_in (codes "top" ∷ codes "--control" ∷ codes "0.0.0.0:2" ∷ codes "--interval" ∷ codes "3601" ∷ []) ≡ ValueValidation ∷ []
+unfolding clap_on_literals
+in_top_of_a_long_interval = refl

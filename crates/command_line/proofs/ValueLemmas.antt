@@ -336,6 +336,18 @@ module _ (s : Shape) (id : Text) (Passes : Text → Type 0) where
       go None (inr passes) fine = passes
       go (Some row) either fine = first row.values fine
 
+  -- so does the value of an option that is given
+  pub given_passes : (rows : List Row) → All Fine rows → IfSome (first_of id rows) Passes
+  given_passes rows all = go (find (λ (row : Row). bytes_eq row.id id) rows) (found_fine rows all)
+    where
+      first : (values : List Text) → First Passes values → IfSome (slice_get values 0) Passes
+      first [] passes = absurd passes
+      first (v ∷ vs) passes = passes
+
+      go : (found : Option Row) → IfSome found (λ row. First Passes row.values) → IfSome (option_and_then (λ (row : Row). slice_get row.values 0) found) Passes
+      go None fine = tt
+      go (Some row) fine = first row.values fine
+
 -- ---- the number that a text is
 
 pub number_is : (most : ℕ) (text : Text) (number : ℕ) → IsNumeral 10 (without_leading_plus text) → digits_value 10 (without_leading_plus text) < 2 ^ 64

@@ -1,14 +1,15 @@
 -- The program's command line, as the contracts of `clap` see it.
-use Rattle.std.specs.Prelude.{◌≢◌, ◌⊎◌, [], Bool, List, None, Option, Some, codes, false, if◌then◌else◌, map, option_and_then, option_map, true, unwrap_or, ℕ}
+use Rattle.std.specs.Prelude.{◌≢◌, ◌⊎◌, ◌∷◌, ◌&&◌, ◌-◌, ◌^◌, [], Bool, List, None, Option, Some, codes, false, if◌then◌else◌, is_some, map, not, option_and_then, option_map, true, unwrap_or, ℕ}
 use Rattle.std.specs.Str.{bytes_eq}
 use Rattle.std.specs.Str.Parse.{digits_value, without_leading_plus}
+use Rattle.clap.specs.Kinds.{or_else}
 use Rattle.clap.specs.ValueTests.{accepts}
 use Rattle.clap.specs.Walk.{all_of, first_of}
 use Rattle.clap.specs.Words.{App, IsAmong, Kinds, Row, Rule, Shape, Text, fault_of, new_app, new_rule, subcommand_of, with_rule, with_subcommand}
 use Rattle.clap.specs.declared.builder.action.ArgAction.TheVariants.{Append, SetTrue}
 use Rattle.clap.specs.declared.builder.value_parser.ValueParser.TheVariants.{Unsigned}
 use Rattle.clap.specs.declared.error.kind.ErrorKind.{ErrorKind}
-use Rattle.clap.specs.declared.error.kind.ErrorKind.TheVariants.{DisplayHelp, DisplayVersion}
+use Rattle.clap.specs.declared.error.kind.ErrorKind.TheVariants.{DisplayHelp, DisplayVersion, InvalidValue}
 use Rattle.command_line.specs.declared.command.Query.{Query}
 use Rattle.command_line.specs.declared.command.Query.TheVariants as query
 use Rattle.command_line.specs.declared.command.Returning.{Returning}
@@ -17,7 +18,10 @@ use Rattle.command_line.specs.declared.command.Subcommand.{Subcommand}
 use Rattle.command_line.specs.declared.command.Subcommand.TheVariants as subcommand
 use Rattle.command_line.specs.declared.command.Waiting.{Waiting}
 use Rattle.command_line.specs.declared.command.Waiting.TheVariants as waited
-use Rattle.command_line.specs.declared.command.TheConstants.{MAX_DATAGRAMS, MAX_TIMEOUT}
+use Rattle.command_line.specs.declared.command.TheConstants.{MAX_DATAGRAMS, MAX_INTERVAL, MAX_TIMEOUT}
+use Rattle.command_line.specs.declared.receive.ReceiveWay.{ReceiveWay}
+use Rattle.command_line.specs.declared.receive.ReceiveWay.TheVariants.{Direct, Queued}
+use Rattle.command_line.specs.declared.receive.TheConstants.{MAX_RECEIVE_BUFFER}
 use Rattle.versions.specs.declared.layout.TheConstants.{WORKERS}
 
 -- a required argument by place, one by name, and a required one by name
@@ -86,16 +90,24 @@ datagrams_argument = record (named_argument (codes "datagrams")) { parser = Some
 abbrev pub flood_line : App
 flood_line = with_rule (with_rule (new_app (codes "flood")) workers_argument) datagrams_argument
 
--- `serve --front A --control A --workers N`, with a rules file or none, and its flag or not
+-- `--receive-buffer BYTES`, from 1 on
+abbrev pub receive_buffer_argument : Rule
+receive_buffer_argument = record (named_argument (codes "receive-buffer")) { parser = Some (Unsigned 1 MAX_RECEIVE_BUFFER) }
+
+-- `serve --front A --control A --workers N`, with a rules file or none, its flag or not, a way to receive or none, and a receive buffer or none
 abbrev pub serve_line : App
 serve_line =
     with_rule
     (with_rule
     (with_rule
+    (with_rule
+    (with_rule
     (with_rule (with_rule (new_app (codes "serve")) (required_named_argument (codes "front"))) (required_named_argument (codes "control")))
     workers_argument)
     (named_argument (codes "rules")))
-    (flag (codes "log"))
+    (flag (codes "log")))
+    (named_argument (codes "receive")))
+    receive_buffer_argument
 
 -- `--timeout SECONDS`, from 1 on
 abbrev pub timeout_argument : Rule
@@ -121,6 +133,28 @@ load_line =
     (flag (codes "diff")))
     (required_argument (codes "FILE"))
 
+-- `metrics --control A`, with a front or none, and a timeout or none
+abbrev pub metrics_line : App
+metrics_line =
+    with_rule
+    (with_rule (with_rule (new_app (codes "metrics")) (required_named_argument (codes "control"))) (named_argument (codes "front")))
+    timeout_argument
+
+-- `--interval SECONDS`, from 1 on
+abbrev pub interval_argument : Rule
+interval_argument = record (named_argument (codes "interval")) { parser = Some (Unsigned 1 MAX_INTERVAL) }
+
+-- `--count N`, from 1 on
+abbrev pub count_argument : Rule
+count_argument = record (named_argument (codes "count")) { parser = Some (Unsigned 1 (2 ^ 64 - 1)) }
+
+-- `top --control A`, with an interval, a count and a timeout, or without
+abbrev pub top_line : App
+top_line =
+    with_rule
+    (with_rule (with_rule (with_rule (new_app (codes "top")) (required_named_argument (codes "control"))) interval_argument) count_argument)
+    timeout_argument
+
 abbrev pub bare : Shape
 bare = (new_app (codes "dswitch")).top
 
@@ -141,6 +175,8 @@ command_line =
     (with_subcommand
     (with_subcommand
     (with_subcommand
+    (with_subcommand
+    (with_subcommand
     (with_subcommand (with_subcommand (with_subcommand (with_subcommand without_commands first_line.top) check_line.top) compile_line.top)
     run_line.top)
     explain_line.top)
@@ -150,11 +186,9 @@ command_line =
     serve_line.top)
     tell_line.top)
     rules_line.top)
-    load_line.top
-
--- what `clap` finds in the words after the program's name: nothing, where they name a command
-abbrev pub faults_in : List Text → Kinds
-faults_in = fault_of command_line
+    load_line.top)
+    metrics_line.top)
+    top_line.top
 
 -- the help or the version is asked for
 abbrev pub AsksForText : Kinds → Type 0
@@ -180,10 +214,12 @@ pub data Request : Type 0 where
 -- a command that may wait: it runs worker threads, or awaits replies
 pub data WaitingRequest : Type 0 where
   flood : (workers datagrams : ℕ) → WaitingRequest
-  serve : (front control : Text) (workers : ℕ) (rules_file : Option Text) (logs : Bool) → WaitingRequest
+  serve : (front control : Text) (workers : ℕ) (rules_file : Option Text) (logs : Bool) (receive : ReceiveWay) (buffer : Option ℕ) → WaitingRequest
   tell : (control : Text) (timeout : ℕ) (all : Bool) (lines : List Text) → WaitingRequest
   rules : (control : Text) (timeout : ℕ) → WaitingRequest
   load : (control : Option Text) (timeout : ℕ) (rules_file : Text) (only_check only_diff : Bool) → WaitingRequest
+  metrics : (control : Text) (front : Option Text) (timeout : ℕ) → WaitingRequest
+  top : (control : Text) (interval count timeout : ℕ) → WaitingRequest
 
 pub data Command : Type 0 where
   returning : Request → Command
@@ -204,12 +240,14 @@ request_of returned.Packets = packets
 
 abbrev pub waiting_of : Waiting → WaitingRequest
 waiting_of (waited.Flood workers datagrams) = flood workers.count datagrams
-waiting_of (waited.Serve front control workers file logs) =
-    serve front.now control.now workers.count (option_map (λ name. name.now) file) logs
+waiting_of (waited.Serve front control workers file logs receive buffer) =
+    serve front.now control.now workers.count (option_map (λ name. name.now) file) logs receive (option_map (λ asked. asked.bytes) buffer)
 waiting_of (waited.Tell control timeout all lines) = tell control.now timeout all (map (λ line. line.now) lines.items)
 waiting_of (waited.Rules control timeout) = rules control.now timeout
 waiting_of (waited.Load control timeout file only_check only_diff) =
     load (option_map (λ address. address.now) control) timeout file.now only_check only_diff
+waiting_of (waited.Metrics control front timeout) = metrics control.now (option_map (λ address. address.now) front) timeout
+waiting_of (waited.Top control interval count timeout) = top control.now interval count timeout
 
 abbrev pub command_of : Subcommand → Command
 command_of (subcommand.Returning asked) = returning (request_of asked)
@@ -239,9 +277,35 @@ workers_in rows = number_in WORKERS (value_in rows (codes "workers"))
 abbrev pub timeout_in : List Row → Option ℕ
 timeout_in rows = number_in MAX_TIMEOUT (unwrap_or (first_of (codes "timeout") rows) (codes "1"))
 
+-- a second between screens, if no other number is given
+abbrev pub interval_in : List Row → Option ℕ
+interval_in rows = number_in MAX_INTERVAL (unwrap_or (first_of (codes "interval") rows) (codes "1"))
+
+-- 2^64 - 1 screens, if no other number is given
+abbrev pub count_in : List Row → Option ℕ
+count_in rows = number_in (2 ^ 64 - 1) (unwrap_or (first_of (codes "count") rows) (codes "18446744073709551615"))
+
 -- 4096 datagrams, where no other number is given
 abbrev pub datagrams_in : List Row → Option ℕ
 datagrams_in rows = number_in MAX_DATAGRAMS (unwrap_or (first_of (codes "datagrams") rows) (codes "4096"))
+
+-- the way to receive that a text names
+abbrev pub receive_named : Text → Option ReceiveWay
+receive_named text =
+    if bytes_eq text (codes "queued") then Some Queued else if bytes_eq text (codes "direct") then Some Direct else None
+
+-- in turn, if no other way is given
+abbrev pub receive_in : List Row → Option ReceiveWay
+receive_in rows = receive_named (unwrap_or (first_of (codes "receive") rows) (codes "queued"))
+
+-- the number of a text, if there is a text
+abbrev pub number_if_given : ℕ → Option Text → Option (Option ℕ)
+number_if_given most None = Some None
+number_if_given most (Some text) = option_map (λ number. Some number) (number_in most text)
+
+-- a number of bytes, if it is given
+abbrev pub receive_buffer_in : List Row → Option (Option ℕ)
+receive_buffer_in rows = number_if_given MAX_RECEIVE_BUFFER (first_of (codes "receive-buffer") rows)
 
 -- a flag is given
 abbrev pub is_set : List Row → Text → Bool
@@ -256,9 +320,13 @@ flood_in rows = option_and_then (λ workers. option_map (λ datagrams. waiting (
 
 abbrev pub serve_in : List Row → Option Command
 serve_in rows =
-    option_map
-    (λ workers. waiting
-    (serve (value_in rows (codes "front")) (value_in rows (codes "control")) workers (first_of (codes "rules") rows) (is_set rows (codes "log"))))
+    option_and_then
+    (λ workers. option_and_then
+    (λ receive. option_map
+    (λ buffer. waiting
+    (serve (value_in rows (codes "front")) (value_in rows (codes "control")) workers (first_of (codes "rules") rows) (is_set rows (codes "log")) receive buffer))
+    (receive_buffer_in rows))
+    (receive_in rows))
     (workers_in rows)
 
 abbrev pub tell_in : List Row → Option Command
@@ -274,6 +342,17 @@ load_in rows =
     option_map
     (λ timeout. waiting (load (first_of (codes "control") rows) timeout (value_in rows (codes "FILE")) (is_set rows (codes "check")) (is_set rows (codes "diff"))))
     (timeout_in rows)
+
+abbrev pub metrics_in : List Row → Option Command
+metrics_in rows =
+    option_map (λ timeout. waiting (metrics (value_in rows (codes "control")) (first_of (codes "front") rows) timeout)) (timeout_in rows)
+
+abbrev pub top_in : List Row → Option Command
+top_in rows =
+    option_and_then
+    (λ interval. option_and_then (λ count. option_map (λ timeout. waiting (top (value_in rows (codes "control")) interval count timeout)) (timeout_in rows))
+    (count_in rows))
+    (interval_in rows)
 
 abbrev pub command_named : Text → List Row → Option Command
 command_named name rows =
@@ -301,7 +380,21 @@ command_named name rows =
     then rules_in rows
     else if bytes_eq name (codes "load")
     then load_in rows
+    else if bytes_eq name (codes "metrics")
+    then metrics_in rows
+    else if bytes_eq name (codes "top")
+    then top_in rows
     else None
+
+-- the fault of words in which `clap` finds none: `serve` is given a way to receive that is none
+abbrev pub way_faults : Option (Text × List Row) → Kinds
+way_faults None = []
+way_faults (Some named) =
+    if bytes_eq named.0 (codes "serve") && not (is_some (receive_in named.1)) then InvalidValue ∷ [] else []
+
+-- what `clap` finds in the words after the program's name, or else that fault: nothing, if they name a command
+abbrev pub faults_in : List Text → Kinds
+faults_in words = or_else (fault_of command_line words) (way_faults (subcommand_of command_line words))
 
 -- the command that the words name, with the values that they give its arguments
 abbrev pub command_in : List Text → Option Command

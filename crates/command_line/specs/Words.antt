@@ -1,12 +1,13 @@
 -- The words with the address of control that the environment gives (docs/COMMANDS.md, "The address of control").
-use Rattle.std.specs.Prelude.{◌∷◌, ◌||◌, ◌&&◌, [], Bool, List, codes, false, if◌then◌else◌, nat_eq, true, ℕ}
+use Rattle.std.specs.Prelude.{◌∷◌, ◌||◌, [], Bool, List, codes, false, if◌then◌else◌, nat_eq, true, ℕ}
 use Rattle.std.specs.List.{starts_with}
 use Rattle.std.specs.Str.{bytes_eq}
 
 -- the commands that take the address of control
 abbrev pub takes_control : List ℕ → Bool
 takes_control name =
-    bytes_eq name (codes "serve") || (bytes_eq name (codes "tell") || (bytes_eq name (codes "rules") || bytes_eq name (codes "load")))
+    bytes_eq name (codes "serve") || (bytes_eq name (codes "tell") || (bytes_eq name (codes "rules") || (bytes_eq name (codes "load")
+    || (bytes_eq name (codes "metrics") || bytes_eq name (codes "top")))))
 
 -- `--control`, or `--control=ADDRESS`
 abbrev pub names_control : List ℕ → Bool

@@ -2,10 +2,11 @@
 
 ghost use Rattle.std.specs.Prelude.{◌≡◌, codes, false};
 ghost use Rattle.clap.specs.Words.{rule_of};
-ghost use Rattle.command_line.specs.CommandLine.{any_number_of, datagrams_argument, flag, named_argument, required_argument, required_named_argument, some_number_of, timeout_argument, workers_argument};
+ghost use Rattle.command_line.specs.CommandLine.{any_number_of, count_argument, datagrams_argument, flag, interval_argument, named_argument, receive_buffer_argument, required_argument, required_named_argument, some_number_of, timeout_argument, workers_argument};
 
-use crate::command::{MAX_DATAGRAMS, MAX_TIMEOUT};
+use crate::command::{MAX_DATAGRAMS, MAX_INTERVAL, MAX_TIMEOUT};
 use crate::help;
+use crate::receive::MAX_RECEIVE_BUFFER;
 use clap::builder::ValueParser;
 use clap::{Arg, ArgAction};
 use std::alloc::Global;
@@ -111,6 +112,30 @@ pub(crate) fn rules_argument<'a>(alloc: Global) -> Arg<'a>
         .help(help::SERVE_RULES)
 }
 
+// `--receive WAY`, where `clap` takes any text: a parser that has a list of names has a reference, which no definition can name.
+// `read_words` refuses a text that names no way.
+pub(crate) fn receive_argument<'a>(alloc: Global) -> Arg<'a>
+    ensures rule { rule_of result ≡ named_argument (codes "receive") }
+    ensures local { result.global ≡ false }
+{
+    Arg::new(alloc, "receive")
+        .long("receive")
+        .value_name("WAY")
+        .help(help::SERVE_RECEIVE)
+}
+
+// `--receive-buffer BYTES`
+pub(crate) fn receive_buffer_argument<'a>(alloc: Global) -> Arg<'a>
+    ensures rule { rule_of result ≡ receive_buffer_argument }
+    ensures local { result.global ≡ false }
+{
+    Arg::new(alloc, "receive-buffer")
+        .long("receive-buffer")
+        .value_name("BYTES")
+        .value_parser(ValueParser::unsigned(1, MAX_RECEIVE_BUFFER as u64))
+        .help(help::SERVE_RECEIVE_BUFFER)
+}
+
 // `--datagrams D`
 pub(crate) fn datagrams_argument<'a>(alloc: Global) -> Arg<'a>
     ensures rule { rule_of result ≡ datagrams_argument }
@@ -133,6 +158,41 @@ pub(crate) fn timeout_argument<'a>(alloc: Global) -> Arg<'a>
         .value_name("SECONDS")
         .value_parser(ValueParser::unsigned(1, MAX_TIMEOUT))
         .help(help::TELL_TIMEOUT)
+}
+
+// `--front A`, if there is one.
+pub(crate) fn front_argument<'a>(alloc: Global) -> Arg<'a>
+    ensures rule { rule_of result ≡ named_argument (codes "front") }
+    ensures local { result.global ≡ false }
+{
+    Arg::new(alloc, "front")
+        .long("front")
+        .value_name("A")
+        .help(help::METRICS_FRONT)
+}
+
+// `--interval SECONDS`
+pub(crate) fn interval_argument<'a>(alloc: Global) -> Arg<'a>
+    ensures rule { rule_of result ≡ interval_argument }
+    ensures local { result.global ≡ false }
+{
+    Arg::new(alloc, "interval")
+        .long("interval")
+        .value_name("SECONDS")
+        .value_parser(ValueParser::unsigned(1, MAX_INTERVAL))
+        .help(help::TOP_INTERVAL)
+}
+
+// `--count N`
+pub(crate) fn count_argument<'a>(alloc: Global) -> Arg<'a>
+    ensures rule { rule_of result ≡ count_argument }
+    ensures local { result.global ≡ false }
+{
+    Arg::new(alloc, "count")
+        .long("count")
+        .value_name("N")
+        .value_parser(ValueParser::unsigned(1, u64::MAX))
+        .help(help::TOP_COUNT)
 }
 
 // `WORD..`

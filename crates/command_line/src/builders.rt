@@ -3,13 +3,14 @@
 ghost use Rattle.std.specs.Prelude.{◌≡◌, IfOk, false};
 ghost use Rattle.clap.specs.Words.{App, Rule, app_of, new_app, rule_of, with_rule, with_subcommand};
 ghost use Rattle.clap.specs.declared.builder.command.Command.TheViews.{out-Command};
-ghost use Rattle.command_line.specs.CommandLine.{check_line, command_line, compile_line, explain_line, flood_line, load_line, replay_line, rules_line, run_line, serve_line, tell_line, without_commands};
-ghost use Rattle.command_line.specs.body.Half.{with_queries, with_workers};
+ghost use Rattle.command_line.specs.CommandLine.{check_line, command_line, compile_line, explain_line, flood_line, load_line, metrics_line, replay_line, rules_line, run_line, serve_line, tell_line, top_line, without_commands};
+ghost use Rattle.command_line.specs.body.Half.{with_queries, with_rules, with_workers};
 
 use crate::arguments::{
-    address_argument, control_argument, datagrams_argument, expression_argument, flag_argument,
-    format_argument, lines_argument, packet_argument, positional_argument, rules_argument,
-    timeout_argument, words_argument, workers_argument,
+    address_argument, control_argument, count_argument, datagrams_argument, expression_argument,
+    flag_argument, format_argument, front_argument, interval_argument, lines_argument,
+    packet_argument, positional_argument, receive_argument, receive_buffer_argument,
+    rules_argument, timeout_argument, words_argument, workers_argument,
 };
 use crate::help;
 use clap::{Arg, Command};
@@ -95,7 +96,7 @@ fn flood_command<'a>(alloc: Global) -> Result<Command<'a>, AllocError>
     with_argument(command, datagrams_argument(alloc))
 }
 
-fn serve_command<'a>(alloc: Global) -> Result<Command<'a>, AllocError>
+pub(crate) fn serve_command<'a>(alloc: Global) -> Result<Command<'a>, AllocError>
     ensures app { IfOk result (λ command. app_of command ≡ serve_line) }
     ensures local { IfOk result (λ command. (out-Command command).has_globals ≡ false) }
 {
@@ -107,7 +108,9 @@ fn serve_command<'a>(alloc: Global) -> Result<Command<'a>, AllocError>
     let log = flag_argument(alloc, "log", help::SERVE_LOG);
     let command = with_argument(command, workers_argument(alloc, help::SERVE_WORKERS));
     let command = with_argument(command, rules_argument(alloc));
-    with_argument(command, log)
+    let command = with_argument(command, log);
+    let command = with_argument(command, receive_argument(alloc));
+    with_argument(command, receive_buffer_argument(alloc))
 }
 
 fn tell_command<'a>(alloc: Global) -> Result<Command<'a>, AllocError>
@@ -146,6 +149,29 @@ fn load_command<'a>(alloc: Global) -> Result<Command<'a>, AllocError>
     let command = with_argument(command, check);
     let command = with_argument(command, diff);
     with_argument(command, file)
+}
+
+fn metrics_command<'a>(alloc: Global) -> Result<Command<'a>, AllocError>
+    ensures app { IfOk result (λ command. app_of command ≡ metrics_line) }
+    ensures local { IfOk result (λ command. (out-Command command).has_globals ≡ false) }
+{
+    let control = address_argument(alloc, "control", help::TELL_CONTROL);
+    let command = plain_command(alloc, "metrics", help::METRICS, help::METRICS_MORE);
+    let command = with_argument(Ok(command), control);
+    let command = with_argument(command, front_argument(alloc));
+    with_argument(command, timeout_argument(alloc))
+}
+
+fn top_command<'a>(alloc: Global) -> Result<Command<'a>, AllocError>
+    ensures app { IfOk result (λ command. app_of command ≡ top_line) }
+    ensures local { IfOk result (λ command. (out-Command command).has_globals ≡ false) }
+{
+    let control = address_argument(alloc, "control", help::TELL_CONTROL);
+    let command = plain_command(alloc, "top", help::TOP, help::TOP_MORE);
+    let command = with_argument(Ok(command), control);
+    let command = with_argument(command, interval_argument(alloc));
+    let command = with_argument(command, count_argument(alloc));
+    with_argument(command, timeout_argument(alloc))
 }
 
 // The program before its commands.
@@ -199,10 +225,18 @@ fn with_workers<'a>(alloc: Global) -> Result<Command<'a>, AllocError>
     with_command(program, serve_command(alloc))
 }
 
-pub(crate) fn program<'a>(alloc: Global) -> Result<Command<'a>, AllocError>
-    ensures { IfOk result (λ program. app_of program ≡ command_line) }
+// The program with its commands up to `load`.
+fn with_rules<'a>(alloc: Global) -> Result<Command<'a>, AllocError>
+    ensures { IfOk result (λ program. app_of program ≡ with_rules) }
 {
     let program = with_command(with_workers(alloc), tell_command(alloc));
     let program = with_command(program, rules_command(alloc));
     with_command(program, load_command(alloc))
+}
+
+pub(crate) fn program<'a>(alloc: Global) -> Result<Command<'a>, AllocError>
+    ensures { IfOk result (λ program. app_of program ≡ command_line) }
+{
+    let program = with_command(with_rules(alloc), metrics_command(alloc));
+    with_command(program, top_command(alloc))
 }

@@ -3,11 +3,16 @@
 ghost use Rattle.std.specs.Prelude.{◌≤◌};
 ghost use Rattle.versions.specs.declared.layout.TheConstants.{WORKERS};
 
+use crate::receive::{ReceiveBuffer, ReceiveWay};
+
 /// The longest wait for a reply, in seconds.
 pub const MAX_TIMEOUT: u64 = 3600;
 
 /// The most datagrams of `flood`.
 pub const MAX_DATAGRAMS: u64 = 1 << 24;
+
+/// The longest interval between two screens of `top`, in seconds.
+pub const MAX_INTERVAL: u64 = 3600;
 
 /// A command that has one result.
 #[derive(Drop)]
@@ -59,13 +64,16 @@ pub enum Waiting<'a> {
         workers: Workers,
         datagrams: usize,
     },
-    /// `rules` is the name of a rules file, if there is one. `log` says whether the flag is given.
+    /// `rules` is the name of a rules file, if there is one. `log` says whether the flag is given. `receive` is `Queued` if no way is given.
+    /// `buffer` is the receive buffer of the front, if one is given.
     Serve {
         front: &'a str,
         control: &'a str,
         workers: Workers,
         rules: Option<&'a str>,
         log: bool,
+        receive: ReceiveWay,
+        buffer: Option<ReceiveBuffer>,
     },
     /// `timeout` is a number of seconds. `all` says whether the lines are one change. `lines` are in the order of the words.
     Tell {
@@ -85,6 +93,19 @@ pub enum Waiting<'a> {
         file: &'a str,
         check: bool,
         diff: bool,
+    },
+    /// `front` is the front whose drops in the kernel are wanted, if they are.
+    Metrics {
+        control: &'a str,
+        front: Option<&'a str>,
+        timeout: u64,
+    },
+    /// `interval` is a number of seconds. `count` is how many screens are written: 2^64 - 1 if no number is given.
+    Top {
+        control: &'a str,
+        interval: u64,
+        count: u64,
+        timeout: u64,
     },
 }
 

@@ -3,11 +3,15 @@
 ghost use Rattle.std.specs.Prelude.{◌≡◌, ◌≤◌, IfOk, IfSome, Some, codes, map, string_bytes};
 ghost use Rattle.std.specs.Option.{option_map};
 ghost use Rattle.clap.specs.Walk.{first_of};
-ghost use Rattle.clap.specs.Words.{FailsBy, found_of, rows_of};
-ghost use Rattle.command_line.specs.CommandLine.{command_in, command_named, command_of, datagrams_in, explain, faults_in, flood_in, format_in, is_set, load_in, number_in, query_request, request_of, returning, rules_in, run_or_judge, serve_in, tell_in, timeout_in, value_in, values_in, workers_in};
+ghost use Rattle.clap.specs.Words.{FailsBy, found_of, kind_of, rows_of};
+ghost use Rattle.command_line.specs.CommandLine.{command_in, command_named, command_of, count_in, datagrams_in, explain, faults_in, flood_in, format_in, interval_in, is_set, load_in, metrics_in, number_in, query_request, receive_buffer_in, receive_in, receive_named, request_of, returning, rules_in, run_or_judge, serve_in, tell_in, timeout_in, top_in, value_in, values_in, workers_in};
 
-use crate::builders::program;
-use crate::command::{MAX_DATAGRAMS, MAX_TIMEOUT, Query, Returning, Subcommand, Waiting, Workers};
+use crate::builders::{program, serve_command};
+use crate::command::{
+    MAX_DATAGRAMS, MAX_INTERVAL, MAX_TIMEOUT, Query, Returning, Subcommand, Waiting, Workers,
+};
+use crate::receive::{MAX_RECEIVE_BUFFER, ReceiveBuffer, ReceiveWay};
+use clap::error::ErrorKind;
 use clap::{ArgMatches, Error};
 use std::alloc::{AllocError, Global};
 use versions::WORKERS;
@@ -68,11 +72,56 @@ fn timeout_of(found: &ArgMatches) -> Option<u64>
     number(MAX_TIMEOUT, found.get_str("timeout").unwrap_or("1"))
 }
 
+fn interval_of(found: &ArgMatches) -> Option<u64>
+    ensures { result ≡ interval_in (rows_of (found_of found.now)) }
+{
+    number(MAX_INTERVAL, found.get_str("interval").unwrap_or("1"))
+}
+
+fn count_of(found: &ArgMatches) -> Option<u64>
+    ensures { result ≡ count_in (rows_of (found_of found.now)) }
+{
+    let text = found.get_str("count").unwrap_or("18446744073709551615");
+    number(u64::MAX, text)
+}
+
 fn datagrams_of(found: &ArgMatches) -> Option<u64>
     ensures { result ≡ datagrams_in (rows_of (found_of found.now)) }
 {
     let text = found.get_str("datagrams").unwrap_or("4096");
     number(MAX_DATAGRAMS, text)
+}
+
+// The way to receive that a text names.
+fn receive_named(text: &str) -> Option<ReceiveWay>
+    ensures { result ≡ receive_named text.now }
+{
+    match text {
+        "queued" => Some(ReceiveWay::Queued),
+        "direct" => Some(ReceiveWay::Direct),
+        _ => None,
+    }
+}
+
+fn receive_of(found: &ArgMatches) -> Option<ReceiveWay>
+    ensures { result ≡ receive_in (rows_of (found_of found.now)) }
+{
+    receive_named(found.get_str("receive").unwrap_or("queued"))
+}
+
+// The receive buffer, if it is given; `None` if what is given is none.
+fn receive_buffer_of(found: &ArgMatches) -> Option<Option<ReceiveBuffer>>
+    ensures { option_map (λ given. option_map (λ buffer. buffer.bytes) given) result ≡ receive_buffer_in (rows_of (found_of found.now)) }
+{
+    let Some(text) = given(found, "receive-buffer") else {
+        return Some(None);
+    };
+    let Some(bytes) = number(MAX_RECEIVE_BUFFER as u64, text) else {
+        return None;
+    };
+    Some(Some(ReceiveBuffer {
+        bytes: bytes as u32,
+    }))
 }
 
 // Whether a flag is given.
@@ -113,12 +162,16 @@ fn serve<'a>(found: &ArgMatches<'a>) -> Option<Subcommand<'a>>
     ensures { option_map command_of result ≡ serve_in (rows_of (found_of found.now)) }
 {
     let workers = workers_of(found)?;
+    let receive = receive_of(found)?;
+    let buffer = receive_buffer_of(found)?;
     Some(Subcommand::Waiting(Waiting::Serve {
         front: value_of(found, "front"),
         control: value_of(found, "control"),
         workers,
         rules: given(found, "rules"),
         log: is_set(found, "log"),
+        receive,
+        buffer,
     }))
 }
 
@@ -142,6 +195,31 @@ fn load<'a>(found: &ArgMatches<'a>) -> Option<Subcommand<'a>>
         file: value_of(found, "FILE"),
         check: is_set(found, "check"),
         diff: is_set(found, "diff"),
+    }))
+}
+
+fn metrics<'a>(found: &ArgMatches<'a>) -> Option<Subcommand<'a>>
+    ensures { option_map command_of result ≡ metrics_in (rows_of (found_of found.now)) }
+{
+    let timeout = timeout_of(found)?;
+    Some(Subcommand::Waiting(Waiting::Metrics {
+        control: value_of(found, "control"),
+        front: given(found, "front"),
+        timeout,
+    }))
+}
+
+fn top<'a>(found: &ArgMatches<'a>) -> Option<Subcommand<'a>>
+    ensures { option_map command_of result ≡ top_in (rows_of (found_of found.now)) }
+{
+    let interval = interval_of(found)?;
+    let count = count_of(found)?;
+    let timeout = timeout_of(found)?;
+    Some(Subcommand::Waiting(Waiting::Top {
+        control: value_of(found, "control"),
+        interval,
+        count,
+        timeout,
     }))
 }
 
@@ -204,8 +282,21 @@ fn subcommand_of<'a>(
         "tell" => tell(alloc, found),
         "rules" => Ok(rules(found)),
         "load" => Ok(load(found)),
+        "metrics" => Ok(metrics(found)),
+        "top" => Ok(top(found)),
         _ => Ok(None),
     }
+}
+
+// The fault of a text that names no way to receive.
+fn way_fault(alloc: Global, text: &str) -> Result<Error, AllocError>
+    ensures { IfOk result (λ fault. kind_of fault ≡ ErrorKind.InvalidValue) }
+{
+    let message = format!(in alloc;
+        "invalid value '{text}' for '--receive <WAY>'\n  [possible values: queued, direct]"
+    )?;
+    let mut command = serve_command(alloc)?.bin_name("dswitch serve")?;
+    command.error(ErrorKind::InvalidValue, message.as_str())
 }
 
 /// Reads the words after the program's name. `Err` is a fault of the words, or the help or the version that they ask for.
@@ -220,6 +311,6 @@ pub fn read_words<'a>(alloc: Global, words: &'a [String]) -> Result<Subcommand<'
     };
     match subcommand_of(alloc, name, found)? {
         Some(command) => Ok(command),
-        None => unreachable!(),
+        None => Err(way_fault(alloc, value_of(found, "receive"))?),
     }
 }

@@ -221,10 +221,16 @@ pub const SERVE_RULES: &str = "A rules file to begin with; without it there are 
 pub const SERVE_LOG: &str =
     "Log each control request that changes something or is not done, on standard error";
 
+pub const SERVE_RECEIVE: &str =
+    "Who receives at the front: one thread (queued) or each worker (direct); without it queued";
+
+pub const SERVE_RECEIVE_BUFFER: &str =
+    "How many bytes of receive buffer each socket at the front asks for, from 1 to 2147483647";
+
 pub const SERVE_MORE: &str = "\
-Reads UDP datagrams. Each that comes to FRONT is a whole IPv4 packet: the workers take them in turn,
-and send what is to be delivered to the members. Requests come to CONTROL, as `replay` takes them
-but for `packet`, and each has one reply. CONTROL takes four more:
+Reads UDP datagrams. Each that comes to FRONT is a whole IPv4 packet: a worker judges it, and sends
+what is to be delivered to the members. Requests come to CONTROL, as `replay` takes them but for
+`packet`, and each has one reply. CONTROL takes four more:
   totals         the line of totals so far
   totals KEY     delivered D dropped R nomembers X sendfailed S: those of a group
   totals KEY ID  delivered D dropped R sendfailed S bytes B: those of a member
@@ -234,6 +240,11 @@ controls the switch. A UDP address takes requests from everybody who can send to
 address, and never 0.0.0.0. What looks like a reply itself is ignored there.
 A new switch has no groups. With --rules it has those of FILE: lines that change the configuration,
 from no groups on, together version 0. Empty lines, and lines that begin with #, are skipped.
+With --receive queued one thread receives at FRONT, and hands the packets to the workers in turn.
+With --receive direct each worker receives, from a separate socket at FRONT. The kernel gives all
+packets of a sender, an address and port, to one worker: they keep their order, and one sender
+uses one worker only. --receive-buffer asks for SO_RCVBUF of these sockets, which the kernel doubles
+and caps at net.core.rmem_max; without it they have the system's default.
 With port 0 the system picks a port. Prints `ready FRONT CONTROL` with the bound addresses before it
 reads, and the line of totals after `stop`, with status 0:
   malformed A nogroup B nomembers C dropped D delivered E sendfailed F receivefailed G
@@ -346,3 +357,54 @@ Examples:
   version 3
   $ dswitch load --check rules.txt
   groups 1 members 0 charge 6";
+
+pub const METRICS: &str = "Print the counters of a running switch, as metrics for Prometheus";
+
+pub const METRICS_FRONT: &str =
+    "Also what the kernel dropped at this front, as ADDRESS:PORT: on the switch's machine";
+
+pub const METRICS_MORE: &str = "\
+Reads no input. Prints Prometheus' text format: the totals, the version and the measures of the
+rules, and the counters of each group and of each member of the switch at CONTROL. Prints nothing
+before it has read everything. With --front it reads /proc/net/udp, and adds how many datagrams the
+kernel dropped at the UDP sockets of that address, and of 0.0.0.0 with that port.
+If the rules change meanwhile, it starts again, at most 16 times.
+Prints `refused C1`, with status 1, if CONTROL or FRONT is no address. Fails with status 3: with
+`failed E1` if /proc/net/udp cannot be read or has no such socket, with `failed E4` if a line has no
+reply, and with `failed E5` if the rules changed each time.
+Without --control the environment's DSWITCH_CONTROL is taken.
+
+Example:
+  $ dswitch metrics --control unix:/run/dswitch/control | grep result=
+  dswitch_datagrams_total{result=\"malformed\"} 0
+  dswitch_datagrams_total{result=\"nogroup\"} 1
+  dswitch_datagrams_total{result=\"nomembers\"} 0
+  dswitch_datagrams_total{result=\"dropped\"} 0
+  dswitch_datagrams_total{result=\"delivered\"} 2";
+
+pub const TOP: &str = "Watch what each group and each member of a running switch gets";
+
+pub const TOP_INTERVAL: &str =
+    "How many seconds from one screen to the next, from 1 to 3600; without it one second";
+
+pub const TOP_COUNT: &str = "How many screens, from 1 on; without it there is no end";
+
+pub const TOP_MORE: &str = "\
+Reads no input. Reads the counters of the switch at CONTROL at each interval, and writes a screen of
+what came since the reading before: so the first one comes after one interval. On a terminal each
+screen takes the place of the one before; else they follow each other. A screen has two lines of
+numbers, those since the switch began and those a second, a line of names, and a row for each group
+and each of its members; an empty line ends it:
+  totals malformed A nogroup B nomembers C dropped D delivered E sendfailed F receivefailed G
+  rates malformed A nogroup B nomembers C dropped D delivered E sendfailed F receivefailed G
+  GROUP MEMBER PACKETS/S BYTES/S DROPPED/S FAILED SHARE
+A row has the group's key, the member's number or `-` for the group, packets, delivered bytes and
+packets that were not delivered, each a second and rounded down, how many sends failed since the
+screen before, and the member's percentage of the packets of its group.
+Prints `refused C1`, with status 1, if CONTROL is no address. Fails with status 3: with `failed E4`
+if a line has no reply, and with `failed E5` if the rules changed at each of 17 attempts of a reading.
+Without --control the environment's DSWITCH_CONTROL is taken.
+
+Examples:
+  $ dswitch top --control unix:/run/dswitch/control
+  $ dswitch top --count 1 | awk '$2 ~ /^[0-9]+$/ && $6 > 0 { print $1, $2, \"sends failed:\", $6 }'";

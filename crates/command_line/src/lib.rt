@@ -14,14 +14,18 @@ mod ending;
 mod found;
 mod help;
 mod input;
+mod receive;
 mod sample;
 mod words;
 
-pub use command::{MAX_DATAGRAMS, MAX_TIMEOUT, Query, Returning, Subcommand, Waiting, Workers};
+pub use command::{
+    MAX_DATAGRAMS, MAX_INTERVAL, MAX_TIMEOUT, Query, Returning, Subcommand, Waiting, Workers,
+};
 pub use control_address::ControlAddress;
 pub use ending::{Failure, Status, refuse_arguments, reported, write_whole};
 pub use found::read_words;
 pub use input::read_whole;
+pub use receive::{MAX_RECEIVE_BUFFER, ReceiveBuffer, ReceiveWay};
 pub use sample::{SAMPLE_GROUP, SAMPLE_PACKET, applied, program};
 pub use words::{wants_control, with_control};
 
@@ -29,4 +33,6 @@ pub use words::{wants_control, with_control};
 pub fn limits_as_numbers()
     ensures timeout { MAX_TIMEOUT ≡ 3600 }
     ensures datagrams { MAX_DATAGRAMS ≡ 16777216 }
+    ensures interval { MAX_INTERVAL ≡ 3600 }
+    ensures receive_buffer { MAX_RECEIVE_BUFFER ≡ 2147483647 }
 {}

@@ -8,7 +8,12 @@ use std::alloc::{AllocError, Global};
 fn takes_control(name: &str) -> bool
     ensures { result ≡ takes_control name.now }
 {
-    name == "serve" || name == "tell" || name == "rules" || name == "load"
+    name == "serve"
+        || name == "tell"
+        || name == "rules"
+        || name == "load"
+        || name == "metrics"
+        || name == "top"
 }
 
 fn names_control(word: &str) -> bool

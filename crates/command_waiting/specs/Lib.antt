@@ -1,3 +1,4 @@
+pub mod Measured
 pub mod Opening
 pub mod RefusalLines
 pub mod Reported
@@ -23,3 +24,11 @@ pub use Rattle.command_flood.specs.Flood
 pub use Rattle.command_flood.specs.FloodVersions
 pub use Rattle.command_flood.specs.Traffic
 pub mod Serving
+pub use Rattle.control_counters.specs.Frame
+pub use Rattle.control_counters.specs.Counts
+pub use Rattle.control_counters.specs.Reading
+pub use Rattle.control_counters.specs.Watching
+pub use Rattle.counter_text.specs.Growth
+pub use Rattle.counter_text.specs.Metrics
+pub use Rattle.counter_text.specs.Screen
+pub use Rattle.counter_text.specs.Sockets

@@ -1,11 +1,11 @@
--- What the commands that may wait write (docs/COMMANDS.md, "flood", "serve", "tell", "rules", "load").
+-- What the commands that may wait write (docs/COMMANDS.md, "flood", "serve", "tell", "rules", "load", "metrics", "top").
 use Rattle.std.specs.Prelude.{◌≡◌, ◌≢◌, ◌⊎◌, Bool, List, None, Option, Some, codes, false, true, ℕ}
 use Rattle.std.specs.Io.KnownBytes.{Appends}
 use Rattle.clap.specs.Words.{Text}
 use Rattle.config_image.specs.Image.{Group}
 use Rattle.command_line.specs.declared.ending.Failure.{Failure}
 use Rattle.command_line.specs.declared.ending.Failure.TheVariants.{BindFailed, NoAnswer, OutOfMemory, ReadFailed, RulesChanged, WriteFailed}
-use Rattle.command_line.specs.CommandLine.{WaitingRequest, flood, load, rules, serve, tell}
+use Rattle.command_line.specs.CommandLine.{WaitingRequest, flood, load, metrics, rules, serve, tell, top}
 use Rattle.command_line.specs.ControlAddress.{IsNoControlAddress, SpellsControlAddress}
 use Rattle.command_line.specs.declared.control_address.ControlAddress.{ControlAddress}
 use Rattle.command_line.specs.Ending.{AppendsBeginning, line_of}
@@ -14,6 +14,7 @@ use Rattle.ipv4_fields.specs.declared.endpoint.Endpoint.{Endpoint}
 use Rattle.serve_udp.specs.Service.{WritesReadyOrNothing, WritesServedFrom}
 use Rattle.command_flood.specs.Failing.{EndsInFloodFailure}
 use Rattle.command_flood.specs.Flood.{WritesFlood}
+use Rattle.command_waiting.specs.Measured.{EndsInTopFailure, IsNoFront, WritesMetrics, WritesTop}
 use Rattle.command_waiting.specs.Opening.{IsOpening, RefusesRules}
 use Rattle.command_waiting.specs.Serving.{IsServeTold}
 use Rattle.command_waiting.specs.Showing.{EndsInRulesFailure, RefusesLoad, WritesLoad, WritesRules}
@@ -39,12 +40,14 @@ pub record WritesService (front control : Text) (workers : ℕ) (file : Option T
   pub served : WritesServedFrom config workers before after
 
 -- what the command writes was written
-abbrev pub WritesFor : WaitingRequest → (input before after told_before told_after : Option (List ℕ)) → Type 0
-WritesFor (flood workers datagrams) input before after told_before told_after = WritesFlood workers datagrams before after
-WritesFor (serve front control workers file logs) input before after told_before told_after = WritesService front control workers file before after
-WritesFor (tell control timeout all words) input before after told_before told_after = WritesReplies control all words input before after told_before told_after false
-WritesFor (rules control timeout) input before after told_before told_after = WritesRules control before after
-WritesFor (load control timeout file only_check only_diff) input before after told_before told_after = WritesLoad control before after only_check only_diff
+abbrev pub WritesFor : (terminal : Bool) → WaitingRequest → (input before after told_before told_after : Option (List ℕ)) → Type 0
+WritesFor terminal (flood workers datagrams) input before after told_before told_after = WritesFlood workers datagrams before after
+WritesFor terminal (serve front control workers file logs receive buffer) input before after told_before told_after = WritesService front control workers file before after
+WritesFor terminal (tell control timeout all words) input before after told_before told_after = WritesReplies control all words input before after told_before told_after false
+WritesFor terminal (rules control timeout) input before after told_before told_after = WritesRules control before after
+WritesFor terminal (load control timeout file only_check only_diff) input before after told_before told_after = WritesLoad control before after only_check only_diff
+WritesFor terminal (metrics control front timeout) input before after told_before told_after = WritesMetrics control front before after
+WritesFor terminal (top control interval count timeout) input before after told_before told_after = WritesTop control terminal count before after
 
 -- `tell` is given a text that is no address, and the refusal of that was written; or a reply is a refusal, all replies were written, and
 -- those that are refusals were shown on standard error
@@ -62,18 +65,23 @@ pub data RefusesService (front control : Text) (file : Option Text) (before afte
 -- a refusal of the command is not shown on standard error: it has no rules file, and no line was told
 abbrev pub ShowsNoRefusal : WaitingRequest → Type 0
 ShowsNoRefusal (flood workers datagrams) = Unit {0}
-ShowsNoRefusal (serve front control workers file logs) = file ≡ None
+ShowsNoRefusal (serve front control workers file logs receive buffer) = file ≡ None
 ShowsNoRefusal (tell control timeout all words) = IsNoControlAddress control
 ShowsNoRefusal (rules control timeout) = Unit {0}
 ShowsNoRefusal (load control timeout file only_check only_diff) = ⊥
+ShowsNoRefusal (metrics control front timeout) = Unit {0}
+ShowsNoRefusal (top control interval count timeout) = Unit {0}
 
 -- what was refused is written
 abbrev pub WritesRefusal : WaitingRequest → (input before after told_before told_after : Option (List ℕ)) → Type 0
 WritesRefusal (flood workers datagrams) input before after told_before told_after = ⊥
-WritesRefusal (serve front control workers file logs) input before after told_before told_after = RefusesService front control file before after
+WritesRefusal (serve front control workers file logs receive buffer) input before after told_before told_after = RefusesService front control file before after
 WritesRefusal (tell control timeout all words) input before after told_before told_after = IsToldRefusal control all words input before after told_before told_after
 WritesRefusal (rules control timeout) input before after told_before told_after = IsNoControlAddress control × Appends before after (codes "refused C1\n")
 WritesRefusal (load control timeout file only_check only_diff) input before after told_before told_after = RefusesLoad control before after only_check only_diff
+WritesRefusal (metrics control front timeout) input before after told_before told_after =
+    (IsNoControlAddress control ⊎ IsNoFront front) × Appends before after (codes "refused C1\n")
+WritesRefusal (top control interval count timeout) input before after told_before told_after = IsNoControlAddress control × Appends before after (codes "refused C1\n")
 
 -- `serve` for these addresses failed so; if no write failed the line `ready` was written or nothing, and nothing if a socket was
 -- not bound or the rules file could not be read; but for writes and memory it fails only if both texts are addresses
@@ -89,12 +97,16 @@ pub record EndsInServeFailure (front control : Text) (file : Option Text) (befor
   pub told : IsServeTold failure told_before told_after
 
 -- the command failed
-abbrev pub EndsInWaitingFailure : WaitingRequest → (input before after told_before told_after : Option (List ℕ)) → Type 0
-EndsInWaitingFailure (flood workers datagrams) input before after told_before told_after = EndsInFloodFailure before after told_before told_after
-EndsInWaitingFailure (serve front control workers file logs) input before after told_before told_after =
+abbrev pub EndsInWaitingFailure : (terminal : Bool) → WaitingRequest → (input before after told_before told_after : Option (List ℕ)) → Type 0
+EndsInWaitingFailure terminal (flood workers datagrams) input before after told_before told_after = EndsInFloodFailure before after told_before told_after
+EndsInWaitingFailure terminal (serve front control workers file logs receive buffer) input before after told_before told_after =
     EndsInServeFailure front control file before after told_before told_after
-EndsInWaitingFailure (tell control timeout all lines) input before after told_before told_after =
+EndsInWaitingFailure terminal (tell control timeout all lines) input before after told_before told_after =
     EndsInTellFailure control all lines input before after told_before told_after
-EndsInWaitingFailure (rules control timeout) input before after told_before told_after = EndsInRulesFailure (Some control) before after told_before told_after
-EndsInWaitingFailure (load control timeout file only_check only_diff) input before after told_before told_after =
+EndsInWaitingFailure terminal (rules control timeout) input before after told_before told_after = EndsInRulesFailure (Some control) before after told_before told_after
+EndsInWaitingFailure terminal (load control timeout file only_check only_diff) input before after told_before told_after =
     EndsInRulesFailure control before after told_before told_after
+EndsInWaitingFailure terminal (metrics control front timeout) input before after told_before told_after =
+    EndsInRulesFailure (Some control) before after told_before told_after
+EndsInWaitingFailure terminal (top control interval count timeout) input before after told_before told_after =
+    EndsInTopFailure control terminal count before after told_before told_after

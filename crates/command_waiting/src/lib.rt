@@ -1,8 +1,8 @@
 //! The commands that run worker threads or await replies, so that they may wait (docs/COMMANDS.md, "flood", "serve", "tell",
-//! "rules", "load").
+//! "rules", "load", "metrics", "top").
 //!
-//! `run_waiting` runs one: `flood` of command_flood, `serve` of serve_udp, `tell` of control_client, or `rules` or `load` of
-//! control_rules.
+//! `run_waiting` runs one: `flood` of command_flood, `serve` of serve_udp, `tell` of control_client, `rules` or `load` of
+//! control_rules, or `metrics` or `top` of control_counters.
 #![tactic(auto)]
 
 ghost use Rattle.std.specs.Prelude.{◌≡◌, ◌⊎◌, None, OnOk, codes, option_map};
@@ -14,6 +14,7 @@ ghost use Rattle.command_waiting.specs.Waiting.{EndsInWaitingFailure, ShowsNoRef
 
 mod loading;
 mod logging;
+mod measuring;
 mod printing;
 mod refused;
 mod reporting;
@@ -21,13 +22,15 @@ mod rules_file;
 mod serving;
 mod showing;
 mod telling;
+mod watching;
 
 use command_flood::run_flood;
 pub use command_flood::{DATAGRAMS, flood};
 use command_line::{Failure, Status, Waiting};
 use loading::{Loading, run_load};
 use logging::ServeLog;
-pub use serve_udp::{serve, serve_with};
+use measuring::run_metrics;
+pub use serve_udp::{serve, serve_direct, serve_with};
 use serving::run_serve;
 use showing::run_rules;
 use std::alloc::Global;
@@ -39,6 +42,7 @@ use std::sync::Wait;
 use std::thread::Threads;
 use std::time::Clock;
 use telling::run_tell;
+use watching::{Watching, run_top};
 
 fn write_refusal<W: Write>(out: &mut W) -> io::Result<()>
     ensures { OnOk result (Appends (W.contents out.old) (W.contents out.new) (codes "refused C1\n")) }
@@ -62,7 +66,7 @@ fn refuse_address<W: Write, E: Write>(out: &mut W, errs: &mut E) -> Status
 }
 
 /// Runs a command that may wait, and returns its exit status. `tell` without lines reads its lines from the input. `serve --log` gives
-/// the lines of its log to `log`, which is standard error.
+/// the lines of its log to `log`, which is standard error. `top` clears the screen if `terminal` says that results go to one.
 pub fn run_waiting<
     R: Threads + Wait + Net + Clock + Files + Sync,
     I: Read + Drop,
@@ -75,17 +79,18 @@ pub fn run_waiting<
     command: Waiting<'_>,
     input: I,
     log: L,
+    terminal: bool,
     out: &mut W,
     errs: &mut E,
 ) -> Status
-    ensures done { result ≡ Status.Done → WritesFor (waiting_of command.entry) (I.remaining input) (W.contents out.old) (W.contents out.new)
+    ensures done { result ≡ Status.Done → WritesFor terminal (waiting_of command.entry) (I.remaining input) (W.contents out.old) (W.contents out.new)
         (E.contents errs.old) (E.contents errs.new) }
     ensures refused { result ≡ Status.Refused → WritesRefusal (waiting_of command.entry) (I.remaining input) (W.contents out.old) (W.contents out.new)
         (E.contents errs.old) (E.contents errs.new) }
     ensures no_errors { (result ≡ Status.Done) ⊎ ((result ≡ Status.Refused) × ShowsNoRefusal (waiting_of command.entry)) → errs.new ≡ errs.old }
     ensures never_misused { result ≡ Status.Misused → ⊥ }
     ensures failed { result ≡ Status.Failed
-        → EndsInWaitingFailure (waiting_of command.entry) (I.remaining input) (W.contents out.old) (W.contents out.new)
+        → EndsInWaitingFailure terminal (waiting_of command.entry) (I.remaining input) (W.contents out.old) (W.contents out.new)
         (E.contents errs.old) (E.contents errs.new) }
 {
     match command {
@@ -98,11 +103,14 @@ pub fn run_waiting<
             workers,
             rules,
             log: logs,
+            receive,
+            buffer,
         } => run_serve(
             rt,
             alloc,
             (front, control),
             workers,
+            (receive, buffer),
             rules,
             ServeLog::new(logs, log),
             out,
@@ -138,6 +146,26 @@ pub fn run_waiting<
                 diff,
             };
             run_load(rt, alloc, loading, out, errs)
+        }
+        Waiting::Metrics {
+            control,
+            front,
+            timeout,
+        } => run_metrics(rt, alloc, (control, front), timeout, out, errs),
+        Waiting::Top {
+            control,
+            interval,
+            count,
+            timeout,
+        } => {
+            let watching = Watching {
+                control,
+                interval,
+                count,
+                timeout,
+                clears: terminal,
+            };
+            run_top(rt, alloc, watching, out, errs)
         }
     }
 }

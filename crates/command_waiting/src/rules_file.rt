@@ -155,7 +155,8 @@ fn file_of<I: Read + Drop, W: Write, E: Write>(
     }
 }
 
-fn open_failure(error: &io::Error) -> Failure
+/// Why a file could not be opened.
+pub(crate) fn open_failure(error: &io::Error) -> Failure
     ensures { (result ≡ Failure.ReadFailed) ⊎ (result ≡ Failure.OutOfMemory) }
 {
     if error.kind() == ErrorKind::OutOfMemory {

@@ -4,6 +4,7 @@ ghost use Rattle.std.specs.Prelude.{◌≡◌, ◌≤◌, ◌⊎◌, IfOk, None,
 ghost use Rattle.member_group.specs.Charge.{charge_of};
 ghost use Rattle.versions.specs.declared.layout.TheConstants.{CHARGE_LIMIT};
 ghost use Rattle.command_line.specs.Ending.{AppendsBeginning};
+ghost use Rattle.serve_udp.specs.Front.{HasFronts};
 ghost use Rattle.serve_udp.specs.Service.{WritesServedFrom};
 ghost use Rattle.command_waiting.specs.Serving.{FailsServing, IsBindLine, socket_name};
 ghost use Rattle.command_waiting.specs.Waiting.{EndsInServeFailure, RefusesService, WritesService};
@@ -11,12 +12,14 @@ ghost use Rattle.command_waiting.specs.Waiting.{EndsInServeFailure, RefusesServi
 use crate::logging::ServeLog;
 use crate::refuse_address;
 use crate::rules_file::opening;
-use command_line::{ControlAddress, Failure, Status, Workers, write_whole};
+use command_line::{
+    ControlAddress, Failure, ReceiveBuffer, ReceiveWay, Status, Workers, write_whole,
+};
 use dispatch::OpenGate;
 use ipv4_fields::Endpoint;
 use member_group::Config;
 use serve_control::Log;
-use serve_udp::{BindFault, BoundSockets, bind_udp, bind_unix, serve_bound};
+use serve_udp::{BindFault, BoundSockets, FrontRequest, bind_udp, bind_unix, serve_bound};
 use std::alloc::{AllocError, Global};
 use std::fs::Files;
 use std::io::Write;
@@ -98,6 +101,7 @@ fn serve_on<R: Threads + Wait + Net + Sync, W: Write, E: Write, L: Write + Drop>
 ) -> Status
     requires within { charge_of config ≤ CHARGE_LIMIT }
     requires outlets { workers.count ≤ vec_len sockets.outlets }
+    requires fronts { HasFronts workers.count sockets.front }
     ensures done { result ≡ Status.Done → WritesServedFrom config workers.count (W.contents out.old) (W.contents out.new) }
     ensures no_errors { result ≡ Status.Done → errs.new ≡ errs.old }
     ensures done_or_failed { (result ≡ Status.Done) ⊎ (result ≡ Status.Failed) }
@@ -117,7 +121,7 @@ fn serve_on<R: Threads + Wait + Net + Sync, W: Write, E: Write, L: Write + Drop>
 fn serve_at<R: Threads + Wait + Net + Files + Sync, W: Write, E: Write, L: Write + Drop>(
     rt: &R,
     config: Config,
-    places: (Endpoint, ControlAddress<'_>),
+    places: (FrontRequest, ControlAddress<'_>),
     workers: Workers,
     lines: ServeLog<L>,
     out: &mut W,
@@ -148,7 +152,8 @@ fn serve_at<R: Threads + Wait + Net + Files + Sync, W: Write, E: Write, L: Write
 }
 
 #[tactic(auto, using(crate::proofs::OpeningLemmas::fails_unread, crate::proofs::OpeningLemmas::fails_serving, crate::proofs::OpeningLemmas::named, crate::proofs::OpeningLemmas::is_given))]
-/// Runs `serve` with the texts of both addresses, the name of a rules file if there is one, and where the lines of the log go.
+/// Runs `serve` with the texts of both addresses, how the front receives, the name of a rules file if there is one, and where the lines of the
+/// log go.
 pub(crate) fn run_serve<
     R: Threads + Wait + Net + Files + Sync,
     W: Write,
@@ -159,6 +164,7 @@ pub(crate) fn run_serve<
     alloc: Global,
     addresses: (&str, &str),
     workers: Workers,
+    receive: (ReceiveWay, Option<ReceiveBuffer>),
     file: Option<&str>,
     lines: ServeLog<L>,
     out: &mut W,
@@ -176,7 +182,7 @@ pub(crate) fn run_serve<
         → EndsInServeFailure addresses.entry.0.now addresses.entry.1.now (option_map (λ name. name.now) file.entry)
         (W.contents out.old) (W.contents out.new) (E.contents errs.old) (E.contents errs.new) }
 {
-    let Some(front) = Endpoint::from_text(addresses.0.as_bytes()) else {
+    let Some(address) = Endpoint::from_text(addresses.0.as_bytes()) else {
         return refuse_address(out, errs);
     };
     let Some(control) = ControlAddress::from_text(addresses.1) else {
@@ -185,6 +191,12 @@ pub(crate) fn run_serve<
     let config = match opening(rt, alloc, file, out, errs) {
         Ok(config) => config,
         Err(status) => return status,
+    };
+    let (way, buffer) = receive;
+    let front = FrontRequest {
+        address,
+        way,
+        buffer,
     };
     serve_at(rt, config, (front, control), workers, lines, out, errs)
 }

@@ -17,7 +17,7 @@ use Rattle.control_line.specs.declared.reply.TheConstants.{WINDOW}
 use Rattle.control_rules.specs.Text.{change_text, changes_text}
 use Rattle.control_rules.specs.body.Added.{Adds, AddsFilter, AddsGroup, AddsGroups, AddsMember, AddsMembers, AddsSelector, HasWordsOf, filter_rules, lock_rules, members_rules, selector_rules, words_of}
 use Rattle.control_rules.specs.body.Progress.{AddsFirstGroups, AddsFirstMembers, AreFirstWords}
-use Rattle.control_rules.specs.body.Shown.{AreWordsAt, IsGroupAt, IsMemberAt, program_at, words_in}
+use Rattle.control_rules.specs.Shown.{AreWordsAt, IsGroupAt, IsMemberAt, program_at, words_in}
 use Rattle.control_rules.specs.declared.replies.GroupShown.{GroupShown}
 use Rattle.control_rules.specs.declared.replies.MemberShown.{MemberShown}
 use Rattle.control_rules.specs.declared.replies.WordsShown.{WordsShown}
@@ -61,7 +61,7 @@ got [] i inside = absurd (omega arith)
 got (x ∷ xs) zero inside = (x, refl)
 got (x ∷ xs) (suc i) inside = got xs i (omega arith)
 
-take-next : {X : Type 0} (xs : List X) (i : ℕ) (x : X) → slice_get xs i ≡ Some x → take (i + 1) xs ≡ take i xs ++ x ∷ []
+pub take-next : {X : Type 0} (xs : List X) (i : ℕ) (x : X) → slice_get xs i ≡ Some x → take (i + 1) xs ≡ take i xs ++ x ∷ []
 take-next [] i x at = cc
 take-next (y ∷ ys) zero x at = let same : y ≡ x = cc in ap (λ it. it ∷ []) same
 take-next (y ∷ ys) (suc i) x at =
@@ -73,7 +73,7 @@ take-own zero words = refl
 take-own (suc k) [] = refl
 take-own (suc k) (w ∷ words) = ap (λ rest. w ∷ rest) (take-own k words)
 
-some_is : {X : Type 0} (one other : X) (option : Option X) → option ≡ Some one → option ≡ Some other → one ≡ other
+pub some_is : {X : Type 0} (one other : X) (option : Option X) → option ≡ Some one → option ≡ Some other → one ≡ other
 some_is one other option is also = let both : Some one ≡ Some other = sym is ∙ also in cc
 
 words_more : (config : List Group) (key : Endpoint) (owner : Option ℕ) (place : ℕ) (words : List ℕ) (shown : WordsShown) → place ≡ length words →

@@ -7,7 +7,7 @@ use Rattle.member_group.specs.Charge.{charge_of, members_of}
 use Rattle.control_rules.specs.Rules.{rules_file}
 use Rattle.control_rules.specs.Text.{changes_text, heading}
 use Rattle.control_rules.specs.body.Added.{Adds}
-use Rattle.control_rules.specs.body.Shown.{IsShownOf}
+use Rattle.control_rules.specs.Shown.{IsShownOf}
 use Rattle.control_rules.specs.declared.replies.Shown.{Shown}
 
 heading_same : (config : List Group) (shown : Shown) → IsShownOf config shown →

@@ -11,7 +11,7 @@ use Rattle.bpf_verify.specs.Program.{IsProgram, ProgramValue}
 use Rattle.config_image.specs.Image.{Group}
 use Rattle.member_group.specs.Group.{IsConfig, IsGroup, IsMember, group_of, has_id, has_key, member_of}
 use Rattle.member_group.specs.declared.member.Member.{Member}
-use Rattle.control_rules.specs.body.Shown.{program_at}
+use Rattle.control_rules.specs.Shown.{program_at}
 
 module _ {X : Type 0} (P : X → Type 0) where
   pub all_got : (xs : List X) (i : ℕ) (x : X) → All P xs → slice_get xs i ≡ Some x → P x

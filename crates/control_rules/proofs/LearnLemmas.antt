@@ -10,15 +10,15 @@ use Rattle.control_client.proofs.WireLemmas.{logs_more, logs_nothing}
 use Rattle.control_rules.specs.History.{AreConfigs, ClientValue, History, IsReadLine, IsTrueTo, Learns}
 
 module _ {X : Type 0} (P : X → Type 0) where
-  all_left : (xs ys : List X) → All P (xs ++ ys) → All P xs
+  pub all_left : (xs ys : List X) → All P (xs ++ ys) → All P xs
   all_left [] ys all = All-nil P
   all_left (x ∷ xs) ys all = All-cons P x xs (All-head P x (xs ++ ys) all) (all_left xs ys (All-tail P x (xs ++ ys) all))
 
-  all_right : (xs ys : List X) → All P (xs ++ ys) → All P ys
+  pub all_right : (xs ys : List X) → All P (xs ++ ys) → All P ys
   all_right [] ys all = all
   all_right (x ∷ xs) ys all = all_right xs ys (All-tail P x (xs ++ ys) all)
 
-exchanged-append : (switch : Peer) (told more : List Exchange) (events later : List Event) → AreExchanged switch told events →
+pub exchanged-append : (switch : Peer) (told more : List Exchange) (events later : List Event) → AreExchanged switch told events →
     AreExchanged switch more later → AreExchanged switch (told ++ more) (events ++ later)
 exchanged-append switch told [] events [] one no_line =
     rw (append-nil told, append-nil events) one

@@ -1,12 +1,12 @@
-mod FieldLemmas
+pub mod FieldLemmas
 mod LineLemmas
-mod LearnLemmas
+pub mod LearnLemmas
 mod WordLemmas
 mod ReplyLemmas
 mod ResultLemmas
-mod FoundLemmas
-mod ShownLemmas
-mod AddedLemmas
+pub mod FoundLemmas
+pub mod ShownLemmas
+pub mod AddedLemmas
 mod FileLemmas
 mod TextLemmas
 mod LengthLemmas

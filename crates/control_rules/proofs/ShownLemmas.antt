@@ -19,8 +19,9 @@ use Rattle.control_line.specs.declared.reason.Reason.TheVariants.{Command}
 use Rattle.control_rules.specs.Fields.{fields_in}
 use Rattle.control_rules.specs.History.{AreConfigs, History, IsTrueTo}
 use Rattle.control_rules.specs.body.Lines.{words_reading}
-use Rattle.control_rules.specs.body.Replies.{IsGroupReply, IsMemberReply, IsShownReply, IsWordsReply}
-use Rattle.control_rules.specs.body.Shown.{AreWordsAt, IsGroupAt, IsMemberAt, IsShownOf, program_at, words_in}
+use Rattle.control_rules.specs.body.Replies.{IsGroupReply, IsMemberReply, IsWordsReply}
+use Rattle.control_rules.specs.Shown.{IsShownReply}
+use Rattle.control_rules.specs.Shown.{AreWordsAt, IsGroupAt, IsMemberAt, IsShownOf, program_at, words_in}
 use Rattle.control_rules.specs.declared.replies.GroupShown.{GroupShown}
 use Rattle.control_rules.specs.declared.replies.MemberShown.{MemberShown}
 use Rattle.control_rules.specs.declared.replies.Shown.{Shown}

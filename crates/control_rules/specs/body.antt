@@ -1,7 +1,6 @@
 pub mod Left
 pub mod Replies
 pub mod Start
-pub mod Shown
 pub mod Lines
 pub mod Added
 pub mod Progress

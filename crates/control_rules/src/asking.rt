@@ -5,7 +5,7 @@ ghost use Rattle.ipv4_fields.specs.Endpoint.{IsEndpoint};
 ghost use Rattle.control_line.specs.Request.{Spells, read};
 ghost use Rattle.control_line.specs.Reading.{group_at, member_at};
 ghost use Rattle.control_rules.specs.History.{Learns};
-ghost use Rattle.control_rules.specs.body.Shown.{AreWordsAt, IsGroupAt, IsMemberAt, IsShownOf};
+ghost use Rattle.control_rules.specs.Shown.{AreWordsAt, IsGroupAt, IsMemberAt, IsShownOf};
 ghost use Rattle.control_rules.specs.body.Lines.{owner_text, words_reading};
 
 use crate::client::Client;
@@ -38,7 +38,7 @@ fn group_line(index: u32) -> Reply
 }
 
 /// Asks for the group at a place.
-pub(crate) fn ask_group<D: Wire + Drop>(
+pub fn ask_group<D: Wire + Drop>(
     client: &mut Client<D>,
     index: u32,
 ) -> Result<Option<GroupShown>, Failure>
@@ -63,7 +63,7 @@ fn member_line(key: Endpoint, index: u32) -> Reply
 }
 
 /// Asks for the member at an index of a group.
-pub(crate) fn ask_member<D: Wire + Drop>(
+pub fn ask_member<D: Wire + Drop>(
     client: &mut Client<D>,
     key: Endpoint,
     index: u32,

@@ -40,12 +40,12 @@ impl<D: Wire + Drop> Client<D> {
     }
 
     /// The allocator that replies are kept in.
-    pub(crate) fn allocator(&self) -> Global {
+    pub fn allocator(&self) -> Global {
         self.alloc
     }
 
     /// Sends a line, and returns its reply.
-    pub(crate) fn ask(&mut self, line: &[u8]) -> Result<Vec<u8>, Failure>
+    pub fn ask(&mut self, line: &[u8]) -> Result<Vec<u8>, Failure>
         ensures switch { self.new.switch ≡ self.old.switch }
         ensures asked { IfOk result (λ reply. Asks self.old.switch line.now reply.items self.old.log self.new.log) }
     {

@@ -15,7 +15,7 @@ use std::marker::Model;
 
 /// The fields of a text that are still to be read.
 #[derive(Drop)]
-pub(crate) struct Fields<'a> {
+pub struct Fields<'a> {
     left: Option<&'a [u8]>,
 }
 
@@ -29,14 +29,14 @@ impl<'a> Model for Fields<'a> {
 }
 
 impl<'a> Fields<'a> {
-    pub(crate) fn of(text: &'a [u8]) -> Fields<'a>
+    pub fn of(text: &'a [u8]) -> Fields<'a>
         ensures { result ≡ fields_in text.now }
     {
         Fields { left: Some(text) }
     }
 
     /// Takes the next field.
-    pub(crate) fn next(&mut self) -> Option<&'a [u8]>
+    pub fn next(&mut self) -> Option<&'a [u8]>
         ensures { MatchOption result (self.old ≡ []) (λ field. self.old ≡ field.now ∷ self.new) }
     {
         let text = self.left?;
@@ -53,7 +53,7 @@ impl<'a> Fields<'a> {
     }
 
     /// Takes a field that is this word.
-    pub(crate) fn word(&mut self, word: &str) -> Option<()>
+    pub fn word(&mut self, word: &str) -> Option<()>
         ensures { MatchOption result ((rest : List (List ℕ)) → self.old ≢ word.now ∷ rest) (λ done. self.old ≡ word.now ∷ self.new) }
     {
         let field = self.next()?;
@@ -121,7 +121,7 @@ impl<'a> Fields<'a> {
     }
 
     /// Passes if no field is left.
-    pub(crate) fn done(&self) -> Option<()>
+    pub fn done(&self) -> Option<()>
         ensures { MatchOption result (self.now ≢ []) (λ done. self.now ≡ []) }
     {
         if self.is_done() { Some(()) } else { None }

@@ -1,4 +1,6 @@
 //! The rules of a running switch: read back, written as a rules file, and replaced (docs/COMMANDS.md, "rules", "load").
+//!
+//! A `Client` asks a switch, and `ask_group` and `ask_member` ask it for parts of its configuration.
 #![tactic(auto)]
 
 ghost use Rattle.control_rules.specs.Rules.{RulesMakeNothingElse, RulesMakeTheirConfig};
@@ -11,10 +13,13 @@ mod loading;
 mod reading;
 mod replies;
 
+pub use asking::{ask_group, ask_member};
 pub use change_text::changes_text;
 pub use client::Client;
+pub use fields::Fields;
 pub use loading::{Loaded, differences, load};
 pub use reading::{AGAIN, RulesRead, read_rules};
+pub use replies::{GroupShown, MemberShown, Shown, read_shown};
 
 /// Law: the rules that are read of a configuration, as a rules file, make the same configuration, by the words of their programs, and
 /// no other. It runs nothing.

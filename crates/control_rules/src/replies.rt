@@ -4,7 +4,8 @@ ghost use Rattle.std.specs.Prelude.{◌≡◌, ◌++◌, IfOk, IfSome, IsTrue, L
 ghost use Rattle.std.specs.List.{AllZip};
 ghost use Rattle.bpf_formats.specs.Hex.{SpellsDigits};
 ghost use Rattle.control_rules.specs.Load.{IsPublishedReply};
-ghost use Rattle.control_rules.specs.body.Replies.{IsCountRead, IsGroupReply, IsMemberReply, IsShownReply, IsWordsReply};
+ghost use Rattle.control_rules.specs.body.Replies.{IsCountRead, IsGroupReply, IsMemberReply, IsWordsReply};
+ghost use Rattle.control_rules.specs.Shown.{IsShownReply};
 
 use crate::fields::Fields;
 use bpf_verify::OutOfMemory;
@@ -14,34 +15,34 @@ use std::alloc::Global;
 
 /// The measures of a configuration, by the reply to `show`.
 #[derive(Clone, Copy)]
-pub(crate) struct Shown {
-    pub(crate) version: u64,
-    pub(crate) groups: u32,
-    pub(crate) members: u32,
-    pub(crate) charge: u32,
+pub struct Shown {
+    pub version: u64,
+    pub groups: u32,
+    pub members: u32,
+    pub charge: u32,
 }
 
 /// A group, by the reply to `group`.
 #[derive(Clone, Copy)]
-pub(crate) struct GroupShown {
-    pub(crate) version: u64,
-    pub(crate) index: u32,
-    pub(crate) key: Endpoint,
-    pub(crate) members: u32,
+pub struct GroupShown {
+    pub version: u64,
+    pub index: u32,
+    pub key: Endpoint,
+    pub members: u32,
     /// How many words its selector has.
-    pub(crate) selector: u32,
+    pub selector: u32,
 }
 
 /// A member, by the reply to `member`.
 #[derive(Clone, Copy)]
-pub(crate) struct MemberShown {
-    pub(crate) version: u64,
-    pub(crate) index: u32,
-    pub(crate) id: u32,
-    pub(crate) to: Endpoint,
+pub struct MemberShown {
+    pub version: u64,
+    pub index: u32,
+    pub id: u32,
+    pub to: Endpoint,
     /// How many words its filter has.
-    pub(crate) filter: u32,
-    pub(crate) locked: bool,
+    pub filter: u32,
+    pub locked: bool,
 }
 
 /// Words of a program, by the reply to `words`.
@@ -56,7 +57,7 @@ pub(crate) struct WordsShown {
 }
 
 /// Reads a reply to `show`. None if it has another form.
-pub(crate) fn read_shown(reply: &[u8]) -> Option<Shown>
+pub fn read_shown(reply: &[u8]) -> Option<Shown>
     ensures { IfSome result (IsShownReply reply.now) }
 {
     let mut fields = Fields::of(reply);

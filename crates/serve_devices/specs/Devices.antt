@@ -1,22 +1,39 @@
 -- What contracts see of the devices of a worker that serves (docs/SWITCH.md, "Devices of a server").
-use Rattle.std.specs.Prelude.{◌≡◌, ◌≤◌, ◌⊎◌, Err, List, None, Ok, Option, Result, Some, [], length, suc, ℕ}
-use Rattle.dispatch.specs.Device.{OutboxValue, SourceValue}
+use Rattle.std.specs.Prelude.{◌==◌, ◌-◌, ◌≡◌, ◌≤◌, ◌⊎◌, ◌∷◌, ◌^◌, if◌then◌else◌, Err, List, None, Ok, Option, Result, Some, [], filter_map, length, option_map, suc, take, ℕ}
+use Rattle.dispatch.specs.Device.{OutboxValue, Sent, SourceValue}
 use Rattle.member_counts.specs.Log.{Log, marked_failed}
-use Rattle.serve_devices.specs.declared.channel_source.TheConstants.{RECEIVE_LIMIT}
+use Rattle.serve_devices.specs.Ingress.{IsEnded, Receive}
 use Rattle.serve_devices.specs.declared.member_outbox.TheConstants.{LOG_ROOM}
+use Rattle.serve_devices.specs.declared.worker_source.TheConstants.{RECEIVE_LIMIT}
 
--- a source over a channel: how often it failed, and how many receives it still gives at most
-pub record ChannelSourceValue : Type 0 where
+-- the source of a worker: how often it failed, how many receives it still gives at most, its room for a datagram, and the receives to come, if
+-- they are known
+pub record WorkerSourceValue : Type 0 where
   pub failures : ℕ
   pub left : ℕ
+  pub room : ℕ
+  pub coming : Option (List Receive)
 
 -- one that gave none yet
-abbrev pub new_source : ChannelSourceValue
-new_source = record { failures = 0; left = RECEIVE_LIMIT }
+abbrev pub new_source : ℕ → Option (List Receive) → WorkerSourceValue
+new_source room coming = record { failures = 0; left = RECEIVE_LIMIT; room = room; coming = coming }
 
--- as a source it tells nothing of its datagrams
-abbrev pub source_of : ChannelSourceValue → SourceValue
-source_of source = record { failures = source.failures; coming = None }
+-- the receive that was given is no longer to come: a datagram, cut to the buffer with these bytes, or a failure. At the end none is to come, and
+-- none was, but for those above the limit
+abbrev pub GivesNext : {E : Type 0} → List ℕ → Result (Option ℕ) E → WorkerSourceValue → WorkerSourceValue → Type 0
+GivesNext bytes (Ok (Some size)) before after =
+    (whole : List ℕ) × (before.coming ≡ option_map (λ (later : List Receive). Some whole ∷ later) after.coming)
+    × (take size bytes ≡ take (length bytes) whole)
+GivesNext bytes (Ok None) before after = (after.coming ≡ Some []) × ((before.left ≡ 0) ⊎ IsEnded before.coming)
+GivesNext bytes (Err fault) before after = before.coming ≡ option_map (λ (later : List Receive). None ∷ later) after.coming
+
+-- the datagrams of the first so many receives
+abbrev pub datagrams_of : ℕ → List Receive → List (List ℕ)
+datagrams_of left receives = filter_map (λ (receive : Receive). receive) (take left receives)
+
+-- as a source it has the datagrams of the receives that are left
+abbrev pub source_of : WorkerSourceValue → SourceValue
+source_of source = record { failures = source.failures; coming = option_map (datagrams_of source.left) source.coming }
 
 -- a receive that is given is one of those that were left, and at the end none is left
 abbrev pub CountsReceive : {E : Type 0} → Result (Option ℕ) E → ℕ → ℕ → Type 0
@@ -24,24 +41,24 @@ CountsReceive (Ok (Some size)) before after = before ≡ suc after
 CountsReceive (Ok None) before after = after ≡ 0
 CountsReceive (Err fault) before after = before ≡ suc after
 
--- an outbox that failed so often, and tells nothing of what it sent
-abbrev pub silent_outbox : ℕ → OutboxValue
-silent_outbox failures = record { failures = failures; taken = None }
+-- failures are counted up to here
+abbrev pub MOST_FAILURES : ℕ
+MOST_FAILURES = 2 ^ 64 - 1
 
--- an outbox that counts by member: how often it failed, and what it has not handed on
+-- an outbox that failed so often. Once it cannot count another failure, it no longer tells what was sent
+abbrev pub outbox_with : ℕ → Option (List Sent) → OutboxValue
+outbox_with failures taken = record { failures = failures; taken = if failures == MOST_FAILURES then None else taken }
+
+-- an outbox that counts by member: how often it failed, what was sent, and what it has not handed on
 pub record MemberOutboxValue : Type 0 where
-  pub failures : ℕ
+  pub outbox : OutboxValue
   pub log : Log
 
 abbrev pub empty_log : Log
 empty_log = record { entries = []; room = LOG_ROOM }
 
-abbrev pub new_outbox : MemberOutboxValue
-new_outbox = record { failures = 0; log = empty_log }
-
--- as an outbox it tells nothing of what it sent
-abbrev pub outbox_of : MemberOutboxValue → OutboxValue
-outbox_of outbox = silent_outbox outbox.failures
+abbrev pub new_outbox : Option (List Sent) → MemberOutboxValue
+new_outbox taken = record { outbox = outbox_with 0 taken; log = empty_log }
 
 -- a send that fails is marked in the log
 abbrev pub after_send : {A E : Type 0} → Result A E → Log → Log

@@ -1,2 +1,4 @@
 pub mod Devices
+pub mod Ingress
 pub mod Queues
+pub mod body

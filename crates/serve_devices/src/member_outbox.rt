@@ -5,9 +5,10 @@ ghost use Rattle.std.specs.Prelude.{◌≡◌, ◌<◌, IfOk, [], length};
 ghost use Rattle.dispatch.specs.Device.{CountsFailure, Takes, taken_by};
 ghost use Rattle.member_counts.specs.Log.{with_no_members, with_verdict};
 ghost use Rattle.member_counts.specs.Table.{CountsLog};
-ghost use Rattle.serve_devices.specs.Devices.{Logs, MakesRoom, after_send, empty_log, new_outbox, outbox_of};
+ghost use Rattle.serve_devices.specs.Devices.{Logs, MakesRoom, after_send, empty_log, new_outbox};
 ghost use Rattle.serve_devices.specs.declared.member_outbox.TheConstants.{LOG_ROOM};
 
+use crate::egress::Egress;
 use crate::socket_outbox::SocketOutbox;
 use dispatch::{Failed, Outbox};
 use ipv4_fields::Endpoint;
@@ -15,7 +16,6 @@ use member_counts::{MemberTable, VerdictLog};
 use packet_verdict::Verdict;
 use std::alloc::{AllocError, Global};
 use std::marker::Model;
-use std::net::UdpSocket;
 use std::sync::{Mutex, Wait};
 
 /// How many verdicts a worker keeps for itself at most.
@@ -24,26 +24,26 @@ pub const LOG_ROOM: usize = 64;
 /// The table that all workers count in.
 pub type SharedCounts = Mutex<MemberTable>;
 
-/// An outbox over a socket, which counts by member.
+/// An outbox over an egress, which counts by member.
 ///
 /// It keeps the verdicts of a batch in a log of its own. It takes the lock of the table when the log is handed on, and never while a
-/// packet is judged. Contracts see how often a send failed, and what is in the log.
+/// packet is judged. Contracts see how often a send failed, what was sent, if the egress tells it, and what is in the log.
 #[derive(Drop)]
-pub struct MemberOutbox<'a, R: Wait> {
+pub struct MemberOutbox<'a, E: Egress + Drop, R: Wait> {
     rt: &'a R,
-    outbox: SocketOutbox,
+    outbox: SocketOutbox<E>,
     log: VerdictLog,
     counts: &'a SharedCounts,
 }
 
-impl<'a, R: Wait> Model for MemberOutbox<'a, R> {
+impl<'a, E: Egress + Drop, R: Wait> Model for MemberOutbox<'a, E, R> {
     ghost use Rattle.std.specs.Prelude.{◌≡◌};
     ghost use Rattle.serve_devices.specs.Devices.{MemberOutboxValue};
     ghost use Rattle.serve_devices.specs.declared.member_outbox.TheConstants.{LOG_ROOM};
 
     ghost Value = { MemberOutboxValue };
 
-    ghost view = { λ o. record { failures = o.outbox.failures; log = o.log } };
+    ghost view = { λ o. record { outbox = o.outbox; log = o.log } };
 
     ghost invariant = { λ o. o.log.room ≡ LOG_ROOM };
 }
@@ -57,19 +57,19 @@ fn hand_log_on(log: &mut VerdictLog, table: &mut MemberTable)
     log.clear();
 }
 
-impl<'a, R: Wait> MemberOutbox<'a, R> {
-    /// Takes the socket, and the memory for the log.
+impl<'a, E: Egress + Drop, R: Wait> MemberOutbox<'a, E, R> {
+    /// Takes the egress, and the memory for the log.
     pub fn new(
         rt: &'a R,
         alloc: Global,
-        socket: UdpSocket,
+        egress: E,
         counts: &'a SharedCounts,
-    ) -> Result<MemberOutbox<'a, R>, AllocError>
-        ensures new { IfOk result (λ outbox. outbox ≡ new_outbox) }
+    ) -> Result<MemberOutbox<'a, E, R>, AllocError>
+        ensures new { IfOk result (λ outbox. outbox ≡ new_outbox (E.taken egress)) }
     {
         Ok(MemberOutbox {
             rt,
-            outbox: SocketOutbox::new(socket),
+            outbox: SocketOutbox::new(egress),
             log: VerdictLog::new(alloc, LOG_ROOM)?,
             counts,
         })
@@ -78,7 +78,7 @@ impl<'a, R: Wait> MemberOutbox<'a, R> {
     // Hands the log on, if there is something in it.
     fn empty_log(&mut self)
         ensures empty { self.new.log ≡ empty_log }
-        ensures failures { self.new.failures ≡ self.old.failures }
+        ensures unchanged { self.new.outbox ≡ self.old.outbox }
     {
         if self.log.is_empty() {
             return;
@@ -92,7 +92,7 @@ impl<'a, R: Wait> MemberOutbox<'a, R> {
     fn make_room(&mut self)
         ensures made { MakesRoom self.old.log self.new.log }
         ensures room { length self.new.log.entries < LOG_ROOM }
-        ensures failures { self.new.failures ≡ self.old.failures }
+        ensures unchanged { self.new.outbox ≡ self.old.outbox }
     {
         if self.log.is_full() {
             self.empty_log();
@@ -100,14 +100,12 @@ impl<'a, R: Wait> MemberOutbox<'a, R> {
     }
 }
 
-impl<'a, R: Wait> Outbox for MemberOutbox<'a, R> {
-    ghost use Rattle.serve_devices.specs.Devices.{outbox_of};
-
-    ghost state = { outbox_of };
+impl<'a, E: Egress + Drop, R: Wait> Outbox for MemberOutbox<'a, E, R> {
+    ghost state = { λ o. o.outbox };
 
     fn send(&mut self, to: Endpoint, bytes: &[u8]) -> Result<(), Failed>
-        ensures device_failed { CountsFailure result self.old.failures self.new.failures }
-        ensures sent_once { Takes (outbox_of self.old).taken (outbox_of self.new).taken (taken_by result to bytes.now) }
+        ensures device_failed { CountsFailure result self.old.outbox.failures self.new.outbox.failures }
+        ensures sent_once { Takes self.old.outbox.taken self.new.outbox.taken (taken_by result to bytes.now) }
         ensures logged { self.new.log ≡ after_send result self.old.log }
     {
         let sent = self.outbox.send(to, bytes);
@@ -118,7 +116,7 @@ impl<'a, R: Wait> Outbox for MemberOutbox<'a, R> {
     }
 
     fn judged(&mut self, verdict: &Verdict)
-        ensures unchanged { outbox_of self.new ≡ outbox_of self.old }
+        ensures unchanged { self.new.outbox ≡ self.old.outbox }
         ensures logged { Logs (with_verdict verdict.now) self.old.log self.new.log }
     {
         self.make_room();
@@ -126,7 +124,7 @@ impl<'a, R: Wait> Outbox for MemberOutbox<'a, R> {
     }
 
     fn no_members(&mut self, group: Endpoint)
-        ensures unchanged { outbox_of self.new ≡ outbox_of self.old }
+        ensures unchanged { self.new.outbox ≡ self.old.outbox }
         ensures logged { Logs (with_no_members group) self.old.log self.new.log }
     {
         self.make_room();
@@ -134,7 +132,7 @@ impl<'a, R: Wait> Outbox for MemberOutbox<'a, R> {
     }
 
     fn hand_on(&mut self)
-        ensures unchanged { outbox_of self.new ≡ outbox_of self.old }
+        ensures unchanged { self.new.outbox ≡ self.old.outbox }
         ensures handed_on { self.new.log ≡ empty_log }
     {
         self.empty_log();

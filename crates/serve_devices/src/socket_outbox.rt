@@ -1,58 +1,55 @@
 //! The outbox of a worker: a UDP socket of its own.
 
 ghost use Rattle.std.specs.Prelude.{◌≡◌};
-ghost use Rattle.serve_devices.specs.Devices.{silent_outbox};
+ghost use Rattle.serve_devices.specs.Devices.{outbox_with};
 
+use crate::egress::Egress;
 use dispatch::{Failed, Outbox};
 use ipv4_fields::Endpoint;
 use std::marker::Model;
-use std::net::UdpSocket;
 
-/// An outbox over a socket. A send fails where the socket's does, also where that takes fewer bytes than there are; it may wait
-/// where the socket's may.
+/// An outbox over an egress, as a socket is one. A send fails if the egress fails.
 ///
-/// Contracts see how often it failed. Of what it sent it tells nothing; where 2^64 - 1 sends failed it sends no more, and answers
-/// as if all were sent.
+/// Contracts see how often it failed, and what was sent, if the egress tells it. After 2^64 - 1 failures it sends no more, returns as if all
+/// were sent, and no longer tells what was sent.
 #[derive(Drop)]
-pub struct SocketOutbox {
-    socket: UdpSocket,
+pub struct SocketOutbox<E: Egress + Drop> {
+    egress: E,
     failures: u64,
 }
 
-impl Model for SocketOutbox {
+impl<E: Egress + Drop> Model for SocketOutbox<E> {
     ghost use Rattle.dispatch.specs.Device.{OutboxValue};
-    ghost use Rattle.serve_devices.specs.Devices.{silent_outbox};
+    ghost use Rattle.serve_devices.specs.Devices.{outbox_with};
 
     ghost Value = { OutboxValue };
 
-    ghost view = { λ o. silent_outbox o.failures };
+    ghost view = { λ o. outbox_with o.failures (E.taken o.egress) };
 }
 
-impl SocketOutbox {
-    /// Takes the socket, by which no send has failed yet.
-    pub fn new(socket: UdpSocket) -> SocketOutbox
-        ensures silent { result ≡ silent_outbox 0 }
+impl<E: Egress + Drop> SocketOutbox<E> {
+    /// Takes the egress, by which no send has failed yet.
+    pub fn new(egress: E) -> SocketOutbox<E>
+        ensures new { result ≡ outbox_with 0 (E.taken egress) }
     {
         SocketOutbox {
-            socket,
+            egress,
             failures: 0,
         }
     }
 }
 
-impl Outbox for SocketOutbox {
+impl<E: Egress + Drop> Outbox for SocketOutbox<E> {
     ghost state = { λ o. o };
 
     fn send(&mut self, to: Endpoint, bytes: &[u8]) -> Result<(), Failed> {
         if self.failures == u64::MAX {
             return Ok(());
         }
-        match self.socket.send_to(bytes, to.socket_address()) {
-            Ok(size) if size == bytes.len() => Ok(()),
-            _ => {
-                self.failures += 1;
-                Err(Failed)
-            }
+        let sent = self.egress.transmit(to, bytes);
+        if sent.is_err() {
+            self.failures += 1;
         }
+        sent
     }
 }

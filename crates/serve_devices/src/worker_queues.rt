@@ -2,13 +2,14 @@
 
 ghost use Rattle.std.specs.Prelude.{◌≡◌, ◌<◌, IfOk, vec_len};
 ghost use Rattle.std.specs.Option.{option_map};
-ghost use Rattle.serve_devices.specs.Devices.{new_source};
 ghost use Rattle.serve_devices.specs.Queues.{next_turn};
-ghost use Rattle.serve_devices.specs.declared.channel_source.TheConstants.{RECEIVE_LIMIT};
+ghost use Rattle.serve_devices.specs.declared.member_outbox.TheConstants.{LOG_ROOM};
+ghost use Rattle.serve_devices.specs.declared.worker_source.TheConstants.{RECEIVE_LIMIT};
 
 use crate::channel::{ChannelReceiver, ChannelSender, open_channel};
-use crate::channel_source::ChannelSource;
+use crate::queue_ingress::QueueIngress;
 use crate::received::Received;
+use crate::worker_source::RECEIVE_LIMIT;
 use std::alloc::{AllocError, Global};
 use std::marker::Model;
 use std::sync::Wait;
@@ -20,9 +21,10 @@ pub const QUEUE_PLACES: usize = 64;
 pub fn limits_as_numbers()
     ensures receives { RECEIVE_LIMIT ≡ 140737488355327 }
     ensures places { QUEUE_PLACES ≡ 64 }
+    ensures log_room { LOG_ROOM ≡ 64 }
 {}
 
-/// The way to one worker's source, and the way back of what that has opened.
+/// The way to one worker, and the way back of what that has opened.
 #[derive(Drop)]
 pub struct WorkerQueue {
     arriving: ChannelSender<Received>,
@@ -31,13 +33,11 @@ pub struct WorkerQueue {
     takes_more: bool,
 }
 
-/// Opens a worker's queue, of `QUEUE_PLACES` places each way, with the source at its end. Takes its memory from the allocator.
+/// Opens a worker's queue, of `QUEUE_PLACES` places each way, with its end. Takes its memory from the allocator.
 pub fn open_queue<R: Wait>(
     rt: &R,
     alloc: Global,
-) -> Result<(ChannelSource<'_, R>, WorkerQueue), AllocError>
-    ensures silent { IfOk result (λ parts. parts.0 ≡ new_source) }
-{
+) -> Result<(QueueIngress<'_, R>, WorkerQueue), AllocError> {
     let (arriving, at_worker) = open_channel(alloc, QUEUE_PLACES)?;
     let (from_worker, opened) = open_channel(alloc, QUEUE_PLACES)?;
     let queue = WorkerQueue {
@@ -45,7 +45,7 @@ pub fn open_queue<R: Wait>(
         opened,
         takes_more: true,
     };
-    Ok((ChannelSource::new(rt, at_worker, from_worker), queue))
+    Ok((QueueIngress::new(rt, at_worker, from_worker), queue))
 }
 
 impl WorkerQueue {

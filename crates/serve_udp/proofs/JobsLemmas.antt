@@ -1,5 +1,5 @@
 -- Jobs that are made one after the other.
-use Rattle.std.proofs.Common.{◌≡◌, ◌+◌, ◌++◌, ◌∷◌, List, Some, [], ap, arith, length, length-append, subst, sym, ℕ}
+use Rattle.std.proofs.Common.{◌≡◌, ◌+◌, ◌++◌, ◌∷◌, List, None, Some, [], ap, arith, length, length-append, subst, sym, ℕ}
 use Rattle.std.specs.List.{All}
 use Rattle.std.proofs.lemmas.List.Elements.{All-nil, All-pop, All-push, All-same}
 use Rattle.dispatch.specs.Tally.{CounterValue}
@@ -8,20 +8,34 @@ use Rattle.dispatch.specs.declared.device.Source as Source
 use Rattle.dispatch.specs.declared.worker_job.Job.{Job}
 use Rattle.dispatch.specs.Counted.{IsNew, IsNewWorker}
 use Rattle.read_section.specs.Worker.{WorkerValue}
-use Rattle.serve_devices.specs.Devices.{ChannelSourceValue, MemberOutboxValue}
+use Rattle.serve_devices.specs.Devices.{MemberOutboxValue, WorkerSourceValue, new_source}
 use Rattle.serve_udp.specs.Service.{HasNewDevices, HasRoom}
-use Rattle.serve_udp.specs.body.Jobs.{AreMade}
+use Rattle.serve_udp.specs.body.Jobs.{AreMade, AreNewSources}
+use Rattle.serve_udp.specs.declared.sockets.TheConstants.{LONGEST_DATAGRAM}
 
-module _ {source : Source.Ghosts ChannelSourceValue} {outbox : Outbox.Ghosts MemberOutboxValue} where
-  no_job : (P : Job ChannelSourceValue MemberOutboxValue source outbox → Type 0) (jobs : List (Job ChannelSourceValue MemberOutboxValue source outbox)) → jobs ≡ []
+pub no_source : (sources : List WorkerSourceValue) → sources ≡ [] → AreNewSources 0 sources
+no_source sources none = (ap length none, All-same (λ source. source ≡ new_source LONGEST_DATAGRAM None) sources [] none (All-nil (λ source. source ≡ new_source LONGEST_DATAGRAM None)))
+
+pub one_source : (many : ℕ) (sources sources' : List WorkerSourceValue) (source : WorkerSourceValue) → sources' ≡ sources ++ source ∷ []
+    → source ≡ new_source LONGEST_DATAGRAM None → AreNewSources many sources → AreNewSources (many + 1) sources'
+one_source many sources sources' source pushed new all =
+    let more = ap length pushed in
+    let one = length-append sources (source ∷ []) in
+    let before = all.0 in (
+      omega (arith, more, one, before),
+      All-same (λ s. s ≡ new_source LONGEST_DATAGRAM None) sources' (sources ++ source ∷ []) pushed
+          (All-push (λ s. s ≡ new_source LONGEST_DATAGRAM None) sources source all.1 new),
+    )
+
+module _ {source : Source.Ghosts WorkerSourceValue} {outbox : Outbox.Ghosts MemberOutboxValue} where
+  no_job : (P : Job WorkerSourceValue MemberOutboxValue source outbox → Type 0) (jobs : List (Job WorkerSourceValue MemberOutboxValue source outbox)) → jobs ≡ []
       → All P jobs
   no_job P jobs none = All-same P jobs [] none (All-nil P)
 
-  pub none_made : (workers : List WorkerValue) (counters : List CounterValue) (jobs : List (Job ChannelSourceValue MemberOutboxValue source outbox)) (queues : ℕ) → jobs ≡ [] → queues ≡ 0
-      → AreMade 0 workers workers counters counters jobs queues
-  none_made workers counters jobs queues none no_queues = record {
+  pub none_made : (workers : List WorkerValue) (counters : List CounterValue) (jobs : List (Job WorkerSourceValue MemberOutboxValue source outbox)) → jobs ≡ []
+      → AreMade 0 workers workers counters counters jobs
+  none_made workers counters jobs none = record {
     job_count = ap length none;
-    queue_count = no_queues;
     worker_each = omega arith;
     counter_each = omega arith;
     new_devices = no_job (λ job. HasNewDevices job.source job.outbox) jobs none;
@@ -30,20 +44,20 @@ module _ {source : Source.Ghosts ChannelSourceValue} {outbox : Outbox.Ghosts Mem
     new_counters = λ table new. (new, no_job (λ job. IsNew table job.counter) jobs none);
   }
 
-  all_pushed : (P : Job ChannelSourceValue MemberOutboxValue source outbox → Type 0) (jobs jobs' : List (Job ChannelSourceValue MemberOutboxValue source outbox)) (job : Job ChannelSourceValue MemberOutboxValue source outbox) → jobs' ≡ jobs ++ job ∷ []
+  all_pushed : (P : Job WorkerSourceValue MemberOutboxValue source outbox → Type 0) (jobs jobs' : List (Job WorkerSourceValue MemberOutboxValue source outbox)) (job : Job WorkerSourceValue MemberOutboxValue source outbox) → jobs' ≡ jobs ++ job ∷ []
       → All P jobs → P job → All P jobs'
   all_pushed P jobs jobs' job pushed all holds = All-same P jobs' (jobs ++ job ∷ []) pushed (All-push P jobs job all holds)
 
   -- one more, of the last worker and the last counter
-  pub one_more : (many : ℕ) (workers left : List WorkerValue) (counters counters_left : List CounterValue) (jobs : List (Job ChannelSourceValue MemberOutboxValue source outbox)) (queues : ℕ)
-      → AreMade many workers left counters counters_left jobs queues
+  pub one_more : (many : ℕ) (workers left : List WorkerValue) (counters counters_left : List CounterValue) (jobs : List (Job WorkerSourceValue MemberOutboxValue source outbox))
+      → AreMade many workers left counters counters_left jobs
       → (left' : List WorkerValue) (counters_left' : List CounterValue) (worker : WorkerValue) (counter : CounterValue)
       → left ≡ left' ++ worker ∷ [] → counters_left ≡ counters_left' ++ counter ∷ []
-      → (job : Job ChannelSourceValue MemberOutboxValue source outbox) → job.worker ≡ worker → job.counter ≡ counter → HasNewDevices job.source job.outbox
+      → (job : Job WorkerSourceValue MemberOutboxValue source outbox) → job.worker ≡ worker → job.counter ≡ counter → HasNewDevices job.source job.outbox
       → HasRoom (length job.buffer.items) job.limit
-      → (jobs' : List (Job ChannelSourceValue MemberOutboxValue source outbox)) (queues' : ℕ) → jobs' ≡ jobs ++ job ∷ [] → queues' ≡ queues + 1
-      → AreMade (many + 1) workers left' counters counters_left' jobs' queues'
-  one_more many workers left counters counters_left jobs queues made left' counters_left' worker counter taken counted job of_worker of_counter devices room jobs' queues' pushed queued =
+      → (jobs' : List (Job WorkerSourceValue MemberOutboxValue source outbox)) → jobs' ≡ jobs ++ job ∷ []
+      → AreMade (many + 1) workers left' counters counters_left' jobs'
+  one_more many workers left counters counters_left jobs made left' counters_left' worker counter taken counted job of_worker of_counter devices room jobs' pushed =
       let job_more = ap length pushed in
       let job_one = length-append jobs (job ∷ []) in
       let worker_less = ap length taken in
@@ -51,12 +65,10 @@ module _ {source : Source.Ghosts ChannelSourceValue} {outbox : Outbox.Ghosts Mem
       let counter_less = ap length counted in
       let counter_one = length-append counters_left' (counter ∷ []) in
       let before = made.job_count in
-      let before_queues = made.queue_count in
       let before_workers = made.worker_each in
       let before_counters = made.counter_each in
       record {
         job_count = omega arith;
-        queue_count = omega arith;
         worker_each = omega arith;
         counter_each = omega arith;
         new_devices = all_pushed (λ j. HasNewDevices j.source j.outbox) jobs jobs' job pushed made.new_devices devices;

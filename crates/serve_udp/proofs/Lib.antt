@@ -1,1 +1,2 @@
 mod JobsLemmas
+mod ServingLemmas

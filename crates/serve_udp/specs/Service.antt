@@ -11,7 +11,7 @@ use Rattle.dispatch.specs.Batch.{Parts}
 use Rattle.dispatch.specs.declared.kind.Totals.{Totals}
 use Rattle.ipv4_fields.specs.Endpoint.{endpoint_text}
 use Rattle.ipv4_fields.specs.declared.endpoint.Endpoint.{Endpoint}
-use Rattle.serve_devices.specs.Devices.{ChannelSourceValue, MemberOutboxValue, new_outbox, new_source}
+use Rattle.serve_devices.specs.Devices.{MemberOutboxValue, WorkerSourceValue, new_outbox, new_source}
 use Rattle.dispatch.specs.Counted.{IsCounted}
 use Rattle.dispatch.specs.Totals.{WritesTotals}
 use Rattle.serve_udp.specs.declared.jobs.TheConstants.{LIMIT}
@@ -22,8 +22,8 @@ abbrev pub HasRoom : ℕ → ℕ → Type 0
 HasRoom room limit = (room ≡ LONGEST_DATAGRAM) × (limit ≡ LIMIT)
 
 -- the devices of a job, as they are made
-abbrev pub HasNewDevices : ChannelSourceValue → MemberOutboxValue → Type 0
-HasNewDevices source outbox = (source ≡ new_source) × (outbox ≡ new_outbox)
+abbrev pub HasNewDevices : WorkerSourceValue → MemberOutboxValue → Type 0
+HasNewDevices source outbox = (source ≡ new_source LONGEST_DATAGRAM None) × (outbox ≡ new_outbox None)
 
 -- devices that have not failed yet, and tell nothing of their datagrams
 abbrev pub HasSilentDevices : Parts → Type 0

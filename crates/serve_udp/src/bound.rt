@@ -1,7 +1,9 @@
 //! The sockets of the service, bound (docs/COMMANDS.md, "serve").
 
 ghost use Rattle.std.specs.Prelude.{◌≡◌, IfOk, vec_len};
+ghost use Rattle.serve_udp.specs.Front.{IsFront};
 
+use crate::front::{BoundFront, FrontRequest, bind_front};
 use command_line::ControlAddress;
 use ipv4_fields::Endpoint;
 use mio::net::{UdpSocket, UnixListener};
@@ -19,10 +21,10 @@ pub(crate) enum BoundControl {
     Unix(UnixListener),
 }
 
-/// The front and control with the addresses that they are bound to, and a socket to send by for each worker.
+/// The sockets of the front and of control, with the addresses that they are bound to, and a socket to send by for each worker.
 #[derive(Drop)]
 pub struct BoundSockets<'a> {
-    pub(crate) front: UdpSocket,
+    pub(crate) front: BoundFront,
     pub(crate) address: Endpoint,
     pub(crate) control: BoundControl,
     pub(crate) place: ControlAddress<'a>,
@@ -74,20 +76,18 @@ fn bind_outlets<N: Net>(
     Ok(outlets)
 }
 
-/// Binds the front, then control over UDP, then a socket for each worker. A port 0 is the system's to pick.
+/// Binds the front, then control over UDP, then a socket for each worker to send by. A port 0 is the system's to pick.
 pub fn bind_udp<N: Net>(
     net: &N,
     alloc: Global,
-    front: Endpoint,
+    front: FrontRequest,
     control: Endpoint,
     workers: usize,
 ) -> Result<BoundSockets<'static>, BindFault>
-    ensures { IfOk result (λ bound. vec_len bound.outlets ≡ workers) }
+    ensures outlets { IfOk result (λ bound. vec_len bound.outlets ≡ workers) }
+    ensures front { IfOk result (λ bound. IsFront front.way workers bound.front) }
 {
-    let (front, address) = match bind_socket(net, front) {
-        Ok(bound) => bound,
-        Err(error) => return Err(BindFault::Front(error)),
-    };
+    let (front, address) = bind_front(net, alloc, front, workers)?;
     let (socket, bound) = match bind_socket(net, control) {
         Ok(bound) => bound,
         Err(error) => return Err(BindFault::Control(error)),
@@ -102,21 +102,19 @@ pub fn bind_udp<N: Net>(
     })
 }
 
-/// Binds the front, then makes the socket file of control at a path, then binds a socket for each worker.
+/// Binds the front, then makes the socket file of control at a path, then binds a socket for each worker to send by.
 pub fn bind_unix<'a, R: Net + Files>(
     rt: &R,
     alloc: Global,
-    front: Endpoint,
+    front: FrontRequest,
     path: &'a str,
     workers: usize,
 ) -> Result<(BoundSockets<'a>, SocketFile<'a>), BindFault>
     ensures place { IfOk result (λ bound. bound.0.place ≡ ControlAddress.Unix path.entry) }
     ensures outlets { IfOk result (λ bound. vec_len bound.0.outlets ≡ workers) }
+    ensures front { IfOk result (λ bound. IsFront front.way workers bound.0.front) }
 {
-    let (front, address) = match bind_socket(rt, front) {
-        Ok(bound) => bound,
-        Err(error) => return Err(BindFault::Front(error)),
-    };
+    let (front, address) = bind_front(rt, alloc, front, workers)?;
     let (listener, file) = match listen(rt, path) {
         Ok(made) => made,
         Err(error) => return Err(BindFault::Control(error)),

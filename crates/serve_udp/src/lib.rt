@@ -1,8 +1,8 @@
 //! The switch over UDP (docs/COMMANDS.md, "serve"; docs/OPERATING.md): datagrams that come to the front are judged by worker threads
 //! and sent on to members, while control requests change the rules.
 //!
-//! The caller's thread receives from all sockets, and hands what comes at the front to the workers in turn. It answers control
-//! itself, by serve_control: over UDP, or over a Unix socket by serve_unix.
+//! The workers receive from the front for themselves, or the caller's thread hands them what comes in turn. It answers control itself, by
+//! serve_control: over UDP, or over a Unix socket by serve_unix.
 #![tactic(auto)]
 
 ghost use Rattle.std.specs.Prelude.{◌≡◌, ◌≢◌, ◌⊎◌, ◌↔◌, ◌≤◌, Err, IfErr, IfOk, List, OnOk, vec_len};
@@ -10,11 +10,15 @@ ghost use Rattle.atomic_table.specs.Seated.{TableId};
 ghost use Rattle.config_image.specs.Image.{Group};
 ghost use Rattle.member_group.specs.Charge.{charge_of};
 ghost use Rattle.versions.specs.declared.layout.TheConstants.{CHARGE_LIMIT, WORKERS};
+ghost use Rattle.dispatch.specs.Totals.{WritesTotals};
 ghost use Rattle.serve_udp.specs.declared.jobs.TheConstants.{LIMIT};
 ghost use Rattle.serve_udp.specs.Service.{IsServeFailure, IsServedFrom, WritesReadyOrNothing, WritesServed, WritesServedAt, WritesServedFrom};
-ghost use Rattle.serve_udp.specs.body.Jobs.{AreOpened, HaveNewWorkers};
+ghost use Rattle.serve_udp.specs.Front.{HasFronts};
+ghost use Rattle.serve_udp.specs.body.Jobs.{AreNewSources, AreOpened, HaveNewWorkers};
 
 mod bound;
+mod front;
+mod intake;
 mod jobs;
 mod opening;
 mod ready;
@@ -22,23 +26,27 @@ mod receiving;
 mod sockets;
 
 pub use bound::{BindFault, BoundSockets, bind_udp, bind_unix};
-use command_line::Failure;
+use command_line::{ControlAddress, Failure, ReceiveWay};
 use dispatch::{Gate, NamedTally, RunFault, TallyName, Totals, gather, run_counted, write_totals};
+use front::BoundFront;
+pub use front::FrontRequest;
+use intake::{Intake, direct_intake, queued_intake};
 use ipv4_fields::Endpoint;
 use jobs::ServiceJob;
 use member_counts::MemberTable;
 use member_group::Config;
-use opening::{Service, open_service};
+use opening::{Service, ServiceSockets, open_service};
 use read_section::WORKERS;
 use ready::write_ready;
 use receiving::Ended;
 use serve_control::{Log, LogLines, NoLog};
-use serve_devices::SharedCounts;
+use serve_devices::{Ingress, SharedCounts};
 pub use sockets::LONGEST_DATAGRAM;
 use std::alloc::Global;
 use std::io::Write;
 use std::marker::Brand;
 use std::net::Net;
+use std::sync::atomic::AtomicBool;
 use std::sync::{Mutex, Wait};
 use std::thread::Threads;
 
@@ -59,11 +67,17 @@ fn failed(fault: RunFault) -> Failure
 }
 
 // Receives beside the jobs until it is asked to stop, and then counts what they judged.
-fn count_served<N: TallyName, L: LogLines, R: Threads + Wait + Sync, G: Gate + Sync>(
+fn count_served<
+    N: TallyName,
+    L: LogLines,
+    I: Ingress + Drop + Send,
+    R: Threads + Wait + Sync,
+    G: Gate + Sync,
+>(
     rt: &R,
     alloc: Global,
-    jobs: Vec<ServiceJob<'_, R>>,
-    service: Service,
+    jobs: Vec<ServiceJob<'_, I, R>>,
+    service: Service<'_>,
     counts: &SharedCounts,
     gate: &G,
     log: &mut Log<L>,
@@ -92,11 +106,58 @@ fn count_served<N: TallyName, L: LogLines, R: Threads + Wait + Sync, G: Gate + S
     }
 }
 
+// Writes the line of the totals.
+fn write_last<W: Write>(totals: &Totals, out: &mut W) -> Result<(), Failure>
+    ensures written { OnOk result (WritesTotals totals.now (W.contents out.old) (W.contents out.new)) }
+    ensures failed { IfErr result (λ failure. failure ≡ Failure.WriteFailed) }
+{
+    write_totals(totals, out).map_err(|_| Failure::WriteFailed)
+}
+
+// Runs the service once it is known who receives.
+fn serve_intake<
+    'a,
+    I: Ingress + Drop + Send,
+    R: Threads + Wait + Net + Sync,
+    G: Gate + Sync,
+    W: Write,
+    L: LogLines,
+>(
+    rt: &'a R,
+    config: Config,
+    counts: &'a SharedCounts,
+    intake: Intake<'a, I>,
+    sockets: ServiceSockets,
+    control: ControlAddress<'_>,
+    workers: usize,
+    gate: &G,
+    out: &mut W,
+    log: &mut Log<L>,
+) -> Result<(), Failure>
+    requires within { charge_of config ≤ CHARGE_LIMIT }
+    requires at_most { workers ≤ WORKERS }
+    requires sources { AreNewSources workers intake.sources.items }
+    requires outlets { workers ≤ vec_len sockets.outlets }
+    ensures served { OnOk result (WritesServedAt control.entry config workers (W.contents out.old) (W.contents out.new)) }
+    ensures no_input { IfErr result IsServeFailure }
+    ensures not_bound { result ≡ Err Failure.BindFailed → out.new ≡ out.old }
+    ensures ready_or_nothing { IfErr result (λ failure. failure ≢ Failure.WriteFailed → WritesReadyOrNothing (W.contents out.old) (W.contents out.new)) }
+{
+    let alloc = *config.allocator();
+    let front = sockets.address;
+    let (jobs, service) = open_service(rt, counts, config, intake, sockets, workers)?;
+    if let Err(failure) = write_ready(front, control, out) {
+        return Err(failure);
+    }
+    let totals = count_served::<Brand, L, I, R, G>(rt, alloc, jobs, service, counts, gate, log)?;
+    write_last(&totals, out)
+}
+
 /// Runs the switch on its sockets until a control request says `stop`, and then writes the line of the totals.
 ///
 /// Version 0 is the configuration. The line `ready FRONT CONTROL` has the addresses bound, and is flushed before a datagram is
-/// received. Of the switch's workers each receives through a queue, in turn, and sends by one of the sockets for workers.
-/// Each control request that changes something or is not done is a line of the log.
+/// received. Each of the switch's workers receives from one of the sockets of the front, or is handed datagrams in turn, as the sockets were
+/// bound, and sends by one of the sockets for workers. Each control request that changes something or is not done is a line of the log.
 ///
 /// All memory but that of the threads, of queued datagrams, of control and of counters by member is taken before the line `ready`, from
 /// the configuration's allocator. It may wait, since nothing says that it is ever asked to stop.
@@ -113,25 +174,48 @@ pub fn serve_bound<R: Threads + Wait + Net + Sync, G: Gate + Sync, W: Write, L: 
     requires at_least_one { 1 ≤ workers }
     requires at_most { workers ≤ WORKERS }
     requires outlets { workers ≤ vec_len sockets.outlets }
+    requires fronts { HasFronts workers sockets.front }
     ensures served { OnOk result (WritesServedAt sockets.entry.place config workers (W.contents out.old) (W.contents out.new)) }
     ensures no_input { IfErr result IsServeFailure }
     ensures not_bound { result ≡ Err Failure.BindFailed → out.new ≡ out.old }
     ensures ready_or_nothing { IfErr result (λ failure. failure ≢ Failure.WriteFailed → WritesReadyOrNothing (W.contents out.old) (W.contents out.new)) }
 {
     let alloc = *config.allocator();
-    let (front, control) = (sockets.address, sockets.place);
     let counts = Mutex::new(MemberTable::new(alloc));
-    let (jobs, service) = open_service(rt, &counts, config, sockets, workers)?;
-    write_ready(front, control, out)?;
-    let totals = count_served::<Brand, L, R, G>(rt, alloc, jobs, service, &counts, gate, log)?;
-    write_totals(&totals, out).map_err(|_| Failure::WriteFailed)
+    let BoundSockets {
+        front,
+        address,
+        control,
+        place,
+        outlets,
+    } = sockets;
+    let rest = ServiceSockets {
+        address,
+        control,
+        outlets,
+    };
+    let stopped = AtomicBool::new(false);
+    match front {
+        BoundFront::Queued(socket) => {
+            let intake = queued_intake(rt, alloc, socket, &stopped, workers)?;
+            serve_intake(
+                rt, config, &counts, intake, rest, place, workers, gate, out, log,
+            )
+        }
+        BoundFront::Direct(fronts) => {
+            let intake = direct_intake(rt, alloc, &fronts, &stopped, workers)?;
+            serve_intake(
+                rt, config, &counts, intake, rest, place, workers, gate, out, log,
+            )
+        }
+    }
 }
 
-/// Runs the switch, as `serve_bound` does, on two UDP sockets that it binds, without a log. A port 0 lets the system pick one.
-pub fn serve_with<R: Threads + Wait + Net + Sync, G: Gate + Sync, W: Write>(
+// Runs the switch on two UDP sockets that it binds, without a log.
+fn serve_by<R: Threads + Wait + Net + Sync, G: Gate + Sync, W: Write>(
     rt: &R,
     config: Config,
-    front: Endpoint,
+    front: FrontRequest,
     control: Endpoint,
     workers: usize,
     gate: &G,
@@ -157,6 +241,32 @@ pub fn serve_with<R: Threads + Wait + Net + Sync, G: Gate + Sync, W: Write>(
     serve_bound(rt, config, sockets, workers, gate, out, &mut log)
 }
 
+/// Runs the switch, as `serve_bound` does, on two UDP sockets that it binds, without a log. A port 0 lets the system pick one.
+pub fn serve_with<R: Threads + Wait + Net + Sync, G: Gate + Sync, W: Write>(
+    rt: &R,
+    config: Config,
+    front: Endpoint,
+    control: Endpoint,
+    workers: usize,
+    gate: &G,
+    out: &mut W,
+) -> Result<(), Failure>
+    requires within { charge_of config ≤ CHARGE_LIMIT }
+    requires at_least_one { 1 ≤ workers }
+    requires at_most { workers ≤ WORKERS }
+    ensures served { OnOk result (WritesServedFrom config workers (W.contents out.old) (W.contents out.new)) }
+    ensures no_input { IfErr result IsServeFailure }
+    ensures not_bound { result ≡ Err Failure.BindFailed → out.new ≡ out.old }
+    ensures ready_or_nothing { IfErr result (λ failure. failure ≢ Failure.WriteFailed → WritesReadyOrNothing (W.contents out.old) (W.contents out.new)) }
+{
+    let front = FrontRequest {
+        address: front,
+        way: ReceiveWay::Queued,
+        buffer: None,
+    };
+    serve_by(rt, config, front, control, workers, gate, out)
+}
+
 /// Runs the switch, as `serve_with` does, at a configuration without groups.
 pub fn serve<R: Threads + Wait + Net + Sync, G: Gate + Sync, W: Write>(
     rt: &R,
@@ -176,4 +286,30 @@ pub fn serve<R: Threads + Wait + Net + Sync, G: Gate + Sync, W: Write>(
 {
     let config = Config::new(alloc);
     serve_with(rt, config, front, control, workers, gate, out)
+}
+
+/// Runs the switch, as `serve` does, but each worker receives from a socket of its own at the front's address. The system gives the datagrams
+/// of one sender to one worker (SO_REUSEPORT of socket(7)).
+pub fn serve_direct<R: Threads + Wait + Net + Sync, G: Gate + Sync, W: Write>(
+    rt: &R,
+    alloc: Global,
+    front: Endpoint,
+    control: Endpoint,
+    workers: usize,
+    gate: &G,
+    out: &mut W,
+) -> Result<(), Failure>
+    requires at_least_one { 1 ≤ workers }
+    requires at_most { workers ≤ WORKERS }
+    ensures served { OnOk result (WritesServed workers (W.contents out.old) (W.contents out.new)) }
+    ensures no_input { IfErr result IsServeFailure }
+    ensures not_bound { result ≡ Err Failure.BindFailed → out.new ≡ out.old }
+    ensures ready_or_nothing { IfErr result (λ failure. failure ≢ Failure.WriteFailed → WritesReadyOrNothing (W.contents out.old) (W.contents out.new)) }
+{
+    let front = FrontRequest {
+        address: front,
+        way: ReceiveWay::Direct,
+        buffer: None,
+    };
+    serve_by(rt, Config::new(alloc), front, control, workers, gate, out)
 }

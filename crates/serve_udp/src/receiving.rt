@@ -1,10 +1,10 @@
-//! The caller's thread of the service: it hands over what comes, and answers control, until it is asked to stop.
+//! The caller's thread of the service: it hands over what comes to it, and answers control, until it is asked to stop.
 
 use crate::sockets::Sockets;
 use dispatch::{NamedTally, TallyName};
 use read_section::Operator;
 use serve_control::{Log, LogLines, SharedTotals};
-use serve_devices::{SharedCounts, WorkerQueues};
+use serve_devices::SharedCounts;
 use std::alloc::Global;
 use std::sync::Wait;
 
@@ -17,15 +17,14 @@ pub enum Ended {
     PollFailed,
 }
 
-/// What receives, with the workers' queues and the operator. When it is dropped the queues close, so that the workers end.
+/// What receives, with the operator. When it is dropped no more datagrams come to the workers, so that they end.
 #[derive(Drop)]
-pub struct Receiver {
-    pub sockets: Sockets,
-    pub queues: WorkerQueues,
+pub struct Receiver<'a> {
+    pub sockets: Sockets<'a>,
     pub operator: Operator,
 }
 
-impl Receiver {
+impl Receiver<'_> {
     /// Receives until it is asked to stop. It may wait, for the sockets and for a place in a worker's queue.
     pub fn receive<N: TallyName, L: LogLines, R: Wait>(
         &mut self,
@@ -40,7 +39,7 @@ impl Receiver {
             if self.sockets.wait().is_err() {
                 return Ended::PollFailed;
             }
-            self.sockets.receive(rt, &mut self.queues);
+            self.sockets.receive(rt);
             if self
                 .sockets
                 .answer_control(alloc, &mut self.operator, named, &mut totals, log)

@@ -1,6 +1,7 @@
 //! The sockets of the service, and the turns that they get (docs/COMMANDS.md, "serve").
 
 use crate::bound::BoundControl;
+use crate::intake::{QueuedFront, Receiving};
 use dispatch::{NamedTally, TallyName};
 use ipv4_fields::Endpoint;
 use mio::net::UdpSocket;
@@ -9,7 +10,7 @@ use read_section::Operator;
 use serve_control::{
     BoundAddresses, ControlAnswer, Desk, Log, LogLines, Peer, SharedTotals, answer_from,
 };
-use serve_devices::{SharedCounts, WorkerQueues};
+use serve_devices::SharedCounts;
 use serve_stream::Turn;
 use serve_unix::{CLIENTS, UnixControl};
 use std::alloc::{AllocError, Global};
@@ -80,13 +81,54 @@ enum Control {
 /// An event tells that a socket has something, and it tells it once; so what is not known to be empty is read until it would
 /// block.
 #[derive(Drop)]
-pub struct Sockets {
+pub struct Sockets<'a> {
     poll: Poll,
     room: Room,
-    front: UdpSocket,
-    // Not known to be empty.
-    front_ready: bool,
+    receiving: Receiving<'a>,
     control: Control,
+}
+
+impl QueuedFront {
+    // Hands the next datagrams to the workers in turn, a failed receive too.
+    fn turn<R: Wait>(&mut self, rt: &R, buf: &mut [u8]) {
+        if !self.is_ready {
+            return;
+        }
+        for _ in 0..FRONT_TURN {
+            match self.socket.recv(buf) {
+                Ok(size) => self.queues.arrive(rt, Some(&buf[..size])),
+                Err(error) if error.kind() == ErrorKind::WouldBlock => {
+                    self.is_ready = false;
+                    return;
+                }
+                Err(_) => self.queues.arrive(rt, None),
+            }
+        }
+    }
+}
+
+impl Receiving<'_> {
+    // Waits for the front from now on, unless the workers do.
+    fn register(&mut self, registry: &Registry) -> io::Result<()> {
+        match &mut self.front {
+            Some(front) => registry.register(&mut front.socket, FRONT, Interest::READABLE),
+            None => Ok(()),
+        }
+    }
+
+    fn is_ready(&self) -> bool {
+        match &self.front {
+            Some(front) => front.is_ready,
+            None => false,
+        }
+    }
+
+    // Notes an event.
+    fn wake(&mut self) {
+        if let Some(front) = &mut self.front {
+            front.is_ready = true;
+        }
+    }
 }
 
 // Waits for control from now on.
@@ -233,32 +275,30 @@ fn client_turns<N: TallyName, L: LogLines, R: Wait>(
     false
 }
 
-impl Sockets {
-    /// Waits for the front, which is bound to the address, and for control from now on.
+impl<'a> Sockets<'a> {
+    /// Waits for the front, which is bound to the address, unless the workers receive from it, and for control from now on.
     pub fn open<N: Net>(
         net: &N,
         alloc: Global,
-        mut front: UdpSocket,
+        mut receiving: Receiving<'a>,
         bound: (Endpoint, BoundControl),
         room: Room,
-    ) -> io::Result<Sockets> {
+    ) -> io::Result<Sockets<'a>> {
         let (address, control) = bound;
         let poll = Poll::new(net)?;
-        poll.registry()
-            .register(&mut front, FRONT, Interest::READABLE)?;
+        receiving.register(poll.registry())?;
         let control = open_control(alloc, address, control, poll.registry())?;
         Ok(Sockets {
             poll,
             room,
-            front,
-            front_ready: true,
+            receiving,
             control,
         })
     }
 
     /// Waits until a socket has something; if one is not known to be empty it only looks.
     pub fn wait(&mut self) -> io::Result<()> {
-        let timeout = if self.front_ready || self.control.is_ready() {
+        let timeout = if self.receiving.is_ready() || self.control.is_ready() {
             Some(Duration::ZERO)
         } else {
             None
@@ -266,27 +306,17 @@ impl Sockets {
         self.poll.poll(&mut self.room.events, timeout)?;
         for event in &self.room.events {
             match event.token() {
-                FRONT => self.front_ready = true,
+                FRONT => self.receiving.wake(),
                 token => self.control.wake(token),
             }
         }
         Ok(())
     }
 
-    /// Gives the front its turn: what comes goes to the workers in turn, a failed receive too.
-    pub fn receive<R: Wait>(&mut self, rt: &R, queues: &mut WorkerQueues) {
-        if !self.front_ready {
-            return;
-        }
-        for _ in 0..FRONT_TURN {
-            match self.front.recv(&mut self.room.buf) {
-                Ok(size) => queues.arrive(rt, Some(&self.room.buf[..size])),
-                Err(error) if error.kind() == ErrorKind::WouldBlock => {
-                    self.front_ready = false;
-                    return;
-                }
-                Err(_) => queues.arrive(rt, None),
-            }
+    /// Gives the front its turn, unless the workers receive from it: what comes goes to the workers in turn, a failed receive too.
+    pub fn receive<R: Wait>(&mut self, rt: &R) {
+        if let Some(front) = &mut self.receiving.front {
+            front.turn(rt, &mut self.room.buf);
         }
     }
 

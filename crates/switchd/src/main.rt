@@ -5,7 +5,7 @@ use command_line::{Failure, refuse_arguments, wants_control, with_control};
 use command_returning::run_returning;
 use command_waiting::run_waiting;
 use std::env::{Env, VarError};
-use std::io::{ErrorKind, LineWriter};
+use std::io::{ErrorKind, IsTerminal, LineWriter};
 use std::process::ExitCode;
 use std::{env, io};
 
@@ -37,7 +37,10 @@ fn main(rt: HostRuntime) -> ExitCode {
         Ok(status) => status,
         Err(command) => {
             let (input, log) = (rt.stdin(), rt.stderr());
-            run_waiting(&rt, alloc, command, input, log, &mut out, &mut errs) as u8
+            let terminal = rt.stdout().is_terminal();
+            run_waiting(
+                &rt, alloc, command, input, log, terminal, &mut out, &mut errs,
+            ) as u8
         }
     };
     ExitCode::from(status)

@@ -1,5 +1,6 @@
 //! The program's commands over streams in memory: what no session on the built program shows.
 
+mod counters;
 mod failures;
 mod file_faults;
 mod flood;
@@ -106,6 +107,7 @@ fn wait_for<R: Threads + Wait + Net + Clock + Files + Sync + Abort>(
                     command,
                     input,
                     log,
+                    false,
                     &mut told.out,
                     &mut told.errs,
                 );

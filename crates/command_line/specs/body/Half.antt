@@ -1,6 +1,6 @@
 -- The program with some of its commands.
 use Rattle.clap.specs.Words.{App, with_subcommand}
-use Rattle.command_line.specs.CommandLine.{check_line, compile_line, explain_line, first_line, flood_line, packets_line, replay_line, run_line, serve_line, without_commands}
+use Rattle.command_line.specs.CommandLine.{check_line, compile_line, explain_line, first_line, flood_line, load_line, packets_line, replay_line, rules_line, run_line, serve_line, tell_line, without_commands}
 
 -- those up to `explain`
 abbrev pub with_queries : App
@@ -15,3 +15,7 @@ with_queries =
 abbrev pub with_workers : App
 with_workers =
     with_subcommand (with_subcommand (with_subcommand (with_subcommand with_queries replay_line.top) packets_line.top) flood_line.top) serve_line.top
+
+-- those up to `load`
+abbrev pub with_rules : App
+with_rules = with_subcommand (with_subcommand (with_subcommand with_workers tell_line.top) rules_line.top) load_line.top

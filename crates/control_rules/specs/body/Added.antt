@@ -10,7 +10,7 @@ use Rattle.member_group.specs.declared.command.Command.{Command}
 use Rattle.member_group.specs.declared.command.Command.TheVariants.{LockFilter, SetFilter, SetSelector}
 use Rattle.member_group.specs.declared.member.Member.{Member}
 use Rattle.control_rules.specs.Text.{changes_text}
-use Rattle.control_rules.specs.body.Shown.{program_at, words_in}
+use Rattle.control_rules.specs.Shown.{program_at, words_in}
 
 -- the words are those of the program, if it has this number of words
 abbrev pub HasWordsOf : List Group → Endpoint → Option ℕ → ℕ → List ℕ → Type 0

@@ -7,7 +7,7 @@ use Rattle.config_image.specs.Image.{Group}
 use Rattle.member_group.specs.Group.{group_of}
 use Rattle.member_group.specs.Over.{config_over}
 use Rattle.control_rules.specs.body.Added.{Adds, members_rules, words_of}
-use Rattle.control_rules.specs.body.Shown.{program_at}
+use Rattle.control_rules.specs.Shown.{program_at}
 
 -- the words are the first ones of the program
 abbrev pub AreFirstWords : List Group → Endpoint → Option ℕ → List ℕ → Type 0

@@ -7,20 +7,11 @@ use Rattle.control_line.specs.Reply.{flag}
 use Rattle.control_rules.specs.Fields.{fields_in}
 use Rattle.control_rules.specs.declared.replies.GroupShown.{GroupShown}
 use Rattle.control_rules.specs.declared.replies.MemberShown.{MemberShown}
-use Rattle.control_rules.specs.declared.replies.Shown.{Shown}
 use Rattle.control_rules.specs.declared.replies.WordsShown.{WordsShown}
 use Rattle.versions.specs.declared.layout.TheConstants.{LAST_NUMBER}
 
 abbrev pub MOST : ℕ
 MOST = 4294967295
-
-pub record IsShownReply (reply : List ℕ) (shown : Shown) : Type 0 where
-  pub version : shown.version ≤ LAST_NUMBER
-  pub groups : shown.groups ≤ MOST
-  pub members : shown.members ≤ MOST
-  pub charge : shown.charge ≤ MOST
-  pub fields : fields_in reply ≡ codes "version" ∷ decimal shown.version ∷ codes "groups" ∷ decimal shown.groups
-      ∷ codes "members" ∷ decimal shown.members ∷ codes "charge" ∷ decimal shown.charge ∷ []
 
 pub record IsGroupReply (reply : List ℕ) (shown : GroupShown) : Type 0 where
   pub groups : ℕ

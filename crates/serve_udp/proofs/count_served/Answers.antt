@@ -4,7 +4,7 @@ use Rattle.std.proofs.lemmas.List.Elements.{All-map, All-weaker}
 use Rattle.dispatch.specs.Tally.{AreCountersOf}
 use Rattle.dispatch.specs.Workers.{parts_of_job}
 use Rattle.dispatch.proofs.CountedLemmas.{all_counters, counted}
-use Rattle.serve_devices.specs.Devices.{outbox_of, source_of}
+use Rattle.serve_devices.specs.Devices.{MemberOutboxValue, source_of}
 use Rattle.serve_udp.specs.Service.{AreServiceStarts, HasNewDevices, HasSilentDevices}
 use Rattle.serve_udp.specs.declared.jobs.TheConstants.{LIMIT}
 use Rattle.serve_udp.specs.declared.sockets.TheConstants.{LONGEST_DATAGRAM}
@@ -26,6 +26,6 @@ returns-in-Stopped-clause-totals g c = λ opening versions new_workers.
     new_workers opened.rooms (
       length-map c.args.jobs.items (parts_of_job _ _) ∙ sym c.args.jobs.ok.0,
       All-map HasSilentDevices (parts_of_job _ _) c.args.jobs.items
-          (All-weaker (λ job. HasNewDevices job.source job.outbox) (λ job. HasSilentDevices (parts_of_job _ _ job)) (λ job new. (ap source_of new.0, ap outbox_of new.1)) c.args.jobs.items opened.new_devices),
+          (All-weaker (λ job. HasNewDevices job.source job.outbox) (λ job. HasSilentDevices (parts_of_job _ _ job)) (λ job new. (ap source_of new.0, ap (λ (o : MemberOutboxValue). o.outbox) new.1)) c.args.jobs.items opened.new_devices),
     )
     c.gather.result c.gather.ensures.sum_exact

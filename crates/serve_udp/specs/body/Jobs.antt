@@ -1,5 +1,5 @@
 -- The jobs of the service, as they are made and when it opens.
-use Rattle.std.specs.Prelude.{◌≡◌, ◌+◌, List, length, ℕ}
+use Rattle.std.specs.Prelude.{◌≡◌, ◌+◌, List, None, length, ℕ}
 use Rattle.std.specs.List.{All}
 use Rattle.atomic_table.specs.Seated.{TableId}
 use Rattle.config_image.specs.Image.{Group}
@@ -10,32 +10,36 @@ use Rattle.dispatch.specs.declared.tally.TheConstants.{COUNTERS}
 use Rattle.dispatch.specs.declared.worker_job.Job.{Job}
 use Rattle.dispatch.specs.Counted.{IsNew, IsNewWorker}
 use Rattle.read_section.specs.Worker.{WorkerValue}
-use Rattle.serve_devices.specs.Devices.{ChannelSourceValue, MemberOutboxValue}
+use Rattle.serve_devices.specs.Devices.{MemberOutboxValue, WorkerSourceValue, new_source}
 use Rattle.serve_udp.specs.Service.{HasNewDevices, HasRoom}
+use Rattle.serve_udp.specs.declared.sockets.TheConstants.{LONGEST_DATAGRAM}
 
-module _ {source : Source.Ghosts ChannelSourceValue} {outbox : Outbox.Ghosts MemberOutboxValue} where
+-- so many sources that gave none yet, and whose datagrams are not known
+abbrev pub AreNewSources : ℕ → List WorkerSourceValue → Type 0
+AreNewSources many sources = (length sources ≡ many) × All (λ (source : WorkerSourceValue). source ≡ new_source LONGEST_DATAGRAM None) sources
+
+module _ {source : Source.Ghosts WorkerSourceValue} {outbox : Outbox.Ghosts MemberOutboxValue} where
   -- the jobs have new workers of a table, whose version 0 is the configuration
-  abbrev pub HaveNewWorkers : List Group → TableId → List (Job ChannelSourceValue MemberOutboxValue source outbox) → Type 0
-  HaveNewWorkers opening versions jobs = All (λ (job : Job ChannelSourceValue MemberOutboxValue source outbox). IsNewWorker opening versions job.worker) jobs
+  abbrev pub HaveNewWorkers : List Group → TableId → List (Job WorkerSourceValue MemberOutboxValue source outbox) → Type 0
+  HaveNewWorkers opening versions jobs = All (λ (job : Job WorkerSourceValue MemberOutboxValue source outbox). IsNewWorker opening versions job.worker) jobs
 
-  -- so many jobs with new devices were made, each with a queue, of workers and counters from the ends of two lists
+  -- so many jobs with new devices were made, of workers and counters from the ends of two lists
   pub record AreMade (many : ℕ) (workers workers_left : List WorkerValue) (counters counters_left : List CounterValue)
-      (jobs : List (Job ChannelSourceValue MemberOutboxValue source outbox)) (queues : ℕ) : Type 0 where
+      (jobs : List (Job WorkerSourceValue MemberOutboxValue source outbox)) : Type 0 where
     pub job_count : length jobs ≡ many
-    pub queue_count : queues ≡ many
     pub worker_each : length workers_left + many ≡ length workers
     pub counter_each : length counters_left + many ≡ length counters
-    pub new_devices : All (λ (job : Job ChannelSourceValue MemberOutboxValue source outbox). HasNewDevices job.source job.outbox) jobs
-    pub rooms : All (λ (job : Job ChannelSourceValue MemberOutboxValue source outbox). HasRoom (length job.buffer.items) job.limit) jobs
+    pub new_devices : All (λ (job : Job WorkerSourceValue MemberOutboxValue source outbox). HasNewDevices job.source job.outbox) jobs
+    pub rooms : All (λ (job : Job WorkerSourceValue MemberOutboxValue source outbox). HasRoom (length job.buffer.items) job.limit) jobs
     pub new_workers : (opening : List Group) (versions : TableId) → All (IsNewWorker opening versions) workers
         → All (IsNewWorker opening versions) workers_left × HaveNewWorkers opening versions jobs
     pub new_counters : (table : TableId) → All (IsNew table) counters
-        → All (IsNew table) counters_left × All (λ (job : Job ChannelSourceValue MemberOutboxValue source outbox). IsNew table job.counter) jobs
+        → All (IsNew table) counters_left × All (λ (job : Job WorkerSourceValue MemberOutboxValue source outbox). IsNew table job.counter) jobs
 
   -- jobs with new devices and new counters of one tally, whose other counters are spare
-  pub record AreOpened (table : TableId) (spare : List CounterValue) (jobs : List (Job ChannelSourceValue MemberOutboxValue source outbox)) : Type 0 where
+  pub record AreOpened (table : TableId) (spare : List CounterValue) (jobs : List (Job WorkerSourceValue MemberOutboxValue source outbox)) : Type 0 where
     pub all_counters : length spare + length jobs ≡ COUNTERS
     pub new_spare : All (IsNew table) spare
-    pub new_counters : All (λ (job : Job ChannelSourceValue MemberOutboxValue source outbox). IsNew table job.counter) jobs
-    pub new_devices : All (λ (job : Job ChannelSourceValue MemberOutboxValue source outbox). HasNewDevices job.source job.outbox) jobs
-    pub rooms : All (λ (job : Job ChannelSourceValue MemberOutboxValue source outbox). HasRoom (length job.buffer.items) job.limit) jobs
+    pub new_counters : All (λ (job : Job WorkerSourceValue MemberOutboxValue source outbox). IsNew table job.counter) jobs
+    pub new_devices : All (λ (job : Job WorkerSourceValue MemberOutboxValue source outbox). HasNewDevices job.source job.outbox) jobs
+    pub rooms : All (λ (job : Job WorkerSourceValue MemberOutboxValue source outbox). HasRoom (length job.buffer.items) job.limit) jobs

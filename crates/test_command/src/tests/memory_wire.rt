@@ -101,3 +101,34 @@ impl Wire for MemoryWire {
         }
     }
 }
+
+// It is sent these lines in their order, and gives the reply of each, or none in time. Another line is not sent.
+#[derive(Drop)]
+pub struct ScriptWire {
+    pub lines: &'static [(&'static str, Option<&'static str>)],
+    pub next: usize,
+}
+
+impl Wire for ScriptWire {
+    ghost use Rattle.std.specs.Prelude.{None};
+
+    ghost log = { λ _. None };
+
+    fn send(&mut self, _to: Peer, bytes: &[u8]) -> Result<(), WireFailed> {
+        match self.lines.get(self.next) {
+            Some((line, _)) if line.as_bytes() == bytes => Ok(()),
+            _ => Err(WireFailed),
+        }
+    }
+
+    fn receive(&mut self, buf: &mut [u8]) -> Result<Option<Came>, WireFailed> {
+        let Some((_, reply)) = self.lines.get(self.next) else {
+            return Ok(None);
+        };
+        self.next = self.next.saturating_add(1);
+        match reply {
+            Some(text) => Ok(put(SWITCH, text, buf)),
+            None => Ok(None),
+        }
+    }
+}

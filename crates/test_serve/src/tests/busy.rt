@@ -1,6 +1,9 @@
 //! The switch while it has much to do: its front is flooded, or datagrams wait for a worker when it is asked to stop.
 
-use super::client::{Case, Client, PACKET, Ports, TURNS, at, local, new_client, new_output};
+use super::client::{
+    Case, Client, PACKET, Ports, TURNS, at, local, new_client, new_output, serve_by,
+};
+use command_line::{ReceiveWay, Workers};
 use dispatch::Gate;
 use serve_udp::serve;
 use std::net::{Net, UdpSocket};
@@ -79,21 +82,23 @@ fn answers_beside(client: &Client, flood: &Flood) -> io::Result<(u32, bool)> {
 
 #[test]
 fn control_is_answered_beside_a_flood(rt: HostRuntime) {
-    let (mut out, ports) = new_output(&rt, rt.alloc());
-    let flood = Flood {
-        socket: UdpSocket::bind(&rt, local(0)).expect(&rt, "a socket"),
-        ports: Arc::try_clone(&ports).expect(&rt, "a third owner"),
-        batches: AtomicU64::new(0),
-        ended: AtomicU64::new(0),
-    };
-    let (served, asked) = thread::join(
-        &rt,
-        || serve(&rt, rt.alloc(), at(0), at(0), 2, &flood, &mut out),
-        || ask_beside(&rt, &ports, &flood),
-    );
-    assert!(rt; served == Ok(()), "{served:?}");
-    assert_eq!(rt; asked.expect(&rt, "a client"), (20, true));
-    assert!(rt; flood.batches.load(Ordering::SeqCst) >= 100);
+    for way in [ReceiveWay::Queued, ReceiveWay::Direct] {
+        let (mut out, ports) = new_output(&rt, rt.alloc());
+        let flood = Flood {
+            socket: UdpSocket::bind(&rt, local(0)).expect(&rt, "a socket"),
+            ports: Arc::try_clone(&ports).expect(&rt, "a third owner"),
+            batches: AtomicU64::new(0),
+            ended: AtomicU64::new(0),
+        };
+        let (served, asked) = thread::join(
+            &rt,
+            || serve_by(&rt, rt.alloc(), way, Workers { count: 2 }, &flood, &mut out),
+            || ask_beside(&rt, &ports, &flood),
+        );
+        assert!(rt; served == Ok(()), "{way:?}: {served:?}");
+        assert_eq!(rt; asked.expect(&rt, "a client"), (20, true));
+        assert!(rt; flood.batches.load(Ordering::SeqCst) >= 100);
+    }
 }
 
 // The first batch waits until it is let go, for `TURNS` turns at most.

@@ -1,12 +1,16 @@
 //! A client of the switch over the loopback, and what the switch writes.
 
+use command_line::{Failure, ReceiveWay, Workers};
+use dispatch::Gate;
 use ipv4_fields::Endpoint;
+use serve_udp::{serve, serve_direct};
 use std::alloc::Global;
 use std::io::{ErrorKind, Write};
 use std::net::{Ipv4Addr, Net, SocketAddr, SocketAddrV4, UdpSocket};
 use std::process::Abort;
-use std::sync::Arc;
 use std::sync::atomic::{AtomicU64, Ordering};
+use std::sync::{Arc, Wait};
+use std::thread::Threads;
 use std::time::Duration;
 use std::{io, thread};
 
@@ -45,6 +49,22 @@ pub fn new_output(rt: &impl Abort, alloc: Global) -> (Output, Ports) {
         ports: Arc::try_clone(&ports).expect(rt, "a second owner"),
     };
     (output, ports)
+}
+
+/// Serves at loopback ports that the system picks.
+pub fn serve_by<R: Threads + Wait + Net + Sync, G: Gate + Sync, W: Write>(
+    rt: &R,
+    alloc: Global,
+    way: ReceiveWay,
+    workers: Workers,
+    gate: &G,
+    out: &mut W,
+) -> Result<(), Failure> {
+    let count = workers.count;
+    match way {
+        ReceiveWay::Queued => serve(rt, alloc, at(0), at(0), count, gate, out),
+        ReceiveWay::Direct => serve_direct(rt, alloc, at(0), at(0), count, gate, out),
+    }
 }
 
 fn port_of(word: Option<&str>) -> Option<u16> {

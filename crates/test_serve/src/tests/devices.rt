@@ -9,14 +9,16 @@ use ipv4_fields::Endpoint;
 use member_group::{Command, Config};
 use read_section::{Worker, open};
 use serve_devices::{
-    ChannelReceiver, ChannelSender, ChannelSource, QUEUE_PLACES, Received, SocketOutbox,
-    WorkerQueue, WorkerQueues, open_channel, open_queue,
+    ChannelReceiver, ChannelSender, Ingress, QUEUE_PLACES, QueueIngress, Received, Receives,
+    SocketEgress, SocketIngress, SocketOutbox, StopReceiving, WorkerQueue, WorkerQueues,
+    WorkerSource, open_channel, open_queue,
 };
 use std::alloc::Global;
 use std::io;
-use std::net::UdpSocket;
+use std::net::{SocketAddr, UdpSocket};
 use std::process::Abort;
 use std::sync::Wait;
+use std::sync::atomic::AtomicBool;
 use std::test::Fail;
 use std::time::Duration;
 
@@ -55,9 +57,19 @@ fn totals(tally: &mut Tally) -> [u64; KINDS] {
     counts
 }
 
+/// A source over the end of a queue.
+type QueueSource<'a, R> = WorkerSource<QueueIngress<'a, R>>;
+
+// A worker's queue, with a source that has room for 64 bytes.
+fn new_queue<R: Abort + Wait>(rt: &R, alloc: Global) -> (QueueSource<'_, R>, WorkerQueue) {
+    let (ingress, queue) = open_queue(rt, alloc).expect(rt, "a queue");
+    let room = vec![in alloc; 0; 64].expect(rt, "memory");
+    (WorkerSource::new(ingress, room), queue)
+}
+
 // The queues of one worker, and its source.
-fn one_queue<R: Abort + Wait>(rt: &R, alloc: Global) -> (ChannelSource<'_, R>, WorkerQueues) {
-    let (source, queue) = open_queue(rt, alloc).expect(rt, "a queue");
+fn one_queue<R: Abort + Wait>(rt: &R, alloc: Global) -> (QueueSource<'_, R>, WorkerQueues) {
+    let (source, queue) = new_queue(rt, alloc);
     let mut queues = Vec::new(alloc);
     queues.push(queue).expect(rt, "memory");
     (source, WorkerQueues::new(alloc, queues))
@@ -75,7 +87,7 @@ fn rest_is_judged<R: Abort + Wait>(
     rt: &R,
     worker: &mut Worker,
     counter: &mut Counter,
-    source: &mut ChannelSource<'_, R>,
+    source: &mut QueueSource<'_, R>,
     outbox: &mut Sends,
     tally: &mut Tally,
 ) {
@@ -128,7 +140,7 @@ const RECEIVES: [(Result<Option<usize>, Failed>, [u8; 3]); 6] = [
     (Ok(None), [3, 4, 5]),
 ];
 
-fn come_in_order<R: Abort + Wait>(rt: &R, source: &mut ChannelSource<'_, R>) {
+fn come_in_order<S: Source>(rt: &impl Abort, source: &mut S) {
     let mut buf = [0; 3];
     for (place, wanted) in RECEIVES.iter().enumerate() {
         let answer = source.next(&mut buf);
@@ -144,6 +156,42 @@ fn receives_come_in_order_and_cut(rt: HostRuntime) {
     come_in_order(&rt, &mut source);
 }
 
+// The same receives in memory.
+fn in_memory(rt: &impl Abort, alloc: Global) -> WorkerSource<Receives> {
+    let mut receives = Receives::new(alloc);
+    for datagram in [[1, 2].as_slice(), &[]] {
+        let next = received(rt, alloc, datagram);
+        receives.push(next).expect(rt, "memory");
+    }
+    receives.push(Received::new(alloc)).expect(rt, "memory");
+    let last = received(rt, alloc, &[3, 4, 5, 6]);
+    receives.push(last).expect(rt, "memory");
+    let room = vec![in alloc; 0; 4].expect(rt, "memory");
+    WorkerSource::new(receives, room)
+}
+
+#[test]
+fn receives_in_memory_come_in_order(rt: HostRuntime) {
+    let mut source = in_memory(&rt, rt.alloc());
+    come_in_order(&rt, &mut source);
+}
+
+// It is asked twice before each receive whether it would wait.
+#[test]
+fn receives_ahead_come_in_order(rt: HostRuntime) {
+    let mut source = in_memory(&rt, rt.alloc());
+    let mut buf = [0; 3];
+    for (place, wanted) in RECEIVES.iter().enumerate() {
+        let waits = (source.would_wait(), source.would_wait());
+        assert!(rt;
+            waits == (place >= 4, place >= 4),
+            "receive {place}: {waits:?}"
+        );
+        let answer = source.next(&mut buf);
+        assert!(rt; (answer, buf) == *wanted, "receive {place}: {answer:?}");
+    }
+}
+
 fn received(rt: &impl Abort, alloc: Global, datagram: &[u8]) -> Received {
     let mut received = Received::new(alloc);
     received.fill(datagram).expect(rt, "memory");
@@ -154,7 +202,7 @@ fn both_are_received<R: Abort + Wait>(
     rt: &R,
     alloc: Global,
     arriving: &mut ChannelSender<Received>,
-    source: &mut ChannelSource<'_, R>,
+    source: &mut QueueSource<'_, R>,
 ) {
     let mut buf = [0; 3];
     for datagram in &[[1, 2, 3], [4, 5, 6]] {
@@ -187,7 +235,9 @@ fn first_comes_back<R: Abort + Wait>(rt: &R, opened: &mut ChannelReceiver<Receiv
 fn opened_receives_come_back(rt: HostRuntime) {
     let (mut arriving, at_worker) = open_channel(rt.alloc(), 2).expect(&rt, "a channel");
     let (from_worker, mut opened) = open_channel(rt.alloc(), 1).expect(&rt, "a channel");
-    let mut source = ChannelSource::new(&rt, at_worker, from_worker);
+    let room = vec![in rt.alloc(); 0; 64].expect(&rt, "memory");
+    let ingress = QueueIngress::new(&rt, at_worker, from_worker);
+    let mut source = WorkerSource::new(ingress, room);
     both_are_received(&rt, rt.alloc(), &mut arriving, &mut source);
     first_comes_back(&rt, &mut opened);
 }
@@ -196,9 +246,9 @@ fn opened_receives_come_back(rt: HostRuntime) {
 fn two_queues<R: Abort + Wait>(
     rt: &R,
     alloc: Global,
-) -> (ChannelSource<'_, R>, ChannelSource<'_, R>, WorkerQueues) {
-    let (first, one) = open_queue(rt, alloc).expect(rt, "a queue");
-    let (second, other) = open_queue(rt, alloc).expect(rt, "a queue");
+) -> (QueueSource<'_, R>, QueueSource<'_, R>, WorkerQueues) {
+    let (first, one) = new_queue(rt, alloc);
+    let (second, other) = new_queue(rt, alloc);
     let mut queues = Vec::new(alloc);
     queues.push(one).expect(rt, "memory");
     queues.push(other).expect(rt, "memory");
@@ -208,7 +258,7 @@ fn two_queues<R: Abort + Wait>(
 fn other_is_served<R: Abort + Wait>(
     rt: &R,
     queues: &mut WorkerQueues,
-    source: &mut ChannelSource<'_, R>,
+    source: &mut QueueSource<'_, R>,
 ) {
     let mut buf = [0; 3];
     for i in 1..=QUEUE_PLACES as u8 {
@@ -253,8 +303,8 @@ fn new_job<R: Abort + Wait>(
     alloc: Global,
     worker: Worker,
     counter: Counter,
-) -> (Job<ChannelSource<'_, R>, Sends>, WorkerQueue) {
-    let (source, queue) = open_queue(rt, alloc).expect(rt, "a queue");
+) -> (Job<QueueSource<'_, R>, Sends>, WorkerQueue) {
+    let (source, queue) = new_queue(rt, alloc);
     let job = Job {
         worker,
         counter,
@@ -271,7 +321,7 @@ fn two_jobs<'a, R: Abort + Wait>(
     rt: &'a R,
     alloc: Global,
     counters: &mut Vec<Counter>,
-) -> (Vec<Job<ChannelSource<'a, R>, Sends>>, WorkerQueues) {
+) -> (Vec<Job<QueueSource<'a, R>, Sends>>, WorkerQueues) {
     let mut workers = new_workers(rt, alloc);
     let mut jobs = Vec::new(alloc);
     let mut queues = Vec::new(alloc);
@@ -299,7 +349,7 @@ fn every_other_is_sent(rt: &impl Abort, outbox: &Sends, first: u8) {
 fn turns_were_taken<R: Abort + Wait>(
     rt: &R,
     tally: &mut Tally,
-    dones: &[Done<ChannelSource<'_, R>, Sends>],
+    dones: &[Done<QueueSource<'_, R>, Sends>],
 ) {
     assert_eq!(rt; totals(tally), [0, 0, 0, 0, 200, 0, 400]);
     assert!(rt; dones.len() == 2);
@@ -320,9 +370,9 @@ fn two_workers_take_turns(rt: HostRuntime) {
     turns_were_taken(&rt, &mut tally, &dones);
 }
 
-fn is_sent_whole(
+fn is_sent_whole<O: Outbox>(
     member: &UdpSocket,
-    outbox: &mut SocketOutbox,
+    outbox: &mut O,
     to: Endpoint,
     datagram: &[u8],
     buf: &mut [u8],
@@ -335,10 +385,10 @@ fn is_sent_whole(
 }
 
 // 65,507 bytes are the most that UDP over IPv4 takes. Nothing is sent to port 0.
-fn datagrams_are_sent(
+fn datagrams_are_sent<O: Outbox>(
     rt: &impl Abort,
     member: &UdpSocket,
-    outbox: &mut SocketOutbox,
+    outbox: &mut O,
     longest: &[u8],
     too_long: &[u8],
     buf: &mut [u8],
@@ -357,9 +407,94 @@ fn datagrams_are_sent(
 fn outbox_sends_whole_datagrams(rt: HostRuntime) -> Result<(), Fail> {
     let member = UdpSocket::bind(&rt, "127.0.0.1:0")?;
     member.set_read_timeout(Some(Duration::from_secs(5)))?;
-    let mut outbox = SocketOutbox::new(UdpSocket::bind(&rt, "127.0.0.1:0")?);
+    let stopped = AtomicBool::new(false);
+    let socket = UdpSocket::bind(&rt, "127.0.0.1:0")?;
+    let mut outbox = SocketOutbox::new(SocketEgress::new(&rt, socket, &stopped)?);
     let longest = vec![in rt.alloc(); 7; 65_507].expect(&rt, "memory");
     let too_long = vec![in rt.alloc(); 7; 65_508].expect(&rt, "memory");
     let mut buf = vec![in rt.alloc(); 0; 65_535].expect(&rt, "memory");
     datagrams_are_sent(&rt, &member, &mut outbox, &longest, &too_long, &mut buf)
+}
+
+// What a receive found, and the buffer after it.
+type ReceivedInto = (Option<Result<usize, Failed>>, [u8; 3]);
+
+fn received_into<I: Ingress>(ingress: &mut I) -> ReceivedInto {
+    let mut buf = [0; 3];
+    (ingress.receive(&mut buf), buf)
+}
+
+fn tried_into<I: Ingress>(ingress: &mut I) -> ReceivedInto {
+    let mut buf = [0; 3];
+    (ingress.try_receive(&mut buf), buf)
+}
+
+fn datagrams_are_received<I: Ingress>(
+    rt: &impl Abort,
+    ingress: &mut I,
+    sender: &UdpSocket,
+    to: SocketAddr,
+) -> Result<(), Fail> {
+    assert_eq!(rt; tried_into(ingress), (None, [0, 0, 0]));
+    sender.send_to(&[1, 2], to)?;
+    assert_eq!(rt; received_into(ingress), (Some(Ok(2)), [1, 2, 0]));
+    sender.send_to(&[], to)?;
+    assert_eq!(rt; received_into(ingress), (Some(Ok(0)), [0, 0, 0]));
+    sender.send_to(&[], to)?;
+    assert_eq!(rt; tried_into(ingress), (Some(Ok(0)), [0, 0, 0]));
+    sender.send_to(&[3, 4, 5, 6], to)?;
+    assert_eq!(rt; tried_into(ingress), (Some(Ok(3)), [3, 4, 5]));
+    assert_eq!(rt; tried_into(ingress), (None, [0, 0, 0]));
+    Ok(())
+}
+
+fn is_received_until_stopped<R: Abort + Wait>(
+    rt: &R,
+    sockets: &[UdpSocket],
+    sender: &UdpSocket,
+) -> Result<(), Fail> {
+    let socket = sockets.first().expect(rt, "a socket");
+    let to = socket.local_addr()?;
+    let stopped = AtomicBool::new(false);
+    let mut ingress = SocketIngress::new(rt, socket, &stopped);
+    datagrams_are_received(rt, &mut ingress, sender, to)?;
+    sender.send_to(&[7], to)?;
+    drop(StopReceiving {
+        stopped: &stopped,
+        sockets,
+    });
+    assert_eq!(rt; tried_into(&mut ingress), (None, [0, 0, 0]));
+    assert_eq!(rt; received_into(&mut ingress), (None, [0, 0, 0]));
+    Ok(())
+}
+
+// An empty datagram does not end it, and once it is ended a datagram that is there is not received.
+#[test]
+fn socket_receives_until_it_is_stopped(rt: HostRuntime) -> Result<(), Fail> {
+    let sockets = [UdpSocket::bind(&rt, "127.0.0.1:0")?];
+    let sender = UdpSocket::bind(&rt, "127.0.0.1:0")?;
+    is_received_until_stopped(&rt, &sockets, &sender)
+}
+
+// What was received ahead is still given.
+#[test]
+fn receive_ahead_outlasts_the_end(rt: HostRuntime) -> Result<(), Fail> {
+    let sockets = [UdpSocket::bind(&rt, "127.0.0.1:0")?];
+    let sender = UdpSocket::bind(&rt, "127.0.0.1:0")?;
+    let stopped = AtomicBool::new(false);
+    let ingress = SocketIngress::new(&rt, &sockets[0], &stopped);
+    let room = vec![in rt.alloc(); 0; 64].expect(&rt, "memory");
+    let mut source = WorkerSource::new(ingress, room);
+    assert!(rt; source.would_wait());
+    sender.send_to(&[7, 8], sockets[0].local_addr()?)?;
+    assert!(rt; !source.would_wait());
+    drop(StopReceiving {
+        stopped: &stopped,
+        sockets: &sockets,
+    });
+    let mut buf = [0; 3];
+    assert_eq!(rt; (source.next(&mut buf), buf), (Ok(Some(2)), [7, 8, 0]));
+    assert!(rt; source.would_wait());
+    assert_eq!(rt; source.next(&mut buf), Ok(None));
+    Ok(())
 }

@@ -1,9 +1,9 @@
 //! The switch over the loopback: datagrams to two workers, control lines meanwhile, and its end.
 
-use super::client::{Case, Client, PACKET, Ports, TURNS, at, new_client, new_output};
-use command_line::Failure;
+use super::client::{Case, Client, PACKET, Ports, TURNS, at, new_client, new_output, serve_by};
+use command_line::{Failure, ReceiveWay, Workers};
 use dispatch::{Gate, OpenGate};
-use serve_udp::serve;
+use serve_udp::{serve, serve_direct};
 use std::alloc::Global;
 use std::net::{Net, SocketAddr, UdpSocket};
 use std::process::Abort;
@@ -104,6 +104,12 @@ const WANTED: Found = Found {
     wrong_stop: None,
 };
 
+// One sender's datagrams all go to one worker.
+const WANTED_DIRECT: Found = Found {
+    two_ports: false,
+    ..WANTED
+};
+
 const WRITTEN: &str = "ready 127.0.0.1:47001 127.0.0.1:47002\n\
     malformed 1 nogroup 1 nomembers 0 dropped 0 delivered 2 sendfailed 0 receivefailed 0\n";
 
@@ -140,17 +146,31 @@ fn serve_over_loopback(rt: HostRuntime) {
 }
 
 #[test]
-fn serve_on_one_address(rt: HostRuntime) {
-    let mut out = Vec::new(rt.alloc());
-    let served = serve(
+fn serve_direct_over_loopback(rt: HostRuntime) {
+    let member = new_member(&rt, "127.0.0.1:9003").expect(&rt, "a member");
+    let gate = Meeting {
+        came: AtomicU64::new(0),
+        failures: AtomicU64::new(0),
+    };
+    let (mut out, ports) = new_output(&rt, rt.alloc());
+    let (served, found) = thread::join(
         &rt,
-        rt.alloc(),
-        at(47003),
-        at(47003),
-        1,
-        &OpenGate,
-        &mut out,
+        || serve_direct(&rt, rt.alloc(), at(47001), at(47002), 2, &gate, &mut out),
+        || find(&rt, &ports, &member, &gate),
     );
+    assert!(rt; served == Ok(()), "{served:?}");
+    assert_eq!(rt; found.expect(&rt, "a client"), WANTED_DIRECT);
+    assert_eq!(rt; str::from_utf8(&out.bytes), Ok(WRITTEN));
+    assert!(rt; gate.failures.load(Ordering::SeqCst) == 0);
+}
+
+#[test]
+fn serve_on_one_address(rt: HostRuntime) {
+    let (place, gate) = (at(47003), &OpenGate);
+    let mut out = Vec::new(rt.alloc());
+    let served = serve(&rt, rt.alloc(), place, place, 1, gate, &mut out);
+    assert_eq!(rt; served, Err(Failure::BindFailed));
+    let served = serve_direct(&rt, rt.alloc(), place, place, 4, gate, &mut out);
     assert_eq!(rt; served, Err(Failure::BindFailed));
     assert!(rt; out.is_empty());
 }
@@ -194,14 +214,23 @@ fn answered<N: Net>(net: &N, ports: &Ports) -> io::Result<(Option<usize>, bool, 
 
 #[test]
 fn replies_are_not_answered(rt: HostRuntime) {
-    let (mut out, ports) = new_output(&rt, rt.alloc());
-    let (served, found) = thread::join(
-        &rt,
-        || serve(&rt, rt.alloc(), at(0), at(0), 1, &OpenGate, &mut out),
-        || answered(&rt, &ports),
-    );
-    assert!(rt; served == Ok(()), "{served:?}");
-    assert_eq!(rt; found.expect(&rt, "a client"), (None, true, true));
+    for way in [ReceiveWay::Queued, ReceiveWay::Direct] {
+        let (mut out, ports) = new_output(&rt, rt.alloc());
+        let (served, found) = thread::join(
+            &rt,
+            || serve_by(
+                &rt,
+                rt.alloc(),
+                way,
+                Workers { count: 1 },
+                &OpenGate,
+                &mut out,
+            ),
+            || answered(&rt, &ports),
+        );
+        assert!(rt; served == Ok(()), "{way:?}: {served:?}");
+        assert_eq!(rt; found.expect(&rt, "a client"), (None, true, true));
+    }
 }
 
 // A group whose first member gets the packets, until its selector picks the second, which has no port.
@@ -304,17 +333,54 @@ fn unusual<R: Abort + Net>(
     unusual_of(rt, alloc, &client, member, longest)
 }
 
-// Sixty-four workers, on ports that the system picks.
+// Sixty-four workers.
 #[test]
 fn unusual_datagrams(rt: HostRuntime) {
     let member = new_member(&rt, "127.0.0.1:0").expect(&rt, "a member");
     let mut longest = new_longest(&rt, rt.alloc());
-    let (mut out, ports) = new_output(&rt, rt.alloc());
-    let (served, found) = thread::join(
-        &rt,
-        || serve(&rt, rt.alloc(), at(0), at(0), 64, &OpenGate, &mut out),
-        || unusual(&rt, rt.alloc(), &ports, &member, &mut longest),
-    );
-    assert!(rt; served == Ok(()), "{served:?}");
-    assert_eq!(rt; found.expect(&rt, "a client"), [true; 7]);
+    for way in [ReceiveWay::Queued, ReceiveWay::Direct] {
+        let (mut out, ports) = new_output(&rt, rt.alloc());
+        let (served, found) = thread::join(
+            &rt,
+            || serve_by(
+                &rt,
+                rt.alloc(),
+                way,
+                Workers { count: 64 },
+                &OpenGate,
+                &mut out,
+            ),
+            || unusual(&rt, rt.alloc(), &ports, &member, &mut longest),
+        );
+        assert!(rt; served == Ok(()), "{way:?}: {served:?}");
+        assert_eq!(rt; found.expect(&rt, "a client"), [true; 7]);
+    }
+}
+
+// Asks a switch to stop that no datagram came to.
+fn stopped_at_once<N: Net>(net: &N, ports: &Ports) -> io::Result<Option<usize>> {
+    let client = new_client(net, ports)?;
+    client.first_wrong(&STOP)
+}
+
+// All workers wait in a receive when it is asked to stop.
+#[test]
+fn workers_that_wait_end(rt: HostRuntime) {
+    for way in [ReceiveWay::Queued, ReceiveWay::Direct] {
+        let (mut out, ports) = new_output(&rt, rt.alloc());
+        let (served, wrong) = thread::join(
+            &rt,
+            || serve_by(
+                &rt,
+                rt.alloc(),
+                way,
+                Workers { count: 64 },
+                &OpenGate,
+                &mut out,
+            ),
+            || stopped_at_once(&rt, &ports),
+        );
+        assert!(rt; served == Ok(()), "{way:?}: {served:?}");
+        assert_eq!(rt; wrong.expect(&rt, "a client"), None);
+    }
 }

@@ -1,14 +1,12 @@
 use Rattle.clap.specs.Words.{App}
-use Rattle.command_line.specs.CommandLine.{load_line, rules_line, tell_line}
-use Rattle.command_line.specs.body.Half.{with_workers}
+use Rattle.command_line.specs.CommandLine.{metrics_line, top_line}
+use Rattle.command_line.specs.body.Half.{with_rules}
 use Rattle.command_line.proofs.BuilderLemmas.{and, both}
 use Rattle.command_line.proofs.builders.program.Goals as goal
 
 pub returns : goal.returns
 returns c =
-    let tell = c.tell_command.ensures in let rules = c.rules_command.ensures in let load = c.load_command.ensures in
-    let to_tell : App = and tell_line with_workers in
-    let to_rules : App = and rules_line to_tell in
-    let with_tell = c.with_command-program.ensures with_workers tell_line c.with_workers.ensures (both c.tell_command.result tell_line tell.app tell.local) in
-    let with_rules = c.with_command-program-2.ensures to_tell rules_line with_tell (both c.rules_command.result rules_line rules.app rules.local) in
-    c.with_command.ensures to_rules load_line with_rules (both c.load_command.result load_line load.app load.local)
+    let metrics = c.metrics_command.ensures in let top = c.top_command.ensures in
+    let to_metrics : App = and metrics_line with_rules in
+    let with_metrics = c.with_command-program.ensures with_rules metrics_line c.with_rules.ensures (both c.metrics_command.result metrics_line metrics.app metrics.local) in
+    c.with_command.ensures to_metrics top_line with_metrics (both c.top_command.result top_line top.app top.local)

@@ -1,6 +1,6 @@
 use Rattle.std.proofs.Common.{codes}
 use Rattle.clap.specs.Words.{App, new_app, with_rule}
-use Rattle.command_line.specs.CommandLine.{flag, named_argument, required_named_argument, workers_argument}
+use Rattle.command_line.specs.CommandLine.{flag, named_argument, receive_buffer_argument, required_named_argument, workers_argument}
 use Rattle.command_line.proofs.builders.serve_command.Goals as goal
 
 pub returns-clause-app : goal.returns-clause-app
@@ -14,7 +14,11 @@ returns-clause-app c =
     let to3 : App = with_rule to2 workers_argument in
     let made4 = c.with_argument-command-4.ensures.app to3 (named_argument (codes "rules")) made3 c.rules_argument.ensures.rule c.rules_argument.ensures.local in
     let to4 : App = with_rule to3 (named_argument (codes "rules")) in
-    c.with_argument.ensures.app to4 (flag (codes "log")) made4 c.flag_argument-log.ensures.rule c.flag_argument-log.ensures.local
+    let made5 = c.with_argument-command-5.ensures.app to4 (flag (codes "log")) made4 c.flag_argument-log.ensures.rule c.flag_argument-log.ensures.local in
+    let to5 : App = with_rule to4 (flag (codes "log")) in
+    let made6 = c.with_argument-command-6.ensures.app to5 (named_argument (codes "receive")) made5 c.receive_argument.ensures.rule c.receive_argument.ensures.local in
+    let to6 : App = with_rule to5 (named_argument (codes "receive")) in
+    c.with_argument.ensures.app to6 receive_buffer_argument made6 c.receive_buffer_argument.ensures.rule c.receive_buffer_argument.ensures.local
 
 pub returns-clause-local : goal.returns-clause-local
 returns-clause-local c =
@@ -22,4 +26,6 @@ returns-clause-local c =
     let made2 = c.with_argument-command-2.ensures.local made1 c.address_argument-control.ensures.local in
     let made3 = c.with_argument-command-3.ensures.local made2 c.workers_argument.ensures.local in
     let made4 = c.with_argument-command-4.ensures.local made3 c.rules_argument.ensures.local in
-    c.with_argument.ensures.local made4 c.flag_argument-log.ensures.local
+    let made5 = c.with_argument-command-5.ensures.local made4 c.flag_argument-log.ensures.local in
+    let made6 = c.with_argument-command-6.ensures.local made5 c.receive_argument.ensures.local in
+    c.with_argument.ensures.local made6 c.receive_buffer_argument.ensures.local

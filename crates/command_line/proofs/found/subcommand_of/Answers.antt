@@ -36,3 +36,9 @@ returns-in-rules c = search rules
 
 pub returns-in-load : goal.returns-in-load
 returns-in-load c = search rules
+
+pub returns-in-metrics : goal.returns-in-metrics
+returns-in-metrics c = search rules
+
+pub returns-in-top : goal.returns-in-top
+returns-in-top c = search rules

@@ -20,6 +20,6 @@ returns-in-Err-clause-refused g c = λ is.
     let refused = c.in-Err.ensures.refused is in
     let file = named (λ (name : Bor (List ℕ)). name.now) c.args.file refused.0 in
     no_rules file.0 file.1
-    (c.in-Some.front, c.in-Some.ensures.0, sym c.as_bytes.ensures.value ∙ c.in-Some.ensures.1)
+    (c.in-Some.address, c.in-Some.ensures.0, sym c.as_bytes.ensures.value ∙ c.in-Some.ensures.1)
     (c.in-Some-from_text.control, c.in-Some-from_text.ensures)
     refused.1

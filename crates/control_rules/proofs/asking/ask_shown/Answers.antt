@@ -1,6 +1,6 @@
 use Rattle.std.proofs.Common.{codes, refl, subst, inl}
 use Rattle.std.specs.Prelude.{IfSome}
-use Rattle.control_rules.specs.body.Replies.{IsShownReply}
+use Rattle.control_rules.specs.Shown.{IsShownReply}
 use Rattle.control_rules.proofs.LearnLemmas.{if_some_all, learns_asked}
 use Rattle.control_rules.proofs.ShownLemmas.{shown_true}
 use Rattle.control_rules.proofs.asking.ask_shown.Goals as goal

@@ -1,6 +1,6 @@
 use Rattle.std.proofs.Common.{subst}
 use Rattle.std.proofs.lemmas.Bool.{false≢true}
-use Rattle.control_rules.specs.body.Shown.{IsGroupAt}
+use Rattle.control_rules.specs.Shown.{IsGroupAt}
 use Rattle.control_rules.proofs.AddedLemmas.{group_added}
 use Rattle.control_rules.proofs.FoundLemmas.{some_holds}
 use Rattle.control_rules.proofs.LearnLemmas.{learns_result, learns_then, learns_weaker}

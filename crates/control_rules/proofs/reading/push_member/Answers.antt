@@ -1,6 +1,6 @@
 use Rattle.std.proofs.Common.{subst}
 use Rattle.std.proofs.lemmas.Bool.{false≢true}
-use Rattle.control_rules.specs.body.Shown.{IsMemberAt}
+use Rattle.control_rules.specs.Shown.{IsMemberAt}
 use Rattle.control_rules.proofs.AddedLemmas.{member_added}
 use Rattle.control_rules.proofs.FoundLemmas.{some_holds}
 use Rattle.control_rules.proofs.LearnLemmas.{learns_then, learns_weaker}

@@ -1,4 +1,4 @@
-use Rattle.control_rules.specs.body.Shown.{IsShownOf}
+use Rattle.control_rules.specs.Shown.{IsShownOf}
 use Rattle.control_rules.proofs.FileLemmas.{file_is}
 use Rattle.control_rules.proofs.FoundLemmas.{some_holds}
 use Rattle.control_rules.proofs.LearnLemmas.{learns_then, learns_weaker}

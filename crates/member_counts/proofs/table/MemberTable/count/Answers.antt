@@ -1,4 +1,4 @@
-use Rattle.std.proofs.Common.{◌≡◌, ◌∙◌, List, false, subst, sym, take, take_all}
+use Rattle.std.proofs.Common.{◌≡◌, ◌∙◌, List, false, subst, take, take_all}
 use Rattle.member_counts.specs.declared.log.Outcome.TheVariants.{NoMembers}
 use Rattle.member_counts.specs.Table.{CountsLog}
 use Rattle.member_counts.specs.declared.log.Counted.{Counted}

@@ -1,0 +1,12 @@
+use Rattle.std.proofs.Common.{◌∙◌, ◌-◌, ◌^◌, ap, Bor, List, codes, ℕ}
+use Rattle.clap.specs.Words.{found_of}
+use Rattle.clap.proofs.WalkLemmas.{first_value-rows}
+use Rattle.command_line.specs.CommandLine.{number_in}
+use Rattle.command_line.proofs.CommandLineLemmas.{read_or}
+use Rattle.command_line.proofs.found.count_of.Goals as goal
+
+pub returns : goal.returns
+returns c =
+    c.number.ensures.number
+    ∙ ap (number_in (2 ^ 64 - 1)) (ap (λ (text : Bor (List ℕ)). text.now) c.unwrap_or-text.ensures
+    ∙ read_or c.get_str.result _ _ (c.get_str.ensures ∙ first_value-rows (found_of c.args.found.now) (codes "count")))

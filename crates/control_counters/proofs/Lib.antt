@@ -1,0 +1,4 @@
+pub mod WatchLemmas
+mod TextLemmas
+mod FrameLemmas
+mod ReadingLemmas

@@ -1,0 +1,31 @@
+use Rattle.std.proofs.Common.{◌≡◌, ap, map, refl, subst, sym, take}
+use Rattle.control_rules.proofs.FoundLemmas.{some_holds}
+use Rattle.control_counters.specs.Frame.{key_of, keys_of}
+use Rattle.control_counters.specs.Counts.{group_exchange}
+use Rattle.control_counters.proofs.ReadingLemmas.{AreCounted, all_taken, counted_more}
+use Rattle.control_counters.proofs.WatchLemmas.{watches_nothing, watches_then, watches_weaker}
+use Rattle.control_counters.proofs.counting.count_groups.Goals as goal
+
+pub loop-group-init : goal.loop-group-init
+loop-group-init g c =
+    watches_nothing c.args.client.now _ (λ history are. (ap (map key_of) c.new-groups.ensures.items, ap (map group_exchange) (sym c.new-groups.ensures.items)))
+
+pub returns-in_default : goal.returns-in_default
+returns-in_default g c =
+    watches_weaker c.args.client.now c.ask_group_counts.new.client _ _ (λ history told are it. tt)
+    (watches_then c.args.client.now c.loop-group.client c.ask_group_counts.new.client _ _ c.loop-group.invariant c.in_ok-counts.ensures)
+
+pub loop-group-preserved : goal.loop-group-preserved
+loop-group-preserved g c =
+    watches_weaker c.args.client.now c.ask_group_counts.new.client _ _
+    (λ history told are it.
+    counted_more key_of group_exchange c.args.known.now c.loop-group.groups.items c.loop-group.group-index _ c.in-Some.counts c.push_row.new.rows.items told it.one it.more
+    c.loop-group-test.true it.first (some_holds _ _ c.in-Some.counts it.next c.in-Some.is) it.whole c.in_ok-push_row.ensures)
+    (watches_then c.args.client.now c.loop-group.client c.ask_group_counts.new.client _ _ c.loop-group.invariant c.in_ok-counts.ensures)
+
+pub returns : goal.returns
+returns g c =
+    watches_weaker c.args.client.now c.loop-group.client _ _
+    (λ history told are it. subst (λ known. (keys_of c.loop-group.groups.items ≡ keys_of known) × (told ≡ map group_exchange c.loop-group.groups.items))
+    (all_taken c.args.known.now c.loop-group.group-index c.loop-group-test.false) it)
+    c.loop-group.invariant

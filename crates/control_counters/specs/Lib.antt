@@ -1,0 +1,5 @@
+pub mod Counts
+pub mod Frame
+pub mod Watching
+pub mod Reading
+pub mod body

@@ -1,0 +1,74 @@
+//! The counts of known groups and members.
+
+ghost use Rattle.std.specs.Prelude.{◌≡◌, IfOk, IfSome, map};
+ghost use Rattle.control_counters.specs.Frame.{keys_of, seats_of};
+ghost use Rattle.control_counters.specs.Counts.{count_exchanges, group_exchange, member_exchange};
+ghost use Rattle.control_counters.specs.Watching.{Watches};
+ghost use Rattle.control_counters.specs.body.Framed.{HasFrameOf};
+
+use crate::asking::{ask_group_counts, ask_member_counts, ask_totals};
+use crate::rows::push_row;
+use command_line::Failure;
+use control_client::Wire;
+use control_rules::Client;
+use counter_text::{Counters, GroupCount, MemberCount};
+
+fn count_groups<D: Wire + Drop>(
+    client: &mut Client<D>,
+    known: &[GroupCount],
+) -> Result<Option<Vec<GroupCount>>, Failure>
+    ensures { IfOk result (λ answer. Watches client.old client.new (λ history told. IfSome answer (λ groups.
+        (keys_of groups.items ≡ keys_of known.now) × (told ≡ map group_exchange groups.items)))) }
+{
+    let mut groups = Vec::new(client.allocator());
+    for group in known {
+        let Some(counts) = ask_group_counts(client, group.key)? else {
+            return Ok(None);
+        };
+        push_row(&mut groups, counts)?;
+    }
+    Ok(Some(groups))
+}
+
+fn count_members<D: Wire + Drop>(
+    client: &mut Client<D>,
+    known: &[MemberCount],
+) -> Result<Option<Vec<MemberCount>>, Failure>
+    ensures { IfOk result (λ answer. Watches client.old client.new (λ history told. IfSome answer (λ members.
+        (seats_of members.items ≡ seats_of known.now) × (told ≡ map member_exchange members.items)))) }
+{
+    let mut members = Vec::new(client.allocator());
+    for member in known {
+        let Some(counts) = ask_member_counts(client, *member)? else {
+            return Ok(None);
+        };
+        push_row(&mut members, counts)?;
+    }
+    Ok(Some(members))
+}
+
+/// Counts these groups and members anew. None if a reply has no counts, as when one of them has gone.
+pub(crate) fn counted<D: Wire + Drop>(
+    client: &mut Client<D>,
+    known: &Counters,
+) -> Result<Option<Counters>, Failure>
+    ensures { IfOk result (λ answer. Watches client.old client.new (λ history told. IfSome answer (λ counters.
+        HasFrameOf known.now counters × (told ≡ count_exchanges counters)))) }
+{
+    let Some(totals) = ask_totals(client)? else {
+        return Ok(None);
+    };
+    let Some(groups) = count_groups(client, &known.groups)? else {
+        return Ok(None);
+    };
+    let Some(members) = count_members(client, &known.members)? else {
+        return Ok(None);
+    };
+    Ok(Some(Counters {
+        version: known.version,
+        charge: known.charge,
+        totals,
+        groups,
+        members,
+    }))
+}

@@ -1,0 +1,3 @@
+mod DropLemmas
+mod PieceLemmas
+mod RateLemmas

@@ -1,0 +1,4 @@
+pub mod Growth
+pub mod Metrics
+pub mod Screen
+pub mod Sockets

@@ -1,0 +1,25 @@
+use Rattle.std.proofs.Common.{◌∙◌, List, Result, Some, ap, arith, length, option_map, sym, take, ℕ}
+use Rattle.dispatch.specs.declared.device.Failed.{Failed}
+use Rattle.serve_devices.specs.Devices.{WorkerSourceValue}
+use Rattle.serve_devices.specs.body.Ahead.{coming_of, with_ahead}
+use Rattle.serve_devices.proofs.IngressLemmas.{gives_failure, gives_taken}
+use Rattle.serve_devices.proofs.worker_source.WorkerSourceSource.next.Goals as goal
+
+pub returns-in-Some-Ok-clause-given_once : goal.returns-in-Some-Ok-clause-given_once
+returns-in-Some-Ok-clause-given_once g c =
+    let left = ap (λ (s : WorkerSourceValue). s.left) c.self.view_is in
+    let coming = ap (λ (s : WorkerSourceValue). s.coming) c.self.view_is in
+    let some = c.if-self-eq0.false in
+    let found = ap (λ (r : Result ℕ Failed). option_map (with_ahead c.take_next.new.room.items (Some r))
+    (coming_of c.take_next.new.room.items c.take_next.new.ahead (option_map g.I.Ingress.coming c.take_next.new.ingress))) c.in-Some-Ok.field-0-is in
+    let copied = ap (λ (b : List ℕ). take (length c.copy_into.new.buf) (take c.in-Some-Ok.size b)) c.deref.ensures.value in
+    gives_taken _ _ _ _ c.take_next.new.room.items _ _ _ (omega (arith, left, some)) (c.copy_into.ensures.copied ∙ copied) (sym coming ∙ c.in-Some-Ok.ensures.given ∙ found)
+
+pub returns-in-Some-Err-clause-given_once : goal.returns-in-Some-Err-clause-given_once
+returns-in-Some-Err-clause-given_once g c =
+    let left = ap (λ (s : WorkerSourceValue). s.left) c.self.view_is in
+    let coming = ap (λ (s : WorkerSourceValue). s.coming) c.self.view_is in
+    let some = c.if-self-eq0.false in
+    let found = ap (λ (r : Result ℕ Failed). option_map (with_ahead c.take_next.new.room.items (Some r))
+    (coming_of c.take_next.new.room.items c.take_next.new.ahead (option_map g.I.Ingress.coming c.take_next.new.ingress))) c.in-Some-Err.field-0-is in
+    gives_failure _ _ _ _ c.take_next.new.room.items _ _ (omega (arith, left, some)) (sym coming ∙ c.in-Some-Err.ensures.given ∙ found)

@@ -1,0 +1,61 @@
+//! The end of a worker's queue: what another thread receives, through a channel (docs/SWITCH.md, "Devices of a server").
+
+ghost use Rattle.std.specs.Prelude.{◌≡◌, ◌↔◌, ◌++◌, IfOk, IfSome, IsErr, None, OnErr, drop, length, min, take};
+
+use crate::channel::{ChannelReceiver, ChannelSender};
+use crate::ingress::Ingress;
+use crate::received::Received;
+use dispatch::Failed;
+use std::sync::Wait;
+
+/// The end of a queue. No more come once nothing is in it and the other side is gone. What comes is not known.
+#[derive(Drop)]
+pub struct QueueIngress<'a, R: Wait> {
+    rt: &'a R,
+    arriving: ChannelReceiver<Received>,
+    // Where receives go that were opened, so that their memory is used again.
+    opened: ChannelSender<Received>,
+}
+
+impl<'a, R: Wait> QueueIngress<'a, R> {
+    /// Takes the channel that receives come through, and one through which they go back once they were opened.
+    pub fn new(
+        rt: &'a R,
+        arriving: ChannelReceiver<Received>,
+        opened: ChannelSender<Received>,
+    ) -> QueueIngress<'a, R> {
+        QueueIngress {
+            rt,
+            arriving,
+            opened,
+        }
+    }
+
+    // Opens a receive into the buffer, and gives it back.
+    fn open(&mut self, received: Received, buf: &mut [u8]) -> Result<usize, Failed>
+        ensures failed { IsErr result ↔ (received ≡ None) }
+        ensures size { IfOk result (λ size. IfSome received (λ datagram. size ≡ min (length datagram) (length buf.old))) }
+        ensures copied { IfOk result (λ size. IfSome received (λ datagram. buf.new ≡ take size datagram ++ drop size buf.old)) }
+        ensures kept { OnErr result (buf.new ≡ buf.old) }
+    {
+        let size = received.open(buf);
+        self.opened.offer(self.rt, received);
+        size
+    }
+}
+
+impl<'a, R: Wait> Ingress for QueueIngress<'a, R> {
+    ghost use Rattle.std.specs.Prelude.{None};
+
+    ghost coming = { λ _. None };
+
+    fn receive(&mut self, buf: &mut [u8]) -> Option<Result<usize, Failed>> {
+        let received = self.arriving.take(self.rt)?;
+        Some(self.open(received, buf))
+    }
+
+    fn try_receive(&mut self, buf: &mut [u8]) -> Option<Result<usize, Failed>> {
+        let received = self.arriving.poll(self.rt)?;
+        Some(self.open(received, buf))
+    }
+}

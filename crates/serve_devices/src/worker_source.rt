@@ -1,0 +1,171 @@
+//! The source of a worker: what comes in, with one receive ahead (docs/SWITCH.md, "Devices of a server").
+
+ghost use Rattle.std.specs.Prelude.{◌≡◌, ◌≢◌, ◌≤◌, IfOk, IfSome, None, Some, [], false, length, option_map, take};
+ghost use Rattle.dispatch.specs.Device.{CountsFailure, Gives, IsAtEnd, given_in};
+ghost use Rattle.serve_devices.specs.Devices.{CountsReceive, GivesNext, new_source, source_of};
+ghost use Rattle.serve_devices.specs.Ingress.{IsEnded, cut_to};
+ghost use Rattle.serve_devices.specs.body.Ahead.{coming_of, with_ahead};
+
+use crate::ingress::Ingress;
+use dispatch::{COUNT_LIMIT, Failed, Source};
+use std::marker::Model;
+
+/// How many receives a source gives at most. A batch counts each at most twice, so a counter that began at 0 never gets full.
+pub const RECEIVE_LIMIT: u64 = COUNT_LIMIT / 2 - 1;
+
+/// A source over an ingress. It ends when the ingress does, and after `RECEIVE_LIMIT` receives; then it drops the ingress.
+///
+/// `would_wait` receives ahead, so a datagram that is there already costs one receive in all. Contracts see how often the source failed,
+/// how many receives it still gives at most, and the receives to come.
+#[derive(Drop)]
+pub struct WorkerSource<I: Ingress + Drop> {
+    // None at the end.
+    ingress: Option<I>,
+    // What was received ahead, if something was; the datagram is in the front of `room`.
+    ahead: Option<Result<usize, Failed>>,
+    room: Vec<u8>,
+    left: u64,
+    failures: u64,
+}
+
+impl<I: Ingress + Drop> Model for WorkerSource<I> {
+    ghost use Rattle.std.specs.Prelude.{◌+◌, ◌≤◌, IfOk, IfSome, length, option_map};
+    ghost use Rattle.serve_devices.specs.Devices.{WorkerSourceValue};
+    ghost use Rattle.serve_devices.specs.body.Ahead.{coming_of};
+    ghost use Rattle.serve_devices.specs.declared.worker_source.TheConstants.{RECEIVE_LIMIT};
+
+    ghost Value = { WorkerSourceValue };
+
+    ghost view = { λ s. record {
+      failures = s.failures;
+      left = s.left;
+      room = length s.room.items;
+      coming = coming_of s.room.items s.ahead (option_map I.coming s.ingress);
+    } };
+
+    ghost invariant = { λ s.
+        (s.failures + s.left ≤ RECEIVE_LIMIT) × IfSome s.ahead (λ received. IfOk received (λ size. size ≤ length s.room.items)) };
+}
+
+// Copies the bytes into the front of the buffer, cut to it, and returns how many were copied.
+fn copy_into(bytes: &[u8], buf: &mut [u8]) -> usize
+    ensures within { result ≤ length buf.new }
+    ensures copied { take result buf.new ≡ take (length buf.new) bytes.now }
+{
+    let size = bytes.len().min(buf.len());
+    buf[..size].copy_from_slice(&bytes[..size]);
+    size
+}
+
+// Takes what was received ahead, or waits for what comes next.
+fn take_next<I: Ingress>(
+    ingress: &mut Option<I>,
+    ahead: &mut Option<Result<usize, Failed>>,
+    room: &mut Vec<u8>,
+) -> Option<Result<usize, Failed>>
+    requires within { IfSome ahead.old (λ received. IfOk received (λ size. size ≤ length room.old.items)) }
+    ensures within { IfSome result (λ received. IfOk received (λ size. size ≤ length room.new.items)) }
+    ensures room { length room.new.items ≡ length room.old.items }
+    ensures ahead { ahead.new ≡ None }
+    ensures given { coming_of room.old.items ahead.old (option_map I.coming ingress.old)
+        ≡ option_map (with_ahead room.new.items result) (coming_of room.new.items ahead.new (option_map I.coming ingress.new)) }
+    ensures end { result ≡ None → IsEnded (coming_of room.new.items ahead.new (option_map I.coming ingress.new)) }
+{
+    if let Some(received) = ahead.take() {
+        return Some(received);
+    }
+    match ingress {
+        Some(ingress) => ingress.receive(room),
+        None => None,
+    }
+}
+
+// Receives ahead, if something has come and nothing was received ahead already.
+fn look_ahead<I: Ingress>(
+    ingress: &mut Option<I>,
+    ahead: &mut Option<Result<usize, Failed>>,
+    room: &mut Vec<u8>,
+)
+    requires within { IfSome ahead.old (λ received. IfOk received (λ size. size ≤ length room.old.items)) }
+    ensures within { IfSome ahead.new (λ received. IfOk received (λ size. size ≤ length room.new.items)) }
+    ensures room { length room.new.items ≡ length room.old.items }
+    ensures kept { coming_of room.new.items ahead.new (option_map I.coming ingress.new)
+        ≡ coming_of room.old.items ahead.old (option_map I.coming ingress.old) }
+{
+    if ahead.is_some() {
+        return;
+    }
+    if let Some(ingress) = ingress {
+        *ahead = ingress.try_receive(room);
+    }
+}
+
+impl<I: Ingress + Drop> WorkerSource<I> {
+    /// Takes the ingress, and the room for the longest datagram: a longer one is cut to it.
+    pub fn new(ingress: I, room: Vec<u8>) -> WorkerSource<I>
+        ensures new { result ≡ new_source (length room.items) (option_map (cut_to (length room.items)) (I.coming ingress)) }
+    {
+        WorkerSource {
+            ingress: Some(ingress),
+            ahead: None,
+            room,
+            left: RECEIVE_LIMIT,
+            failures: 0,
+        }
+    }
+
+    // Gives no more, and drops the ingress.
+    fn end(&mut self)
+        ensures ended { self.new ≡ record self.old { left = 0; coming = Some [] } }
+    {
+        self.ingress = None;
+        self.ahead = None;
+        self.left = 0;
+    }
+}
+
+impl<I: Ingress + Drop> Source for WorkerSource<I> {
+    ghost use Rattle.serve_devices.specs.Devices.{source_of};
+
+    ghost state = { source_of };
+
+    fn next(&mut self, buf: &mut [u8]) -> Result<Option<usize>, Failed>
+        ensures device_failed { CountsFailure result self.old.failures self.new.failures }
+        ensures within { IfOk result (λ answer. IfSome answer (λ size. size ≤ length buf.new)) }
+        ensures given_once { Gives (length buf.new) (source_of self.old).coming (source_of self.new).coming (given_in buf.new result) }
+        ensures end { result ≡ Ok None → IsAtEnd (source_of self.new).coming }
+        ensures counts_receive { CountsReceive result self.old.left self.new.left }
+        ensures next { GivesNext buf.new result self.old self.new }
+        ensures room { self.new.room ≡ self.old.room }
+    {
+        if self.left == 0 {
+            self.end();
+            return Ok(None);
+        }
+        match take_next(&mut self.ingress, &mut self.ahead, &mut self.room) {
+            Some(Ok(size)) => {
+                self.left -= 1;
+                Ok(Some(copy_into(&self.room[..size], buf)))
+            }
+            Some(Err(failed)) => {
+                self.left -= 1;
+                self.failures += 1;
+                Err(failed)
+            }
+            None => {
+                self.end();
+                Ok(None)
+            }
+        }
+    }
+
+    fn would_wait(&mut self) -> bool
+        ensures same { self.new ≡ self.old }
+        ensures has_one { result ≡ false → self.new.coming ≢ Some [] }
+    {
+        if self.left > 0 {
+            look_ahead(&mut self.ingress, &mut self.ahead, &mut self.room);
+        }
+        self.ahead.is_none()
+    }
+}
