@@ -128,7 +128,9 @@ another address (`ss -ulpn`); correct the address, or leave `--front` out.",
         "\
 E2: Results could not be written.
 A write of results failed, a `refused` line included. The disk is full
-(`dswitch first >/dev/full` shows it); make room and run the command again.",
+(`dswitch first >/dev/full` shows it): make room and run the command again. Or
+what reads the pipe has ended, as `head -1` does; let it read on if more is
+wanted.",
     ),
     (
         "E3",

@@ -242,8 +242,10 @@ A new switch has no groups. With --rules it has those of FILE: lines that change
 from no groups on, together version 0. Empty lines, and lines that begin with #, are skipped.
 With --receive queued one thread receives at FRONT, and hands the packets to the workers in turn.
 With --receive direct each worker receives, from a separate socket at FRONT. The kernel gives all
-packets of a sender, an address and port, to one worker: they keep their order, and one sender
-uses one worker only. --receive-buffer asks for SO_RCVBUF of these sockets, which the kernel doubles
+packets of a sender, an address and port, to one worker: after `ready` they keep their order, and
+one sender uses one worker only. A packet to a broadcast or multicast address comes to each worker.
+With two workers or more, a program of the same user may share FRONT (SO_REUSEPORT): run the switch
+as a separate user. --receive-buffer asks for SO_RCVBUF of these sockets, which the kernel doubles
 and caps at net.core.rmem_max; without it they have the system's default.
 With port 0 the system picks a port. Prints `ready FRONT CONTROL` with the bound addresses before it
 reads, and the line of totals after `stop`, with status 0:
@@ -285,8 +287,9 @@ sends the next. Ends with status 0 if no reply is `refused ..` or `failed ..`, e
 it goes on after such a reply, and standard error has the number of the line and what the code
 means. With --all it sends all lines as one change, `all N` and the N lines, which may have 65507
 bytes if CONTROL is ADDRESS:PORT.
-Prints `refused C1`, with status 1, if CONTROL is no address. Fails with status 3 and `failed E4`
-if a line has no reply; then no later line is sent. The line may be done all the same, even later.
+Prints `refused C1`, with status 1, if CONTROL is no address, or if --all is given and no line.
+Fails with status 3 and `failed E4` if a line has no reply; then no later line is sent. The line may
+be done all the same, even later.
 Without --control the environment's DSWITCH_CONTROL is taken.
 
 Examples:

@@ -1,5 +1,6 @@
 pub mod KeyLemmas
 pub mod LogLemmas
+pub mod RunLemmas
 pub mod SettleLemmas
 pub mod StepLemmas
 pub mod SumLemmas
