@@ -1,27 +1,28 @@
 -- What adding the sum of a run leaves: the same as adding its entries in turn.
-use Rattle.std.proofs.Common.{◌≡◌, ◌+◌, ◌<◌, ◌^◌, ◌∙◌, ◌++◌, ◌∷◌, Bool, List, None, Option, Some, [], ap, append-nil, arith, cond, false, inl, inr, refl, subst, sym, true, ℕ}
+use Rattle.std.proofs.Common.{◌≡◌, ◌+◌, ◌-◌, ◌<◌, ◌≤◌, ◌^◌, ◌∙◌, ◌++◌, ◌∷◌, Bool, List, None, Option, Some, [], ap, append-nil, arith, cond, drop, false, inl, inr, length, not, refl, slice_index_or, subst, sym, take, take_all, true}
 use Rattle.std.proofs.lemmas.List.{append_assoc}
-use Rattle.std.proofs.lemmas.List.Elements.{All-append, All-cons, All-head, All-push, All-tail, All-weaker, filter-all, filter-append}
+use Rattle.std.proofs.lemmas.List.Elements.{All-append, All-cons, All-head, All-push, All-tail, All-weaker, filter-append}
 use Rattle.std.proofs.lemmas.List.Sums.{fold-append, fold_push, sum_by-append, sum_by-cons}
 use Rattle.std.specs.List.{All, filter, sum_by}
 use Rattle.std.specs.Map.{lookup}
 use Rattle.member_counts.specs.declared.counts.Counts.{Counts}
 use Rattle.member_counts.specs.declared.key.CountKey.{CountKey}
 use Rattle.member_counts.specs.declared.log.Counted.{Counted}
-use Rattle.member_counts.specs.Counts.{capped, counts_of, plus}
+use Rattle.member_counts.specs.Counts.{counts_of, plus}
 use Rattle.member_counts.specs.Key.{key_of, same_key}
 use Rattle.member_counts.specs.Log.{is_for}
 use Rattle.member_counts.specs.Table.{Conserves, CountsLog, GrowsBy, IsSplit, Table, joined, kept_after, kept_at, one_added, one_lost, plus_all, total}
 use Rattle.member_counts.specs.body.Step.{AddsAt, GrowsEach, IsKept, IsLost, IsRun}
-use Rattle.member_counts.proofs.KeyLemmas.{same_key-symm, same_from_same_key}
-use Rattle.member_counts.proofs.SumLemmas.{Kind, capped-below, of, of-plus, plus-assoc}
+use Rattle.member_group.proofs.ListLemmas.{filter-all}
+use Rattle.member_counts.proofs.KeyLemmas.{same_key-symm, same_key_itself, same_from_same_key}
+use Rattle.member_counts.proofs.SumLemmas.{Bytes, Delivered, Dropped, Kind, NoMembers, SendFailed, capped-below, of, of-plus, plus-assoc}
 use Rattle.member_counts.proofs.TableLemmas.{IsCountedSoFar, counted_none, kept_after-none}
 
 -- a run that has begun, and one entry more
 pub no_run : (key : CountKey) (counts : Counts) (entries : List Counted) → IsRun key counts entries counts entries
 no_run key counts entries = record { run = []; split = refl; same = λ k d below. absurd (omega arith); added = refl }
 
-pub longer_run : (key : CountKey) (counts : Counts) (entries : List Counted) (sum : Counts) (entry : Counted) (others : List Counted)
+longer_run : (key : CountKey) (counts : Counts) (entries : List Counted) (sum : Counts) (entry : Counted) (others : List Counted)
     → IsRun key counts entries sum (entry ∷ others) → key_of entry.outcome ≡ key → IsRun key counts entries (plus sum (counts_of entry)) others
 longer_run key counts entries sum entry others so_far is_key = record {
   run = so_far.run ++ entry ∷ [];
@@ -29,6 +30,20 @@ longer_run key counts entries sum entry others so_far is_key = record {
   same = All-push (λ e. key_of e.outcome ≡ key) so_far.run entry so_far.same is_key;
   added = ap (λ now. plus now (counts_of entry)) so_far.added ∙ sym (fold_push (λ (s : Counts) (e : Counted). plus s (counts_of e)) counts so_far.run entry);
 }
+
+pub run_goes_on : (key : CountKey) (counts : Counts) (entries left : List Counted) (sum more : Counts) (d : Counted) (own : CountKey) (added : Counts)
+    → IsRun key counts entries sum left → 1 ≤ length left → own ≡ key_of (slice_index_or left 0 d).outcome → false ≡ not (same_key own key)
+    → added ≡ counts_of (slice_index_or left 0 d) → more ≡ plus sum added → IsRun key counts entries more (take (length left - 1) (drop 1 left))
+run_goes_on key counts entries [] sum more d own added so_far some is_own is_same is_added is_more = absurd (omega (arith, some))
+run_goes_on key counts entries (entry ∷ others) sum more d own added so_far some is_own is_same is_added is_more =
+    let rest : take (length (entry ∷ others) - 1) others ≡ others = take_all (length (entry ∷ others) - 1) others (omega arith) in
+    let is_key : key_of entry.outcome ≡ key = sym is_own ∙ same_from_same_key own key (tested (same_key own key) is_same) in
+    let now : plus sum (counts_of entry) ≡ more = ap (λ c. plus sum c) (sym is_added) ∙ sym is_more in
+    rw rest (subst (λ (c : Counts). IsRun key counts entries c others) now (longer_run key counts entries sum entry others so_far is_key))
+  where
+    tested : (b : Bool) → false ≡ not b → b ≡ true
+    tested true is = refl
+    tested false is = cc
 
 -- sums
 plus-plus_all : (counts more : Counts) (entries : List Counted) → plus counts (plus_all more entries) ≡ plus_all (plus counts more) entries
@@ -50,7 +65,7 @@ kept_after-append kept entries more = fold-append (λ (sum : Option Counts) (e :
 
 -- which entries of a run are for a key
 all_for : (key other : CountKey) (run : List Counted) → other ≡ key → All (λ e. key_of e.outcome ≡ key) run → filter (is_for other) run ≡ run
-all_for key other run is same = filter-all (is_for other) run (All-weaker (λ e. key_of e.outcome ≡ key) (λ e. is_for other e ≡ true) (λ e at. ap (same_key other) at ∙ ap (λ k. same_key k key) is ∙ same_self key) run same)
+all_for key other run is same = filter-all (is_for other) run (All-weaker (λ e. key_of e.outcome ≡ key) (λ e. is_for other e ≡ true) (λ e at. ap (same_key other) at ∙ ap (λ k. same_key k key) is ∙ same_key_itself key) run same)
 
 none_for : (key other : CountKey) (run : List Counted) → same_key other key ≡ false → All (λ e. key_of e.outcome ≡ key) run → filter (is_for other) run ≡ []
 none_for key other [] apart same = refl
@@ -73,10 +88,10 @@ split_lost all added lost (entry ∷ run) split =
 
 module _ (old mid : Table) (log : List Counted) (so_far : CountsLog old log mid) (first : Counted) (run : List Counted) (key : CountKey)
     (same : All (λ e. key_of e.outcome ≡ key) (first ∷ run)) where
-  whole : List Counted
+  abbrev whole : List Counted
   whole = first ∷ run
 
-  sum : Counts
+  abbrev sum : Counts
   sum = plus_all (counts_of first) run
 
   keeps : (new : Table) → IsKept key sum mid new → CountsLog old (log ++ whole) new
@@ -168,13 +183,13 @@ pub record IsCountedTo (old : Table) (log left : List Counted) (now : Table) : T
   pub split : log ≡ done ++ left
   pub so_far : IsCountedSoFar old done now
 
-pub nothing_done : (old : Table) (log : List Counted) → IsCountedTo old log log old
-nothing_done old log = record { done = []; split = refl; so_far = counted_none old }
+pub nothing_done : (old : Table) (log left : List Counted) → left ≡ log → IsCountedTo old log left old
+nothing_done old log left same = record { done = []; split = sym same; so_far = counted_none old }
 
-pub run_done : (old mid new : Table) (log others left : List Counted) (first : Counted) (key : CountKey) (first_counts sum : Counts)
+run_done_at : (old mid new : Table) (log others left : List Counted) (first : Counted) (key : CountKey) (first_counts sum : Counts)
     → IsCountedTo old log (first ∷ others) mid → key ≡ key_of first.outcome → first_counts ≡ counts_of first → IsRun key first_counts others sum left
     → AddsAt key sum mid new → GrowsEach mid sum new → IsCountedTo old log left new
-run_done old mid new log others left first key first_counts sum to is_key is_counts run adds each =
+run_done_at old mid new log others left first key first_counts sum to is_key is_counts run adds each =
     let added : sum ≡ plus_all (counts_of first) run.run = run.added ∙ ap (λ from. plus_all from run.run) is_counts in
     let same = All-cons (λ (e : Counted). key_of e.outcome ≡ key) first run.run (sym is_key) run.same in
     record {
@@ -186,7 +201,17 @@ run_done old mid new log others left first key first_counts sum to is_key is_cou
       };
     }
 
-pub all_done : (old : Table) (log left : List Counted) (now : Table) → IsCountedTo old log left now → left ≡ [] → IsCountedSoFar old log now
-all_done old log left now to none =
-    let whole : to.done ≡ log = sym (append-nil to.done) ∙ ap (λ rest. to.done ++ rest) (sym none) ∙ sym to.split in
+pub run_done : (old mid new : Table) (log before left : List Counted) (d : Counted) (key : CountKey) (first_counts sum : Counts)
+    → IsCountedTo old log before mid → 1 ≤ length before → key ≡ key_of (slice_index_or before 0 d).outcome → first_counts ≡ counts_of (slice_index_or before 0 d)
+    → IsRun key first_counts (take (length before - 1) (drop 1 before)) sum left → AddsAt key sum mid new → GrowsEach mid sum new → IsCountedTo old log left new
+run_done old mid new log [] left d key first_counts sum to some is_key is_counts run adds each = absurd (omega (arith, some))
+run_done old mid new log (first ∷ others) left d key first_counts sum to some is_key is_counts run adds each =
+    let rest : take (length (first ∷ others) - 1) others ≡ others = take_all (length (first ∷ others) - 1) others (omega arith) in
+    let same : IsRun key first_counts others sum left = subst (λ (entries : List Counted). IsRun key first_counts entries sum left) rest run in
+    run_done_at old mid new log others left first key first_counts sum to is_key is_counts same adds each
+
+pub all_done : (old : Table) (log left : List Counted) (now : Table) → IsCountedTo old log left now → length left < 1 → IsCountedSoFar old log now
+all_done old log [] now to none =
+    let whole : to.done ≡ log = sym (append-nil to.done) ∙ sym to.split in
     subst (λ (entries : List Counted). IsCountedSoFar old entries now) whole to.so_far
+all_done old log (entry ∷ left) now to none = absurd (omega (arith, none))

@@ -1,19 +1,13 @@
 -- What the additions of a log's entries leave at each key.
-use Rattle.std.proofs.Common.{◌≡◌, ◌+◌, ◌<◌, ◌∙◌, ◌++◌, ◌∷◌, Bool, IsSome, List, None, Option, Some, [], ap, append-nil, arith, cond, false, get_or, inl, inr, length, refl, subst, sym, take, true, ℕ}
-use Rattle.std.proofs.lemmas.List.{take_more}
-use Rattle.std.proofs.lemmas.List.Elements.{All-pop, All-push, All-weaker, filter-append}
-use Rattle.std.proofs.lemmas.List.Sums.{fold_push, sum_by_push}
-use Rattle.std.specs.List.{All, filter, sum_by}
-use Rattle.std.specs.Map.{lookup}
+use Rattle.std.proofs.Common.{◌≡◌, ◌∙◌, ◌++◌, ◌∷◌, Bool, IsSome, List, None, Option, Some, [], ap, append-nil, arith, false, refl, subst, sym, true}
+use Rattle.std.proofs.lemmas.List.Elements.{All-pop, All-weaker, filter-append}
+use Rattle.std.specs.List.{All, filter}
 use Rattle.member_counts.specs.declared.counts.Counts.{Counts}
 use Rattle.member_counts.specs.declared.key.CountKey.{CountKey}
 use Rattle.member_counts.specs.declared.log.Counted.{Counted}
 use Rattle.member_counts.specs.Counts.{counts_of, plus}
-use Rattle.member_counts.specs.Key.{key_of, same_key}
 use Rattle.member_counts.specs.Log.{is_for}
-use Rattle.member_counts.specs.Table.{Conserves, CountsLog, GrowsBy, IsSplit, Table, joined, kept_after, kept_at, nothing, one_added, one_lost, total}
-use Rattle.member_counts.specs.body.Step.{AddsAt, GrowsEach, IsKept, IsLost}
-use Rattle.member_counts.proofs.KeyLemmas.{same_key-symm, same_from_same_key}
+use Rattle.member_counts.specs.Table.{Conserves, CountsLog, IsSplit, Table, kept_after, kept_at, nothing, one_added, one_lost}
 
 pub none_yet : (table : Table) → CountsLog table [] table
 none_yet table = record {

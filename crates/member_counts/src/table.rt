@@ -39,7 +39,11 @@ impl Model for MemberTable {
 }
 
 // Adds the counts of the entries that a list begins with and that have the key, and returns the others.
-fn rest_of_run<'a>(key: &CountKey, counts: Counts, entries: &'a [Counted]) -> (Counts, &'a [Counted])
+fn rest_of_run<'a>(
+    key: &CountKey,
+    counts: Counts,
+    entries: &'a [Counted],
+) -> (Counts, &'a [Counted])
     ensures { IsRun key.now counts entries.now result.0 result.1.now }
 {
     let mut sum = counts;
