@@ -1,6 +1,5 @@
 pub mod KeyLemmas
 pub mod LogLemmas
-pub mod RunLemmas
 pub mod SettleLemmas
 pub mod StepLemmas
 pub mod SumLemmas

@@ -143,43 +143,20 @@ of-sum : (kind : Kind) (entries : List (CountKey × Counts)) → of kind (plus_k
 of-sum kind [] = of-no_counts kind
 of-sum kind (first ∷ entries) = of-plus_kept kind no_counts first entries ∙ ap (λ n. capped (n + kept_sum (of kind) (first ∷ entries))) (of-no_counts kind) ∙ ap capped (zero-add (kept_sum (of kind) (first ∷ entries)))
 
-sum_of-kind : (entries : List (CountKey × Counts)) (kind : Kind) → of kind (plus_kept no_counts entries) ≡ of kind (sum_of entries)
-sum_of-kind entries Delivered = of-sum Delivered entries
-sum_of-kind entries Dropped = of-sum Dropped entries
-sum_of-kind entries NoMembers = of-sum NoMembers entries
-sum_of-kind entries SendFailed = of-sum SendFailed entries
-sum_of-kind entries Bytes = of-sum Bytes entries
-
--- counts of which each kind is the same
-same_counts : (counts other : Counts) → ((kind : Kind) → of kind counts ≡ of kind other) → counts ≡ other
-same_counts counts other same =
+pub plus_kept-sum_of : (entries : List (CountKey × Counts)) → plus_kept no_counts entries ≡ sum_of entries
+plus_kept-sum_of entries =
     let make : ℕ → ℕ → ℕ → ℕ → ℕ → Counts = λ delivered dropped no_members send_failed bytes.
     record { delivered = delivered; dropped = dropped; no_members = no_members; send_failed = send_failed; bytes = bytes } in
     ap₂ (λ (f : ℕ → Counts) n. f n)
     (ap₂ (λ (f : ℕ → ℕ → Counts) n. f n)
     (ap₂ (λ (f : ℕ → ℕ → ℕ → Counts) n. f n)
-    (ap₂ make (same Delivered) (same Dropped))
-    (same NoMembers))
-    (same SendFailed))
-    (same Bytes)
-
-pub plus_kept-sum_of : (entries : List (CountKey × Counts)) → plus_kept no_counts entries ≡ sum_of entries
-plus_kept-sum_of entries = same_counts _ _ (sum_of-kind entries)
+    (ap₂ make (of-sum Delivered entries) (of-sum Dropped entries))
+    (of-sum NoMembers entries))
+    (of-sum SendFailed entries))
+    (of-sum Bytes entries)
 
 -- exact below 2^64
 pub of-plus_kept-below : (kind : Kind) (counts : Counts) (entries : List (CountKey × Counts)) → of kind counts + kept_sum (of kind) entries < 2 ^ 64
     → of kind (plus_kept counts entries) ≡ of kind counts + kept_sum (of kind) entries
 of-plus_kept-below kind counts [] below = omega arith
 of-plus_kept-below kind counts (first ∷ entries) below = of-plus_kept kind counts first entries ∙ capped-below (of kind counts + kept_sum (of kind) (first ∷ entries)) below
-
--- which two of three are added first makes no difference
-capped-assoc : (a b c : ℕ) → capped (capped (a + b) + c) ≡ capped (a + capped (b + c))
-capped-assoc a b c =
-    let one : a + b + c ≡ b + c + a = omega arith in
-    let other : capped (b + c) + a ≡ a + capped (b + c) = omega arith in
-    capped-plus (a + b) c ∙ ap capped one ∙ sym (capped-plus (b + c) a) ∙ ap capped other
-
-pub plus-assoc : (a b c : Counts) → plus (plus a b) c ≡ plus a (plus b c)
-plus-assoc a b c = same_counts _ _ (λ kind.
-    of-plus kind (plus a b) c ∙ ap (λ n. capped (n + of kind c)) (of-plus kind a b) ∙ capped-assoc (of kind a) (of kind b) (of kind c)
-    ∙ sym (of-plus kind a (plus b c) ∙ ap (λ n. capped (of kind a + n)) (of-plus kind b c)))

@@ -1,11 +1,8 @@
--- What is counted of outcomes, and the texts of these counts (docs/SWITCH.md, "Counts by member").
-use Rattle.std.specs.Prelude.{◌+◌, ◌-◌, ◌^◌, ◌++◌, Bool, List, codes, cond, decimal, min, ℕ}
+-- What is counted of packets, and the texts of these counts (docs/SWITCH.md, "Counts by member").
+use Rattle.std.specs.Prelude.{◌+◌, ◌-◌, ◌^◌, ◌++◌, List, codes, decimal, min, ℕ}
 use Rattle.member_counts.specs.declared.counts.Counts.{Counts}
 use Rattle.member_counts.specs.declared.counts.GroupCounts.{GroupCounts}
 use Rattle.member_counts.specs.declared.counts.MemberCounts.{MemberCounts}
-use Rattle.member_counts.specs.declared.log.Counted.{Counted}
-use Rattle.member_counts.specs.declared.log.Outcome.{Outcome}
-use Rattle.member_counts.specs.declared.log.Outcome.TheVariants.{Delivered, Dropped, NoMembers}
 
 -- a count stays at the greatest number of 64 bits
 abbrev pub capped : ℕ → ℕ
@@ -24,15 +21,18 @@ plus counts more = record {
   bytes = capped (counts.bytes + more.bytes);
 }
 
--- what is counted of an outcome, and of whether its send failed: a failed send is delivered too
-abbrev pub outcome_counts : Outcome → Bool → Counts
-outcome_counts (NoMembers group) failed = record no_counts { no_members = 1 }
-outcome_counts (Dropped group member) failed = record no_counts { dropped = 1 }
-outcome_counts (Delivered group member bytes) failed =
-    record no_counts { delivered = 1; send_failed = cond failed 1 0; bytes = bytes }
+-- what is counted of one packet: delivered with so many bytes, dropped, or for a group without members; and of one failed send
+abbrev pub delivered_one : ℕ → Counts
+delivered_one bytes = record no_counts { delivered = 1; bytes = bytes }
 
-abbrev pub counts_of : Counted → Counts
-counts_of entry = outcome_counts entry.outcome entry.failed
+abbrev pub dropped_one : Counts
+dropped_one = record no_counts { dropped = 1 }
+
+abbrev pub no_members_one : Counts
+no_members_one = record no_counts { no_members = 1 }
+
+abbrev pub failed_one : Counts
+failed_one = record no_counts { send_failed = 1 }
 
 -- the counts that a member has
 abbrev pub member_part : Counts → MemberCounts

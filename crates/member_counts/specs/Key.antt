@@ -6,18 +6,14 @@ use Rattle.bpf_verify.specs.Program.{ProgramValue}
 use Rattle.ipv4_fields.specs.declared.endpoint.Endpoint.{Endpoint}
 use Rattle.member_group.specs.Group.{GroupOf, has_id}
 use Rattle.member_counts.specs.declared.key.CountKey.{CountKey}
-use Rattle.member_counts.specs.declared.log.Outcome.{Outcome}
-use Rattle.member_counts.specs.declared.log.Outcome.TheVariants.{Delivered, Dropped, NoMembers}
 
 -- the key of a member of a group
 abbrev pub member_key : Endpoint → ℕ → CountKey
 member_key group member = record { group = group; member = Some member }
 
--- the key that an outcome is counted by: its group with its member, or the group alone
-abbrev pub key_of : Outcome → CountKey
-key_of (NoMembers group) = record { group = group; member = None }
-key_of (Dropped group member) = member_key group member
-key_of (Delivered group member bytes) = member_key group member
+-- the key of a group's packets that found no member
+abbrev pub group_key : Endpoint → CountKey
+group_key group = record { group = group; member = None }
 
 -- the address and the port are the same
 abbrev pub same_group : Endpoint → Endpoint → Bool

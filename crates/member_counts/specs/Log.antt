@@ -1,59 +1,51 @@
 -- What a contract sees of a VerdictLog.
-use Rattle.std.specs.Prelude.{◌∷◌, ◌++◌, Bool, List, None, Option, Some, [], false, true, ℕ}
+use Rattle.std.specs.Prelude.{◌∷◌, Bool, List, None, [], false, if◌then◌else◌, true, ℕ}
 use Rattle.ipv4_fields.specs.declared.endpoint.Endpoint.{Endpoint}
 use Rattle.packet_verdict.specs.declared.verdict.Verdict.{Verdict}
 use Rattle.packet_verdict.specs.declared.verdict.Verdict.TheVariants as verdict
+use Rattle.member_counts.specs.declared.counts.Counts.{Counts}
 use Rattle.member_counts.specs.declared.key.CountKey.{CountKey}
-use Rattle.member_counts.specs.declared.log.Counted.{Counted}
-use Rattle.member_counts.specs.declared.log.Outcome.{Outcome}
-use Rattle.member_counts.specs.declared.log.Outcome.TheVariants.{Delivered, Dropped, NoMembers}
-use Rattle.member_counts.specs.Key.{key_of, same_key}
+use Rattle.member_counts.specs.declared.log.Run.{Run}
+use Rattle.member_counts.specs.Counts.{delivered_one, dropped_one, failed_one, no_members_one, plus}
+use Rattle.member_counts.specs.Key.{group_key, member_key, same_key}
 
--- the entries in their order, and how many there is room for
+-- the runs in their order, how many there is room for, and whether the last packet was delivered and its send has not failed
 pub record Log : Type 0 where
-  pub entries : List Counted
+  pub entries : List Run
   pub room : ℕ
+  pub sent : Bool
 
--- what a verdict that names a member comes to
-abbrev pub outcome_of : Verdict → Option Outcome
-outcome_of verdict.Malformed = None
-outcome_of verdict.NoGroup = None
-outcome_of verdict.NoMembers = None
-outcome_of (verdict.Dropped group member) = Some (Dropped group member)
-outcome_of (verdict.Deliver group member to bytes) = Some (Delivered group member bytes)
+-- counts are added to the last run, if it has the key, and else they are a new run
+abbrev pub with_run : CountKey → Counts → List Run → List Run
+with_run key counts [] = record { key = key; counts = counts } ∷ []
+with_run key counts (last ∷ []) =
+    if same_key last.key key then record last { counts = plus last.counts counts } ∷ [] else last ∷ record { key = key; counts = counts } ∷ []
+with_run key counts (first ∷ (next ∷ rest)) = first ∷ with_run key counts (next ∷ rest)
 
--- one entry more, whose send has not failed
-abbrev pub with_outcome : Outcome → Log → Log
-with_outcome outcome log = record log { entries = log.entries ++ record { outcome = outcome; failed = false } ∷ [] }
+abbrev pub with_counts : CountKey → Counts → Bool → Log → Log
+with_counts key counts sent log = record log { entries = with_run key counts log.entries; sent = sent }
 
-abbrev pub with_some : Option Outcome → Log → Log
-with_some None log = log
-with_some (Some outcome) log = with_outcome outcome log
-
+-- a verdict that names a member is counted
 abbrev pub with_verdict : Verdict → Log → Log
-with_verdict verdict log = with_some (outcome_of verdict) log
+with_verdict verdict.Malformed log = log
+with_verdict verdict.NoGroup log = log
+with_verdict verdict.NoMembers log = log
+with_verdict (verdict.Dropped group member) log = with_counts (member_key group member) dropped_one false log
+with_verdict (verdict.Deliver group member to bytes) log = with_counts (member_key group member) (delivered_one bytes) true log
 
 abbrev pub with_no_members : Endpoint → Log → Log
-with_no_members group log = with_outcome (NoMembers group) log
+with_no_members group log = with_counts (group_key group) no_members_one false log
 
--- only what is delivered has a send that fails
-abbrev pub send_fails : Outcome → Bool → Bool
-send_fails (NoMembers group) failed = failed
-send_fails (Dropped group member) failed = failed
-send_fails (Delivered group member bytes) failed = true
-
-abbrev pub with_failed_send : Counted → Counted
-with_failed_send entry = record entry { failed = send_fails entry.outcome entry.failed }
-
--- the last entry is marked, if there is one and it was delivered
-abbrev pub last_failed : List Counted → List Counted
+-- one failed send more in the last run
+abbrev pub last_failed : List Run → List Run
 last_failed [] = []
-last_failed (entry ∷ []) = with_failed_send entry ∷ []
-last_failed (entry ∷ (next ∷ rest)) = entry ∷ last_failed (next ∷ rest)
+last_failed (last ∷ []) = record last { counts = plus last.counts failed_one } ∷ []
+last_failed (first ∷ (next ∷ rest)) = first ∷ last_failed (next ∷ rest)
 
+-- only what is delivered has a send that fails, and it fails once
 abbrev pub marked_failed : Log → Log
-marked_failed log = record log { entries = last_failed log.entries }
+marked_failed log = if log.sent then record log { entries = last_failed log.entries; sent = false } else log
 
--- an entry is counted by the key
-abbrev pub is_for : CountKey → Counted → Bool
-is_for key entry = same_key key (key_of entry.outcome)
+-- a run is counted by the key
+abbrev pub is_for : CountKey → Run → Bool
+is_for key run = same_key key run.key

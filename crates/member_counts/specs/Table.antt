@@ -11,8 +11,8 @@ use Rattle.member_counts.specs.declared.counts.Counts.{Counts}
 use Rattle.member_counts.specs.declared.counts.GroupCounts.{GroupCounts}
 use Rattle.member_counts.specs.declared.counts.MemberCounts.{MemberCounts}
 use Rattle.member_counts.specs.declared.key.CountKey.{CountKey}
-use Rattle.member_counts.specs.declared.log.Counted.{Counted}
-use Rattle.member_counts.specs.Counts.{capped, counts_of, group_part, member_part, no_counts, plus}
+use Rattle.member_counts.specs.declared.log.Run.{Run}
+use Rattle.member_counts.specs.Counts.{capped, group_part, member_part, no_counts, plus}
 use Rattle.member_counts.specs.Key.{has, member_key, same_group, same_key}
 use Rattle.member_counts.specs.Log.{is_for}
 
@@ -48,13 +48,13 @@ abbrev pub joined : Option Counts → Counts → Counts
 joined None more = more
 joined (Some counts) more = plus counts more
 
--- what is kept at a key after entries of that key, each added in turn
-abbrev pub kept_after : Option Counts → List Counted → Option Counts
-kept_after kept entries = fold (λ sum entry. Some (joined sum (counts_of entry))) kept entries
+-- what is kept at a key after runs of that key, each added in turn
+abbrev pub kept_after : Option Counts → List Run → Option Counts
+kept_after kept entries = fold (λ sum entry. Some (joined sum entry.counts)) kept entries
 
--- counts after entries, each added in turn
-abbrev pub plus_all : Counts → List Counted → Counts
-plus_all counts entries = fold (λ sum entry. plus sum (counts_of entry)) counts entries
+-- counts after runs, each added in turn
+abbrev pub plus_all : Counts → List Run → Counts
+plus_all counts entries = fold (λ sum entry. plus sum entry.counts) counts entries
 
 -- counts after those of some keys, each added in turn
 abbrev pub plus_kept : Counts → List (CountKey × Counts) → Counts
@@ -66,11 +66,11 @@ pub data IsSplit {X : Type 0} : List X → List X → List X → Type 0 where
   one_added : (all added lost : List X) (x : X) → IsSplit all added lost → IsSplit (all ++ x ∷ []) (added ++ x ∷ []) lost
   one_lost : (all added lost : List X) (x : X) → IsSplit all added lost → IsSplit (all ++ x ∷ []) added (lost ++ x ∷ [])
 
--- Of the entries of a log some are added at their keys, and the others to what is gone. A key that was kept loses none, and a key of
--- which no entry is added stays as it was.
-pub record CountsLog (old : Table) (log : List Counted) (new : Table) : Type 0 where
-  pub added : List Counted
-  pub lost : List Counted
+-- Of the runs of a log some are added at their keys, and the others to what is gone. A key that was kept loses none, and a key of
+-- which no run is added stays as it was.
+pub record CountsLog (old : Table) (log : List Run) (new : Table) : Type 0 where
+  pub added : List Run
+  pub lost : List Run
   pub split : IsSplit log added lost
   pub at_each_key : (key : CountKey) → kept_at key new ≡ kept_after (kept_at key old) (filter (is_for key) added)
   pub gone : new.gone ≡ plus_all old.gone lost
@@ -84,13 +84,13 @@ total kind table = sum_by (λ entry. kind entry.1) table.entries + kind table.go
 abbrev pub GrowsBy : ℕ → ℕ → ℕ → Type 0
 GrowsBy before more after = before + more < 2 ^ 64 → after ≡ before + more
 
--- the totals grow by what the entries count, and by nothing else
-pub record Conserves (old : Table) (entries : List Counted) (new : Table) : Type 0 where
-  pub delivered : GrowsBy (total (λ c. c.delivered) old) (sum_by (λ entry. (counts_of entry).delivered) entries) (total (λ c. c.delivered) new)
-  pub dropped : GrowsBy (total (λ c. c.dropped) old) (sum_by (λ entry. (counts_of entry).dropped) entries) (total (λ c. c.dropped) new)
-  pub no_members : GrowsBy (total (λ c. c.no_members) old) (sum_by (λ entry. (counts_of entry).no_members) entries) (total (λ c. c.no_members) new)
-  pub send_failed : GrowsBy (total (λ c. c.send_failed) old) (sum_by (λ entry. (counts_of entry).send_failed) entries) (total (λ c. c.send_failed) new)
-  pub bytes : GrowsBy (total (λ c. c.bytes) old) (sum_by (λ entry. (counts_of entry).bytes) entries) (total (λ c. c.bytes) new)
+-- the totals grow by what the runs count, and by nothing else
+pub record Conserves (old : Table) (entries : List Run) (new : Table) : Type 0 where
+  pub delivered : GrowsBy (total (λ c. c.delivered) old) (sum_by (λ entry. entry.counts.delivered) entries) (total (λ c. c.delivered) new)
+  pub dropped : GrowsBy (total (λ c. c.dropped) old) (sum_by (λ entry. entry.counts.dropped) entries) (total (λ c. c.dropped) new)
+  pub no_members : GrowsBy (total (λ c. c.no_members) old) (sum_by (λ entry. entry.counts.no_members) entries) (total (λ c. c.no_members) new)
+  pub send_failed : GrowsBy (total (λ c. c.send_failed) old) (sum_by (λ entry. entry.counts.send_failed) entries) (total (λ c. c.send_failed) new)
+  pub bytes : GrowsBy (total (λ c. c.bytes) old) (sum_by (λ entry. entry.counts.bytes) entries) (total (λ c. c.bytes) new)
 
 -- the keys that a configuration lacks are gone, and their counts are added in turn to what is gone
 abbrev pub without_lacking : List (GroupOf ProgramValue) → Table → Table

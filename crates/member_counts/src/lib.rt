@@ -14,7 +14,7 @@ mod tests;
 
 pub use counts::{Counts, GroupCounts, MemberCounts};
 pub use key::{CountKey, has};
-pub use log::{Counted, Outcome, VerdictLog};
+pub use log::{Run, VerdictLog};
 pub use table::MemberTable;
 
 /// The greatest number of keys that `settle` leaves.

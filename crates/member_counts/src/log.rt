@@ -1,9 +1,7 @@
 //! What a worker counted and has not added to the table (docs/SWITCH.md, "Counts by member").
 
-ghost use Rattle.std.specs.Prelude.{◌≡◌, ◌<◌, ◌≤◌, ◌↔◌, IfOk, IsTrue, [], length};
-ghost use Rattle.member_counts.specs.Counts.{counts_of};
-ghost use Rattle.member_counts.specs.Key.{key_of};
-ghost use Rattle.member_counts.specs.Log.{Log, marked_failed, outcome_of, with_failed_send, with_no_members, with_outcome, with_verdict};
+ghost use Rattle.std.specs.Prelude.{◌≡◌, ◌<◌, ◌≤◌, ◌↔◌, ◌++◌, ◌∷◌, IfOk, IsTrue, [], false, length};
+ghost use Rattle.member_counts.specs.Log.{Log, marked_failed, with_counts, with_no_members, with_verdict};
 
 use crate::counts::Counts;
 use crate::key::CountKey;
@@ -12,118 +10,20 @@ use packet_verdict::Verdict;
 use std::alloc::{AllocError, Global};
 use std::marker::Model;
 
-/// What became of a packet for a group.
+/// What was counted of packets that came one after another and have one key.
 #[derive(Clone, Copy, Debug, PartialEq, Eq)]
-pub enum Outcome {
-    /// The group had no member.
-    NoMembers {
-        group: Endpoint,
-    },
-    /// The member's filter kept no byte of it.
-    Dropped {
-        group: Endpoint,
-        member: u32,
-    },
-    /// So many bytes of it went to the member.
-    Delivered {
-        group: Endpoint,
-        member: u32,
-        bytes: usize,
-    },
+pub struct Run {
+    pub key: CountKey,
+    pub counts: Counts,
 }
 
-/// An outcome, and whether its send failed.
-#[derive(Clone, Copy, Debug, PartialEq, Eq)]
-pub struct Counted {
-    pub outcome: Outcome,
-    pub failed: bool,
-}
-
-impl Outcome {
-    /// Returns the outcome of a verdict that names a member.
-    #[inline]
-    pub fn of(verdict: &Verdict) -> Option<Outcome>
-        ensures { result ≡ outcome_of verdict.now }
-    {
-        match *verdict {
-            Verdict::Malformed | Verdict::NoGroup | Verdict::NoMembers => None,
-            Verdict::Dropped { group, member } => Some(Outcome::Dropped { group, member }),
-            Verdict::Deliver {
-                group,
-                member,
-                to: _,
-                bytes,
-            } => Some(Outcome::Delivered {
-                group,
-                member,
-                bytes,
-            }),
-        }
-    }
-
-    /// Returns by which key it is counted.
-    pub fn key(&self) -> CountKey
-        ensures { result ≡ key_of self.now }
-    {
-        match *self {
-            Outcome::NoMembers { group } => CountKey {
-                group,
-                member: None,
-            },
-            Outcome::Dropped { group, member } => CountKey {
-                group,
-                member: Some(member),
-            },
-            Outcome::Delivered { group, member, .. } => CountKey {
-                group,
-                member: Some(member),
-            },
-        }
-    }
-}
-
-impl Counted {
-    // The same after its send failed. Only what is delivered has one.
-    fn with_failed_send(self) -> Counted
-        ensures { result ≡ with_failed_send self }
-    {
-        match self.outcome {
-            Outcome::Delivered { .. } => Counted {
-                failed: true,
-                ..self
-            },
-            _ => self,
-        }
-    }
-
-    /// Returns what is counted of it.
-    pub fn counts(&self) -> Counts
-        ensures { result ≡ counts_of self.now }
-    {
-        match self.outcome {
-            Outcome::NoMembers { .. } => Counts {
-                no_members: 1,
-                ..Counts::none()
-            },
-            Outcome::Dropped { .. } => Counts {
-                dropped: 1,
-                ..Counts::none()
-            },
-            Outcome::Delivered { bytes, .. } => Counts {
-                delivered: 1,
-                send_failed: self.failed as u64,
-                bytes: bytes as u64,
-                ..Counts::none()
-            },
-        }
-    }
-}
-
-/// The outcomes that a worker has not added to the table, and for how many there is room.
+/// The runs that a worker has not added to the table, and for how many there is room.
 #[derive(Drop)]
 pub struct VerdictLog {
-    entries: Vec<Counted>,
+    entries: Vec<Run>,
     room: usize,
+    // The last packet was delivered, and its send has not failed.
+    sent: bool,
 }
 
 impl Model for VerdictLog {
@@ -132,23 +32,24 @@ impl Model for VerdictLog {
 
     ghost Value = { Log };
 
-    ghost view = { λ log. record { entries = log.entries.items; room = log.room } };
+    ghost view = { λ log. record { entries = log.entries.items; room = log.room; sent = log.sent } };
 
     ghost invariant = { λ log. (length log.entries.items ≤ log.room) × (log.room ≤ vec_capacity log.entries) };
 }
 
 impl VerdictLog {
-    /// Makes an empty log, and takes the memory for `room` entries. No other call takes memory.
+    /// Makes an empty log, and takes the memory for `room` runs. No other call takes memory.
     pub fn new(alloc: Global, room: usize) -> Result<VerdictLog, AllocError>
-        ensures empty { IfOk result (λ log. log ≡ record { entries = []; room = room }) }
+        ensures empty { IfOk result (λ log. log ≡ record { entries = []; room = room; sent = false }) }
     {
         Ok(VerdictLog {
             entries: Vec::with_capacity(alloc, room)?,
             room,
+            sent: false,
         })
     }
 
-    /// Tests whether there is no room.
+    /// Tests whether there is no room for a run.
     #[inline]
     pub fn is_full(&self) -> bool
         ensures { IsTrue result ↔ (self.now.room ≤ length self.now.entries) }
@@ -163,60 +64,118 @@ impl VerdictLog {
         self.entries.is_empty()
     }
 
-    /// Lends what is logged, in its order.
-    pub fn entries(&self) -> &[Counted]
+    /// Lends the runs, in their order.
+    pub fn entries(&self) -> &[Run]
         ensures { result.now ≡ self.now.entries }
     {
         self.entries.as_slice()
     }
 
-    // Logs an outcome.
+    // Begins a run.
     #[inline]
-    fn push(&mut self, outcome: Outcome)
+    fn begin(&mut self, run: Run)
         requires { length self.old.entries < self.old.room }
-        ensures { self.new ≡ with_outcome outcome self.old }
+        ensures { self.new ≡ record self.old { entries = self.old.entries ++ run ∷ [] } }
     {
-        let entry = Counted {
-            outcome,
-            failed: false,
-        };
-        if self.entries.push(entry).is_err() {
+        let Ok(()) = self.entries.push(run) else {
             unreachable!()
-        }
+        };
     }
 
-    /// Logs a verdict if it names a member.
+    // Adds counts to the last run, if it has the key, or else begins a run.
+    #[inline]
+    fn add(&mut self, key: CountKey, counts: Counts, sent: bool)
+        requires { length self.old.entries < self.old.room }
+        ensures { self.new ≡ with_counts key counts sent self.old }
+    {
+        self.sent = sent;
+        let Some(last) = self.entries.last_mut() else {
+            return self.begin(Run { key, counts });
+        };
+        if last.key == key {
+            last.counts = last.counts.plus(counts);
+            return;
+        }
+        self.begin(Run { key, counts });
+    }
+
+    /// Counts a verdict if it names a member.
     #[inline]
     pub fn judged(&mut self, verdict: &Verdict)
         requires { length self.old.entries < self.old.room }
         ensures { self.new ≡ with_verdict verdict.now self.old }
     {
-        if let Some(outcome) = Outcome::of(verdict) {
-            self.push(outcome);
+        match *verdict {
+            Verdict::Malformed | Verdict::NoGroup | Verdict::NoMembers => {}
+            Verdict::Dropped { group, member } => {
+                let key = CountKey {
+                    group,
+                    member: Some(member),
+                };
+                let counts = Counts {
+                    dropped: 1,
+                    ..Counts::none()
+                };
+                self.add(key, counts, false);
+            }
+            Verdict::Deliver {
+                group,
+                member,
+                to: _,
+                bytes,
+            } => {
+                let key = CountKey {
+                    group,
+                    member: Some(member),
+                };
+                let counts = Counts {
+                    delivered: 1,
+                    bytes: bytes as u64,
+                    ..Counts::none()
+                };
+                self.add(key, counts, true);
+            }
         }
     }
 
-    /// Logs a packet for a group that had no member.
+    /// Counts a packet for a group that had no member.
     pub fn no_members(&mut self, group: Endpoint)
         requires { length self.old.entries < self.old.room }
         ensures { self.new ≡ with_no_members group self.old }
     {
-        self.push(Outcome::NoMembers { group });
+        let key = CountKey {
+            group,
+            member: None,
+        };
+        let counts = Counts {
+            no_members: 1,
+            ..Counts::none()
+        };
+        self.add(key, counts, false);
     }
 
-    /// Marks the last entry as one whose send failed, if it was delivered. An empty log stays as it is.
+    /// Counts that the send of the last packet failed, once, if the packet was delivered. An empty log stays as it is.
     pub fn send_failed(&mut self)
         ensures { self.new ≡ marked_failed self.old }
     {
+        if !self.sent {
+            return;
+        }
+        self.sent = false;
         if let Some(last) = self.entries.last_mut() {
-            *last = last.with_failed_send();
+            let counts = Counts {
+                send_failed: 1,
+                ..Counts::none()
+            };
+            last.counts = last.counts.plus(counts);
         }
     }
 
-    /// Removes all entries.
+    /// Removes all runs.
     pub fn clear(&mut self)
-        ensures { self.new ≡ record { entries = []; room = self.old.room } }
+        ensures { self.new ≡ record { entries = []; room = self.old.room; sent = false } }
     {
         self.entries.clear();
+        self.sent = false;
     }
 }

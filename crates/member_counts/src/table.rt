@@ -7,11 +7,11 @@ ghost use Rattle.member_counts.specs.Counts.{no_counts};
 ghost use Rattle.member_counts.specs.Key.{has, same_key};
 ghost use Rattle.member_counts.specs.Log.{is_for};
 ghost use Rattle.member_counts.specs.Table.{Conserves, CountsLog, group_counts, kept_after, kept_at, member_counts, settled, without_lacking};
-ghost use Rattle.member_counts.specs.body.Step.{AddsAt, GrowsEach, IsRun};
+ghost use Rattle.member_counts.specs.body.Step.{AddsAt, GrowsEach};
 
 use crate::counts::{Counts, GroupCounts, MemberCounts};
 use crate::key::{CountKey, has};
-use crate::log::{Counted, VerdictLog};
+use crate::log::VerdictLog;
 use crate::{KEPT_LIMIT, ROOM_LIMIT};
 use ipv4_fields::Endpoint;
 use member_group::{Config, Group};
@@ -36,26 +36,6 @@ impl Model for MemberTable {
     ghost view = { λ table. record { entries = table.entries.entries; gone = table.gone } };
 
     ghost invariant = { λ table. length table.entries.entries ≤ ROOM_LIMIT };
-}
-
-// Adds the counts of the entries that a list begins with and that have the key, and returns the others.
-fn rest_of_run<'a>(
-    key: &CountKey,
-    counts: Counts,
-    entries: &'a [Counted],
-) -> (Counts, &'a [Counted])
-    ensures { IsRun key.now counts entries.now result.0 result.1.now }
-{
-    let mut sum = counts;
-    let mut left = entries;
-    while let [entry, rest @ ..] = left {
-        if entry.outcome.key() != *key {
-            return (sum, left);
-        }
-        sum = sum.plus(entry.counts());
-        left = rest;
-    }
-    (sum, left)
 }
 
 impl MemberTable {
@@ -93,22 +73,17 @@ impl MemberTable {
         self.gone = self.gone.plus(counts);
     }
 
-    /// Adds each entry of a log at its key.
+    /// Adds each run of a log at its key.
     ///
-    /// A key that is not kept needs room: fewer than `ROOM_LIMIT` keys, and memory. Without room its entry is added to what is gone.
+    /// A key that is not kept needs room: fewer than `ROOM_LIMIT` keys, and memory. Without room its run is added to what is gone.
     pub fn count(&mut self, log: &VerdictLog)
         ensures counts { CountsLog self.old log.now.entries self.new }
         ensures kept_exact { (key : CountKey) → IsSome (kept_at key self.old)
             → kept_at key self.new ≡ kept_after (kept_at key self.old) (filter (is_for key) log.now.entries) }
         ensures conserved { Conserves self.old log.now.entries self.new }
     {
-        // Packets of one sender come together, so that most entries cost no search of the table.
-        let mut left = log.entries();
-        while let [first, others @ ..] = left {
-            let key = first.outcome.key();
-            let (counts, rest) = rest_of_run(&key, first.counts(), others);
-            self.add(key, counts);
-            left = rest;
+        for entry in log.entries() {
+            self.add(entry.key, entry.counts);
         }
     }
 

@@ -1,5 +1,5 @@
 -- What contracts see of the devices of a worker that serves (docs/SWITCH.md, "Devices of a server").
-use Rattle.std.specs.Prelude.{◌==◌, ◌-◌, ◌≡◌, ◌≤◌, ◌⊎◌, ◌∷◌, ◌^◌, if◌then◌else◌, Err, List, None, Ok, Option, Result, Some, [], filter_map, length, option_map, suc, take, ℕ}
+use Rattle.std.specs.Prelude.{◌==◌, ◌-◌, ◌≡◌, ◌≤◌, ◌⊎◌, ◌∷◌, ◌^◌, if◌then◌else◌, Err, List, None, Ok, Option, Result, Some, [], false, filter_map, length, option_map, suc, take, ℕ}
 use Rattle.dispatch.specs.Device.{OutboxValue, Sent, SourceValue}
 use Rattle.member_counts.specs.Log.{Log, marked_failed}
 use Rattle.serve_devices.specs.Ingress.{IsEnded, Receive}
@@ -55,7 +55,7 @@ pub record MemberOutboxValue : Type 0 where
   pub log : Log
 
 abbrev pub empty_log : Log
-empty_log = record { entries = []; room = LOG_ROOM }
+empty_log = record { entries = []; room = LOG_ROOM; sent = false }
 
 abbrev pub new_outbox : Option (List Sent) → MemberOutboxValue
 new_outbox taken = record { outbox = outbox_with 0 taken; log = empty_log }

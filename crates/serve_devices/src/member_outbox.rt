@@ -1,7 +1,7 @@
 //! The outbox of a worker that counts by member (docs/SWITCH.md, "Devices of a server"): a socket of its own, a log of its own, and
 //! the table that all workers count in.
 
-ghost use Rattle.std.specs.Prelude.{◌≡◌, ◌<◌, IfOk, [], length};
+ghost use Rattle.std.specs.Prelude.{◌≡◌, ◌<◌, IfOk, [], false, length};
 ghost use Rattle.dispatch.specs.Device.{CountsFailure, Takes, taken_by};
 ghost use Rattle.member_counts.specs.Log.{with_no_members, with_verdict};
 ghost use Rattle.member_counts.specs.Table.{CountsLog};
@@ -51,7 +51,7 @@ impl<'a, E: Egress + Drop, R: Wait> Model for MemberOutbox<'a, E, R> {
 // Adds the log to the table, and empties it.
 fn hand_log_on(log: &mut VerdictLog, table: &mut MemberTable)
     ensures counted { CountsLog table.old log.old.entries table.new }
-    ensures empty { log.new ≡ record log.old { entries = [] } }
+    ensures empty { log.new ≡ record log.old { entries = []; sent = false } }
 {
     table.count(log);
     log.clear();

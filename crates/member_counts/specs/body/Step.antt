@@ -1,12 +1,10 @@
 -- What one addition to a MemberTable does.
-use Rattle.std.specs.Prelude.{◌≡◌, ◌++◌, ◌⊎◌, List, None, Some, cond}
-use Rattle.std.specs.List.{All}
+use Rattle.std.specs.Prelude.{◌≡◌, ◌⊎◌, None, Some, cond}
 use Rattle.member_counts.specs.declared.counts.Counts.{Counts}
 use Rattle.member_counts.specs.declared.key.CountKey.{CountKey}
-use Rattle.member_counts.specs.declared.log.Counted.{Counted}
 use Rattle.member_counts.specs.Counts.{plus}
-use Rattle.member_counts.specs.Key.{key_of, same_key}
-use Rattle.member_counts.specs.Table.{GrowsBy, Table, joined, kept_at, plus_all, total}
+use Rattle.member_counts.specs.Key.{same_key}
+use Rattle.member_counts.specs.Table.{GrowsBy, Table, joined, kept_at, total}
 
 -- counts are added at a key, and nothing else changes
 pub record IsKept (key : CountKey) (counts : Counts) (old new : Table) : Type 0 where
@@ -29,10 +27,3 @@ pub record GrowsEach (old : Table) (counts : Counts) (new : Table) : Type 0 wher
   pub no_members : GrowsBy (total (λ c. c.no_members) old) counts.no_members (total (λ c. c.no_members) new)
   pub send_failed : GrowsBy (total (λ c. c.send_failed) old) counts.send_failed (total (λ c. c.send_failed) new)
   pub bytes : GrowsBy (total (λ c. c.bytes) old) counts.bytes (total (λ c. c.bytes) new)
-
--- Entries begin with a run of one key, whose counts are added in turn, and the others follow.
-pub record IsRun (key : CountKey) (counts : Counts) (entries : List Counted) (sum : Counts) (others : List Counted) : Type 0 where
-  pub run : List Counted
-  pub split : entries ≡ run ++ others
-  pub same : All (λ entry. key_of entry.outcome ≡ key) run
-  pub added : sum ≡ plus_all counts run
