@@ -10,7 +10,7 @@ use Rattle.command_line.specs.CommandLine.{Request, WaitingRequest, command_in, 
 use Rattle.command_line.specs.Ending.{AppendsBeginning, line_of}
 use Rattle.command_line.specs.Input.{IsInput}
 use Rattle.command_replay.specs.Replaying.{ReplayWritesBefore, WritesScript}
-use Rattle.packet_capture.specs.Packets.{TellsCounts, WritesFirst, WritesText}
+use Rattle.packet_capture.specs.Packets.{TellsCounts, WritesBeginning, WritesFirst, WritesText}
 use Rattle.command_query.specs.Query.{QueryWritesBefore, ReadsInput, WritesAnswer}
 
 -- the input was read to its end, and the text of that file was written, and nothing else
@@ -54,11 +54,16 @@ MayFailBy words RulesChanged = ⊥
 abbrev pub WritesFirstPackets : Option (List ℕ) → Option (List ℕ) → Option (List ℕ) → Type 0
 WritesFirstPackets known before after = (file : List ℕ) × IsInput known file × WritesFirst file before after
 
+-- a beginning of the text of the input was written, and nothing else
+abbrev pub BeginsPackets : Option (List ℕ) → Option (List ℕ) → Option (List ℕ) → Type 0
+BeginsPackets known before after = (file : List ℕ) × IsInput known file × WritesBeginning file before after
+
 abbrev pub PacketsWriteBefore : Failure → Option (List ℕ) → Option (List ℕ) → Option (List ℕ) → Type 0
 PacketsWriteBefore OutOfMemory known before after = (after ≡ before) ⊎ WritesFirstPackets known before after
+PacketsWriteBefore WriteFailed known before after = BeginsPackets known before after
 PacketsWriteBefore failure known before after = QueryWritesBefore failure before after
 
--- what was written before each failure: what is promised of a failed write is promised of `replay` alone
+-- what was written before each failure: what is promised of a failed write is promised of `replay` and `packets` alone
 abbrev pub WritesBefore : Request → Failure → Option (List ℕ) → Option (List ℕ) → Option (List ℕ) → Type 0
 WritesBefore (replay summary quiet) failure known before after = ReplayWritesBefore summary quiet failure known before after
 WritesBefore packets failure known before after = PacketsWriteBefore failure known before after

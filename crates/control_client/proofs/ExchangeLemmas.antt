@@ -1,7 +1,6 @@
 -- What comes while a line waits, and how the line ends by that.
 use Rattle.std.proofs.Common.{◌≡◌, ◌∙◌, ◌<◌, ◌++◌, ◌∷◌, Bool, Bor, Err, List, Ok, Option, Result, None, Some, [], ap, false, is_err, length, not-suc-le-zero, refl, subst, sym, take, true, true≢false, ℕ}
-use Rattle.std.specs.Prelude.{IfErr, IfOk, MatchOption, OnErr, OnOk}
-use Rattle.std.specs.Io.KnownBytes.{Appends}
+use Rattle.std.specs.Prelude.{IfErr, MatchOption, OnErr}
 use Rattle.std.proofs.lemmas.List.Elements.{All-push}
 use Rattle.control_client.specs.declared.device.Peer.{Peer}
 use Rattle.control_client.specs.declared.asking.TheConstants.{FOREIGN_LIMIT}
@@ -11,8 +10,8 @@ use Rattle.control_client.specs.declared.device.WireFailed.{WireFailed}
 use Rattle.command_line.specs.declared.ending.Failure.{Failure}
 use Rattle.command_line.specs.declared.ending.Failure.TheVariants.{NoAnswer, WriteFailed}
 use Rattle.command_line.specs.Ending.{AppendsBeginning}
-use Rattle.control_client.specs.Exchange.{Asks, IsExchange, IsForeign, LineEndsBy, LineUnprinted, answered, is_refusal, not_sent, outnumbered, reply_line, timed_out, unsent}
-use Rattle.control_client.specs.Wire.{Event, Logs, came, came_by, none_came, sent, sent_by}
+use Rattle.control_client.specs.Exchange.{Asks, IsExchange, IsForeign, LineEndsBy, LineUnprinted, answered, not_sent, outnumbered, reply_line, timed_out, unsent}
+use Rattle.control_client.specs.Wire.{Event, Logs, came, came_by, none_came, send_failed, sent, sent_by, wait_failed}
 use Rattle.control_client.specs.body.Asking.{Hears, HearsNone, Passes, broken, out_of_time, too_many}
 use Rattle.control_client.proofs.WireLemmas.{logs_more, logs_nothing}
 
@@ -51,15 +50,15 @@ unheard _ switch line before mid after out carried was_sent (too_many _ _ _ pass
   not_printed = refl;
 }
 unheard _ switch line before mid after out carried was_sent (broken _ _ _ passed foreign few logged) = record {
-  events = sent switch line ∷ passed;
+  events = sent switch line ∷ (passed ++ wait_failed ∷ []);
   is_last = record { carried = carried; passed = passed; are_foreign = foreign; few = few; events_are = refl };
-  logged = logs_more before mid after (sent switch line ∷ []) passed was_sent logged;
+  logged = logs_more before mid after (sent switch line ∷ []) (passed ++ wait_failed ∷ []) was_sent logged;
   not_printed = refl;
 }
 
--- a send that failed logged nothing, and another the line
+-- a send logged that it failed, or the line
 pub sent_nothing : {E : Type 0} (result : Result (Unit {0}) E) (to : Peer) (bytes : List ℕ) (log log' : Option (List Event)) → is_err result ≡ true
-    → Logs log log' (sent_by result to bytes) → Logs log log' []
+    → Logs log log' (sent_by result to bytes) → Logs log log' (send_failed to bytes ∷ [])
 sent_nothing (Ok done) to bytes log log' failed logged = absurd (true≢false (sym failed))
 sent_nothing (Err fault) to bytes log log' failed logged = logged
 
@@ -68,9 +67,9 @@ pub sent_line : {E : Type 0} (result : Result (Unit {0}) E) (to : Peer) (bytes :
 sent_line (Ok done) to bytes log log' failed logged = logged
 sent_line (Err fault) to bytes log log' failed logged = absurd (true≢false failed)
 
-pub failed_send : (switch : Peer) (line : List ℕ) (log log' : Option (List Event)) (out : Option (List ℕ)) → IsCarried switch line → Logs log log' []
-    → LineEndsBy NoAnswer switch line log log' out out
-failed_send switch line log log' out carried logged = record { events = []; is_last = not_sent carried; logged = logged; not_printed = refl }
+pub failed_send : (switch : Peer) (line : List ℕ) (log log' : Option (List Event)) (out : Option (List ℕ)) → IsCarried switch line
+    → Logs log log' (send_failed switch line ∷ []) → LineEndsBy NoAnswer switch line log log' out out
+failed_send switch line log log' out carried logged = record { events = send_failed switch line ∷ []; is_last = not_sent carried; logged = logged; not_printed = refl }
 
 -- the line is carried, or not
 pub carried : (switch : Peer) (line : List ℕ) (reply : Option (Bor (List ℕ))) → ((given : Bor (List ℕ)) → reply ≡ Some given → ⊥)

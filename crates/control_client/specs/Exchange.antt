@@ -1,14 +1,13 @@
 -- A line and its reply, and what happens on the wire for them (docs/COMMANDS.md, "tell").
-use Rattle.std.specs.Prelude.{◌≡◌, ◌≢◌, ◌<◌, ◌++◌, ◌∷◌, ◌||◌, Bool, List, Option, [], codes, flat_map, length, map, nat_eq, ℕ}
+use Rattle.std.specs.Prelude.{◌≡◌, ◌≢◌, ◌<◌, ◌++◌, ◌∷◌, ◌||◌, Bool, List, Option, [], codes, flat_map, length, nat_eq, ℕ}
 use Rattle.std.specs.List.{All, list_any, starts_with}
-use Rattle.std.specs.Io.KnownBytes.{Appends}
 use Rattle.control_client.specs.Carried.{IsCarried, IsRefusedUnsent}
 use Rattle.control_client.specs.declared.device.Peer.{Peer}
 use Rattle.command_line.specs.Ending.{AppendsBeginning}
 use Rattle.control_client.specs.declared.asking.TheConstants.{FOREIGN_LIMIT}
 use Rattle.command_line.specs.declared.ending.Failure.{Failure}
 use Rattle.command_line.specs.declared.ending.Failure.TheVariants.{BindFailed, NoAnswer, OutOfMemory, PollFailed, ReadFailed, RulesChanged, SpawnFailed, WriteFailed}
-use Rattle.control_client.specs.Wire.{Event, Logs, came, none_came, sent}
+use Rattle.control_client.specs.Wire.{Event, Logs, came, none_came, send_failed, sent, wait_failed}
 
 -- a line, and what it was replied
 pub record Exchange : Type 0 where
@@ -19,7 +18,9 @@ pub record Exchange : Type 0 where
 abbrev pub IsForeign : Peer → Event → Type 0
 IsForeign switch (came from bytes) = from ≢ switch
 IsForeign switch (sent to bytes) = ⊥
+IsForeign switch (send_failed to bytes) = ⊥
 IsForeign switch none_came = ⊥
+IsForeign switch wait_failed = ⊥
 
 -- the line was sent once; then replies from elsewhere came, fewer than end the wait, and then one from the switch, which is its reply
 pub record IsAnswered (switch : Peer) (line reply : List ℕ) (events : List Event) : Type 0 where
@@ -46,21 +47,21 @@ pub data AreExchanged (switch : Peer) : List Exchange → List Event → Type 0 
   one_more : (told : List Exchange) (events more : List Event) (line reply : List ℕ) → AreExchanged switch told events →
       IsExchange switch line reply more → AreExchanged switch (told ++ record { line = line; reply = reply } ∷ []) (events ++ more)
 
--- no reply came: the line could not be sent, or its time was out, or too many replies came from elsewhere
+-- no reply came: sending the line failed, or its time was out, or too many replies came from elsewhere
 pub data IsUnanswered (switch : Peer) (line : List ℕ) : List Event → Type 0 where
-  not_sent : IsCarried switch line → IsUnanswered switch line []
+  not_sent : IsCarried switch line → IsUnanswered switch line (send_failed switch line ∷ [])
   timed_out : IsCarried switch line → (passed : List Event) → All (IsForeign switch) passed → length passed < FOREIGN_LIMIT →
       IsUnanswered switch line (sent switch line ∷ (passed ++ none_came ∷ []))
   outnumbered : IsCarried switch line → (passed : List Event) → All (IsForeign switch) passed → length passed ≡ FOREIGN_LIMIT →
       IsUnanswered switch line (sent switch line ∷ passed)
 
--- the line was sent, and no reply had come where waiting failed
+-- the line was sent, and waiting failed before a reply came
 pub record IsCutOff (switch : Peer) (line : List ℕ) (events : List Event) : Type 0 where
   pub carried : IsCarried switch line
   pub passed : List Event
   pub are_foreign : All (IsForeign switch) passed
   pub few : length passed < FOREIGN_LIMIT
-  pub events_are : events ≡ sent switch line ∷ passed
+  pub events_are : events ≡ sent switch line ∷ (passed ++ wait_failed ∷ [])
 
 -- ---- what is printed
 

@@ -17,7 +17,7 @@ use Rattle.command_line.specs.declared.ending.Status.TheVariants.{Done, Refused}
 use Rattle.packet_capture.specs.Packets.{WritesText, cut_text, packet_line, packet_lines}
 use Rattle.packet_capture.specs.body.Progress.{WritesRecords}
 
-packet_lines-append : (a b : List Content) → packet_lines (a ++ b) ≡ packet_lines a ++ packet_lines b
+pub packet_lines-append : (a b : List Content) → packet_lines (a ++ b) ≡ packet_lines a ++ packet_lines b
 packet_lines-append a b =
     ap (λ (packets : List (List ℕ)). flat_map packet_line packets) (packets_of-append a b) ∙ flat_map-append packet_line (packets_of a) (packets_of b)
 

@@ -70,6 +70,13 @@ pub record WritesText (file : List ℕ) (status : Status) (before after : Option
   pub text_is : IsPacketsText file status text
   pub written : Appends before after text
 
+-- a beginning of the text that a status means was written, possibly none of it or the whole, and nothing else
+pub record WritesBeginning (file : List ℕ) (before after : Option (List ℕ)) : Type 0 where
+  pub status : Status
+  pub text : List ℕ
+  pub text_is : IsPacketsText file status text
+  pub begun : AppendsBeginning before after text
+
 -- of the packets of a file, those of some first records were written, and nothing else
 pub record WritesFirst (file : List ℕ) (before after : Option (List ℕ)) : Type 0 where
   pub header : FileHeader

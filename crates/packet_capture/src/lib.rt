@@ -16,6 +16,7 @@ mod content;
 mod counts;
 mod fault;
 mod header;
+mod line;
 mod link_type;
 mod order;
 mod packet_lines;

@@ -4,22 +4,26 @@ ghost use Rattle.std.specs.Prelude.{◌≡◌, ◌≢◌, ◌++◌, ◌∷◌, �
 ghost use Rattle.std.specs.Io.KnownBytes.{Appends};
 ghost use Rattle.packet_capture.specs.Header.{IsFileHeader};
 ghost use Rattle.packet_capture.specs.Record.{HasNoRecord};
-ghost use Rattle.packet_capture.specs.Packets.{TellsCounts, WritesFirst, WritesText, counts_text, cut_text, header_fault_text, packet_line, packet_lines};
-ghost use Rattle.packet_capture.specs.body.Progress.{WritesRecords, WritesSome};
+ghost use Rattle.command_line.specs.Ending.{AppendsBeginning};
+ghost use Rattle.packet_capture.specs.Packets.{TellsCounts, WritesBeginning, WritesFirst, WritesText, counts_text, cut_text, header_fault_text, packet_line, packet_lines};
+ghost use Rattle.packet_capture.specs.body.Progress.{BeginsCapture, BeginsRecords, WritesRecords, WritesSome};
 
 use crate::content::{Content, content_of};
 use crate::fault::HeaderFault;
 use crate::header::{FILE_HEADER, FileHeader};
+use crate::line::write_line;
 use crate::record::first_record;
+use crate::refusal::write_fault;
 use crate::{Summary, summarize};
 use command_line::{Failure, Status, write_whole};
+use itoa::Buffer;
 use std::alloc::{AllocError, Global};
 use std::io::Write;
 
 /// Writes the packets of a capture file as lines, and then its counts to `errs`, whose own errors change nothing.
 ///
 /// `file` is the file whole. A file that is cut in a record is refused behind the packets before that. Where its header is refused
-/// nothing else is written. At `OutOfMemory` the lines of some first packets were written, each whole.
+/// nothing else is written. At a failure a beginning of this was written; at `OutOfMemory` the lines of some first packets, each whole.
 pub fn print_packets<W: Write, E: Write>(
     alloc: Global,
     file: &[u8],
@@ -31,6 +35,7 @@ pub fn print_packets<W: Write, E: Write>(
 
     ensures failed { IfErr result (λ failure. (failure ≡ Failure.WriteFailed) ⊎ (failure ≡ Failure.OutOfMemory)) }
     ensures no_memory { result ≡ Err Failure.OutOfMemory → WritesFirst file.now (W.contents out.old) (W.contents out.new) }
+    ensures beginning { OnErr result (WritesBeginning file.now (W.contents out.old) (W.contents out.new)) }
     ensures untold { OnErr result (errs.new ≡ errs.old) }
 {
     let summary = match summarize(file) {
@@ -55,8 +60,9 @@ fn write_refusal<W: Write>(fault: HeaderFault, out: &mut W) -> Result<Status, Fa
     ensures failed { IfErr result (λ failure. failure ≡ Failure.WriteFailed) }
     ensures refused { IfOk result (λ status. status ≡ Status.Refused) }
     ensures written { OnOk result (Appends (W.contents out.old) (W.contents out.new) (header_fault_text fault ++ codes "\n")) }
+    ensures beginning { OnErr result (AppendsBeginning (W.contents out.old) (W.contents out.new) (header_fault_text fault ++ codes "\n")) }
 {
-    writeln!(out, "{fault}").map_err(|_| Failure::WriteFailed)?;
+    write_fault(fault, out)?;
     out.flush().map_err(|_| Failure::WriteFailed)?;
     Ok(Status::Refused)
 }
@@ -71,6 +77,7 @@ fn write_capture<W: Write>(
     requires { IsFileHeader file.now header }
     ensures failed { IfErr result (λ failure. (failure ≡ Failure.WriteFailed) ⊎ (failure ≡ Failure.OutOfMemory)) }
     ensures no_memory { result ≡ Err Failure.OutOfMemory → WritesSome header (drop 24 file.now) (W.contents out.old) (W.contents out.new) }
+    ensures beginning { OnErr result (BeginsCapture header file.now (W.contents out.old) (W.contents out.new)) }
     ensures written { IfOk result (λ status. WritesText file.now status (W.contents out.old) (W.contents out.new)) }
 {
     let rest = write_packets(alloc, header, &file[FILE_HEADER..], out)?;
@@ -88,6 +95,7 @@ fn write_packets<'a, W: Write>(
 ) -> Result<&'a [u8], Failure>
     ensures failed { IfErr result (λ failure. (failure ≡ Failure.WriteFailed) ⊎ (failure ≡ Failure.OutOfMemory)) }
     ensures no_memory { result ≡ Err Failure.OutOfMemory → WritesSome header records.entry.now (W.contents out.old) (W.contents out.new) }
+    ensures beginning { OnErr result (BeginsRecords header records.entry.now (W.contents out.old) (W.contents out.new)) }
     ensures written { IfOk result (λ rest. WritesRecords header records.entry.now rest.now (W.contents out.old) (W.contents out.new)) }
     ensures no_more { IfOk result (λ rest. HasNoRecord header.order rest.now) }
 {
@@ -106,6 +114,7 @@ fn write_packets<'a, W: Write>(
 fn write_content<W: Write>(alloc: Global, content: &Content<'_>, out: &mut W) -> Result<(), Failure>
     ensures failed { IfErr result (λ failure. (failure ≡ Failure.WriteFailed) ⊎ (failure ≡ Failure.OutOfMemory)) }
     ensures no_memory { result ≡ Err Failure.OutOfMemory → out.new ≡ out.old }
+    ensures beginning { OnErr result (AppendsBeginning (W.contents out.old) (W.contents out.new) (packet_lines (content.now ∷ []))) }
     ensures written { OnOk result (Appends (W.contents out.old) (W.contents out.new) (packet_lines (content.now ∷ []))) }
 {
     match content {
@@ -117,11 +126,11 @@ fn write_content<W: Write>(alloc: Global, content: &Content<'_>, out: &mut W) ->
 fn write_packet<W: Write>(alloc: Global, packet: &[u8], out: &mut W) -> Result<(), Failure>
     ensures failed { IfErr result (λ failure. (failure ≡ Failure.WriteFailed) ⊎ (failure ≡ Failure.OutOfMemory)) }
     ensures no_memory { result ≡ Err Failure.OutOfMemory → out.new ≡ out.old }
+    ensures beginning { OnErr result (AppendsBeginning (W.contents out.old) (W.contents out.new) (packet_line packet.now)) }
     ensures written { OnOk result (Appends (W.contents out.old) (W.contents out.new) (packet_line packet.now)) }
 {
     let digits = hex::encode(alloc, packet)?;
-    writeln!(out, "packet {digits}").map_err(|_| Failure::WriteFailed)?;
-    Ok(())
+    write_line(b"packet ".as_slice(), digits.as_bytes(), out)
 }
 
 // Where bytes stand behind the last whole record, the file is cut at their place.
@@ -131,10 +140,16 @@ fn write_cut<W: Write>(place: usize, rest: &[u8], out: &mut W) -> Result<Status,
     ensures whole { result ≡ Ok Status.Done → (rest.now ≡ []) × (out.new ≡ out.old) }
     ensures cut { result ≡ Ok Status.Refused
         → (rest.now ≢ []) × Appends (W.contents out.old) (W.contents out.new) (cut_text (Some place)) }
+    ensures beginning { OnErr result ((rest.now ≢ []) × AppendsBeginning (W.contents out.old) (W.contents out.new) (cut_text (Some place))) }
 {
     if rest.is_empty() {
         return Ok(Status::Done);
     }
-    writeln!(out, "refused L5 {place}").map_err(|_| Failure::WriteFailed)?;
+    let mut buffer = Buffer::new();
+    write_line(
+        b"refused L5 ".as_slice(),
+        buffer.format(place).as_bytes(),
+        out,
+    )?;
     Ok(Status::Refused)
 }

@@ -1,21 +1,34 @@
-//! Why the header of a capture file is not read, as it is told (docs/COMMANDS.md, "Refusals").
+//! Why the header of a capture file is not read, as it is written (docs/COMMANDS.md, "Refusals").
 
-ghost use Rattle.std.specs.Prelude.{Some};
+ghost use Rattle.std.specs.Prelude.{◌≡◌, ◌++◌, IfErr, OnOk, codes};
+ghost use Rattle.std.specs.Io.KnownBytes.{Appends};
+ghost use Rattle.command_line.specs.Ending.{AppendsBeginning};
 ghost use Rattle.packet_capture.specs.Packets.{header_fault_text};
 
 use crate::fault::HeaderFault;
-use std::fmt;
+use crate::line::write_line;
+use command_line::Failure;
+use itoa::Buffer;
+use std::io::Write;
 
-impl fmt::Display for HeaderFault {
-    ghost output = { λ fault. Some (header_fault_text fault) };
-
-    fn fmt<W: fmt::Write>(&self, f: &mut fmt::Formatter<W>) -> fmt::Result {
-        match *self {
-            HeaderFault::Magic => write!(f, "refused L1"),
-            HeaderFault::Pcapng => write!(f, "refused L2"),
-            HeaderFault::Version => write!(f, "refused L3"),
-            HeaderFault::LinkType(number) => write!(f, "refused L4 {number}"),
-            HeaderFault::Cut => write!(f, "refused L5 0"),
+/// Writes the refusal as a line.
+pub(crate) fn write_fault<W: Write>(fault: HeaderFault, out: &mut W) -> Result<(), Failure>
+    ensures failed { IfErr result (λ failure. failure ≡ Failure.WriteFailed) }
+    ensures written { OnOk result (Appends (W.contents out.old) (W.contents out.new) (header_fault_text fault ++ codes "\n")) }
+    ensures beginning { AppendsBeginning (W.contents out.old) (W.contents out.new) (header_fault_text fault ++ codes "\n") }
+{
+    match fault {
+        HeaderFault::Magic => write_line(b"refused L1".as_slice(), &[], out),
+        HeaderFault::Pcapng => write_line(b"refused L2".as_slice(), &[], out),
+        HeaderFault::Version => write_line(b"refused L3".as_slice(), &[], out),
+        HeaderFault::LinkType(number) => {
+            let mut buffer = Buffer::new();
+            write_line(
+                b"refused L4 ".as_slice(),
+                buffer.format(number).as_bytes(),
+                out,
+            )
         }
+        HeaderFault::Cut => write_line(b"refused L5 0".as_slice(), &[], out),
     }
 }

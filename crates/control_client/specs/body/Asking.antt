@@ -6,7 +6,7 @@ use Rattle.control_client.specs.declared.asking.TheConstants.{FOREIGN_LIMIT}
 use Rattle.command_line.specs.declared.ending.Failure.{Failure}
 use Rattle.command_line.specs.declared.ending.Failure.TheVariants.{NoAnswer, PollFailed}
 use Rattle.control_client.specs.Exchange.{IsForeign}
-use Rattle.control_client.specs.Wire.{Event, Logs, came, none_came}
+use Rattle.control_client.specs.Wire.{Event, Logs, came, none_came, wait_failed}
 
 -- replies from elsewhere came
 pub record Passes (switch : Peer) (passed : List Event) (log log' : Option (List Event)) : Type 0 where
@@ -20,11 +20,11 @@ pub record Hears (switch : Peer) (reply : List ℕ) (log log' : Option (List Eve
   pub few : length passed < FOREIGN_LIMIT
   pub logged : Logs log log' (passed ++ came switch reply ∷ [])
 
--- then none came in time, or those were too many
+-- then none came in time, or those were too many, or waiting failed
 pub data HearsNone : Failure → (switch : Peer) → (log log' : Option (List Event)) → Type 0 where
   out_of_time : (switch : Peer) (log log' : Option (List Event)) (passed : List Event) → All (IsForeign switch) passed →
       length passed < FOREIGN_LIMIT → Logs log log' (passed ++ none_came ∷ []) → HearsNone NoAnswer switch log log'
   too_many : (switch : Peer) (log log' : Option (List Event)) (passed : List Event) → All (IsForeign switch) passed →
       length passed ≡ FOREIGN_LIMIT → Logs log log' passed → HearsNone NoAnswer switch log log'
   broken : (switch : Peer) (log log' : Option (List Event)) (passed : List Event) → All (IsForeign switch) passed →
-      length passed < FOREIGN_LIMIT → Logs log log' passed → HearsNone PollFailed switch log log'
+      length passed < FOREIGN_LIMIT → Logs log log' (passed ++ wait_failed ∷ []) → HearsNone PollFailed switch log log'

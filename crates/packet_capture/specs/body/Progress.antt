@@ -1,11 +1,12 @@
 -- How far the records of a file were read, and its packets written.
-use Rattle.std.specs.Prelude.{◌≡◌, ◌+◌, ◌∷◌, List, Option, [], length, ℕ}
+use Rattle.std.specs.Prelude.{◌≡◌, ◌+◌, ◌∷◌, ◌⊎◌, List, Option, [], drop, length, ℕ}
 use Rattle.std.specs.Io.KnownBytes.{Appends}
 use Rattle.packet_capture.specs.declared.content.Content.{Content}
 use Rattle.packet_capture.specs.declared.header.FileHeader.{FileHeader}
 use Rattle.packet_capture.specs.declared.Summary.{Summary}
 use Rattle.packet_capture.specs.Capture.{AreRecords, cuts_of, others_of, packets_of}
-use Rattle.packet_capture.specs.Packets.{packet_lines}
+use Rattle.command_line.specs.Ending.{AppendsBeginning}
+use Rattle.packet_capture.specs.Packets.{WritesBeginning, packet_lines}
 
 -- the records at the front of the bytes were counted, up to the rest
 pub record IsCounted (header : FileHeader) (bytes : List ℕ) (summary : Summary) (rest : List ℕ) : Type 0 where
@@ -32,3 +33,14 @@ pub record WritesRecords (header : FileHeader) (bytes rest : List ℕ) (before a
 -- so were those of some first records
 abbrev pub WritesSome : FileHeader → List ℕ → Option (List ℕ) → Option (List ℕ) → Type 0
 WritesSome header bytes before after = (rest : List ℕ) × WritesRecords header bytes rest before after
+
+-- a beginning was written of the packets of some first records
+pub record BeginsRecords (header : FileHeader) (bytes : List ℕ) (before after : Option (List ℕ)) : Type 0 where
+  pub contents : List Content
+  pub rest : List ℕ
+  pub are_records : AreRecords header bytes contents rest
+  pub begun : AppendsBeginning before after (packet_lines contents)
+
+-- of those of a file, or of the text of the whole file
+abbrev pub BeginsCapture : FileHeader → List ℕ → Option (List ℕ) → Option (List ℕ) → Type 0
+BeginsCapture header file before after = BeginsRecords header (drop 24 file) before after ⊎ WritesBeginning file before after

@@ -15,8 +15,17 @@ is refused the program says `failed E3` in its place.
 
 const PROGRAM: &[u8] = b"ldb [9]; jeq #17,0,1; ret #65535; ret #0";
 
+// A capture of raw IP with one packet of 20 bytes.
+const CAPTURE: &[u8] = b"\xd4\xc3\xb2\xa1\x02\0\x04\0\0\0\0\0\0\0\0\0\xff\xff\0\0e\0\0\0\
+\0\0\0\0\0\0\0\0\x14\0\0\0\x14\0\0\0E\0\0\x14\0\0\0\0@\x11\0\0\n\0\0\x01\n\0\0\x02";
+
+// One that is cut in its first record.
+const CUT_CAPTURE: &[u8] = b"\xd4\xc3\xb2\xa1\x02\0\x04\0\0\0\0\0\0\0\0\0\xff\xff\0\0e\0\0\0\0";
+// One of link type 105, which is not read.
+const WIRELESS: &[u8] = b"\xd4\xc3\xb2\xa1\x02\0\x04\0\0\0\0\0\0\0\0\0\xff\xff\0\0i\0\0\0";
+
 // Of each command a result, and of each that refuses a refusal.
-const COMMANDS: [(&[&str], &[u8]); 13] = [
+const COMMANDS: [(&[&str], &[u8]); 17] = [
     (&["first"], b""),
     (&["--help"], b""),
     (&["--version"], b""),
@@ -30,6 +39,10 @@ const COMMANDS: [(&[&str], &[u8]); 13] = [
     (&["explain", "refused", "G3"], b""),
     (&["explain", "g3"], b""),
     (&["replay"], b"add 10.0.0.2:53\nshow\n"),
+    (&["packets"], CAPTURE),
+    (&["packets"], CUT_CAPTURE),
+    (&["packets"], WIRELESS),
+    (&["packets"], b"no capture at all, but a text"),
 ];
 
 // The command fails and tells this line.

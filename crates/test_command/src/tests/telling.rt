@@ -31,7 +31,18 @@ struct Row {
     printed: &'static str,
 }
 
-const ROWS: [Row; 9] = [
+// The longest reply of a switch.
+const TOTALS: &str = "\
+malformed 18446744073709551615 nogroup 18446744073709551615 nomembers 18446744073709551615 \
+dropped 18446744073709551615 delivered 18446744073709551615 sendfailed 18446744073709551615 \
+receivefailed 18446744073709551615";
+
+const TOTALS_LINE: &str = "\
+malformed 18446744073709551615 nogroup 18446744073709551615 nomembers 18446744073709551615 \
+dropped 18446744073709551615 delivered 18446744073709551615 sendfailed 18446744073709551615 \
+receivefailed 18446744073709551615\n";
+
+const ROWS: [Row; 10] = [
     Row {
         lines: &["add 10.0.0.2:53", "show"],
         arrivals: &[
@@ -102,6 +113,13 @@ const ROWS: [Row; 9] = [
         ended: Err(Failure::PollFailed),
         sent: "show\nsweep\n",
         printed: "reclaimed 0 0\n",
+    },
+    Row {
+        lines: &["totals"],
+        arrivals: &[Arrival::Answer(TOTALS)],
+        ended: Ok(false),
+        sent: "totals\n",
+        printed: TOTALS_LINE,
     },
     Row {
         lines: &[],

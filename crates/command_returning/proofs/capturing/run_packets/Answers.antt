@@ -1,4 +1,6 @@
 use Rattle.std.proofs.Common.{rules}
+use Rattle.command_line.specs.Input.{IsInput}
+use Rattle.command_returning.proofs.PacketsLemmas.{packets_fail}
 use Rattle.command_returning.proofs.capturing.run_packets.Goals as goal
 
 pub returns-clause-counted : goal.returns-clause-counted
@@ -8,7 +10,11 @@ pub returns-clause-failed : goal.returns-clause-failed
 returns-clause-failed g c = search rules
 
 pub returns-clause-failed_written : goal.returns-clause-failed_written
-returns-clause-failed_written g c = search rules
+returns-clause-failed_written g c =
+    let before = g.W.Write.contents c.args.out.now in let after = g.W.Write.contents c.print_packets.new.out in
+    let is_input : IsInput (g.R.Read.remaining c.args.input) c.deref.result.now = search rules in
+    packets_fail c.print_packets.result (g.R.Read.remaining c.args.input) before after c.deref.result.now is_input
+    c.print_packets.ensures.failed c.print_packets.ensures.no_memory c.print_packets.ensures.beginning
 
 pub returns-clause-untold : goal.returns-clause-untold
 returns-clause-untold g c = search rules

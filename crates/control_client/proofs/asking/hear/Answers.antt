@@ -1,6 +1,6 @@
-use Rattle.std.proofs.Common.{[], append-nil, arith, length, length-append, refl, take, ◌<◌, ◌++◌, ◌∷◌, ◌≡◌, rules}
+use Rattle.std.proofs.Common.{[], arith, length, length-append, refl, take, ◌<◌, ◌++◌, ◌∷◌, ◌≡◌, rules}
 use Rattle.std.proofs.lemmas.Bool.{both_ways}
-use Rattle.control_client.specs.Wire.{came, none_came}
+use Rattle.control_client.specs.Wire.{came, none_came, wait_failed}
 use Rattle.control_client.specs.body.Asking.{broken, out_of_time, too_many}
 use Rattle.control_client.proofs.ExchangeLemmas.{gave_none, gave_one, hears, passes_more, passes_none}
 use Rattle.control_client.proofs.WireLemmas.{logs_more}
@@ -32,7 +32,8 @@ returns-in-Err-clause-not_heard g c =
     let so_far = c.loop-passed.invariant in let before = g.D.Wire.log c.args.wire.now in
     let mid = g.D.Wire.log c.loop-passed.wire in let after = g.D.Wire.log c.receive.new.self in
     let few : length so_far.0 < 4096 = (let count = so_far.2 in let bound = c.loop-passed-test.true in let end = c.loop-passed.auto._passed-end in omega arith) in
-    broken c.args.switch before after (so_far.0 ++ []) (rw (append-nil so_far.0) so_far.1.are_foreign) (rw (append-nil so_far.0) few) (logs_more before mid after so_far.0 [] so_far.1.logged c.in-Err.ensures.logged)
+    broken c.args.switch before after so_far.0 so_far.1.are_foreign few
+    (logs_more before mid after so_far.0 (wait_failed ∷ []) so_far.1.logged c.in-Err.ensures.logged)
 
 pub loop-passed-preserved : goal.loop-passed-preserved
 loop-passed-preserved g c =

@@ -1,9 +1,18 @@
-use Rattle.std.proofs.Common.{arith, rules}
+use Rattle.std.proofs.Common.{◌≡◌, ◌++◌, List, arith, codes, decimal, subst, ℕ, rules}
 use Rattle.std.proofs.lemmas.Grind.{common_steps}
+use Rattle.std.specs.Io.KnownBytes.{Appends}
 use Rattle.packet_capture.proofs.packet_lines.write_cut.Goals as goal
 
 pub returns-clause-cut : goal.returns-clause-cut
-returns-clause-cut g c = search rules
+returns-clause-cut g c =
+    let start = g.W.Write.contents c.args.out.now in let end = g.W.Write.contents c.write_line.new.out in
+    let front : c.as_slice.result.now ≡ codes "refused L5 " = search rules in
+    let number : c.as_bytes.result.now ≡ decimal c.args.place = search rules in
+    λ is. (
+      search rules,
+      subst (λ (digits : List ℕ). Appends start end (codes "refused L5 " ++ digits ++ codes "\n")) number
+          (subst (λ (word : List ℕ). Appends start end (word ++ c.as_bytes.result.now ++ codes "\n")) front c.in_ok-write_line.ensures.written),
+    )
 
 pub returns-clause-failed : goal.returns-clause-failed
 returns-clause-failed g c = search rules
