@@ -1,2 +1,3 @@
+mod CountedLemmas
 mod JobsLemmas
 mod ServingLemmas
