@@ -1,3 +1,4 @@
 mod CountedLemmas
 mod JobsLemmas
 mod ServingLemmas
+mod TurnLemmas

@@ -15,6 +15,7 @@ ghost use Rattle.serve_udp.specs.Front.{HasFronts};
 ghost use Rattle.serve_udp.specs.body.Jobs.{AreTotalsOf, HaveNewCounters};
 
 mod bound;
+mod control_turn;
 mod front;
 mod intake;
 mod jobs;
