@@ -1,6 +1,7 @@
 -- Jobs that are made one after the other.
-use Rattle.std.proofs.Common.{◌≡◌, ◌+◌, ◌++◌, ◌∷◌, List, None, Some, [], ap, arith, length, length-append, subst, sym, ℕ}
+use Rattle.std.proofs.Common.{◌≡◌, ◌∙◌, ◌+◌, ◌++◌, ◌∷◌, List, None, Some, [], ap, append_assoc, arith, length, length-append, reverse, subst, sym, ℕ}
 use Rattle.std.specs.List.{All}
+use Rattle.std.proofs.lemmas.List.{map-append, reverse-append}
 use Rattle.std.proofs.lemmas.List.Elements.{All-nil, All-pop, All-push, All-same}
 use Rattle.dispatch.specs.Tally.{CounterValue}
 use Rattle.dispatch.specs.declared.device.Outbox as Outbox
@@ -8,9 +9,9 @@ use Rattle.dispatch.specs.declared.device.Source as Source
 use Rattle.dispatch.specs.declared.worker_job.Job.{Job}
 use Rattle.dispatch.specs.Counted.{IsNew, IsNewWorker}
 use Rattle.read_section.specs.Worker.{WorkerValue}
-use Rattle.serve_devices.specs.Devices.{MemberOutboxValue, WorkerSourceValue, new_source}
-use Rattle.serve_udp.specs.Service.{HasNewDevices, HasRoom}
-use Rattle.serve_udp.specs.body.Jobs.{AreMade, AreNewSources}
+use Rattle.serve_devices.specs.Devices.{MemberOutboxValue, WorkerSourceValue, new_outbox, new_source}
+use Rattle.serve_udp.specs.Service.{HasRoom}
+use Rattle.serve_udp.specs.body.Jobs.{AreMade, AreNewSources, sources_of}
 use Rattle.serve_udp.specs.declared.sockets.TheConstants.{LONGEST_DATAGRAM}
 
 pub no_source : (sources : List WorkerSourceValue) → sources ≡ [] → AreNewSources 0 sources
@@ -38,7 +39,7 @@ module _ {source : Source.Ghosts WorkerSourceValue} {outbox : Outbox.Ghosts Memb
     job_count = ap length none;
     worker_each = omega arith;
     counter_each = omega arith;
-    new_devices = no_job (λ job. HasNewDevices job.source job.outbox) jobs none;
+    new_outboxes = no_job (λ job. job.outbox ≡ new_outbox None) jobs none;
     rooms = no_job (λ job. HasRoom (length job.buffer.items) job.limit) jobs none;
     new_workers = λ opening versions new. (new, no_job (λ job. IsNewWorker opening versions job.worker) jobs none);
     new_counters = λ table new. (new, no_job (λ job. IsNew table job.counter) jobs none);
@@ -53,11 +54,11 @@ module _ {source : Source.Ghosts WorkerSourceValue} {outbox : Outbox.Ghosts Memb
       → AreMade many workers left counters counters_left jobs
       → (left' : List WorkerValue) (counters_left' : List CounterValue) (worker : WorkerValue) (counter : CounterValue)
       → left ≡ left' ++ worker ∷ [] → counters_left ≡ counters_left' ++ counter ∷ []
-      → (job : Job WorkerSourceValue MemberOutboxValue source outbox) → job.worker ≡ worker → job.counter ≡ counter → HasNewDevices job.source job.outbox
+      → (job : Job WorkerSourceValue MemberOutboxValue source outbox) → job.worker ≡ worker → job.counter ≡ counter → job.outbox ≡ new_outbox None
       → HasRoom (length job.buffer.items) job.limit
       → (jobs' : List (Job WorkerSourceValue MemberOutboxValue source outbox)) → jobs' ≡ jobs ++ job ∷ []
       → AreMade (many + 1) workers left' counters counters_left' jobs'
-  one_more many workers left counters counters_left jobs made left' counters_left' worker counter taken counted job of_worker of_counter devices room jobs' pushed =
+  one_more many workers left counters counters_left jobs made left' counters_left' worker counter taken counted job of_worker of_counter silent room jobs' pushed =
       let job_more = ap length pushed in
       let job_one = length-append jobs (job ∷ []) in
       let worker_less = ap length taken in
@@ -71,7 +72,7 @@ module _ {source : Source.Ghosts WorkerSourceValue} {outbox : Outbox.Ghosts Memb
         job_count = omega arith;
         worker_each = omega arith;
         counter_each = omega arith;
-        new_devices = all_pushed (λ j. HasNewDevices j.source j.outbox) jobs jobs' job pushed made.new_devices devices;
+        new_outboxes = all_pushed (λ j. j.outbox ≡ new_outbox None) jobs jobs' job pushed made.new_outboxes silent;
         rooms = all_pushed (λ j. HasRoom (length j.buffer.items) j.limit) jobs jobs' job pushed made.rooms room;
         new_workers = λ opening versions new.
             let popped = All-pop (IsNewWorker opening versions) left left' (Some worker) taken (made.new_workers opening versions new).0 in (
@@ -85,3 +86,17 @@ module _ {source : Source.Ghosts WorkerSourceValue} {outbox : Outbox.Ghosts Memb
               all_pushed (λ j. IsNew table j.counter) jobs jobs' job pushed (made.new_counters table new).1 (subst (IsNew table) (sym of_counter) popped.1),
             );
       }
+
+  pub source_added : (jobs jobs' : List (Job WorkerSourceValue MemberOutboxValue source outbox)) (job : Job WorkerSourceValue MemberOutboxValue source outbox)
+      → jobs' ≡ jobs ++ job ∷ [] → sources_of jobs' ≡ sources_of jobs ++ job.source ∷ []
+  source_added jobs jobs' job pushed =
+      ap sources_of pushed ∙ map-append (λ (j : Job WorkerSourceValue MemberOutboxValue source outbox). j.source) jobs (job ∷ [])
+
+  -- one source more was taken from the end
+  pub one_source_taken : (sources left left' : List WorkerSourceValue) (taken : WorkerSourceValue) (jobs jobs' : List (Job WorkerSourceValue MemberOutboxValue source outbox))
+      → sources ≡ left ++ reverse (sources_of jobs) → left ≡ left' ++ taken ∷ [] → sources_of jobs' ≡ sources_of jobs ++ taken ∷ []
+      → sources ≡ left' ++ reverse (sources_of jobs')
+  one_source_taken sources left left' taken jobs jobs' before popped pushed =
+      before ∙ (ap (λ (l : List WorkerSourceValue). l ++ reverse (sources_of jobs)) popped
+      ∙ (append_assoc left' (taken ∷ []) (reverse (sources_of jobs))
+      ∙ ap (λ (l : List WorkerSourceValue). left' ++ l) (sym (ap reverse pushed ∙ reverse-append (sources_of jobs) (taken ∷ [])))))

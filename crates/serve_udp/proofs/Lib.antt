@@ -1,2 +1,4 @@
+mod CountedLemmas
 mod JobsLemmas
 mod ServingLemmas
+mod TurnLemmas

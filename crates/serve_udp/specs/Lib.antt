@@ -1,3 +1,4 @@
+pub mod Control
 pub mod Front
 pub mod Service
 pub mod body

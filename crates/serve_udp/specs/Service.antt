@@ -1,5 +1,5 @@
 -- What `serve` writes, and which jobs its totals count (docs/COMMANDS.md, "serve").
-use Rattle.std.specs.Prelude.{◌≡◌, ◌≢◌, ◌++◌, ◌⊎◌, List, None, Option, [], codes, length, ℕ}
+use Rattle.std.specs.Prelude.{◌≡◌, ◌≢◌, ◌++◌, ◌⊎◌, List, None, Option, [], codes, length, map, reverse, ℕ}
 use Rattle.std.specs.Io.KnownBytes.{Appends}
 use Rattle.std.specs.List.{All}
 use Rattle.command_line.specs.declared.ending.Failure.{Failure}
@@ -11,7 +11,7 @@ use Rattle.dispatch.specs.Batch.{Parts}
 use Rattle.dispatch.specs.declared.kind.Totals.{Totals}
 use Rattle.ipv4_fields.specs.Endpoint.{endpoint_text}
 use Rattle.ipv4_fields.specs.declared.endpoint.Endpoint.{Endpoint}
-use Rattle.serve_devices.specs.Devices.{MemberOutboxValue, WorkerSourceValue, new_outbox, new_source}
+use Rattle.serve_devices.specs.Devices.{WorkerSourceValue, source_of}
 use Rattle.dispatch.specs.Counted.{IsCounted}
 use Rattle.dispatch.specs.Totals.{WritesTotals}
 use Rattle.serve_udp.specs.declared.jobs.TheConstants.{LIMIT}
@@ -21,22 +21,22 @@ use Rattle.serve_udp.specs.declared.sockets.TheConstants.{LONGEST_DATAGRAM}
 abbrev pub HasRoom : ℕ → ℕ → Type 0
 HasRoom room limit = (room ≡ LONGEST_DATAGRAM) × (limit ≡ LIMIT)
 
--- the devices of a job, as they are made
-abbrev pub HasNewDevices : WorkerSourceValue → MemberOutboxValue → Type 0
-HasNewDevices source outbox = (source ≡ new_source LONGEST_DATAGRAM None) × (outbox ≡ new_outbox None)
+-- an outbox that has not failed yet, and tells nothing of its sends
+abbrev pub HasSilentOutbox : Parts → Type 0
+HasSilentOutbox start = start.outbox ≡ record { failures = 0; taken = None }
 
 -- devices that have not failed yet, and tell nothing of their datagrams
 abbrev pub HasSilentDevices : Parts → Type 0
-HasSilentDevices start =
-    (start.source ≡ record { failures = 0; coming = None }) × (start.outbox ≡ record { failures = 0; taken = None })
+HasSilentDevices start = (start.source ≡ record { failures = 0; coming = None }) × HasSilentOutbox start
 
 -- what the jobs of so many workers start with
 abbrev pub AreServiceStarts : ℕ → List Parts → Type 0
 AreServiceStarts workers starts = (length starts ≡ workers) × All HasSilentDevices starts
 
--- the totals are what such jobs counted in all; version 0 of their table is this configuration
-abbrev pub IsServedFrom : List Group → ℕ → Totals → Type 0
-IsServedFrom opening workers totals = IsCounted opening LONGEST_DATAGRAM LIMIT (AreServiceStarts workers) totals
+-- what the jobs with these sources start with; the first job has the last source
+pub record AreStartsOf (sources : List WorkerSourceValue) (starts : List Parts) : Type 0 where
+  pub their_sources : map (λ (start : Parts). start.source) starts ≡ map source_of (reverse sources)
+  pub silent_outboxes : All HasSilentOutbox starts
 
 -- `serve` reads no input, waits for no reply, and reads no rules of a switch
 abbrev pub IsServeFailure : Failure → Type 0
@@ -56,14 +56,18 @@ WritesReady front control before after = Appends before after (ready_text front 
 abbrev pub WritesReadyOrNothing : Option (List ℕ) → Option (List ℕ) → Type 0
 WritesReadyOrNothing before after = (after ≡ before) ⊎ ((front : Endpoint) × (control : ControlAddress) × WritesReady front control before after)
 
--- that line, then the line of such totals, and nothing else
-pub record WritesServedAt (control : ControlAddress) (opening : List Group) (workers : ℕ) (before after : Option (List ℕ)) : Type 0 where
+-- that line, then the line of what jobs that started so counted in all, and nothing else; version 0 of their table is this configuration
+pub record WritesCounted (control : ControlAddress) (opening : List Group) (AreStarts : List Parts → Type 0) (before after : Option (List ℕ)) : Type 0 where
   pub front : Endpoint
   pub totals : Totals
   pub between : Option (List ℕ)
   pub ready : WritesReady front control before between
-  pub is_served : IsServedFrom opening workers totals
+  pub is_counted : IsCounted opening LONGEST_DATAGRAM LIMIT AreStarts totals
   pub totals_line : WritesTotals totals between after
+
+-- of the jobs of so many workers
+abbrev pub WritesServedAt : ControlAddress → List Group → ℕ → Option (List ℕ) → Option (List ℕ) → Type 0
+WritesServedAt control opening workers before after = WritesCounted control opening (AreServiceStarts workers) before after
 
 -- for some address of control
 abbrev pub WritesServedFrom : List Group → ℕ → Option (List ℕ) → Option (List ℕ) → Type 0

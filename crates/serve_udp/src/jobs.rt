@@ -1,13 +1,12 @@
 //! The jobs of the service: a worker, a counter, a source and a socket of its own each (docs/COMMANDS.md, "serve").
 
-ghost use Rattle.std.specs.Prelude.{◌≡◌, ◌+◌, ◌<◌, ◌≤◌, IfErr, IfOk, List, None, length, vec_capacity, vec_len, ℕ};
+ghost use Rattle.std.specs.Prelude.{◌≡◌, ◌+◌, ◌++◌, ◌∷◌, ◌<◌, ◌≤◌, IfErr, IfOk, List, None, [], length, reverse, vec_capacity, vec_len, ℕ};
 ghost use Rattle.dispatch.specs.Tally.{CounterValue};
 ghost use Rattle.read_section.specs.Worker.{WorkerValue};
-ghost use Rattle.serve_devices.specs.Devices.{new_source};
-ghost use Rattle.serve_udp.specs.Service.{HasNewDevices, HasRoom, IsServeFailure};
-ghost use Rattle.serve_udp.specs.body.Jobs.{AreMade, AreNewSources};
+ghost use Rattle.serve_devices.specs.Devices.{new_outbox};
+ghost use Rattle.serve_udp.specs.Service.{HasRoom, IsServeFailure};
+ghost use Rattle.serve_udp.specs.body.Jobs.{AreMade, sources_of};
 ghost use Rattle.serve_udp.specs.declared.jobs.TheConstants.{LIMIT};
-ghost use Rattle.serve_udp.specs.declared.sockets.TheConstants.{LONGEST_DATAGRAM};
 
 use crate::sockets::LONGEST_DATAGRAM;
 use command_line::Failure;
@@ -41,8 +40,8 @@ fn open_devices<'a, I: Ingress + Drop, R: Wait + Net>(
     source: WorkerSource<I>,
     outlet: UdpSocket,
 ) -> Result<Devices<'a, I, R>, Failure>
-    requires new { source ≡ new_source LONGEST_DATAGRAM None }
-    ensures new { IfOk result (λ devices. HasNewDevices devices.source devices.outbox) }
+    ensures source { IfOk result (λ devices. devices.source ≡ source) }
+    ensures new { IfOk result (λ devices. devices.outbox ≡ new_outbox None) }
     ensures room { IfOk result (λ devices. HasRoom (length devices.buffer.items) LIMIT) }
     ensures no_input { IfErr result IsServeFailure }
 {
@@ -69,7 +68,7 @@ fn add_job<'a, I: Ingress + Drop, R: Wait + Net>(
     counters: &mut Vec<Counter>,
     jobs: &mut Vec<ServiceJob<'a, I, R>>,
 )
-    requires new { HasNewDevices devices.source devices.outbox }
+    requires new { devices.outbox ≡ new_outbox None }
     requires room { HasRoom (length devices.buffer.items) LIMIT }
     requires seat { 0 < vec_len seats.old }
     requires counter { 0 < vec_len counters.old }
@@ -77,6 +76,7 @@ fn add_job<'a, I: Ingress + Drop, R: Wait + Net>(
     ensures added { (many : ℕ) (all : List WorkerValue) (all_counters : List CounterValue)
         → AreMade many all seats.old.items all_counters counters.old.items jobs.old.items
         → AreMade (many + 1) all seats.new.items all_counters counters.new.items jobs.new.items }
+    ensures source { sources_of jobs.new.items ≡ sources_of jobs.old.items ++ devices.entry.source ∷ [] }
     ensures capacity { vec_capacity jobs.old ≤ vec_capacity jobs.new }
 {
     let Devices {
@@ -103,7 +103,7 @@ fn add_job<'a, I: Ingress + Drop, R: Wait + Net>(
     };
 }
 
-/// Takes a worker, a counter, a source and a socket for each job, and returns the jobs. All count by member in one table, and no send waits once
+/// Takes a worker, a counter, a source and a socket for each job, from the last ones on, and returns the jobs. All count by member in one table, and no send waits once
 /// the flag is set.
 pub fn jobs<'a, I: Ingress + Drop, R: Wait + Net>(
     rt: &'a R,
@@ -118,9 +118,10 @@ pub fn jobs<'a, I: Ingress + Drop, R: Wait + Net>(
 ) -> Result<Vec<ServiceJob<'a, I, R>>, Failure>
     requires seats { workers ≤ vec_len seats.old }
     requires counters { workers ≤ vec_len counters.old }
-    requires sources { AreNewSources workers sources.items }
+    requires sources { length sources.items ≡ workers }
     requires outlets { workers ≤ vec_len outlets }
     ensures made { IfOk result (λ jobs. AreMade workers seats.old.items seats.new.items counters.old.items counters.new.items jobs.items) }
+    ensures sources { IfOk result (λ jobs. sources_of jobs.items ≡ reverse sources.items) }
     ensures no_input { IfErr result IsServeFailure }
 {
     let Ok(mut jobs) = Vec::with_capacity(alloc, workers) else {

@@ -5,18 +5,17 @@
 //! serve_control: over UDP, or over a Unix socket by serve_unix.
 #![tactic(auto)]
 
-ghost use Rattle.std.specs.Prelude.{◌≡◌, ◌≢◌, ◌⊎◌, ◌↔◌, ◌≤◌, Err, IfErr, IfOk, List, OnOk, vec_len};
-ghost use Rattle.atomic_table.specs.Seated.{TableId};
-ghost use Rattle.config_image.specs.Image.{Group};
+ghost use Rattle.std.specs.Prelude.{◌≡◌, ◌≢◌, ◌⊎◌, ◌↔◌, ◌≤◌, Err, IfErr, IfOk, OnOk, length, vec_len};
 ghost use Rattle.member_group.specs.Charge.{charge_of};
 ghost use Rattle.versions.specs.declared.layout.TheConstants.{CHARGE_LIMIT, WORKERS};
 ghost use Rattle.dispatch.specs.Totals.{WritesTotals};
 ghost use Rattle.serve_udp.specs.declared.jobs.TheConstants.{LIMIT};
-ghost use Rattle.serve_udp.specs.Service.{IsServeFailure, IsServedFrom, WritesReadyOrNothing, WritesServed, WritesServedAt, WritesServedFrom};
+ghost use Rattle.serve_udp.specs.Service.{AreStartsOf, IsServeFailure, WritesCounted, WritesReadyOrNothing, WritesServed, WritesServedAt, WritesServedFrom};
 ghost use Rattle.serve_udp.specs.Front.{HasFronts};
-ghost use Rattle.serve_udp.specs.body.Jobs.{AreNewSources, AreOpened, HaveNewWorkers};
+ghost use Rattle.serve_udp.specs.body.Jobs.{AreTotalsOf, HaveNewCounters};
 
 mod bound;
+mod control_turn;
 mod front;
 mod intake;
 mod jobs;
@@ -83,9 +82,8 @@ fn count_served<
     log: &mut Log<L>,
 ) -> Result<Totals, Failure>
     requires named { service.tally.table ≡ N.table }
-    requires opened { AreOpened service.tally.table service.spare.items jobs.items }
-    ensures totals { IfOk result (λ totals. (opening : List Group) (versions : TableId) → HaveNewWorkers opening versions jobs.entry.items
-        → IsServedFrom opening (vec_len jobs.entry) totals) }
+    requires counters { HaveNewCounters service.tally.table service.spare.items jobs.items }
+    ensures totals { IfOk result (λ totals. AreTotalsOf jobs.entry.items totals) }
     ensures bound { IfErr result (λ failure. failure ≢ Failure.BindFailed) }
     ensures no_input { IfErr result IsServeFailure }
 {
@@ -114,7 +112,7 @@ fn write_last<W: Write>(totals: &Totals, out: &mut W) -> Result<(), Failure>
     write_totals(totals, out).map_err(|_| Failure::WriteFailed)
 }
 
-// Runs the service once it is known who receives.
+// Runs the service once it is known who receives. What the sources are to give may be known: then their jobs judged and counted it.
 fn serve_intake<
     'a,
     I: Ingress + Drop + Send,
@@ -136,9 +134,9 @@ fn serve_intake<
 ) -> Result<(), Failure>
     requires within { charge_of config ≤ CHARGE_LIMIT }
     requires at_most { workers ≤ WORKERS }
-    requires sources { AreNewSources workers intake.sources.items }
+    requires sources { length intake.sources.items ≡ workers }
     requires outlets { workers ≤ vec_len sockets.outlets }
-    ensures served { OnOk result (WritesServedAt control.entry config workers (W.contents out.old) (W.contents out.new)) }
+    ensures served { OnOk result (WritesCounted control.entry config (AreStartsOf intake.entry.sources.items) (W.contents out.old) (W.contents out.new)) }
     ensures no_input { IfErr result IsServeFailure }
     ensures not_bound { result ≡ Err Failure.BindFailed → out.new ≡ out.old }
     ensures ready_or_nothing { IfErr result (λ failure. failure ≢ Failure.WriteFailed → WritesReadyOrNothing (W.contents out.old) (W.contents out.new)) }

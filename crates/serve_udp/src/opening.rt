@@ -1,12 +1,12 @@
 //! The service before it receives: its jobs are made.
 
-ghost use Rattle.std.specs.Prelude.{◌≡◌, ◌≢◌, ◌≤◌, IfErr, IfOk, vec_len};
+ghost use Rattle.std.specs.Prelude.{◌≡◌, ◌≢◌, ◌≤◌, IfErr, IfOk, length, vec_len};
 ghost use Rattle.std.specs.List.{All};
 ghost use Rattle.member_group.specs.Charge.{charge_of};
 ghost use Rattle.versions.specs.declared.layout.TheConstants.{CHARGE_LIMIT, WORKERS};
 ghost use Rattle.dispatch.specs.Counted.{IsNewWorker};
 ghost use Rattle.serve_udp.specs.Service.{IsServeFailure};
-ghost use Rattle.serve_udp.specs.body.Jobs.{AreMade, AreNewSources, AreOpened, HaveNewWorkers};
+ghost use Rattle.serve_udp.specs.body.Jobs.{AreMade, AreOpened, HaveNewWorkers};
 
 use crate::bound::BoundControl;
 use crate::intake::{Intake, Receiving};
@@ -83,11 +83,11 @@ pub fn open_service<'a, I: Ingress + Drop, R: Wait + Net>(
 ) -> Result<(Vec<ServiceJob<'a, I, R>>, Service<'a>), Failure>
     requires within { charge_of config ≤ CHARGE_LIMIT }
     requires at_most { workers ≤ WORKERS }
-    requires sources { AreNewSources workers intake.sources.items }
+    requires sources { length intake.sources.items ≡ workers }
     requires outlets { workers ≤ vec_len sockets.outlets }
     ensures one_a_worker { IfOk result (λ opened. vec_len opened.0 ≡ workers) }
     ensures new_workers { IfOk result (λ opened. HaveNewWorkers config opened.1.receiver.operator.table opened.0.items) }
-    ensures opened { IfOk result (λ opened. AreOpened opened.1.tally.table opened.1.spare.items opened.0.items) }
+    ensures opened { IfOk result (λ opened. AreOpened opened.1.tally.table opened.1.spare.items intake.entry.sources.items opened.0.items) }
     ensures no_input { IfErr result IsServeFailure }
 {
     let alloc = *config.allocator();

@@ -1,22 +1,21 @@
 //! The sockets of the service, and the turns that they get (docs/COMMANDS.md, "serve").
 
 use crate::bound::BoundControl;
+use crate::control_turn::{Asked, CONTROL_TURN, ControlWire, Next, answer_datagrams};
 use crate::intake::{QueuedFront, Receiving};
 use dispatch::{NamedTally, TallyName};
 use ipv4_fields::Endpoint;
 use mio::net::UdpSocket;
 use mio::{Events, Interest, Poll, Registry, Token};
 use read_section::Operator;
-use serve_control::{
-    BoundAddresses, ControlAnswer, Desk, Log, LogLines, Peer, SharedTotals, answer_from,
-};
+use serve_control::{BoundAddresses, Desk, Log, LogLines, Peer, SharedTotals};
 use serve_devices::SharedCounts;
 use serve_stream::Turn;
 use serve_unix::{CLIENTS, UnixControl};
 use std::alloc::{AllocError, Global};
 use std::io;
 use std::io::ErrorKind;
-use std::net::{Net, SocketAddr};
+use std::net::Net;
 use std::sync::Wait;
 use std::time::Duration;
 
@@ -27,9 +26,6 @@ const CONTROL: Token = Token(1);
 
 // How many datagrams the front gives before control has its turn.
 const FRONT_TURN: usize = 64;
-
-// How many datagrams, or turns of clients, control has before the front has its turn.
-const CONTROL_TURN: usize = 4;
 
 // One event a socket: the front, control, and its clients.
 const EVENTS: usize = 2 + CLIENTS;
@@ -67,6 +63,33 @@ struct UdpControl {
     bound: BoundAddresses,
     // Not known to be empty.
     is_ready: bool,
+}
+
+// The socket of control. What comes and what it sends is not known.
+#[derive(Drop)]
+struct SocketWire<'a> {
+    socket: &'a UdpSocket,
+}
+
+impl ControlWire for SocketWire<'_> {
+    ghost use Rattle.std.specs.Prelude.{None};
+
+    ghost log = { λ _. None };
+
+    fn receive(&mut self, buf: &mut [u8]) -> Asked {
+        match self.socket.recv_from(buf) {
+            Ok((len, sender)) => match Endpoint::from_socket_address(sender) {
+                Some(from) => Asked::Datagram { from, len },
+                None => Asked::Failed,
+            },
+            Err(error) if error.kind() == ErrorKind::WouldBlock => Asked::Nothing,
+            Err(_) => Asked::Failed,
+        }
+    }
+
+    fn reply(&mut self, to: Endpoint, bytes: &[u8]) {
+        let _ = self.socket.send_to(bytes, to.socket_address());
+    }
 }
 
 // The way by which control comes.
@@ -173,17 +196,8 @@ impl Control {
     }
 }
 
-// Sends an answer back. A reply that fails is passed over.
-fn send_reply(socket: &UdpSocket, reply: &mut Vec<u8>, answer: &ControlAnswer, to: SocketAddr) {
-    reply.clear();
-    if answer.append_to(reply).is_ok() {
-        let _ = socket.send_to(reply, to);
-    }
-}
-
 impl UdpControl {
-    // Answers the next datagrams by one datagram each to their senders, but for those that are ignored. True if the switch is asked to
-    // stop.
+    // Answers the next datagrams. True if the switch is asked to stop.
     fn turn<N: TallyName, L: LogLines, R: Wait>(
         &mut self,
         alloc: Global,
@@ -193,40 +207,28 @@ impl UdpControl {
         totals: &mut SharedTotals<'_, R>,
         log: &mut Log<L>,
     ) -> bool {
-        for _datagram in 0..CONTROL_TURN {
-            match self.socket.recv_from(&mut room.buf) {
-                Ok((size, sender)) => {
-                    let text = &room.buf[..size];
-                    let Some(from) = Endpoint::from_socket_address(sender) else {
-                        continue;
-                    };
-                    let answered = answer_from(
-                        alloc,
-                        &self.bound,
-                        from,
-                        text,
-                        operator,
-                        named,
-                        totals,
-                        log,
-                    );
-                    let Some(answer) = answered else {
-                        continue;
-                    };
-                    send_reply(&self.socket, &mut room.reply, &answer, sender);
-                    if let ControlAnswer::Stop = answer {
-                        return true;
-                    }
-                }
-                Err(error) if error.kind() == ErrorKind::WouldBlock => {
-                    self.is_ready = false;
-                    return false;
-                }
-                // A receive that fails is passed over.
-                Err(_) => {}
+        let mut wire = SocketWire {
+            socket: &self.socket,
+        };
+        let (buf, reply) = (&mut room.buf, &mut room.reply);
+        match answer_datagrams(
+            alloc,
+            &mut wire,
+            &self.bound,
+            buf,
+            reply,
+            operator,
+            named,
+            totals,
+            log,
+        ) {
+            Next::Answered => false,
+            Next::Nothing => {
+                self.is_ready = false;
+                false
             }
+            Next::Stop => true,
         }
-        false
     }
 }
 

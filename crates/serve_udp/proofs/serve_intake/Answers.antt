@@ -1,4 +1,13 @@
-use Rattle.std.proofs.Common.{rules}
+use Rattle.std.proofs.Common.{◌≡◌, ◌∙◌, None, [], ap, map, refl, rules}
+use Rattle.std.proofs.lemmas.List.Elements.{All-map, All-nil, All-weaker}
+use Rattle.dispatch.specs.Counted.{IsNew, counters_of}
+use Rattle.dispatch.specs.Workers.{parts_of_job}
+use Rattle.dispatch.proofs.CountedLemmas.{counted}
+use Rattle.serve_devices.specs.Devices.{MemberOutboxValue, new_outbox, source_of}
+use Rattle.serve_udp.specs.Service.{AreStartsOf, HasSilentOutbox}
+use Rattle.serve_udp.specs.declared.jobs.TheConstants.{LIMIT}
+use Rattle.serve_udp.specs.declared.sockets.TheConstants.{LONGEST_DATAGRAM}
+use Rattle.serve_udp.proofs.CountedLemmas.{sources_of_starts}
 use Rattle.serve_udp.proofs.ServingLemmas.{only_writes, only_writes_end}
 use Rattle.serve_udp.proofs.serve_intake.Goals as goal
 
@@ -15,7 +24,19 @@ returns-clause-ready_or_nothing g c = only_writes_end _ _ _ c.write_last.ensures
 
 pub returns-clause-served : goal.returns-clause-served
 returns-clause-served g c =
-    let served = c.in_ok-totals.ensures.totals c.args.config c.in_ok-jobs.service.receiver.operator.table c.in_ok-jobs.ensures.new_workers in
+    let opened = c.in_ok-jobs.ensures.opened in
+    let jobs = c.in_ok-jobs.jobs.items in
+    let totals = c.in_ok-totals.ensures.totals in
+    let table = c.in_ok-jobs.service.tally.table in
+    let is_counted = counted _ _ table jobs [] (counters_of totals.ends) (record { ends = totals.ends; run_to_the_end = totals.run_to_the_end; counters_back = refl })
+    (All-nil (IsNew table)) opened.counters.new_counters c.args.config c.in_ok-jobs.service.receiver.operator.table LONGEST_DATAGRAM LIMIT
+    (AreStartsOf c.args.intake.sources.items) c.in_ok-jobs.ensures.new_workers opened.rooms
+    (record {
+      their_sources = sources_of_starts (parts_of_job _ _) (λ job. job.source) (λ job. refl) jobs ∙ ap (map source_of) opened.their_sources;
+      silent_outboxes = All-map HasSilentOutbox (parts_of_job _ _) jobs
+          (All-weaker (λ job. job.outbox ≡ new_outbox None) (λ job. HasSilentOutbox (parts_of_job _ _ job)) (λ job new. ap (λ (o : MemberOutboxValue). o.outbox) new) jobs opened.new_outboxes);
+    })
+    c.in_ok-totals.totals totals.sum_exact in
     let written = c.write_last.ensures.written in
     search rules
 

@@ -1,27 +1,18 @@
-use Rattle.std.proofs.Common.{◌≡◌, ◌∷◌, None, Some, [], ap, arith, length, length-append}
-use Rattle.std.proofs.lemmas.List.Elements.{All-pop}
-use Rattle.serve_devices.specs.Devices.{WorkerSourceValue, new_source}
-use Rattle.serve_udp.specs.declared.sockets.TheConstants.{LONGEST_DATAGRAM}
-use Rattle.serve_udp.proofs.JobsLemmas.{none_made}
+use Rattle.std.proofs.Common.{◌∙◌, ◌∷◌, ◌++◌, [], ap, append-nil, arith, length, length-append, reverse, sym}
+use Rattle.serve_udp.specs.body.Jobs.{sources_of}
+use Rattle.serve_udp.proofs.JobsLemmas.{none_made, one_source_taken}
 use Rattle.serve_udp.proofs.jobs.jobs.Goals as goal
 
 pub loop-job-init : goal.loop-job-init
 loop-job-init g c =
     let enough = c.requires.outlets in
-    let all = c.requires.sources.0 in (
+    let all = c.requires.sources in (
       c.in-Ok.ensures.capacity,
       omega (arith, all),
-      c.requires.sources.1,
+      sym (ap (λ jobs. c.args.sources.items ++ reverse (sources_of jobs)) c.in-Ok.ensures.items ∙ append-nil c.args.sources.items),
       omega (arith, enough),
       none_made _ _ _ c.in-Ok.ensures.items,
     )
-
-pub open_devices-requires : goal.open_devices-requires
-open_devices-requires g c = record {
-  new =
-      (All-pop (λ (source : WorkerSourceValue). source ≡ new_source LONGEST_DATAGRAM None) c.loop-job.sources.items c.pop.new.self.items (Some c.in-Some.source)
-      c.in-Some.ensures.items c.loop-job.invariant.2).1;
-}
 
 pub loop-job-preserved : goal.loop-job-preserved
 loop-job-preserved g c =
@@ -32,8 +23,7 @@ loop-job-preserved g c =
     let all = c.loop-job.invariant.1 in (
       omega arith,
       omega (arith, less, one, all),
-      (All-pop (λ (source : WorkerSourceValue). source ≡ new_source LONGEST_DATAGRAM None) c.loop-job.sources.items c.pop.new.self.items (Some c.in-Some.source)
-          c.in-Some.ensures.items c.loop-job.invariant.2).0,
+      one_source_taken _ _ _ _ _ _ c.loop-job.invariant.2 c.in-Some.ensures.items (c.add_job.ensures.source ∙ ap (λ s. sources_of c.loop-job.jobs.items ++ s ∷ []) c.in_ok-devices.ensures.source),
       omega (arith, fewer, enough),
       c.add_job.ensures.added _ _ _ c.loop-job.invariant.4,
     )

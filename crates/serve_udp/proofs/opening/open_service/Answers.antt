@@ -9,10 +9,9 @@ returns-clause-opened g c =
     let counter_each = made.counter_each in
     let counters = made.new_counters c.in-Ok-open.tally.table c.in-Ok-open.ensures.counters.each in
     record {
-      all_counters = omega arith;
-      new_spare = counters.0;
-      new_counters = counters.1;
-      new_devices = made.new_devices;
+      counters = record { all_counters = omega arith; new_spare = counters.0; new_counters = counters.1 };
+      their_sources = c.in_ok-jobs.ensures.sources;
+      new_outboxes = made.new_outboxes;
       rooms = made.rooms;
     }
 

@@ -1,0 +1,77 @@
+-- What is written of jobs that were run to their ends, from what they counted.
+use Rattle.std.proofs.Common.{◌≡◌, ◌∙◌, ◌++◌, ◌∷◌, List, None, Option, [], ap, ap₂, length, map, refl, reverse, sym, ℕ}
+use Rattle.std.specs.List.{All}
+use Rattle.std.proofs.lemmas.List.{length-map, length-reverse, reverse-append}
+use Rattle.std.proofs.lemmas.List.Elements.{All-append, All-cons, All-head, All-map, All-nil, All-same, All-tail, All-weaker}
+use Rattle.command_line.specs.declared.control_address.ControlAddress.{ControlAddress}
+use Rattle.config_image.specs.Image.{Group}
+use Rattle.dispatch.specs.Batch.{Parts}
+use Rattle.dispatch.specs.Device.{SourceValue}
+use Rattle.serve_devices.specs.Devices.{WorkerSourceValue, new_source, source_of}
+use Rattle.serve_udp.specs.Service.{AreServiceStarts, AreStartsOf, HasSilentDevices, HasSilentOutbox, WritesCounted, WritesServedAt}
+use Rattle.serve_udp.specs.body.Jobs.{AreNewSources}
+use Rattle.serve_udp.specs.declared.sockets.TheConstants.{LONGEST_DATAGRAM}
+
+-- ---- jobs start with their sources
+
+pub sources_of_starts : {J : Type 0} (parts : J → Parts) (source : J → WorkerSourceValue) → ((job : J) → (parts job).source ≡ source_of (source job))
+    → (jobs : List J) → map (λ (start : Parts). start.source) (map parts jobs) ≡ map source_of (map source jobs)
+sources_of_starts parts source same [] = refl
+sources_of_starts parts source same (job ∷ jobs) =
+    ap₂ (λ (s : SourceValue) (rest : List SourceValue). s ∷ rest) (same job) (sources_of_starts parts source same jobs)
+
+-- ---- sources whose receives are not known
+
+abbrev silent_source : SourceValue
+silent_source = record { failures = 0; coming = None }
+
+all_reversed : {A : Type 0} (P : A → Type 0) (all : List A) → All P all → All P (reverse all)
+all_reversed P [] holds = All-nil P
+all_reversed P (first ∷ rest) holds =
+    All-same P (reverse (first ∷ rest)) (reverse rest ++ first ∷ []) (reverse-append (first ∷ []) rest)
+    (All-append P (reverse rest) (first ∷ []) (all_reversed P rest (All-tail P first rest holds)) (All-cons P first [] (All-head P first rest holds) (All-nil P)))
+
+silent_each : (starts : List Parts) → All (λ (s : SourceValue). s ≡ silent_source) (map (λ (start : Parts). start.source) starts) → All HasSilentOutbox starts
+    → All HasSilentDevices starts
+silent_each [] silent outboxes = All-nil HasSilentDevices
+silent_each (start ∷ rest) silent outboxes =
+    let sources : List SourceValue = map (λ (start : Parts). start.source) rest in
+    All-cons HasSilentDevices start rest
+    (All-head (λ (s : SourceValue). s ≡ silent_source) start.source sources silent, All-head HasSilentOutbox start rest outboxes)
+    (silent_each rest (All-tail (λ (s : SourceValue). s ≡ silent_source) start.source sources silent) (All-tail HasSilentOutbox start rest outboxes))
+
+silent_starts : (workers : ℕ) (sources : List WorkerSourceValue) (starts : List Parts) → AreNewSources workers sources → AreStartsOf sources starts
+    → AreServiceStarts workers starts
+silent_starts workers sources starts new are = (
+  sym (length-map starts (λ (start : Parts). start.source))
+      ∙ (ap length are.their_sources ∙ (length-map (reverse sources) source_of ∙ (length-reverse sources ∙ new.0))),
+  silent_each starts
+      (All-same (λ (s : SourceValue). s ≡ silent_source) (map (λ (start : Parts). start.source) starts) (map source_of (reverse sources)) are.their_sources
+      (All-map (λ (s : SourceValue). s ≡ silent_source) source_of (reverse sources)
+      (all_reversed (λ (s : WorkerSourceValue). source_of s ≡ silent_source) sources
+      (All-weaker (λ (s : WorkerSourceValue). s ≡ new_source LONGEST_DATAGRAM None) (λ (s : WorkerSourceValue). source_of s ≡ silent_source) (λ s is. ap source_of is) sources new.1))))
+      are.silent_outboxes,
+)
+
+-- so many of them are all that is known
+pub silent_served : (control : ControlAddress) (opening : List Group) (workers : ℕ) (sources : List WorkerSourceValue) (before after : Option (List ℕ))
+    → AreNewSources workers sources → WritesCounted control opening (AreStartsOf sources) before after → WritesServedAt control opening workers before after
+silent_served control opening workers sources before after new written =
+    let counted = written.is_counted in record {
+      front = written.front;
+      totals = written.totals;
+      between = written.between;
+      ready = written.ready;
+      is_counted = record {
+        versions = counted.versions;
+        table = counted.table;
+        starts = counted.starts;
+        ends = counted.ends;
+        new_workers = counted.new_workers;
+        new_counters = counted.new_counters;
+        are_starts = silent_starts workers sources counted.starts new counted.are_starts;
+        run_to_the_end = counted.run_to_the_end;
+        sum_exact = counted.sum_exact;
+      };
+      totals_line = written.totals_line;
+    }

@@ -1,0 +1,14 @@
+use Rattle.serve_udp.proofs.TurnLemmas.{turn_begins, turn_goes_on}
+use Rattle.serve_udp.proofs.control_turn.answer_datagrams.Goals as goal
+
+pub loop-datagram-init : goal.loop-datagram-init
+loop-datagram-init g c = turn_begins _ _ _
+
+pub loop-datagram-preserved : goal.loop-datagram-preserved
+loop-datagram-preserved g c = turn_goes_on _ _ _ _ _ _ _ _ c.loop-datagram.invariant c.in-Answered.ensures
+
+pub returns-in-Nothing : goal.returns-in-Nothing
+returns-in-Nothing g c = record { answered_each = turn_goes_on _ _ _ _ _ _ _ _ c.loop-datagram.invariant c.in-Nothing.ensures }
+
+pub returns-in-Stop : goal.returns-in-Stop
+returns-in-Stop g c = record { answered_each = turn_goes_on _ _ _ _ _ _ _ _ c.loop-datagram.invariant c.in-Stop.ensures }

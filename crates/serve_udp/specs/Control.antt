@@ -1,0 +1,62 @@
+-- What contracts see of control over datagrams: what came, and what was sent back (docs/COMMANDS.md, "serve").
+use Rattle.std.specs.Prelude.{◌≡◌, ◌++◌, ◌∷◌, ◌≤◌, Bool, List, None, Option, Some, [], false, take, true, ℕ}
+use Rattle.dispatch.specs.Device.{Takes}
+use Rattle.ipv4_fields.specs.declared.endpoint.Endpoint.{Endpoint}
+use Rattle.serve_control.specs.Answer.{AnswersDatagram, IsTotals, Service, bytes_of}
+use Rattle.serve_control.specs.declared.ControlAnswer.{ControlAnswer}
+use Rattle.serve_control.specs.declared.ControlAnswer.TheVariants.{Line, Stop, Totals as TotalsAnswer}
+use Rattle.serve_control.specs.declared.ignored.BoundAddresses.{BoundAddresses}
+use Rattle.serve_udp.specs.declared.control_turn.Asked.{Asked}
+use Rattle.serve_udp.specs.declared.control_turn.Asked.TheVariants.{Datagram, Failed, Nothing}
+use Rattle.serve_udp.specs.declared.control_turn.Next.{Next}
+use Rattle.serve_udp.specs.declared.control_turn.Next.TheVariants as next
+
+-- one thing that happened: a datagram came, or a reply was sent
+pub data ControlEvent : Type 0 where
+  came : (from : Endpoint) (text : List ℕ) → ControlEvent
+  replied : (to : Endpoint) (bytes : List ℕ) → ControlEvent
+
+-- what happened in a receive that found this, and whose buffer then has these bytes
+abbrev pub came_by : Asked → List ℕ → List ControlEvent
+came_by (Datagram from len) buffer = came from (take len buffer) ∷ []
+came_by Nothing buffer = []
+came_by Failed buffer = []
+
+-- a datagram is within its buffer
+abbrev pub IsWithin : ℕ → Asked → Type 0
+IsWithin room (Datagram from len) = len ≤ room
+IsWithin room Nothing = Unit {0}
+IsWithin room Failed = Unit {0}
+
+-- one reply is sent to who asked, and none to who is ignored; the line of the totals is not sent if memory for it is refused
+pub data IsRepliedTo (from : Endpoint) : Option ControlAnswer → List ControlEvent → Type 0 where
+  ignored : IsRepliedTo from None []
+  answered : (answer : ControlAnswer) → IsRepliedTo from (Some answer) (replied from (bytes_of answer) ∷ [])
+  no_memory : (answer : ControlAnswer) → IsTotals answer → IsRepliedTo from (Some answer) []
+
+-- the answer is that the switch stops
+abbrev pub is_stop : Option ControlAnswer → Bool
+is_stop None = false
+is_stop (Some Stop) = true
+is_stop (Some (TotalsAnswer totals)) = false
+is_stop (Some (Line reply)) = false
+
+-- datagrams came, one after the other; each was answered, and had its reply, before the next one came, and none came after one that asked to
+-- stop. The truth value says whether the last one did
+pub data AnswersInTurn (bound : BoundAddresses) (before : Service) : List ControlEvent → Bool → Service → Type 0 where
+  none : (after : Service) → after ≡ before → AnswersInTurn bound before [] false after
+  one_more : (events replies : List ControlEvent) (mid after : Service) (from : Endpoint) (text : List ℕ) (answer : Option ControlAnswer)
+      → AnswersInTurn bound before events false mid → AnswersDatagram bound from text mid after answer → IsRepliedTo from answer replies
+      → AnswersInTurn bound before (events ++ came from text ∷ replies) (is_stop answer) after
+
+-- the turn ended at a request to stop
+abbrev pub stops_at : Next → Bool
+stops_at next.Answered = false
+stops_at next.Nothing = false
+stops_at next.Stop = true
+
+-- this happened in a turn that ended so, as far as the log is known
+pub record IsControlTurn (bound : BoundAddresses) (log log' : Option (List ControlEvent)) (before after : Service) (ended : Next) : Type 0 where
+  pub events : List ControlEvent
+  pub logged : Takes log log' events
+  pub answered_each : AnswersInTurn bound before events (stops_at ended) after

@@ -1,0 +1,175 @@
+//! Control over datagrams: each is answered by one datagram to its sender (docs/COMMANDS.md, "serve").
+
+ghost use Rattle.std.specs.Prelude.{◌≡◌, ◌∷◌, List, Option, Some, [], length};
+ghost use Rattle.dispatch.specs.Device.{Takes};
+ghost use Rattle.serve_control.specs.Answer.{IsTotals};
+ghost use Rattle.serve_udp.specs.Control.{ControlEvent, IsControlTurn, IsWithin, came_by, is_stop, replied, stops_at};
+ghost use Rattle.serve_udp.specs.body.Turns.{AnswersOne, GoesOnBy, IsSentBack};
+
+use dispatch::{NamedTally, TallyName};
+use ipv4_fields::Endpoint;
+use read_section::Operator;
+use serve_control::{BoundAddresses, ControlAnswer, Log, LogLines, MemberTotals, answer_from};
+use std::alloc::Global;
+
+/// How many datagrams, or turns of clients, control has before the front has its turn.
+pub const CONTROL_TURN: usize = 4;
+
+/// What a receive of control found.
+#[derive(Clone, Copy)]
+pub enum Asked {
+    /// A datagram of so many bytes.
+    Datagram { from: Endpoint, len: usize },
+    /// No datagram has come.
+    Nothing,
+    /// The receive failed, or the datagram has no IPv4 sender.
+    Failed,
+}
+
+/// Where control datagrams come from, and where their replies go. Contracts see both in their order, if they are known.
+pub trait ControlWire {
+    ghost log: { Self → Option (List ControlEvent) };
+
+    /// Receives the next datagram into the front of `buf`, and does not wait.
+    fn receive(&mut self, buf: &mut [u8]) -> Asked
+        ensures within { IsWithin (length buf.new) result }
+        ensures logged { Takes (log self.old) (log self.new) (came_by result buf.new) };
+
+    /// Sends a reply as one datagram. A failure is passed over.
+    fn reply(&mut self, to: Endpoint, bytes: &[u8])
+        ensures logged { Takes (log self.old) (log self.new) (replied to bytes.now ∷ []) };
+}
+
+/// How a turn of control ended, or went on.
+#[derive(Clone, Copy)]
+pub enum Next {
+    /// There may be more datagrams.
+    Answered,
+    /// None has come.
+    Nothing,
+    /// The switch is asked to stop.
+    Stop,
+}
+
+// Sends the line of the totals, which is made in `room`.
+fn send_totals<C: ControlWire>(
+    wire: &mut C,
+    room: &mut Vec<u8>,
+    answer: &ControlAnswer,
+    to: Endpoint,
+)
+    requires { IsTotals answer.now }
+    ensures { IsSentBack (C.log wire.old) (C.log wire.new) to answer.now }
+{
+    room.clear();
+    match answer.append_to(room) {
+        Ok(()) => wire.reply(to, room),
+        Err(_) => {}
+    }
+}
+
+// Sends an answer back, by one datagram.
+fn send_reply<C: ControlWire>(
+    wire: &mut C,
+    room: &mut Vec<u8>,
+    answer: &ControlAnswer,
+    to: Endpoint,
+)
+    ensures { IsSentBack (C.log wire.old) (C.log wire.new) to answer.now }
+{
+    match answer {
+        ControlAnswer::Stop => wire.reply(to, b"ok stop".as_slice()),
+        ControlAnswer::Totals(_) => send_totals(wire, room, answer, to),
+        ControlAnswer::Line(reply) => wire.reply(to, reply.bytes()),
+    }
+}
+
+fn next_after(answer: &ControlAnswer) -> Next
+    ensures { stops_at result ≡ is_stop (Some answer.now) }
+{
+    match answer {
+        ControlAnswer::Stop => Next::Stop,
+        ControlAnswer::Totals(_) => Next::Answered,
+        ControlAnswer::Line(_) => Next::Answered,
+    }
+}
+
+// Answers a datagram that came.
+fn answer_one<C: ControlWire, N: TallyName, L: LogLines, M: MemberTotals>(
+    alloc: Global,
+    wire: &mut C,
+    bound: &BoundAddresses,
+    from: Endpoint,
+    text: &[u8],
+    room: &mut Vec<u8>,
+    operator: &mut Operator,
+    named: &mut NamedTally<N>,
+    members: &mut M,
+    log: &mut Log<L>,
+) -> Next
+    ensures { AnswersOne bound.now from text.now (C.log wire.old) (C.log wire.new)
+        (record { operator = operator.old; tally = named.old.tally; members = M.table members.old })
+        (record { operator = operator.new; tally = named.new.tally; members = M.table members.new }) result }
+{
+    let Some(answer) = answer_from(alloc, bound, from, text, operator, named, members, log) else {
+        return Next::Answered;
+    };
+    send_reply(wire, room, &answer, from);
+    next_after(&answer)
+}
+
+// Receives a datagram, and answers it.
+fn answer_next<C: ControlWire, N: TallyName, L: LogLines, M: MemberTotals>(
+    alloc: Global,
+    wire: &mut C,
+    bound: &BoundAddresses,
+    buf: &mut [u8],
+    room: &mut Vec<u8>,
+    operator: &mut Operator,
+    named: &mut NamedTally<N>,
+    members: &mut M,
+    log: &mut Log<L>,
+) -> Next
+    ensures { GoesOnBy bound.now (C.log wire.old) (C.log wire.new)
+        (record { operator = operator.old; tally = named.old.tally; members = M.table members.old })
+        (record { operator = operator.new; tally = named.new.tally; members = M.table members.new }) result }
+{
+    match wire.receive(buf) {
+        Asked::Datagram { from, len } => {
+            let text = &buf[..len];
+            answer_one(
+                alloc, wire, bound, from, text, room, operator, named, members, log,
+            )
+        }
+        Asked::Nothing => Next::Nothing,
+        Asked::Failed => Next::Answered,
+    }
+}
+
+/// Answers the next datagrams by one datagram each to their senders, but for those that are ignored.
+///
+/// A turn ends if no datagram has come, at a request to stop, and after `CONTROL_TURN` receives. A receive that fails is passed over.
+pub fn answer_datagrams<C: ControlWire, N: TallyName, L: LogLines, M: MemberTotals>(
+    alloc: Global,
+    wire: &mut C,
+    bound: &BoundAddresses,
+    buf: &mut [u8],
+    room: &mut Vec<u8>,
+    operator: &mut Operator,
+    named: &mut NamedTally<N>,
+    members: &mut M,
+    log: &mut Log<L>,
+) -> Next
+    ensures answered_each { IsControlTurn bound.now (C.log wire.old) (C.log wire.new)
+        (record { operator = operator.old; tally = named.old.tally; members = M.table members.old })
+        (record { operator = operator.new; tally = named.new.tally; members = M.table members.new }) result }
+{
+    for _datagram in 0..CONTROL_TURN {
+        match answer_next(alloc, wire, bound, buf, room, operator, named, members, log) {
+            Next::Answered => {}
+            Next::Nothing => return Next::Nothing,
+            Next::Stop => return Next::Stop,
+        }
+    }
+    Next::Answered
+}
