@@ -1,5 +1,5 @@
 -- The last run of a log, written in its place, or a run after it.
-use Rattle.std.proofs.Common.{◌≡◌, ◌≤◌, ◌<◌, ◌-◌, ◌∙◌, ◌++◌, ◌∷◌, Bool, List, [], ap, arith, cond, false, get_or, length, refl, set, suc, true, ℕ}
+use Rattle.std.proofs.Common.{◌≡◌, ◌≤◌, ◌<◌, ◌-◌, ◌∙◌, ◌++◌, ◌∷◌, List, [], ap, arith, false, get_or, length, refl, set, suc, true, ℕ}
 use Rattle.std.proofs.lemmas.List.{set-get_or}
 use Rattle.member_counts.specs.declared.counts.Counts.{Counts}
 use Rattle.member_counts.specs.declared.key.CountKey.{CountKey}

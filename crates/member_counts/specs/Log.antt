@@ -1,5 +1,5 @@
 -- What a contract sees of a VerdictLog.
-use Rattle.std.specs.Prelude.{◌∷◌, Bool, List, None, [], false, if◌then◌else◌, true, ℕ}
+use Rattle.std.specs.Prelude.{◌∷◌, Bool, List, [], false, if◌then◌else◌, true, ℕ}
 use Rattle.ipv4_fields.specs.declared.endpoint.Endpoint.{Endpoint}
 use Rattle.packet_verdict.specs.declared.verdict.Verdict.{Verdict}
 use Rattle.packet_verdict.specs.declared.verdict.Verdict.TheVariants as verdict

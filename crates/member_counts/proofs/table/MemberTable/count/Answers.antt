@@ -1,4 +1,4 @@
-use Rattle.std.proofs.Common.{◌≡◌, ◌∙◌, List, false, refl, subst, take, take_all}
+use Rattle.std.proofs.Common.{◌≡◌, ◌∙◌, List, refl, subst, take, take_all}
 use Rattle.member_counts.specs.Table.{CountsLog}
 use Rattle.member_counts.specs.declared.log.Run.{Run}
 use Rattle.member_counts.proofs.TableLemmas.{counted_none, counted_step_at, kept_exact}
