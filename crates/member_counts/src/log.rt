@@ -27,14 +27,15 @@ pub struct VerdictLog {
 }
 
 impl Model for VerdictLog {
-    ghost use Rattle.std.specs.Prelude.{◌≤◌, length, vec_capacity};
+    ghost use Rattle.std.specs.Prelude.{◌≡◌, ◌≤◌, false, length, vec_capacity};
     ghost use Rattle.member_counts.specs.Log.{Log};
 
     ghost Value = { Log };
 
     ghost view = { λ log. record { entries = log.entries.items; room = log.room; sent = log.sent } };
 
-    ghost invariant = { λ log. (length log.entries.items ≤ log.room) × (log.room ≤ vec_capacity log.entries) };
+    ghost invariant = { λ log. (length log.entries.items ≤ log.room) × (log.room ≤ vec_capacity log.entries)
+        × (length log.entries.items ≡ 0 → log.sent ≡ false) };
 }
 
 impl VerdictLog {
@@ -59,7 +60,8 @@ impl VerdictLog {
 
     /// Tests whether nothing is logged.
     pub fn is_empty(&self) -> bool
-        ensures { IsTrue result ↔ (self.now.entries ≡ []) }
+        ensures empty { IsTrue result ↔ (self.now.entries ≡ []) }
+        ensures nothing_sent { self.now.entries ≡ [] → self.now.sent ≡ false }
     {
         self.entries.is_empty()
     }
@@ -73,13 +75,14 @@ impl VerdictLog {
 
     // Begins a run.
     #[inline]
-    fn begin(&mut self, run: Run)
+    fn begin(&mut self, run: Run, sent: bool)
         requires { length self.old.entries < self.old.room }
-        ensures { self.new ≡ record self.old { entries = self.old.entries ++ run ∷ [] } }
+        ensures { self.new ≡ record self.old { entries = self.old.entries ++ run ∷ []; sent = sent } }
     {
         let Ok(()) = self.entries.push(run) else {
             unreachable!()
         };
+        self.sent = sent;
     }
 
     // Adds counts to the last run, if it has the key, or else begins a run.
@@ -88,15 +91,15 @@ impl VerdictLog {
         requires { length self.old.entries < self.old.room }
         ensures { self.new ≡ with_counts key counts sent self.old }
     {
-        self.sent = sent;
         let Some(last) = self.entries.last_mut() else {
-            return self.begin(Run { key, counts });
+            return self.begin(Run { key, counts }, sent);
         };
         if last.key == key {
             last.counts = last.counts.plus(counts);
+            self.sent = sent;
             return;
         }
-        self.begin(Run { key, counts });
+        self.begin(Run { key, counts }, sent);
     }
 
     /// Counts a verdict if it names a member.
