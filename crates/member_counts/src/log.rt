@@ -73,8 +73,8 @@ impl VerdictLog {
         self.entries.as_slice()
     }
 
-    // Begins a run.
-    #[inline]
+    // Begins a run. It is not inlined, as packets that come one after another seldom need it.
+    #[inline(never)]
     fn begin(&mut self, run: Run, sent: bool)
         requires { length self.old.entries < self.old.room }
         ensures { self.new ≡ record self.old { entries = self.old.entries ++ run ∷ []; sent = sent } }
@@ -85,8 +85,8 @@ impl VerdictLog {
         self.sent = sent;
     }
 
-    // Adds counts to the last run, if it has the key, or else begins a run.
-    #[inline]
+    // Adds counts to the last run, if it has the key, or else begins a run. It is inlined always, so that no zero is added.
+    #[inline(always)]
     fn add(&mut self, key: CountKey, counts: Counts, sent: bool)
         requires { length self.old.entries < self.old.room }
         ensures { self.new ≡ with_counts key counts sent self.old }
