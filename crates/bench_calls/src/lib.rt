@@ -37,7 +37,7 @@ pub extern "C" fn measured_judge(alloc: Global, script: &[u8], packet: &[u8], ro
     }
 }
 
-/// Judges a packet, as `measured_judge` does, and logs each verdict. After each batch of 64 the log is added to a table of counters if
+/// Judges a packet, as `measured_judge` does, and counts each verdict in a log. After each 64 the log is added to a table of counters if
 /// `adds` is not 0, and emptied.
 #[unsafe(no_mangle)]
 pub extern "C" fn measured_count(

@@ -48,7 +48,7 @@ pub(crate) fn judge_rounds(worker: &mut Worker, packet: &[u8], rounds: u64) -> u
 }
 
 // A worker's log is handed on after so many verdicts.
-const BATCH: usize = 64;
+const BATCH: u64 = 64;
 
 // Adds the log to the table, if that is asked, and empties it.
 fn hand_on(log: &mut VerdictLog, table: &mut MemberTable, adds: bool) {
@@ -58,25 +58,14 @@ fn hand_on(log: &mut VerdictLog, table: &mut MemberTable, adds: bool) {
     log.clear();
 }
 
-// Judges the packet and logs the verdict. A full log is handed on before.
-fn judge_and_log(
-    worker: &mut Worker,
-    packet: &[u8],
-    log: &mut VerdictLog,
-    table: &mut MemberTable,
-    adds: bool,
-)
+// Judges the packet and counts the verdict in the log, if there is room.
+fn judge_and_log(worker: &mut Worker, packet: &[u8], log: &mut VerdictLog)
     requires { length packet.now ≤ 65535 }
 {
     let verdict = judge_in_section(worker, packet);
-    if log.is_full() {
-        hand_on(log, table, adds);
-        // It has no room at all.
-        if log.is_full() {
-            return;
-        }
+    if !log.is_full() {
+        log.judged(&verdict);
     }
-    log.judged(&verdict);
 }
 
 pub(crate) fn count_rounds(
@@ -90,11 +79,14 @@ pub(crate) fn count_rounds(
     ensures { (result ≡ rounds) ⊎ (result ≡ 0) }
 {
     let mut table = MemberTable::new(alloc);
-    let Ok(mut log) = VerdictLog::new(alloc, BATCH) else {
+    let Ok(mut log) = VerdictLog::new(alloc, BATCH as usize) else {
         return 0;
     };
-    for _ in 0..rounds {
-        judge_and_log(worker, packet, &mut log, &mut table, adds);
+    for round in 0..rounds {
+        judge_and_log(worker, packet, &mut log);
+        if round % BATCH == BATCH - 1 {
+            hand_on(&mut log, &mut table, adds);
+        }
     }
     rounds
 }
