@@ -59,6 +59,7 @@ fn hand_on(log: &mut VerdictLog, table: &mut MemberTable, adds: bool) {
 }
 
 // Judges the packet and counts the verdict in the log, if there is room.
+#[inline]
 fn judge_and_log(worker: &mut Worker, packet: &[u8], log: &mut VerdictLog)
     requires { length packet.now ≤ 65535 }
 {
@@ -82,11 +83,14 @@ pub(crate) fn count_rounds(
     let Ok(mut log) = VerdictLog::new(alloc, BATCH as usize) else {
         return 0;
     };
-    for round in 0..rounds {
-        judge_and_log(worker, packet, &mut log);
-        if round % BATCH == BATCH - 1 {
-            hand_on(&mut log, &mut table, adds);
+    for _ in 0..rounds / BATCH {
+        for _ in 0..BATCH {
+            judge_and_log(worker, packet, &mut log);
         }
+        hand_on(&mut log, &mut table, adds);
+    }
+    for _ in 0..rounds % BATCH {
+        judge_and_log(worker, packet, &mut log);
     }
     rounds
 }

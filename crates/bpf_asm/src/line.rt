@@ -112,6 +112,7 @@ fn push_line<'a, A: Allocator>(
 }
 
 /// Reads the lines of a text, or tells the first that is in no form.
+/// The reason: docs/INTERNALS.md, "The lines of an assembly are kept".
 pub(crate) fn read_lines<A: Allocator>(alloc: A, text: &[u8]) -> Result<Vec<Line<'_>, A>, AsmFault>
     ensures { MatchResult result
         (λ lines. (map line_of lines.items ≡ lines_read text.now) × (forms_fault 1 (lines_of text.now) ≡ None))

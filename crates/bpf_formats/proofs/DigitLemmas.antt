@@ -1,10 +1,10 @@
 -- Words by sixteen hexadecimal digits.
-use Rattle.std.proofs.Common.{◌≡◌, ◌≢◌, ◌∙◌, ◌+◌, ◌-◌, ◌*◌, ◌/◌, ◌%◌, ◌^◌, ◌<◌, ◌≤◌, ◌++◌, Err, List, MatchOption, None, Ok, Option, Result, Some, [], ap, arith, false, get_or, length, length-append, refl, subst, suc, sym, zero, ◌∷◌, ℕ}
+use Rattle.std.proofs.Common.{◌≡◌, ◌≢◌, ◌∙◌, ◌+◌, ◌-◌, ◌/◌, ◌%◌, ◌^◌, ◌<◌, ◌++◌, Err, List, MatchOption, Ok, Result, [], ap, arith, false, get_or, length, length-append, refl, subst, suc, sym, zero, ◌∷◌, ℕ}
 use Rattle.std.specs.Char.{digit_char, digit_value}
 use Rattle.std.specs.Fmt.{digits}
 use Rattle.std.specs.Result.{result_ok}
 use Rattle.std.specs.Str.{IsAscii, IsUtf8}
-use Rattle.std.specs.Str.Parse.{AllDigits, ParsesUnsigned, digits_value, without_leading_plus}
+use Rattle.std.specs.Str.Parse.{AllDigits, ParsesUnsigned, digits_value}
 use Rattle.std.proofs.Math.Nat.{pow-suc}
 use Rattle.std.proofs.lemmas.Bool.Decides.{nat_tests}
 use Rattle.std.proofs.lemmas.Fmt.{hex_one_digit}

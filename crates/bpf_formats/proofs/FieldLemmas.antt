@@ -1,5 +1,5 @@
 -- The four fields of a word in decimal.
-use Rattle.std.proofs.Common.{◌≡◌, ◌∙◌, ◌^◌, ◌<◌, ◌≤◌, ◌++◌, List, ap, arith, decimal, inl, refl, sym, ◌∷◌, ℕ}
+use Rattle.std.proofs.Common.{◌≡◌, ◌∙◌, ◌^◌, ◌<◌, ◌≤◌, ◌++◌, List, arith, decimal, inl, sym, ◌∷◌, ℕ}
 use Rattle.std.proofs.lemmas.Fmt.{decimal_injective}
 use Rattle.bpf_insn.specs.Word.{word}
 use Rattle.ipv4_fields.proofs.TextLemmas.{number_parts}

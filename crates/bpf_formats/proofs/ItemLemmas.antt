@@ -1,5 +1,5 @@
 -- Items and the words that they are, in any form.
-use Rattle.std.proofs.Common.{◌≡◌, ◌≢◌, ◌∙◌, ◌+◌, ◌++◌, ◌⊎◌, List, [], ap, append_assoc, inl, inr, refl, subst, sym, ◌∷◌, ℕ}
+use Rattle.std.proofs.Common.{◌≡◌, ◌≢◌, ◌∙◌, ◌+◌, ◌++◌, List, [], append_assoc, inl, inr, refl, subst, sym, ◌∷◌, ℕ}
 use Rattle.std.proofs.lemmas.List.{append-nil}
 use Rattle.bpf_formats.specs.Item.{AreWords, IsFirstOutOfForm, IsInForm, IsOutOfForm}
 

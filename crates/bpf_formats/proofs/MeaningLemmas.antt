@@ -1,12 +1,12 @@
 -- A text has one meaning in each form.
-use Rattle.std.proofs.Common.{◌≡◌, ◌≢◌, ◌∙◌, ◌^◌, ◌<◌, ◌⊎◌, Err, IfErr, IsOk, List, Ok, Result, [], ap, arith, decimal, inl, inr, length, refl, subst, sym, ◌∷◌, ℕ}
+use Rattle.std.proofs.Common.{◌≡◌, ◌∙◌, ◌^◌, ◌<◌, ◌⊎◌, Err, IfErr, IsOk, List, Ok, Result, [], ap, arith, decimal, inl, inr, length, refl, subst, sym, ◌∷◌, ℕ}
 use Rattle.std.proofs.lemmas.Fmt.{decimal_injective}
 use Rattle.bpf_formats.specs.declared.fault.FormatFault.{FormatFault}
 use Rattle.bpf_formats.specs.declared.fault.FormatFault.TheVariants.{Count, OutOfMemory, Syntax}
 use Rattle.bpf_formats.specs.Ddd.{IsDdd, SpellsFields}
-use Rattle.bpf_formats.specs.Fault.{HasOneMeaning, HasWrongCount, IsCount, IsFaultOfDdd, IsFaultOfHex, IsFirstOfDdd}
+use Rattle.bpf_formats.specs.Fault.{HasOneMeaning, HasWrongCount, IsFaultOfDdd, IsFaultOfHex, IsFirstOfDdd}
 use Rattle.bpf_formats.specs.Hex.{IsHex, SpellsDigits}
-use Rattle.bpf_formats.specs.Item.{AreWords, IsFirstOutOfForm, items_of}
+use Rattle.bpf_formats.specs.Item.{AreWords, items_of}
 use Rattle.bpf_formats.proofs.DigitLemmas as digits
 use Rattle.bpf_formats.proofs.FieldLemmas as fields
 use Rattle.bpf_formats.proofs.ItemLemmas.{are_words-unique, first_out_of_form-unique, none_out_of_form}

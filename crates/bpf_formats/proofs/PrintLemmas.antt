@@ -1,11 +1,11 @@
 -- What is printed of words is read back.
-use Rattle.std.proofs.Common.{◌≡◌, ◌≢◌, ◌∙◌, ◌/◌, ◌%◌, ◌^◌, ◌<◌, ◌≤◌, ◌++◌, List, [], ap, append_assoc, arith, decimal, get_or, length, refl, subst, suc, sym, zero, ◌∷◌, ℕ}
+use Rattle.std.proofs.Common.{◌≡◌, ◌≢◌, ◌∙◌, ◌^◌, ◌<◌, ◌++◌, List, [], ap, append_assoc, arith, decimal, get_or, length, refl, subst, suc, sym, ◌∷◌, ℕ}
 use Rattle.std.specs.List.{flat_map}
 use Rattle.std.proofs.lemmas.Fmt.{decimal_is_IsNumeral, decimal_nonempty}
 use Rattle.bpf_insn.proofs.WordLemmas.{word-split}
 use Rattle.bpf_insn.specs.Word.{code_of, constant_of, false_jump_of, true_jump_of, word}
 use Rattle.bpf_formats.specs.Ddd.{IsDdd, SpellsFields, ddd_line, ddd_text, fields_text}
-use Rattle.bpf_formats.specs.Hex.{IsHex, SpellsDigits, hex_digits, hex_line, hex_text}
+use Rattle.bpf_formats.specs.Hex.{IsHex, SpellsDigits, hex_digits, hex_text}
 use Rattle.bpf_formats.specs.Item.{AreWords, items_of}
 use Rattle.bpf_formats.proofs.CutLemmas.{StaysInItem, items_of-line, stays-append, stays-digits}
 use Rattle.bpf_formats.proofs.DigitLemmas.{hex_spells}

@@ -1,5 +1,5 @@
 -- The words of a text, item by item.
-use Rattle.std.proofs.Common.{◌≡◌, ◌+◌, ◌++◌, ◌⊎◌, List, [], inl, inr, subst, sym, ◌∷◌, ℕ}
+use Rattle.std.proofs.Common.{◌+◌, List, inl, inr, subst, sym, ◌∷◌, ℕ}
 use Rattle.bpf_formats.specs.declared.fault.FormatFault.{FormatFault}
 use Rattle.bpf_formats.specs.declared.fault.FormatFault.TheVariants.{Count, OutOfMemory, Syntax}
 use Rattle.bpf_formats.specs.declared.reading.Form.{Form}

@@ -1,5 +1,5 @@
 -- Programs in decimal, as `tcpdump -ddd` prints them (docs/MACHINE.md, "Programs as numbers").
-use Rattle.std.specs.Prelude.{◌≡◌, ◌<◌, ◌^◌, ◌∷◌, ◌++◌, List, [], codes, decimal, length, ℕ}
+use Rattle.std.specs.Prelude.{◌≡◌, ◌<◌, ◌^◌, ◌∷◌, ◌++◌, List, [], decimal, length, ℕ}
 use Rattle.std.specs.List.{flat_map}
 use Rattle.bpf_insn.specs.Word.{code_of, constant_of, false_jump_of, true_jump_of, word}
 use Rattle.bpf_formats.specs.Item.{AreWords, items_of}

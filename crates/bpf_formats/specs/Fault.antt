@@ -1,9 +1,9 @@
 -- What is wrong with a text that is no list of words (docs/MACHINE.md, "Programs as numbers").
-use Rattle.std.specs.Prelude.{◌≡◌, ◌≢◌, ◌+◌, ◌<◌, ◌^◌, ◌∷◌, ◌⊎◌, List, [], decimal, length, ℕ}
+use Rattle.std.specs.Prelude.{◌≡◌, ◌≢◌, ◌<◌, ◌^◌, ◌∷◌, ◌⊎◌, List, [], decimal, length, ℕ}
 use Rattle.bpf_formats.specs.declared.fault.FormatFault.{FormatFault}
 use Rattle.bpf_formats.specs.declared.fault.FormatFault.TheVariants.{Count, OutOfMemory, Syntax}
-use Rattle.bpf_formats.specs.Ddd.{IsDdd, SpellsFields}
-use Rattle.bpf_formats.specs.Hex.{IsHex, SpellsDigits}
+use Rattle.bpf_formats.specs.Ddd.{SpellsFields}
+use Rattle.bpf_formats.specs.Hex.{SpellsDigits}
 use Rattle.bpf_formats.specs.Item.{AreWords, IsFirstOutOfForm, items_of}
 
 -- the item that tells how many words there are

@@ -9,6 +9,7 @@ ghost use Rattle.bpf_insn.specs.body.Decoded.{decoded_with, tested};
 
 use crate::instruction::{Insn, Offsets, Operand, Operation, Size, Test, WordFault};
 
+// The reason: docs/INTERNALS.md, "One table of instructions".
 // An instruction of the table, and whether each field that it does not use is 0.
 #[derive(Clone, Copy)]
 struct Decoded {

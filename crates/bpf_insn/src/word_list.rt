@@ -54,6 +54,7 @@ pub trait Words {
     ///
     /// Programs are run by this call and the next two. They go from each place to a later one, so an implementor may make it fast to
     /// go on from a word that was read.
+    /// Why the default bodies are these: docs/INTERNALS.md, "Programs are run by three other calls".
     fn make_ready(&mut self, i: usize) -> Option<ReadyWords>
         requires { i < length (words self.old) }
         ensures from { IfSome result (λ ready. ready_from self.new ≤ i) }

@@ -123,6 +123,7 @@ run_on rest (ends ending) = (ending, 1)
 run_on rest (goes_on dropped a x cells) = one_more (rest dropped a x cells)
 
 -- the run over the words that remain once some of them are dropped; where none remains, it is stuck
+-- The reason: docs/INTERNALS.md, "The meaning carries the number of dropped words".
 unfoldable pub run_after : ℕ → List ℕ → ℕ → ℕ → Cells → List ℕ → Run
 run_after dropped [] a x cells packet = (Stuck, 0)
 run_after (suc dropped) (word ∷ words) a x cells packet = run_after dropped words a x cells packet

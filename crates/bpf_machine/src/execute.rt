@@ -25,6 +25,7 @@ pub enum Next {
 }
 
 /// The registers A and X.
+/// The reason: docs/INTERNALS.md, "Scratch memory, registers and steps".
 #[derive(Drop)]
 pub struct Registers {
     pub a: u32,

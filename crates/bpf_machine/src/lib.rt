@@ -81,6 +81,7 @@ pub fn run<W: Words>(words: &mut W, from: usize, len: usize, packet: &[u8]) -> O
 ///
 /// A copy that is called at one place of a program is inlined there. So what the words keep of themselves, as a section its row,
 /// lies in registers while the program runs, where the caller has the words as a local.
+/// What the copies are for: docs/INTERNALS.md, "A section keeps by value where words are".
 pub fn run_copy<W: Words, const COPY: usize>(
     words: &mut W,
     from: usize,
@@ -146,6 +147,7 @@ pub fn run_copy<W: Words, const COPY: usize>(
 //
 // `ALL` says that the words are ready up to the program's end. Then the loop asks about none. Each copy is called at one place, and is
 // inlined there for that reason, as `run_copy` is where it is called.
+// Why there are two loops in one function, and calls that take numbers: docs/INTERNALS.md, "Programs are run by three other calls".
 fn run_ready<W: Words, const COPY: usize, const ALL: bool>(
     words: &mut W,
     from: usize,

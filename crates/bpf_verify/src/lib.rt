@@ -115,6 +115,7 @@ fn check_branch(
 }
 
 // `N` is greater than the length: a set more, for the place after the last one.
+// Why the faults are reported after the pass, and the sets have three sizes: docs/INTERNALS.md, "The verifier reads each word once".
 fn check_places<W: Words, const N: usize>(
     words: &mut W,
     from: usize,

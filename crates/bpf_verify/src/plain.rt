@@ -94,6 +94,7 @@ fn plain_of(code: usize) -> Plain
 }
 
 // The set after a plain word, where the set before has the cell that it loads. `None` says nothing of the word.
+/// The reason: docs/INTERNALS.md, "Most words are classified by their code".
 #[inline(always)]
 pub fn after_plain(word: u64, before: u16) -> Option<u16>
     ensures { IfSome result (λ after. IsPlain word before after) }

@@ -2,7 +2,7 @@
 use Rattle.std.specs.Prelude.{◌≡◌, ◌+◌, ◌++◌, ◌∷◌, [], Contains, List, Option, codes, find, length, map, option_map, take, ℕ}
 use Rattle.std.specs.Str.{bytes_eq}
 use Rattle.command_explain.specs.declared.table_from_i.TheConstants.{EXPLANATIONS_FROM_I}
-use Rattle.command_explain.specs.declared.table_to_g.TheConstants.{EXPLANATIONS_TO_G}
+use Rattle.command_explain.specs.declared.table_to_h.TheConstants.{EXPLANATIONS_TO_H}
 
 -- a code, and its text
 abbrev pub Row : Type 0
@@ -18,6 +18,7 @@ codes_explained =
     codes "E1" ∷ codes "E2" ∷ codes "E3" ∷ codes "E4" ∷ codes "E5" ∷
     codes "F1" ∷ codes "F2" ∷ codes "F3" ∷
     codes "G1" ∷ codes "G2" ∷ codes "G3" ∷ codes "G4" ∷ codes "G5" ∷ codes "G6" ∷ codes "G7" ∷ codes "G8" ∷ codes "G9" ∷
+    codes "H1" ∷
     codes "I1" ∷ codes "I2" ∷
     codes "J1" ∷ codes "J2" ∷
     codes "K1" ∷ codes "K2" ∷ codes "K3" ∷
@@ -32,14 +33,14 @@ codes_explained =
     []
 
 -- the tables
-abbrev pub explanations_to_g : List Row
-explanations_to_g = map (λ row. (row.0.now, row.1.now)) EXPLANATIONS_TO_G
+abbrev pub explanations_to_h : List Row
+explanations_to_h = map (λ row. (row.0.now, row.1.now)) EXPLANATIONS_TO_H
 
 abbrev pub explanations_from_i : List Row
 explanations_from_i = map (λ row. (row.0.now, row.1.now)) EXPLANATIONS_FROM_I
 
 abbrev pub explanations : List Row
-explanations = explanations_to_g ++ explanations_from_i
+explanations = explanations_to_h ++ explanations_from_i
 
 -- a row of them has this code and this text
 abbrev pub IsExplanation : List ℕ → List ℕ → Type 0

@@ -2,25 +2,25 @@
 //! "Refusals").
 //!
 //! `explanation` finds the text of a code, and `shown_code` the code in what the program prints. `line_fault_text` and `file_fault_text` show people a file that is refused. The codes and texts stand in two tables, in
-//! `table_to_g` and `table_from_i`.
+//! `table_to_h` and `table_from_i`.
 #![tactic(auto)]
 
 ghost use Rattle.std.specs.Prelude.{◌≡◌, ◌↔◌, Contains, IfSome, IsSome, map, option_map};
-ghost use Rattle.command_explain.specs.Explanation.{Explains, IsExplanation, codes_explained, explanations, explanations_from_i, explanations_to_g, text_beside};
+ghost use Rattle.command_explain.specs.Explanation.{Explains, IsExplanation, codes_explained, explanations, explanations_from_i, explanations_to_h, text_beside};
 
 mod file_fault;
 mod meaning;
 mod printed;
 mod shown;
 mod table_from_i;
-mod table_to_g;
+mod table_to_h;
 
 pub use file_fault::{FaultPlace, SHOWN_LIMIT, file_fault_text, line_fault_text};
 pub use meaning::{cause_line, push_meaning};
 pub use printed::{ShownCode, number_of, shown_code};
 pub use shown::push_shown;
 use table_from_i::EXPLANATIONS_FROM_I;
-use table_to_g::EXPLANATIONS_TO_G;
+use table_to_h::EXPLANATIONS_TO_H;
 
 /// The explanation of a code: what it means, its usual cause and what to do, in lines of at most 80 bytes without the last line's
 /// end.
@@ -37,16 +37,16 @@ pub fn explanation(code: &str) -> Option<&'static str>
 fn text_of(code: &str) -> Option<&'static str>
     ensures { option_map (λ text. text.now) result ≡ text_beside explanations code.now }
 {
-    match text_to_g(code) {
+    match text_to_h(code) {
         Some(text) => Some(text),
         None => text_from_i(code),
     }
 }
 
-fn text_to_g(code: &str) -> Option<&'static str>
-    ensures { option_map (λ text. text.now) result ≡ text_beside explanations_to_g code.now }
+fn text_to_h(code: &str) -> Option<&'static str>
+    ensures { option_map (λ text. text.now) result ≡ text_beside explanations_to_h code.now }
 {
-    find_text(&EXPLANATIONS_TO_G, code)
+    find_text(&EXPLANATIONS_TO_H, code)
 }
 
 fn text_from_i(code: &str) -> Option<&'static str>

@@ -1,4 +1,4 @@
-//! The codes I1 to X2 with their explanations, printed by docs/codes/make. `table_to_g` has the others: a check
+//! The codes I1 to X2 with their explanations, printed by docs/codes/make. `table_to_h` has the others: a check
 //! computes over the whole of a table.
 
 pub const EXPLANATIONS_FROM_I: [(&str, &str); 37] = [
@@ -6,13 +6,13 @@ pub const EXPLANATIONS_FROM_I: [(&str, &str); 37] = [
         "I1",
         "\
 I1: The word is no instruction: no instruction has its code.
-No command prints this code: a call of the libraries answers it.",
+No command prints this code: a call of the libraries returns it.",
     ),
     (
         "I2",
         "\
 I2: The word is no instruction: a field that it does not use is not 0.
-No command prints this code: a call of the libraries answers it.",
+No command prints this code: a call of the libraries returns it.",
     ),
     (
         "J1",
@@ -25,8 +25,8 @@ The user's or the unit's limit of threads is reached (`ulimit -u`,
         "J2",
         "\
 J2: Memory for the workers' threads was refused.
-No command prints this code: a call of the libraries answers it. Where memory
-is refused the program says `failed E3` in its place.",
+No command prints this code: a call of the libraries returns it. If memory is
+refused, the program prints `failed E3` instead.",
     ),
     (
         "K1",
@@ -34,8 +34,8 @@ is refused the program says `failed E3` in its place.",
 K1: A line of the program is not in the format that was named.
 Usual mistake: assembly text, or what `tcpdump -d` prints; two spaces, a
 leading zero, `0x` or a carriage return.
-What to do: correct the line that NUMBER tells, counted from 1 (a comma ends a
-line), or name another format by `--format`.",
+What to do: correct line NUMBER, counted from 1 (a comma ends a line), or name
+another format by `--format`.",
     ),
     (
         "K2",
@@ -48,8 +48,8 @@ What to do: copy the whole program, or correct the count.",
         "K3",
         "\
 K3: Memory for the program's words was refused.
-No command prints this code: a call of the libraries answers it. Where memory
-is refused the program says `failed E3` in its place.",
+No command prints this code: a call of the libraries returns it. If memory is
+refused, the program prints `failed E3` instead.",
     ),
     (
         "L1",
@@ -64,10 +64,8 @@ What to do: give a file that `tcpdump -w` wrote; decompress it first
         "L2",
         "\
 L2: The capture is a pcapng file.
-Usual mistake: a file of Wireshark or dumpcap, which write pcapng unless they
-are told otherwise.
-What to do: make a pcap file of it, as by `tcpdump -r FILE -w -`, or by
-`editcap -F pcap`.",
+Usual mistake: a file of Wireshark or dumpcap, which write pcapng by default.
+What to do: convert it to pcap, by `tcpdump -r FILE -w -` or `editcap -F pcap`.",
     ),
     (
         "L3",
@@ -91,9 +89,8 @@ that of the capture.",
 L5: The capture file is cut. It ends in its header or in a record.
 Usual mistake: a file that is still being written, a disk that was full, or a
 copy that broke off.
-What to do: take the packets that were printed; NUMBER is the place of the
-record, or of the header, that is cut, counted from 0, and the bytes before it
-are whole.",
+What to do: use the packets that were printed. NUMBER is the byte, counted from
+0, at which the cut record or header begins; everything before it is complete.",
     ),
     (
         "M1",
@@ -109,20 +106,20 @@ if it is still wanted.",
         "N1",
         "\
 N1: A counter is full.
-No command prints this code: a call of the libraries answers it.",
+No command prints this code: a call of the libraries returns it.",
     ),
     (
         "O1",
         "\
 O1: The opening configuration is too large.
-No command prints this code: a call of the libraries answers it.",
+No command prints this code: a call of the libraries returns it.",
     ),
     (
         "O2",
         "\
 O2: Memory for the version table was refused.
-No command prints this code: a call of the libraries answers it. Where memory
-is refused the program says `failed E3` in its place.",
+No command prints this code: a call of the libraries returns it. If memory is
+refused, the program prints `failed E3` instead.",
     ),
     (
         "P1",
@@ -131,13 +128,13 @@ P1: The text is no filter expression.
 Usual mistake: a host name, a port's name or `ether`, which are left out;
 `port 53 or 54` for `port 53 or port 54`; the expression without quotes, so
 that the shell cut it.
-What to do: look at the byte that NUMBER tells, counted from 0, and give the
-expression in quotes.",
+What to do: look at byte NUMBER, counted from 0, and give the expression in
+quotes.",
     ),
     (
         "P2",
         "\
-P2: A number in the expression is too great.
+P2: A number in the expression is too large.
 Usual mistake: a port above 65535, a protocol above 255.
 What to do: write a number that its field can have.",
     ),
@@ -165,30 +162,31 @@ P5: The expression is nested too deeply. More than 64 brackets are open, or the
 tree is deeper than 64.
 Usual mistake: a list of 65 and more parts joined by `or`; put halves in
 brackets.
-What to do: put halves of the list in brackets, so that no part lies deep.",
+What to do: put halves of the list in brackets, so that no part is nested
+deeply.",
     ),
     (
         "P6",
         "\
 P6: Memory for the expression was refused.
-No command prints this code: a call of the libraries answers it. Where memory
-is refused the program says `failed E3` in its place.",
+No command prints this code: a call of the libraries returns it. If memory is
+refused, the program prints `failed E3` instead.",
     ),
     (
         "S1",
         "\
-S1: A socket could not be had.
-A socket could not be bound. Another process has the port (`ss -ulpn`), the
-address is none of this machine's, both addresses are the same, the port is
-below 1024 and needs a privilege, or the process may open no more files
-(`ulimit -n`): each worker has a socket.",
+S1: A socket could not be bound.
+Another process has the port (`ss -ulpn`), the address does not belong to this
+machine, both addresses are the same, the port is below 1024 and needs a
+privilege, or the process may open no more files (`ulimit -n`): each worker has
+a socket.",
     ),
     (
         "S2",
         "\
 S2: The sockets could not be waited for.
 The process may open no more files (`ulimit -n`); raise the limit and run the
-command again. A switch that told it has ended.",
+command again. A switch that reports this has ended.",
     ),
     (
         "V1",
@@ -269,20 +267,20 @@ What to do: put `ret #0`, or another return, at the end.",
     (
         "V11",
         "\
-V11: A scratch cell is loaded that may not have been stored.
+V11: A scratch cell may be loaded before it is stored.
 Usual mistake: `st M[k]` in one branch only.
-What to do: store the cell on every path that comes to the load.",
+What to do: store the cell on every path to the load.",
     ),
     (
         "X1",
         "\
 X1: A receive failed.
-No command prints this code: a call of the libraries answers it.",
+No command prints this code: a call of the libraries returns it.",
     ),
     (
         "X2",
         "\
 X2: A worker's counter is full.
-No command prints this code: a call of the libraries answers it.",
+No command prints this code: a call of the libraries returns it.",
     ),
 ];

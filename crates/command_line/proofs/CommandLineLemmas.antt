@@ -25,8 +25,9 @@ use Rattle.clap.specs.declared.parser.matches.SubCommand.{SubCommand}
 use Rattle.std.specs.Prelude.{Box}
 use Rattle.std.specs.Box.{box_value}
 use Rattle.clap.specs.Lexer.{long_of, short_of}
-use Rattle.command_line.specs.CommandLine.{Command, command_in, command_line, command_named, count_in, datagrams_in, faults_in, interval_in, number_if_given, number_in, receive_buffer_in, receive_in, serve_in, timeout_in, way_faults, workers_in}
-use Rattle.command_line.specs.declared.command.TheConstants.{MAX_DATAGRAMS, MAX_INTERVAL, MAX_TIMEOUT}
+use Rattle.command_line.specs.CommandLine.{Command, command_in, command_line, command_named, count_in, datagrams_in, faults_in, has_bad_value, interval_in, number_if_given, number_in, receive_buffer_in, receive_in, returning, serve_in, spread, spread_in, timeout_in, unwrap_in, value_in, values_in, way_faults, workers_in}
+use Rattle.command_line.specs.Shares.{Spread, spreading_in}
+use Rattle.command_line.specs.declared.command.TheConstants.{MAX_DATAGRAMS, MAX_INTERVAL, MAX_PORT, MAX_TIMEOUT}
 use Rattle.command_line.specs.declared.receive.TheConstants.{MAX_RECEIVE_BUFFER}
 use Rattle.command_line.proofs.ValueLemmas.{AreRead, accepted, given_passes, level_fine, none_of_both, value_passes}
 
@@ -119,10 +120,10 @@ top = (built command_line).top
 
 -- the commands, and behind them `clap`'s own, `help`
 abbrev commands : List Shape
-commands = take 14 (built command_line).subs
+commands = take 17 (built command_line).subs
 
 abbrev help_command : Shape
-help_command = slice_index_or (built command_line).subs 14 top
+help_command = slice_index_or (built command_line).subs 17 top
 
 has_met : (rows : List Row) (has : Bool) → check_fault top rows has ≡ [] → has ≡ true
 has_met rows true none = refl
@@ -209,30 +210,43 @@ not_refused : (has : Bool) → cond (not has) (InvalidValue ∷ []) [] ≡ [] �
 not_refused true none = refl
 not_refused false none = cc
 
+not_refused_first : (has : Bool) → cond (not has || false) (InvalidValue ∷ []) [] ≡ [] → has ≡ true
+not_refused_first true none = refl
+not_refused_first false none = cc
+
 first_given : (a rest : Bool) → cond (not a || rest) (MissingRequiredArgument ∷ []) [] ≡ [] → a ≡ true
 first_given true rest none = refl
 first_given false rest none = cc
 
+abbrev spread_shape : Shape
+spread_shape = slice_index_or commands 6 top
+
+abbrev packets_shape : Shape
+packets_shape = slice_index_or commands 8 top
+
 abbrev flood_shape : Shape
-flood_shape = slice_index_or commands 7 top
+flood_shape = slice_index_or commands 9 top
 
 abbrev serve_shape : Shape
-serve_shape = slice_index_or commands 8 top
+serve_shape = slice_index_or commands 10 top
 
 abbrev tell_shape : Shape
-tell_shape = slice_index_or commands 9 top
+tell_shape = slice_index_or commands 11 top
 
 abbrev rules_shape : Shape
-rules_shape = slice_index_or commands 10 top
+rules_shape = slice_index_or commands 12 top
 
 abbrev load_shape : Shape
-load_shape = slice_index_or commands 11 top
+load_shape = slice_index_or commands 13 top
+
+abbrev drain_shape : Shape
+drain_shape = slice_index_or commands 14 top
 
 abbrev metrics_shape : Shape
-metrics_shape = slice_index_or commands 12 top
+metrics_shape = slice_index_or commands 15 top
 
 abbrev top_shape : Shape
-top_shape = slice_index_or commands 13 top
+top_shape = slice_index_or commands 16 top
 
 -- the most screens
 abbrev MOST : ℕ
@@ -258,6 +272,9 @@ is_number_if_given most (Some text) accepted = rw accepted refl
 abbrev reads : (most : ℕ) → (text : Text) → value_kinds false (Unsigned 1 most) text ≡ [] → IsNumber most text
 reads most text none = accepted (Unsigned 1 most) text none
 
+packets_port : AreRead packets_shape (codes "unwrap") (IsNumber MAX_PORT) packets_shape.rules
+packets_port = (inl refl, λ same. (refl, reads MAX_PORT), (inl refl, λ same. cc, tt))
+
 flood_workers : AreRead flood_shape (codes "workers") (IsNumber WORKERS) flood_shape.rules
 flood_workers = (inl refl, λ same. (refl, reads WORKERS), (inl refl, λ same. cc, (inl refl, λ same. cc, tt)))
 
@@ -278,6 +295,9 @@ rules_timeout = (inl refl, λ same. cc, (inl refl, λ same. (refl, reads MAX_TIM
 
 load_timeout : AreRead load_shape (codes "timeout") (IsNumber MAX_TIMEOUT) load_shape.rules
 load_timeout = (inl refl, λ same. cc, (inl refl, λ same. (refl, reads MAX_TIMEOUT), (inr refl, λ same. cc, (inr refl, λ same. cc, (inl refl, λ same. cc, (inl refl, λ same. cc, tt))))))
+
+drain_timeout : AreRead drain_shape (codes "timeout") (IsNumber MAX_TIMEOUT) drain_shape.rules
+drain_timeout = (inl refl, λ same. cc, (inl refl, λ same. (refl, reads MAX_TIMEOUT), (inl refl, λ same. cc, (inl refl, λ same. cc, (inl refl, λ same. cc, tt)))))
 
 metrics_timeout : AreRead metrics_shape (codes "timeout") (IsNumber MAX_TIMEOUT) metrics_shape.rules
 metrics_timeout = (inl refl, λ same. cc, (inl refl, λ same. cc, (inl refl, λ same. (refl, reads MAX_TIMEOUT), (inl refl, λ same. cc, tt))))
@@ -309,6 +329,15 @@ three_numbers f (Some x) None c has has' has'' = cc
 three_numbers f (Some x) (Some y) None has has' has'' = cc
 three_numbers f (Some x) (Some y) (Some z) has has' has'' = refl
 
+is_spread : IsCommand spread_shape
+is_spread words none way = not_refused (is_some (spread_in (rows_of_command spread_shape words))) way
+
+is_packets : IsCommand packets_shape
+is_packets words none way =
+    let rows = rows_of_command packets_shape words in
+    let port = given_passes packets_shape (codes "unwrap") (IsNumber MAX_PORT) rows (level_fine packets_shape (codes "unwrap") (IsNumber MAX_PORT) packets_port words none) in
+    one_number _ (unwrap_in rows) (is_number_if_given MAX_PORT (first_of (codes "unwrap") rows) port)
+
 is_flood : IsCommand flood_shape
 is_flood words none way =
     let rows = rows_of_command flood_shape words in
@@ -325,7 +354,7 @@ is_serve words none way =
     let buffer = given_passes serve_shape (codes "receive-buffer") (IsNumber MAX_RECEIVE_BUFFER) rows (level_fine serve_shape (codes "receive-buffer") (IsNumber MAX_RECEIVE_BUFFER) serve_buffer words none) in
     three_numbers _ (workers_in rows) (receive_in rows) (receive_buffer_in rows)
     (is_number WORKERS (unwrap_or (first_of (codes "workers") rows) []) workers)
-    (not_refused (is_some (receive_in rows)) way)
+    (not_refused_first (is_some (receive_in rows)) way)
     (is_number_if_given MAX_RECEIVE_BUFFER (first_of (codes "receive-buffer") rows) buffer)
 
 is_tell : IsCommand tell_shape
@@ -346,6 +375,12 @@ is_load words none way =
     let timeout = value_passes load_shape (codes "timeout") (IsNumber MAX_TIMEOUT) rows (codes "1") (level_fine load_shape (codes "timeout") (IsNumber MAX_TIMEOUT) load_timeout words none) (inr refl) in
     one_number _ (timeout_in rows) (is_number MAX_TIMEOUT (unwrap_or (first_of (codes "timeout") rows) (codes "1")) timeout)
 
+is_drain : IsCommand drain_shape
+is_drain words none way =
+    let rows = rows_of_command drain_shape words in
+    let timeout = value_passes drain_shape (codes "timeout") (IsNumber MAX_TIMEOUT) rows (codes "1") (level_fine drain_shape (codes "timeout") (IsNumber MAX_TIMEOUT) drain_timeout words none) (inr refl) in
+    one_number _ (timeout_in rows) (is_number MAX_TIMEOUT (unwrap_or (first_of (codes "timeout") rows) (codes "1")) timeout)
+
 is_metrics : IsCommand metrics_shape
 is_metrics words none way =
     let rows = rows_of_command metrics_shape words in
@@ -364,7 +399,7 @@ is_top words none way =
     (is_number MAX_TIMEOUT (unwrap_or (first_of (codes "timeout") rows) (codes "1")) timeout)
 
 are_commands : AreCommands commands
-are_commands = ((λ words none way. refl), ((λ words none way. refl), ((λ words none way. refl), ((λ words none way. refl), ((λ words none way. refl), ((λ words none way. refl), ((λ words none way. refl), (is_flood, (is_serve, (is_tell, (is_rules, (is_load, (is_metrics, (is_top, tt))))))))))))))
+are_commands = ((λ words none way. refl), ((λ words none way. refl), ((λ words none way. refl), ((λ words none way. refl), ((λ words none way. refl), ((λ words none way. refl), (is_spread, ((λ words none way. refl), (is_packets, (is_flood, (is_serve, (is_tell, (is_rules, (is_load, (is_drain, (is_metrics, (is_top, tt)))))))))))))))))
 
 entered_command : (stop : Stop) → IsNoHelp top stop → entered_fault (built command_line) stop ≡ [] → way_faults (entered (built command_line) stop) ≡ []
     → is_some (entered (built command_line) stop) ≡ true → is_some (command_met (entered (built command_line) stop)) ≡ true
@@ -384,6 +419,9 @@ names_command words none way =
     entered_command end.stopped (walk_on top names words (walk_from nothing_held) tt on.0) in_command.0 way
     (has_met (finished top.rules end.held) (is_some (entered (built command_line) end.stopped)) in_defaults.1)
 
+abbrev spread_command : Spread → Command
+spread_command asked = returning (spread asked.0 asked.1 asked.2)
+
 -- ---- the way to receive
 
 is_not_some : {A : Type 0} (found : Option A) → found ≡ None → is_some found ≡ true → ⊥
@@ -393,7 +431,7 @@ is_not_some (Some x) nothing some = cc
 -- words that name a command have no such fault
 way_is_named : (met : Option (Text × List Row)) → is_some (command_met met) ≡ true → way_faults met ≡ []
 way_is_named None named = refl
-way_is_named (Some p) named = go (bytes_eq p.0 (codes "serve")) refl
+way_is_named (Some p) named = rw (no_bad_way, no_bad_spread) refl
   where
     both_named : {A B C D : Type 0} (f : A → B → C → D) (a : Option A) (b : Option B) (c : Option C)
         → is_some (option_and_then (λ x. option_and_then (λ y. option_map (λ z. f x y z) c) b) a) ≡ true → is_some b ≡ true
@@ -401,12 +439,25 @@ way_is_named (Some p) named = go (bytes_eq p.0 (codes "serve")) refl
     both_named f (Some x) None c has = cc
     both_named f (Some x) (Some y) c has = refl
 
-    go : (b : Bool) → bytes_eq p.0 (codes "serve") ≡ b → cond (b && not (is_some (receive_in p.1))) (InvalidValue ∷ []) [] ≡ []
-    go false e = refl
-    go true e =
-        let same : p.0 ≡ codes "serve" = (bytes_eq-Decides p.0 (codes "serve")).0 e in
-        let serves : is_some (serve_in p.1) ≡ true = subst (λ (name : Text). is_some (command_named name p.1) ≡ true) same named in
-        rw (both_named _ (workers_in p.1) (receive_in p.1) (receive_buffer_in p.1) serves) refl
+    no_bad_way : (bytes_eq p.0 (codes "serve") && not (is_some (receive_in p.1))) ≡ false
+    no_bad_way = go (bytes_eq p.0 (codes "serve")) refl
+      where
+        go : (b : Bool) → bytes_eq p.0 (codes "serve") ≡ b → (b && not (is_some (receive_in p.1))) ≡ false
+        go false e = refl
+        go true e =
+            let same : p.0 ≡ codes "serve" = (bytes_eq-Decides p.0 (codes "serve")).0 e in
+            let serves : is_some (serve_in p.1) ≡ true = subst (λ (name : Text). is_some (command_named name p.1) ≡ true) same named in
+            rw (both_named _ (workers_in p.1) (receive_in p.1) (receive_buffer_in p.1) serves) refl
+
+    no_bad_spread : (bytes_eq p.0 (codes "spread") && not (is_some (spread_in p.1))) ≡ false
+    no_bad_spread = go (bytes_eq p.0 (codes "spread")) refl
+      where
+        go : (b : Bool) → bytes_eq p.0 (codes "spread") ≡ b → (b && not (is_some (spread_in p.1))) ≡ false
+        go false e = refl
+        go true e =
+            let same : p.0 ≡ codes "spread" = (bytes_eq-Decides p.0 (codes "spread")).0 e in
+            let spreads : is_some (spread_in p.1) ≡ true = subst (λ (name : Text). is_some (command_named name p.1) ≡ true) same named in
+            rw spreads refl
 
 pub no_faults : (words : List Text) → fault_of command_line words ≡ [] → is_some (command_in words) ≡ true → faults_in words ≡ []
 no_faults words none named = rw none (way_is_named (subcommand_of command_line words) named)
@@ -414,7 +465,7 @@ no_faults words none named = rw none (way_is_named (subcommand_of command_line w
 no_way : (met : Option (Text × List Row)) (named : Option Command) → (way_faults met ≡ [] → is_some named ≡ true) → named ≡ None
     → way_faults met ≡ InvalidValue ∷ []
 no_way None named names nothing = absurd (is_not_some named nothing (names refl))
-no_way (Some p) named names nothing = go (bytes_eq p.0 (codes "serve") && not (is_some (receive_in p.1))) names
+no_way (Some p) named names nothing = go (has_bad_value p.0 p.1) names
   where
     go : (b : Bool) → (cond b (InvalidValue ∷ []) [] ≡ [] → is_some named ≡ true) → cond b (InvalidValue ∷ []) [] ≡ InvalidValue ∷ []
     go true names = refl
@@ -444,6 +495,19 @@ command_is program words m name rows same given name_is rows_is =
     let met : subcommand_of command_line words ≡ Some (name, rows) =
     sym (given ∙ ap (λ a. subcommand_of a words) same) ∙ met_is (out-ArgMatches m).subcommand name rows name_is rows_is in
     ap command_met met
+
+-- ---- `spread`
+
+module _ (rows : List Row) (buckets by : Text) (words : List Text) (buckets_is : buckets ≡ value_in rows (codes "buckets")) (by_is : by ≡ value_in rows (codes "by"))
+    (words_are : words ≡ values_in rows (codes "ID=WEIGHT")) where
+  spread_is : option_map spread_command (spreading_in buckets by words) ≡ spread_in rows
+  spread_is = rw (buckets_is, by_is, words_are) refl
+
+  pub spread_none : None ≡ spreading_in buckets by words → None ≡ spread_in rows
+  spread_none none = ap (option_map spread_command) none ∙ spread_is
+
+  pub spread_some : (asked : Spread) → Some asked ≡ spreading_in buckets by words → Some (spread_command asked) ≡ spread_in rows
+  spread_some asked some = ap (option_map spread_command) some ∙ spread_is
 
 -- ---- values of arguments
 

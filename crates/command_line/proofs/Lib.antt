@@ -4,3 +4,5 @@ mod StandardFacts
 mod BuilderLemmas
 mod ValueLemmas
 pub mod AcceptedLemmas
+mod ShareLemmas
+mod SpreadFacts

@@ -3,7 +3,7 @@ use Rattle.std.proofs.Common.{◌≡◌, ◌∷◌, [], None, Some, codes, false
 use Rattle.clap.proofs.OnLiterals.{clap_on_literals}
 use Rattle.clap.specs.declared.error.kind.ErrorKind.TheVariants.{ArgumentConflict, DisplayHelp, DisplayVersion, InvalidSubcommand, InvalidValue, MissingRequiredArgument, MissingSubcommand, TooManyValues, UnknownArgument, ValueValidation}
 use Rattle.command_line.specs.declared.receive.ReceiveWay.TheVariants.{Direct, Queued}
-use Rattle.command_line.specs.CommandLine.{check, command_in, compile, explain, faults_in, flood, judge, load, metrics, replay, returning, rules, run, serve, tell, top, waiting}
+use Rattle.command_line.specs.CommandLine.{check, command_in, compile, explain, faults_in, flood, judge, load, metrics, pack, packets, replay, returning, rules, run, serve, tell, top, waiting}
 
 in_first : faults_in (codes "first" ∷ []) ≡ []
 unfolding clap_on_literals
@@ -306,3 +306,32 @@ in_top_without_screens = refl
 in_top_of_a_long_interval : faults_in (codes "top" ∷ codes "--control" ∷ codes "0.0.0.0:2" ∷ codes "--interval" ∷ codes "3601" ∷ []) ≡ ValueValidation ∷ []
 unfolding clap_on_literals
 in_top_of_a_long_interval = refl
+
+in_pack : command_in (codes "pack" ∷ codes "--to" ∷ codes "B" ∷ codes "--from" ∷ codes "A" ∷ []) ≡ Some (returning (pack (codes "A") (codes "B") None None))
+unfolding clap_on_literals
+in_pack = refl
+
+in_pack_of_both : command_in (codes "pack" ∷ codes "--from" ∷ codes "A" ∷ codes "--to" ∷ codes "B" ∷ codes "--payload" ∷ codes "00" ∷ codes "--text=-" ∷ [])
+    ≡ Some (returning (pack (codes "A") (codes "B") (Some (codes "00")) (Some (codes "-"))))
+unfolding clap_on_literals
+in_pack_of_both = refl
+
+in_pack_without_source : faults_in (codes "pack" ∷ codes "--to" ∷ codes "B" ∷ []) ≡ MissingRequiredArgument ∷ []
+unfolding clap_on_literals
+in_pack_without_source = refl
+
+in_packets : command_in (codes "packets" ∷ []) ≡ Some (returning (packets None))
+unfolding clap_on_literals
+in_packets = refl
+
+in_packets_of_the_last_port : command_in (codes "packets" ∷ codes "--unwrap" ∷ codes "65535" ∷ []) ≡ Some (returning (packets (Some 65535)))
+unfolding clap_on_literals
+in_packets_of_the_last_port = refl
+
+in_packets_of_no_port : faults_in (codes "packets" ∷ codes "--unwrap" ∷ codes "0" ∷ []) ≡ ValueValidation ∷ []
+unfolding clap_on_literals
+in_packets_of_no_port = refl
+
+in_packets_past_the_ports : faults_in (codes "packets" ∷ codes "--unwrap" ∷ codes "65536" ∷ []) ≡ ValueValidation ∷ []
+unfolding clap_on_literals
+in_packets_past_the_ports = refl

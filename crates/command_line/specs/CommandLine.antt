@@ -1,5 +1,5 @@
 -- The program's command line, as the contracts of `clap` see it.
-use Rattle.std.specs.Prelude.{◌≢◌, ◌⊎◌, ◌∷◌, ◌&&◌, ◌-◌, ◌^◌, [], Bool, List, None, Option, Some, codes, false, if◌then◌else◌, is_some, map, not, option_and_then, option_map, true, unwrap_or, ℕ}
+use Rattle.std.specs.Prelude.{◌≢◌, ◌⊎◌, ◌∷◌, ◌&&◌, ◌||◌, ◌-◌, ◌^◌, [], Bool, List, None, Option, Some, codes, false, if◌then◌else◌, is_some, map, not, option_and_then, option_map, true, unwrap_or, ℕ}
 use Rattle.std.specs.Str.{bytes_eq}
 use Rattle.std.specs.Str.Parse.{digits_value, without_leading_plus}
 use Rattle.clap.specs.Kinds.{or_else}
@@ -18,11 +18,14 @@ use Rattle.command_line.specs.declared.command.Subcommand.{Subcommand}
 use Rattle.command_line.specs.declared.command.Subcommand.TheVariants as subcommand
 use Rattle.command_line.specs.declared.command.Waiting.{Waiting}
 use Rattle.command_line.specs.declared.command.Waiting.TheVariants as waited
-use Rattle.command_line.specs.declared.command.TheConstants.{MAX_DATAGRAMS, MAX_INTERVAL, MAX_TIMEOUT}
+use Rattle.command_line.specs.declared.command.TheConstants.{MAX_DATAGRAMS, MAX_INTERVAL, MAX_PORT, MAX_TIMEOUT}
 use Rattle.command_line.specs.declared.receive.ReceiveWay.{ReceiveWay}
 use Rattle.command_line.specs.declared.receive.ReceiveWay.TheVariants.{Direct, Queued}
 use Rattle.command_line.specs.declared.receive.TheConstants.{MAX_RECEIVE_BUFFER}
 use Rattle.versions.specs.declared.layout.TheConstants.{WORKERS}
+use Rattle.selector_buckets.specs.declared.hash.HashBy.{HashBy}
+use Rattle.selector_buckets.specs.declared.share.Share.{Share}
+use Rattle.command_line.specs.Shares.{spreading_in}
 
 -- a required argument by place, one by name, and a required one by name
 abbrev pub required_argument : Text → Rule
@@ -67,16 +70,37 @@ run_line =
     (with_rule (with_rule (new_app (codes "run")) (required_named_argument (codes "packet"))) (named_argument (codes "expr")))
     (named_argument (codes "format"))
 
+-- `pack --from A --to KEY`, with digits or none, and a text or none
+abbrev pub pack_line : App
+pack_line =
+    with_rule
+    (with_rule
+    (with_rule (with_rule (new_app (codes "pack")) (required_named_argument (codes "from"))) (required_named_argument (codes "to")))
+    (named_argument (codes "payload")))
+    (named_argument (codes "text"))
+
 -- `explain`, with words
 abbrev pub explain_line : App
 explain_line = with_rule (new_app (codes "explain")) (some_number_of (codes "WORD"))
+
+-- `spread --buckets B --by FIELDS`, with members
+abbrev pub spread_line : App
+spread_line =
+    with_rule
+    (with_rule (with_rule (new_app (codes "spread")) (required_named_argument (codes "buckets"))) (required_named_argument (codes "by")))
+    (some_number_of (codes "ID=WEIGHT"))
 
 -- `replay`, with each of its flags or without
 abbrev pub replay_line : App
 replay_line = with_rule (with_rule (new_app (codes "replay")) (flag (codes "summary"))) (flag (codes "quiet"))
 
+-- `--unwrap PORT`, from 1 on
+abbrev pub unwrap_argument : Rule
+unwrap_argument = record (named_argument (codes "unwrap")) { parser = Some (Unsigned 1 MAX_PORT) }
+
+-- `packets`, with a port or none
 abbrev pub packets_line : App
-packets_line = new_app (codes "packets")
+packets_line = with_rule (new_app (codes "packets")) unwrap_argument
 
 -- `--workers N`, N from 1 on
 abbrev pub workers_argument : Rule
@@ -133,6 +157,13 @@ load_line =
     (flag (codes "diff")))
     (required_argument (codes "FILE"))
 
+-- `drain --control A KEY ID`, with a timeout or none
+abbrev pub drain_line : App
+drain_line =
+    with_rule
+    (with_rule (with_rule (with_rule (new_app (codes "drain")) (required_named_argument (codes "control"))) timeout_argument) (required_argument (codes "KEY")))
+    (required_argument (codes "ID"))
+
 -- `metrics --control A`, with a front or none, and a timeout or none
 abbrev pub metrics_line : App
 metrics_line =
@@ -177,9 +208,14 @@ command_line =
     (with_subcommand
     (with_subcommand
     (with_subcommand
+    (with_subcommand
+    (with_subcommand
+    (with_subcommand
     (with_subcommand (with_subcommand (with_subcommand (with_subcommand without_commands first_line.top) check_line.top) compile_line.top)
     run_line.top)
+    pack_line.top)
     explain_line.top)
+    spread_line.top)
     replay_line.top)
     packets_line.top)
     flood_line.top)
@@ -187,6 +223,7 @@ command_line =
     tell_line.top)
     rules_line.top)
     load_line.top)
+    drain_line.top)
     metrics_line.top)
     top_line.top
 
@@ -207,9 +244,11 @@ pub data Request : Type 0 where
   compile : (expression format : Text) → Request
   run : (packet format : Text) → Request
   judge : (packet expression : Text) → Request
+  pack : (source destination : Text) (payload text : Option Text) → Request
   explain : (words : List Text) → Request
+  spread : (depth : ℕ) (by : HashBy) (shares : List Share) → Request
   replay : (summary quiet : Bool) → Request
-  packets : Request
+  packets : (unwrapped : Option ℕ) → Request
 
 -- a command that may wait: it runs worker threads, or awaits replies
 pub data WaitingRequest : Type 0 where
@@ -218,6 +257,7 @@ pub data WaitingRequest : Type 0 where
   tell : (control : Text) (timeout : ℕ) (all : Bool) (lines : List Text) → WaitingRequest
   rules : (control : Text) (timeout : ℕ) → WaitingRequest
   load : (control : Option Text) (timeout : ℕ) (rules_file : Text) (only_check only_diff : Bool) → WaitingRequest
+  drain : (control : Text) (timeout : ℕ) (key member : Text) → WaitingRequest
   metrics : (control : Text) (front : Option Text) (timeout : ℕ) → WaitingRequest
   top : (control : Text) (interval count timeout : ℕ) → WaitingRequest
 
@@ -231,12 +271,15 @@ query_request (query.Check format) = check format.now
 query_request (query.Compile expression format) = compile expression.now format.now
 query_request (query.Run packet format) = run packet.now format.now
 query_request (query.Judge packet expression) = judge packet.now expression.now
+query_request (query.Pack source destination payload text) =
+    pack source.now destination.now (option_map (λ digits. digits.now) payload) (option_map (λ it. it.now) text)
 query_request (query.Explain words) = explain (map (λ word. word.now) words.items)
+query_request (query.Spread asked) = spread asked.depth asked.by asked.shares.items
 
 abbrev pub request_of : Returning → Request
 request_of (returned.Query asked) = query_request asked
 request_of (returned.Replay summary quiet) = replay summary quiet
-request_of returned.Packets = packets
+request_of (returned.Packets unwrapped) = packets unwrapped
 
 abbrev pub waiting_of : Waiting → WaitingRequest
 waiting_of (waited.Flood workers datagrams) = flood workers.count datagrams
@@ -246,6 +289,7 @@ waiting_of (waited.Tell control timeout all lines) = tell control.now timeout al
 waiting_of (waited.Rules control timeout) = rules control.now timeout
 waiting_of (waited.Load control timeout file only_check only_diff) =
     load (option_map (λ address. address.now) control) timeout file.now only_check only_diff
+waiting_of (waited.Drain control timeout key member) = drain control.now timeout key.now member.now
 waiting_of (waited.Metrics control front timeout) = metrics control.now (option_map (λ address. address.now) front) timeout
 waiting_of (waited.Top control interval count timeout) = top control.now interval count timeout
 
@@ -307,6 +351,10 @@ number_if_given most (Some text) = option_map (λ number. Some number) (number_i
 abbrev pub receive_buffer_in : List Row → Option (Option ℕ)
 receive_buffer_in rows = number_if_given MAX_RECEIVE_BUFFER (first_of (codes "receive-buffer") rows)
 
+-- a port, if it is given
+abbrev pub unwrap_in : List Row → Option (Option ℕ)
+unwrap_in rows = number_if_given MAX_PORT (first_of (codes "unwrap") rows)
+
 -- a flag is given
 abbrev pub is_set : List Row → Text → Bool
 is_set rows id = bytes_eq (value_in rows id) (codes "true")
@@ -314,6 +362,18 @@ is_set rows id = bytes_eq (value_in rows id) (codes "true")
 -- assembly text, where no other format is given
 abbrev pub format_in : List Row → Text
 format_in rows = unwrap_or (first_of (codes "format") rows) (codes "asm")
+
+abbrev pub pack_in : List Row → Request
+pack_in rows = pack (value_in rows (codes "from")) (value_in rows (codes "to")) (first_of (codes "payload") rows) (first_of (codes "text") rows)
+
+abbrev pub packets_in : List Row → Option Command
+packets_in rows = option_map (λ port. returning (packets port)) (unwrap_in rows)
+
+abbrev pub spread_in : List Row → Option Command
+spread_in rows =
+    option_map
+    (λ asked. returning (spread asked.0 asked.1 asked.2))
+    (spreading_in (value_in rows (codes "buckets")) (value_in rows (codes "by")) (values_in rows (codes "ID=WEIGHT")))
 
 abbrev pub flood_in : List Row → Option Command
 flood_in rows = option_and_then (λ workers. option_map (λ datagrams. waiting (flood workers datagrams)) (datagrams_in rows)) (workers_in rows)
@@ -343,6 +403,12 @@ load_in rows =
     (λ timeout. waiting (load (first_of (codes "control") rows) timeout (value_in rows (codes "FILE")) (is_set rows (codes "check")) (is_set rows (codes "diff"))))
     (timeout_in rows)
 
+abbrev pub drain_in : List Row → Option Command
+drain_in rows =
+    option_map
+    (λ timeout. waiting (drain (value_in rows (codes "control")) timeout (value_in rows (codes "KEY")) (value_in rows (codes "ID"))))
+    (timeout_in rows)
+
 abbrev pub metrics_in : List Row → Option Command
 metrics_in rows =
     option_map (λ timeout. waiting (metrics (value_in rows (codes "control")) (first_of (codes "front") rows) timeout)) (timeout_in rows)
@@ -364,12 +430,16 @@ command_named name rows =
     then Some (returning (compile (value_in rows (codes "EXPR")) (format_in rows)))
     else if bytes_eq name (codes "run")
     then Some (returning (run_or_judge (value_in rows (codes "packet")) (format_in rows) (first_of (codes "expr") rows)))
+    else if bytes_eq name (codes "pack")
+    then Some (returning (pack_in rows))
     else if bytes_eq name (codes "explain")
     then Some (returning (explain (values_in rows (codes "WORD"))))
+    else if bytes_eq name (codes "spread")
+    then spread_in rows
     else if bytes_eq name (codes "replay")
     then Some (returning (replay (is_set rows (codes "summary")) (is_set rows (codes "quiet"))))
     else if bytes_eq name (codes "packets")
-    then Some (returning packets)
+    then packets_in rows
     else if bytes_eq name (codes "flood")
     then flood_in rows
     else if bytes_eq name (codes "serve")
@@ -380,17 +450,23 @@ command_named name rows =
     then rules_in rows
     else if bytes_eq name (codes "load")
     then load_in rows
+    else if bytes_eq name (codes "drain")
+    then drain_in rows
     else if bytes_eq name (codes "metrics")
     then metrics_in rows
     else if bytes_eq name (codes "top")
     then top_in rows
     else None
 
--- the fault of words in which `clap` finds none: `serve` is given a way to receive that is none
+-- a command is given a value that is none: `serve` a way to receive, or `spread` any of its values
+abbrev pub has_bad_value : Text → List Row → Bool
+has_bad_value name rows =
+    (bytes_eq name (codes "serve") && not (is_some (receive_in rows))) || (bytes_eq name (codes "spread") && not (is_some (spread_in rows)))
+
+-- the fault of words in which `clap` finds none
 abbrev pub way_faults : Option (Text × List Row) → Kinds
 way_faults None = []
-way_faults (Some named) =
-    if bytes_eq named.0 (codes "serve") && not (is_some (receive_in named.1)) then InvalidValue ∷ [] else []
+way_faults (Some named) = if has_bad_value named.0 named.1 then InvalidValue ∷ [] else []
 
 -- what `clap` finds in the words after the program's name, or else that fault: nothing, if they name a command
 abbrev pub faults_in : List Text → Kinds

@@ -1,4 +1,5 @@
 pub mod ControlAddress
+pub mod Shares
 pub mod CommandLine
 pub mod Ending
 pub mod Input

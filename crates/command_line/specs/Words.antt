@@ -7,7 +7,7 @@ use Rattle.std.specs.Str.{bytes_eq}
 abbrev pub takes_control : List ℕ → Bool
 takes_control name =
     bytes_eq name (codes "serve") || (bytes_eq name (codes "tell") || (bytes_eq name (codes "rules") || (bytes_eq name (codes "load")
-    || (bytes_eq name (codes "metrics") || bytes_eq name (codes "top")))))
+    || (bytes_eq name (codes "drain") || (bytes_eq name (codes "metrics") || bytes_eq name (codes "top"))))))
 
 -- `--control`, or `--control=ADDRESS`
 abbrev pub names_control : List ℕ → Bool

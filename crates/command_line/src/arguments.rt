@@ -2,11 +2,11 @@
 
 ghost use Rattle.std.specs.Prelude.{◌≡◌, codes, false};
 ghost use Rattle.clap.specs.Words.{rule_of};
-ghost use Rattle.command_line.specs.CommandLine.{any_number_of, count_argument, datagrams_argument, flag, interval_argument, named_argument, receive_buffer_argument, required_argument, required_named_argument, some_number_of, timeout_argument, workers_argument};
+ghost use Rattle.command_line.specs.CommandLine.{any_number_of, count_argument, datagrams_argument, flag, interval_argument, named_argument, receive_buffer_argument, required_argument, required_named_argument, some_number_of, timeout_argument, unwrap_argument, workers_argument};
 
-use crate::command::{MAX_DATAGRAMS, MAX_INTERVAL, MAX_TIMEOUT};
-use crate::help;
+use crate::command::{MAX_DATAGRAMS, MAX_INTERVAL, MAX_PORT, MAX_TIMEOUT};
 use crate::receive::MAX_RECEIVE_BUFFER;
+use crate::{bucket_help, help, packet_help};
 use clap::builder::ValueParser;
 use clap::{Arg, ArgAction};
 use std::alloc::Global;
@@ -54,6 +54,52 @@ pub(crate) fn expression_argument<'a>(alloc: Global) -> Arg<'a>
         .help(help::RUN_EXPRESSION)
 }
 
+// `--to KEY`
+pub(crate) fn key_argument<'a>(alloc: Global) -> Arg<'a>
+    ensures rule { rule_of result ≡ required_named_argument (codes "to") }
+    ensures local { result.global ≡ false }
+{
+    Arg::new(alloc, "to")
+        .long("to")
+        .value_name("KEY")
+        .required(true)
+        .help(packet_help::PACK_TO)
+}
+
+// `--payload HEX`
+pub(crate) fn payload_argument<'a>(alloc: Global) -> Arg<'a>
+    ensures rule { rule_of result ≡ named_argument (codes "payload") }
+    ensures local { result.global ≡ false }
+{
+    Arg::new(alloc, "payload")
+        .long("payload")
+        .value_name("HEX")
+        .help(packet_help::PACK_PAYLOAD)
+}
+
+// `--text TEXT`
+pub(crate) fn text_argument<'a>(alloc: Global) -> Arg<'a>
+    ensures rule { rule_of result ≡ named_argument (codes "text") }
+    ensures local { result.global ≡ false }
+{
+    Arg::new(alloc, "text")
+        .long("text")
+        .value_name("TEXT")
+        .help(packet_help::PACK_TEXT)
+}
+
+// `--unwrap PORT`
+pub(crate) fn unwrap_argument<'a>(alloc: Global) -> Arg<'a>
+    ensures rule { rule_of result ≡ unwrap_argument }
+    ensures local { result.global ≡ false }
+{
+    Arg::new(alloc, "unwrap")
+        .long("unwrap")
+        .value_name("PORT")
+        .value_parser(ValueParser::unsigned(1, MAX_PORT))
+        .help(packet_help::PACKETS_UNWRAP)
+}
+
 // `--NAME`
 pub(crate) fn flag_argument<'a>(alloc: Global, name: &'a str, help: &'a str) -> Arg<'a>
     ensures rule { rule_of result ≡ flag name.entry.now }
@@ -86,6 +132,23 @@ pub(crate) fn address_argument<'a>(alloc: Global, name: &'a str, help: &'a str) 
     Arg::new(alloc, name)
         .long(name)
         .value_name("A")
+        .required(true)
+        .help(help)
+}
+
+// `--NAME VALUE`, which has to be there.
+pub(crate) fn value_argument<'a>(
+    alloc: Global,
+    name: &'a str,
+    value: &'a str,
+    help: &'a str,
+) -> Arg<'a>
+    ensures rule { rule_of result ≡ required_named_argument name.entry.now }
+    ensures local { result.global ≡ false }
+{
+    Arg::new(alloc, name)
+        .long(name)
+        .value_name(value)
         .required(true)
         .help(help)
 }
@@ -204,6 +267,17 @@ pub(crate) fn words_argument<'a>(alloc: Global) -> Arg<'a>
         .required(true)
         .action(ArgAction::Append)
         .help(help::EXPLAIN_WORDS)
+}
+
+// `ID=WEIGHT..`
+pub(crate) fn shares_argument<'a>(alloc: Global) -> Arg<'a>
+    ensures rule { rule_of result ≡ some_number_of (codes "ID=WEIGHT") }
+    ensures local { result.global ≡ false }
+{
+    Arg::new(alloc, "ID=WEIGHT")
+        .required(true)
+        .action(ArgAction::Append)
+        .help(bucket_help::SPREAD_SHARES)
 }
 
 // `LINE..`

@@ -3,16 +3,17 @@
 ghost use Rattle.std.specs.Prelude.{◌≡◌, IfOk, false};
 ghost use Rattle.clap.specs.Words.{App, Rule, app_of, new_app, rule_of, with_rule, with_subcommand};
 ghost use Rattle.clap.specs.declared.builder.command.Command.TheViews.{out-Command};
-ghost use Rattle.command_line.specs.CommandLine.{check_line, command_line, compile_line, explain_line, flood_line, load_line, metrics_line, replay_line, rules_line, run_line, serve_line, tell_line, top_line, without_commands};
+ghost use Rattle.command_line.specs.CommandLine.{check_line, command_line, compile_line, drain_line, explain_line, flood_line, load_line, metrics_line, pack_line, packets_line, replay_line, rules_line, run_line, serve_line, spread_line, tell_line, top_line, without_commands};
 ghost use Rattle.command_line.specs.body.Half.{with_queries, with_rules, with_workers};
 
 use crate::arguments::{
     address_argument, control_argument, count_argument, datagrams_argument, expression_argument,
-    flag_argument, format_argument, front_argument, interval_argument, lines_argument,
-    packet_argument, positional_argument, receive_argument, receive_buffer_argument,
-    rules_argument, timeout_argument, words_argument, workers_argument,
+    flag_argument, format_argument, front_argument, interval_argument, key_argument,
+    lines_argument, packet_argument, payload_argument, positional_argument, receive_argument,
+    receive_buffer_argument, rules_argument, shares_argument, text_argument, timeout_argument,
+    unwrap_argument, value_argument, words_argument, workers_argument,
 };
-use crate::help;
+use crate::{bucket_help, help, packet_help};
 use clap::{Arg, Command};
 use std::alloc::{AllocError, Global};
 
@@ -67,12 +68,37 @@ fn run_command<'a>(alloc: Global) -> Result<Command<'a>, AllocError>
     with_argument(command, format_argument(alloc, help::INPUT_FORMAT))
 }
 
+fn pack_command<'a>(alloc: Global) -> Result<Command<'a>, AllocError>
+    ensures app { IfOk result (λ command. app_of command ≡ pack_line) }
+    ensures local { IfOk result (λ command. (out-Command command).has_globals ≡ false) }
+{
+    let from = address_argument(alloc, "from", packet_help::PACK_FROM);
+    let command = plain_command(alloc, "pack", packet_help::PACK, packet_help::PACK_MORE);
+    let command = with_argument(Ok(command), from);
+    let command = with_argument(command, key_argument(alloc));
+    let command = with_argument(command, payload_argument(alloc));
+    with_argument(command, text_argument(alloc))
+}
+
 fn explain_command<'a>(alloc: Global) -> Result<Command<'a>, AllocError>
     ensures app { IfOk result (λ command. app_of command ≡ explain_line) }
     ensures local { IfOk result (λ command. (out-Command command).has_globals ≡ false) }
 {
     let command = plain_command(alloc, "explain", help::EXPLAIN, help::EXPLAIN_MORE);
     with_argument(Ok(command), words_argument(alloc))
+}
+
+pub(crate) fn spread_command<'a>(alloc: Global) -> Result<Command<'a>, AllocError>
+    ensures app { IfOk result (λ command. app_of command ≡ spread_line) }
+    ensures local { IfOk result (λ command. (out-Command command).has_globals ≡ false) }
+{
+    let (about, more) = (bucket_help::SPREAD, bucket_help::SPREAD_MORE);
+    let buckets = value_argument(alloc, "buckets", "B", bucket_help::SPREAD_BUCKETS);
+    let by = value_argument(alloc, "by", "FIELDS", bucket_help::SPREAD_BY);
+    let command = plain_command(alloc, "spread", about, more);
+    let command = with_argument(Ok(command), buckets);
+    let command = with_argument(command, by);
+    with_argument(command, shares_argument(alloc))
 }
 
 fn replay_command<'a>(alloc: Global) -> Result<Command<'a>, AllocError>
@@ -84,6 +110,20 @@ fn replay_command<'a>(alloc: Global) -> Result<Command<'a>, AllocError>
     let command = plain_command(alloc, "replay", help::REPLAY, help::REPLAY_MORE);
     let command = with_argument(Ok(command), summary);
     with_argument(command, quiet)
+}
+
+fn packets_command<'a>(alloc: Global) -> Result<Command<'a>, AllocError>
+    ensures app { IfOk result (λ command. app_of command ≡ packets_line) }
+    ensures local { IfOk result (λ command. (out-Command command).has_globals ≡ false) }
+{
+    let unwrap = unwrap_argument(alloc);
+    let command = plain_command(
+        alloc,
+        "packets",
+        packet_help::PACKETS,
+        packet_help::PACKETS_MORE,
+    );
+    with_argument(Ok(command), unwrap)
 }
 
 fn flood_command<'a>(alloc: Global) -> Result<Command<'a>, AllocError>
@@ -151,6 +191,21 @@ fn load_command<'a>(alloc: Global) -> Result<Command<'a>, AllocError>
     with_argument(command, file)
 }
 
+fn drain_command<'a>(alloc: Global) -> Result<Command<'a>, AllocError>
+    ensures app { IfOk result (λ command. app_of command ≡ drain_line) }
+    ensures local { IfOk result (λ command. (out-Command command).has_globals ≡ false) }
+{
+    let (about, more) = (bucket_help::DRAIN, bucket_help::DRAIN_MORE);
+    let control = address_argument(alloc, "control", help::TELL_CONTROL);
+    let key = positional_argument(alloc, "KEY", bucket_help::DRAIN_KEY);
+    let member = positional_argument(alloc, "ID", bucket_help::DRAIN_MEMBER);
+    let command = plain_command(alloc, "drain", about, more);
+    let command = with_argument(Ok(command), control);
+    let command = with_argument(command, timeout_argument(alloc));
+    let command = with_argument(command, key);
+    with_argument(command, member)
+}
+
 fn metrics_command<'a>(alloc: Global) -> Result<Command<'a>, AllocError>
     ensures app { IfOk result (λ command. app_of command ≡ metrics_line) }
     ensures local { IfOk result (λ command. (out-Command command).has_globals ≡ false) }
@@ -183,7 +238,7 @@ fn without_commands<'a>(alloc: Global) -> Result<Command<'a>, AllocError>
             .bin_name("dswitch")?
             .about(help::PROGRAM)
             .after_help(help::STATUSES)
-            .version("0.2.0")
+            .version("0.3.0")
             .no_binary_name(true)
             .subcommand_required(true),
     )
@@ -201,7 +256,7 @@ fn with_command<'a>(
     program?.subcommand(command?)
 }
 
-// The program with its commands up to `explain`.
+// The program with its commands up to `spread`.
 fn with_queries<'a>(alloc: Global) -> Result<Command<'a>, AllocError>
     ensures { IfOk result (λ program. app_of program ≡ with_queries) }
 {
@@ -211,7 +266,9 @@ fn with_queries<'a>(alloc: Global) -> Result<Command<'a>, AllocError>
     let program = with_command(program, check_command(alloc));
     let program = with_command(program, compile_command(alloc));
     let program = with_command(program, run_command(alloc));
-    with_command(program, explain_command(alloc))
+    let program = with_command(program, pack_command(alloc));
+    let program = with_command(program, explain_command(alloc));
+    with_command(program, spread_command(alloc))
 }
 
 // The program with its commands up to `serve`.
@@ -219,19 +276,19 @@ fn with_workers<'a>(alloc: Global) -> Result<Command<'a>, AllocError>
     ensures { IfOk result (λ program. app_of program ≡ with_workers) }
 {
     let program = with_command(with_queries(alloc), replay_command(alloc));
-    let packets = plain_command(alloc, "packets", help::PACKETS, help::PACKETS_MORE);
-    let program = with_command(program, Ok(packets));
+    let program = with_command(program, packets_command(alloc));
     let program = with_command(program, flood_command(alloc));
     with_command(program, serve_command(alloc))
 }
 
-// The program with its commands up to `load`.
+// The program with its commands up to `drain`.
 fn with_rules<'a>(alloc: Global) -> Result<Command<'a>, AllocError>
     ensures { IfOk result (λ program. app_of program ≡ with_rules) }
 {
     let program = with_command(with_workers(alloc), tell_command(alloc));
     let program = with_command(program, rules_command(alloc));
-    with_command(program, load_command(alloc))
+    let program = with_command(program, load_command(alloc));
+    with_command(program, drain_command(alloc))
 }
 
 pub(crate) fn program<'a>(alloc: Global) -> Result<Command<'a>, AllocError>

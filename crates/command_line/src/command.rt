@@ -4,6 +4,7 @@ ghost use Rattle.std.specs.Prelude.{◌≤◌};
 ghost use Rattle.versions.specs.declared.layout.TheConstants.{WORKERS};
 
 use crate::receive::{ReceiveBuffer, ReceiveWay};
+use crate::spreading::Spreading;
 
 /// The longest wait for a reply, in seconds.
 pub const MAX_TIMEOUT: u64 = 3600;
@@ -13,6 +14,9 @@ pub const MAX_DATAGRAMS: u64 = 1 << 24;
 
 /// The longest interval between two screens of `top`, in seconds.
 pub const MAX_INTERVAL: u64 = 3600;
+
+/// The greatest port.
+pub const MAX_PORT: u64 = 65535;
 
 /// A command that has one result.
 #[derive(Drop)]
@@ -35,10 +39,18 @@ pub enum Query<'a> {
         packet: &'a str,
         expression: &'a str,
     },
+    /// `from` and `to` are endpoints as they are written. `payload` is digits, and `text` the payload itself.
+    Pack {
+        from: &'a str,
+        to: &'a str,
+        payload: Option<&'a str>,
+        text: Option<&'a str>,
+    },
     /// `words` are in their order.
     Explain {
         words: Vec<&'a str>,
     },
+    Spread(Spreading),
 }
 
 /// A number of workers.
@@ -54,7 +66,8 @@ pub enum Returning<'a> {
     Query(Query<'a>),
     /// `summary` and `quiet` say which of the two flags are given.
     Replay { summary: bool, quiet: bool },
-    Packets,
+    /// `unwrap` is the port whose datagrams are replaced by the packets that they carry, if one is given.
+    Packets { unwrap: Option<u16> },
 }
 
 /// A command that may wait: it runs worker threads, or awaits replies. Addresses are as they are written.
@@ -93,6 +106,13 @@ pub enum Waiting<'a> {
         file: &'a str,
         check: bool,
         diff: bool,
+    },
+    /// `key` and `member` are the group's key and the member's ID, as they are written.
+    Drain {
+        control: &'a str,
+        timeout: u64,
+        key: &'a str,
+        member: &'a str,
     },
     /// `front` is the front whose drops in the kernel are wanted, if they are.
     Metrics {

@@ -4,13 +4,15 @@ ghost use Rattle.std.specs.Prelude.{◌≡◌, ◌≤◌, IfOk, IfSome, Some, co
 ghost use Rattle.std.specs.Option.{option_map};
 ghost use Rattle.clap.specs.Walk.{first_of};
 ghost use Rattle.clap.specs.Words.{FailsBy, found_of, kind_of, rows_of};
-ghost use Rattle.command_line.specs.CommandLine.{command_in, command_named, command_of, count_in, datagrams_in, explain, faults_in, flood_in, format_in, interval_in, is_set, load_in, metrics_in, number_in, query_request, receive_buffer_in, receive_in, receive_named, request_of, returning, rules_in, run_or_judge, serve_in, tell_in, timeout_in, top_in, value_in, values_in, workers_in};
+ghost use Rattle.command_line.specs.CommandLine.{command_in, command_named, command_of, count_in, datagrams_in, drain_in, explain, faults_in, flood_in, format_in, interval_in, is_set, load_in, metrics_in, number_in, pack_in, packets_in, query_request, receive_buffer_in, receive_in, receive_named, request_of, returning, rules_in, run_or_judge, serve_in, spread_in, tell_in, timeout_in, top_in, unwrap_in, value_in, values_in, workers_in};
 
-use crate::builders::{program, serve_command};
+use crate::builders::{program, serve_command, spread_command};
 use crate::command::{
-    MAX_DATAGRAMS, MAX_INTERVAL, MAX_TIMEOUT, Query, Returning, Subcommand, Waiting, Workers,
+    MAX_DATAGRAMS, MAX_INTERVAL, MAX_PORT, MAX_TIMEOUT, Query, Returning, Subcommand, Waiting,
+    Workers,
 };
 use crate::receive::{MAX_RECEIVE_BUFFER, ReceiveBuffer, ReceiveWay};
+use crate::shares;
 use clap::error::ErrorKind;
 use clap::{ArgMatches, Error};
 use std::alloc::{AllocError, Global};
@@ -150,6 +152,37 @@ fn run_or_judge<'a>(found: &ArgMatches<'a>) -> Query<'a>
     }
 }
 
+fn pack<'a>(found: &ArgMatches<'a>) -> Query<'a>
+    ensures { query_request result ≡ pack_in (rows_of (found_of found.now)) }
+{
+    Query::Pack {
+        from: value_of(found, "from"),
+        to: value_of(found, "to"),
+        payload: given(found, "payload"),
+        text: given(found, "text"),
+    }
+}
+
+// The port to unwrap, if it is given; `None` if what is given is none.
+fn unwrap_of(found: &ArgMatches) -> Option<Option<u16>>
+    ensures { result ≡ unwrap_in (rows_of (found_of found.now)) }
+{
+    let Some(text) = given(found, "unwrap") else {
+        return Some(None);
+    };
+    let Some(port) = number(MAX_PORT, text) else {
+        return None;
+    };
+    Some(Some(port as u16))
+}
+
+fn packets<'a>(found: &ArgMatches<'a>) -> Option<Subcommand<'a>>
+    ensures { option_map command_of result ≡ packets_in (rows_of (found_of found.now)) }
+{
+    let unwrap = unwrap_of(found)?;
+    Some(Subcommand::Returning(Returning::Packets { unwrap }))
+}
+
 fn flood<'a>(found: &ArgMatches<'a>) -> Option<Subcommand<'a>>
     ensures { option_map command_of result ≡ flood_in (rows_of (found_of found.now)) }
 {
@@ -198,6 +231,18 @@ fn load<'a>(found: &ArgMatches<'a>) -> Option<Subcommand<'a>>
     }))
 }
 
+fn drain<'a>(found: &ArgMatches<'a>) -> Option<Subcommand<'a>>
+    ensures { option_map command_of result ≡ drain_in (rows_of (found_of found.now)) }
+{
+    let timeout = timeout_of(found)?;
+    Some(Subcommand::Waiting(Waiting::Drain {
+        control: value_of(found, "control"),
+        timeout,
+        key: value_of(found, "KEY"),
+        member: value_of(found, "ID"),
+    }))
+}
+
 fn metrics<'a>(found: &ArgMatches<'a>) -> Option<Subcommand<'a>>
     ensures { option_map command_of result ≡ metrics_in (rows_of (found_of found.now)) }
 {
@@ -230,6 +275,18 @@ fn explain<'a>(alloc: Global, found: &ArgMatches<'a>) -> Result<Option<Subcomman
     returning(Returning::Query(Query::Explain {
         words: values_of(alloc, found, "WORD")?,
     }))
+}
+
+fn spread<'a>(alloc: Global, found: &ArgMatches<'a>) -> Result<Option<Subcommand<'a>>, AllocError>
+    ensures { IfOk result (λ command. option_map command_of command ≡ spread_in (rows_of (found_of found.now))) }
+{
+    let words = values_of(alloc, found, "ID=WEIGHT")?;
+    let buckets = value_of(found, "buckets");
+    let by = value_of(found, "by");
+    let Some(asked) = shares::spreading_in(alloc, buckets, by, &words)? else {
+        return Ok(None);
+    };
+    returning(Returning::Query(Query::Spread(asked)))
 }
 
 fn tell<'a>(alloc: Global, found: &ArgMatches<'a>) -> Result<Option<Subcommand<'a>>, AllocError>
@@ -271,17 +328,20 @@ fn subcommand_of<'a>(
             format: format_of(found),
         })),
         "run" => returning(Returning::Query(run_or_judge(found))),
+        "pack" => returning(Returning::Query(pack(found))),
         "explain" => explain(alloc, found),
+        "spread" => spread(alloc, found),
         "replay" => returning(Returning::Replay {
             summary: is_set(found, "summary"),
             quiet: is_set(found, "quiet"),
         }),
-        "packets" => returning(Returning::Packets),
+        "packets" => Ok(packets(found)),
         "flood" => Ok(flood(found)),
         "serve" => Ok(serve(found)),
         "tell" => tell(alloc, found),
         "rules" => Ok(rules(found)),
         "load" => Ok(load(found)),
+        "drain" => Ok(drain(found)),
         "metrics" => Ok(metrics(found)),
         "top" => Ok(top(found)),
         _ => Ok(None),
@@ -299,6 +359,28 @@ fn way_fault(alloc: Global, text: &str) -> Result<Error, AllocError>
     command.error(ErrorKind::InvalidValue, message.as_str())
 }
 
+// The fault of a value of `spread`.
+fn spread_fault(alloc: Global, found: &ArgMatches) -> Result<Error, AllocError>
+    ensures { IfOk result (λ fault. kind_of fault ≡ ErrorKind.InvalidValue) }
+{
+    let words = values_of(alloc, found, "ID=WEIGHT")?;
+    let buckets = value_of(found, "buckets");
+    let by = value_of(found, "by");
+    let message = shares::fault_text(alloc, buckets, by, &words)?;
+    let mut command = spread_command(alloc)?.bin_name("dswitch spread")?;
+    command.error(ErrorKind::InvalidValue, message.as_str())
+}
+
+// The fault of a value that `clap` takes, and that is none.
+fn value_fault(alloc: Global, name: &str, found: &ArgMatches) -> Result<Error, AllocError>
+    ensures { IfOk result (λ fault. kind_of fault ≡ ErrorKind.InvalidValue) }
+{
+    if name == "spread" {
+        return spread_fault(alloc, found);
+    }
+    way_fault(alloc, value_of(found, "receive"))
+}
+
 /// Reads the words after the program's name. `Err` is a fault of the words, or the help or the version that they ask for.
 pub fn read_words<'a>(alloc: Global, words: &'a [String]) -> Result<Subcommand<'a>, Error>
     ensures faults { FailsBy (faults_in (map string_bytes words.entry.now)) result }
@@ -311,6 +393,6 @@ pub fn read_words<'a>(alloc: Global, words: &'a [String]) -> Result<Subcommand<'
     };
     match subcommand_of(alloc, name, found)? {
         Some(command) => Ok(command),
-        None => Err(way_fault(alloc, value_of(found, "receive"))?),
+        None => Err(value_fault(alloc, name, found)?),
     }
 }

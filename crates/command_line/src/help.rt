@@ -8,11 +8,15 @@ Results go to standard output. Exit status:
   0  done
   1  refused: `refused CODE` or `refused CODE NUMBER` on standard output
   2  wrong arguments: a message on standard error
-  3  failed: one line on standard error, `failed E1` where the input could not be read,
-     `failed E2` where results could not be written, `failed E3` where memory ran out,
-     `failed E4` where a line had no reply, `failed E5` if the rules of a switch changed while they
-     were read, `failed J1` where a worker's thread could not be started, `failed S1` where a socket
-     could not be bound, `failed S2` where waiting for the sockets failed
+  3  failed: one line on standard error:
+     failed E1  the input could not be read
+     failed E2  results could not be written
+     failed E3  memory ran out
+     failed E4  a line had no reply
+     failed E5  the rules of a switch changed while they were read
+     failed J1  a worker's thread could not be started
+     failed S1  a socket could not be bound
+     failed S2  waiting for the sockets failed
 
 `dswitch help COMMAND` says what a command reads and prints, and gives an example.
 `dswitch explain CODE` says what a code means, and what to do.";
@@ -21,7 +25,7 @@ pub const FIRST: &str = "Run one program on a packet, replace it, and run the ne
 
 pub const FIRST_MORE: &str = "\
 Reads nothing. Prints one line for each of two versions, `version N value V steps S kept B`:
-the program of version N ended with V after S instructions and keeps B bytes of the packet.
+the program of version N returned V after S instructions, and keeps B bytes of the packet.
 
 Example:
   $ dswitch first
@@ -30,11 +34,10 @@ Example:
 
 pub const CHECK: &str = "Check a BPF program, in assembly text or in numbers";
 
-pub const INPUT_FORMAT: &str =
-    "The format of the program: asm, ddd or hex; without it assembly text (asm)";
+pub const INPUT_FORMAT: &str = "The format of the program: asm, ddd or hex; asm if it is left out";
 
 pub const OUTPUT_FORMAT: &str =
-    "The format of the program: asm, ddd, dd or hex; without it assembly text (asm)";
+    "The format of the program: asm, ddd, dd or hex; asm if it is left out";
 
 pub const CHECK_MORE: &str = "\
 Reads a program from standard input, in the format NAME:
@@ -42,13 +45,12 @@ Reads a program from standard input, in the format NAME:
   ddd  what `tcpdump -ddd` prints: a count, then `code jt jf k` a line, in decimal; a comma ends
        a line too
   hex  a word a line, as sixteen hexadecimal digits: code, jt, jf and k
-Prints `accepted N` for a program of N instructions, with status 0. Else prints, with status 1:
-  refused C1 where NAME is none of these, before anything is read
-  A1 to A5, and the line counted from 1, where the text is no assembly
-  K1, and the line counted from 1, where the text is not in the other format; K2, where the count
-  is not the number of instructions
-  V1 to V11 where its instructions are no program, and the place of the instruction at fault,
-  counted from 0 (V1, V2 and V10, which speak of the whole program, have no number)
+Prints `accepted N` for a program of N instructions, with status 0. Otherwise prints, with status 1:
+  refused C1                    if NAME is none of these, before anything is read
+  refused A1 LINE to A5 LINE    if the text is not assembly; lines count from 1
+  refused K1 LINE, refused K2   if the text is not in the other format; K2: the count is wrong
+  refused V1 to V11 PLACE       if its instructions are no program; places count from 0
+                                (V1, V2 and V10 are about the whole program and have no PLACE)
 
 Examples:
   $ echo 'ldb [9]; jeq #17,0,1; ret #65535; ret #0' | dswitch check
@@ -62,13 +64,14 @@ pub const COMPILE_EXPRESSION: &str = "The filter expression, as one argument";
 
 pub const COMPILE_MORE: &str = "\
 Reads no input. Prints the program in the format NAME:
-  asm  `charge C`, the most instructions that such an expression comes to, and then assembly text
-  ddd, hex  as `check` and `run` read them, which read the assembly text, too
-  dd   what `tcpdump -dd` prints: initialisers of a `struct sock_filter` in C
-Else prints, with status 1:
-  refused C1 where NAME is none of these
-  refused P1 PLACE to refused P5 PLACE, the byte counted from 0 where it is no expression
-  refused F1 where its measure of scratch cells is above 16, refused F2 where C would be above 4096
+  asm       `charge C`, the most instructions that the program may have, and then assembly text
+  ddd, hex  as `check` and `run` read them; these also read the assembly text
+  dd        what `tcpdump -dd` prints: initialisers of a `struct sock_filter` in C
+Otherwise prints, with status 1:
+  refused C1                   if NAME is none of these
+  refused P1 PLACE to P5 PLACE if EXPR is no expression; PLACE is a byte, counted from 0
+  refused F1                   if it needs more than 16 scratch cells
+  refused F2                   if C would be above 4096
 
 Examples:
   $ dswitch compile 'less 28'
@@ -93,10 +96,10 @@ pub const RUN_EXPRESSION: &str = "Tests this filter expression, and reads no pro
 
 pub const RUN_MORE: &str = "\
 Without --expr it reads a program from standard input, as `check` does, and prints
-`value V steps S kept B`: the program ended with V after S instructions and keeps B bytes, the
-lesser of V and the packet's length. With --expr it prints `accept` or `reject`, and reads no
-program, whatever its format. Else prints, with status 1:
-  refused C1 where HEX is no even number of digits, refused C3 where it is too long
+`value V steps S kept B`: the program returned V after S instructions and keeps B bytes, the
+lesser of V and the packet's length. With --expr it prints `accept` or `reject`, reads no program,
+and ignores --format. Otherwise prints, with status 1:
+  refused C1 if HEX is not an even number of digits, refused C3 if it is too long
   the codes of `check` for the program, those of `compile` for the expression
 
 Examples:
@@ -112,13 +115,13 @@ pub const EXPLAIN_WORDS: &str =
 
 pub const EXPLAIN_MORE: &str = "\
 Reads no input. Prints what the code means, the usual mistake or cause, and what to do. The words,
-with one space between each two, are one text: a code, as `P1`, if need be with what was printed
-around it:
+joined by single spaces, are one text: a code such as `P1`, with these optional parts of the line
+that was printed:
   refused or failed  before the code
   NUMBER             after it
   line NUMBER        at the end
 A number is decimal, without leading zeros, and at most 18446744073709551615. For any other text,
-and for a code that is none, as `g3`, it prints `refused C1`, with status 1.
+such as `g3`, it prints `refused C1`, with status 1.
 
 Examples:
   $ dswitch explain G3
@@ -132,12 +135,12 @@ Examples:
   Usual mistake: `add` forgotten, or another address or port.
   What to do: `add` the group, or correct the key or the place.";
 
-pub const REPLAY: &str = "Answer a script of control lines and packets";
+pub const REPLAY: &str = "Reply to a script of control lines and packets";
 
 pub const REPLAY_SUMMARY: &str =
     "Counts packets by their verdict and refused lines by their code, at the end";
 
-pub const REPLAY_QUIET: &str = "Writes no replies; with --summary the summary alone";
+pub const REPLAY_QUIET: &str = "Writes no replies; with --summary only the summary";
 
 pub const REPLAY_MORE: &str = "\
 Reads lines from standard input, and prints one line for each before it reads on. A new switch has
@@ -149,24 +152,24 @@ HEX is an IPv4 packet.
   selector KEY asm TEXT, selector KEY none         ok version N
   filter KEY ID asm TEXT, filter KEY ID expr TEXT  ok version N
   filter KEY ID none                               ok version N
-  packet HEX                                       version N, and what becomes of the packet
+  packet HEX                                       version N, and the verdict on the packet
   show                                             version N groups G members M charge C
   group I, member KEY I                            version N, and a group or a member
   words KEY selector P, words KEY ID P             version N, and words of a program
+  judge HEX                                        version N, and the verdict on the packet
   sweep                                            reclaimed FIRST COUNT
   all N, anew N, and N lines after it              ok version N, one for all of them
   at V CHANGE                                      as CHANGE if V is current, else `refused M1 N`
-A line that is refused prints `refused CODE` or `refused CODE NUMBER` and changes nothing. The N
+A refused line prints `refused CODE` or `refused CODE NUMBER`, and changes nothing. The N
 lines after `all N`, N up to 65535, are one change; `anew N` begins without groups. If one of them
 is refused, the reply ends in `line I`, and nothing is changed.
 Without a selector the packet's addresses and ports pick the member. With 2, 4, 8, 16, 32 or 64
 members the source port does not count: all packets of a client to a group go to one member.
-With --summary these lines come after the replies, those whose COUNT is not 0, in rising order of
-their bytes:
+With --summary these lines come after the replies, if their COUNT is not 0, sorted by their bytes:
   deliver KEY ID COUNT, dropped KEY ID COUNT       packets of this member
   malformed COUNT, nogroup COUNT, nomembers COUNT  packets of no member
   refused CODE COUNT                               lines that were refused
-With --quiet no replies are written: with both the summary alone, with --quiet alone nothing.
+With --quiet no replies are written, and with both options only the summary.
 
 Example:
   $ printf 'add 10.0.0.2:53\\njoin 10.0.0.2:53 1 127.0.0.1:9001\\nshow\\n' | dswitch replay
@@ -174,45 +177,27 @@ Example:
   ok version 2
   version 2 groups 1 members 1 charge 10";
 
-pub const PACKETS: &str = "Print the packets of a capture as lines for `replay`";
-
-pub const PACKETS_MORE: &str = "\
-Reads a capture file of libpcap (pcap) from standard input: of link type raw IP, Ethernet with at
-most two VLAN tags, Linux cooked v1 and v2, or loopback. Prints `packet HEX` for each IPv4 packet
-in it, as far as its total length tells. Capture on the tunnel's device: at the front of a switch
-each packet is inside another one. At the end the counts come to standard error:
-  packets P cut C other O
-of the packets that were printed, those that the capture cut, and the records that hold no IPv4.
-Prints, with status 1:
-  refused L1 where it is no capture file, refused L2 where it is a pcapng file
-  refused L3 where its version is not 2.4
-  refused L4 NUMBER, the link type, where that is not read
-  refused L5 PLACE, the byte counted from 0 where a record begins that the end of the file cuts;
-  the packets before it are printed
-
-Example:
-  $ cat rules.txt <(dswitch packets <trace.pcap) | dswitch replay";
-
 pub const FLOOD: &str = "Judge datagrams in worker threads while versions are replaced";
 
 pub const FLOOD_WORKERS: &str = "How many worker threads, from 1 to 64";
 
-pub const FLOOD_DATAGRAMS: &str = "How many datagrams, from 1 to 16777216; without it 4096";
+pub const FLOOD_DATAGRAMS: &str = "How many datagrams, from 1 to 16777216; 4096 if it is left out";
 
 pub const FLOOD_MORE: &str = "\
-Reads nothing. Each worker judges its share of the datagrams, and what is to be delivered goes to
-an outbox in memory; meanwhile 64 new versions are tried. Prints how often each came, as one line:
+Reads nothing. Each worker judges its share of the datagrams, and delivers to an outbox in memory;
+meanwhile 64 new versions are tried. Prints how often each outcome came, as one line:
   malformed A nogroup B nomembers C dropped D delivered E sendfailed F receivefailed G
 
 Example:
   $ dswitch flood --workers 4
   malformed 1024 nogroup 1024 nomembers 0 dropped 0 delivered 2048 sendfailed 0 receivefailed 0";
 
-pub const SERVE: &str = "Judge datagrams that come over UDP in worker threads, under control lines";
+pub const SERVE: &str =
+    "Run a switch: judge datagrams from UDP in worker threads, under control lines";
 
-pub const SERVE_FRONT: &str = "Where the datagrams come to, as ADDRESS:PORT";
+pub const SERVE_FRONT: &str = "The address for datagrams, as ADDRESS:PORT";
 
-pub const SERVE_CONTROL: &str = "Where the control requests come to, as unix:PATH or ADDRESS:PORT";
+pub const SERVE_CONTROL: &str = "The address for control requests, as unix:PATH or ADDRESS:PORT";
 
 pub const SERVE_WORKERS: &str = "How many worker threads judge, from 1 to 64";
 
@@ -222,27 +207,27 @@ pub const SERVE_LOG: &str =
     "Log each control request that changes something or is not done, on standard error";
 
 pub const SERVE_RECEIVE: &str =
-    "Who receives at the front: one thread (queued) or each worker (direct); without it queued";
+    "Who receives at the front: one thread (queued, the default) or each worker (direct)";
 
 pub const SERVE_RECEIVE_BUFFER: &str =
     "How many bytes of receive buffer each socket at the front asks for, from 1 to 2147483647";
 
 pub const SERVE_MORE: &str = "\
-Reads UDP datagrams. Each that comes to FRONT is a whole IPv4 packet: a worker judges it, and sends
-what is to be delivered to the members. Requests come to CONTROL, as `replay` takes them but for
-`packet`, and each has one reply. CONTROL takes four more:
+Reads UDP datagrams. The payload of each datagram to FRONT is an IPv4 packet: a worker judges it, and
+sends it to the member if it is delivered. Requests come to CONTROL, those of `replay` except
+`packet`, and each has one reply. CONTROL takes four more requests:
   totals         the line of totals so far
-  totals KEY     delivered D dropped R nomembers X sendfailed S: those of a group
-  totals KEY ID  delivered D dropped R sendfailed S bytes B: those of a member
-  stop           ok stop, and the workers judge what they were given, and end
+  totals KEY     the counters of a group: delivered D dropped R nomembers X sendfailed S
+  totals KEY ID  the counters of a member: delivered D dropped R sendfailed S bytes B
+  stop           ok stop; the workers judge what they were given, and end
 CONTROL is the socket file unix:PATH, or a UDP address. Whoever may enter the folder of PATH
 controls the switch. A UDP address takes requests from everybody who can send to it: give it one
-address, and never 0.0.0.0. What looks like a reply itself is ignored there.
-A new switch has no groups. With --rules it has those of FILE: lines that change the configuration,
-from no groups on, together version 0. Empty lines, and lines that begin with #, are skipped.
+address, and never 0.0.0.0. Datagrams that look like replies are ignored there.
+A new switch has no groups. With --rules version 0 is the configuration of FILE: lines that change
+the configuration, beginning without groups. Empty lines, and lines that begin with #, are skipped.
 With --receive queued one thread receives at FRONT, and hands the packets to the workers in turn.
 With --receive direct each worker receives, from a separate socket at FRONT. The kernel gives all
-packets of a sender, an address and port, to one worker: after `ready` they keep their order, and
+packets of a sender, an address and port, to one worker. After `ready` they keep their order, and
 one sender uses one worker only. A packet to a broadcast or multicast address comes to each worker.
 With two workers or more, a program of the same user may share FRONT (SO_REUSEPORT): run the switch
 as a separate user. --receive-buffer asks for SO_RCVBUF of these sockets, which the kernel doubles
@@ -250,7 +235,7 @@ and caps at net.core.rmem_max; without it they have the system's default.
 With port 0 the system picks a port. Prints `ready FRONT CONTROL` with the bound addresses before it
 reads, and the line of totals after `stop`, with status 0:
   malformed A nogroup B nomembers C dropped D delivered E sendfailed F receivefailed G
-Else prints, with status 1, before a socket is bound:
+Otherwise prints, with status 1, before a socket is bound:
   refused C1                   if FRONT or CONTROL is no address
   refused CODE line I          if line I of FILE is refused, from 1, or
   refused CODE NUMBER line I   if there is a number; standard error shows the place
@@ -259,7 +244,7 @@ Or it fails with status 3: with `failed E1` if FILE cannot be read, and with `fa
 cannot be bound; a line before that says which one, and why.
 With --log standard error gets a line `PEER REPLY: REQUEST` for each control request whose reply
 begins with `ok `, `refused ` or `failed `. REQUEST is cut at 256 bytes.
-Without --control the environment's DSWITCH_CONTROL is taken.
+Without --control it takes DSWITCH_CONTROL from the environment.
 
 Examples:
   $ dswitch serve --front 127.0.0.1:5300 --control unix:/run/dswitch/control --workers 4
@@ -272,7 +257,7 @@ pub const TELL: &str = "Send control lines to a running switch and print its rep
 pub const TELL_CONTROL: &str = "The control address of the switch, as unix:PATH or ADDRESS:PORT";
 
 pub const TELL_TIMEOUT: &str =
-    "How many seconds each reply may take, from 1 to 3600; without it one second";
+    "How many seconds each reply may take, from 1 to 3600; 1 if it is left out";
 
 pub const TELL_ALL: &str = "Sends all lines as one change: all of them are done, or none is";
 
@@ -281,16 +266,16 @@ pub const TELL_LINES: &str = "Control lines, each as one argument, or one line a
 pub const TELL_MORE: &str = "\
 Sends each LINE to the CONTROL of `dswitch serve`, or each line of standard input if there is no
 LINE. If no LINE has a space, all of them are one line, unless the first is `show`, `sweep`, `stop`
-or `totals`. Of standard input it skips empty lines and lines whose first character is `#`. The line
-`all N` or `anew N` takes the N lines after it with it. Prints the reply to one request before it
-sends the next. Ends with status 0 if no reply is `refused ..` or `failed ..`, else with status 1;
-it goes on after such a reply, and standard error has the number of the line and what the code
-means. With --all it sends all lines as one change, `all N` and the N lines, which may have 65507
-bytes if CONTROL is ADDRESS:PORT.
-Prints `refused C1`, with status 1, if CONTROL is no address, or if --all is given and no line.
-Fails with status 3 and `failed E4` if a line has no reply; then no later line is sent. The line may
-be done all the same, even later.
-Without --control the environment's DSWITCH_CONTROL is taken.
+or `totals`. It skips empty lines and comments (`#`) of standard input. The line `all N` or `anew N`
+and the N lines after it are one request. Prints the reply to one request before it sends the next.
+Ends with status 0 if no reply is `refused ..` or `failed ..`, else with status 1. It goes on after
+such a reply, and standard error has the number of the line and what the code means.
+With --all it sends all lines as one change, `all N` and the N lines. If CONTROL is ADDRESS:PORT, a
+request has at most 65507 bytes.
+Prints `refused C1`, with status 1, if CONTROL is no address, or if --all is given without lines.
+Fails with status 3 and `failed E4` if a line has no reply, and sends no later line. The line without
+a reply may be done all the same, even later.
+Without --control it takes DSWITCH_CONTROL from the environment.
 
 Examples:
   $ export DSWITCH_CONTROL=unix:/run/dswitch/control
@@ -313,7 +298,7 @@ output to a file, and `load` it, or start a switch with it by `serve --rules`.
 If the rules change meanwhile, it starts again, at most 16 times.
 Prints `refused C1`, with status 1, if CONTROL is no address. Fails with status 3: with `failed E4`
 if a line has no reply, and with `failed E5` if the rules changed each time.
-Without --control the environment's DSWITCH_CONTROL is taken.
+Without --control it takes DSWITCH_CONTROL from the environment.
 
 Example:
   $ dswitch rules --control unix:/run/dswitch/control
@@ -338,11 +323,11 @@ version: `at N anew K` with the K lines of FILE, if the switch has version N. Pr
   version N unchanged   if the switch has these rules; nothing was sent
   version V             if it has them now, as version V
 With --diff it changes nothing, and prints the lines that lead from the rules of the switch to those
-of FILE. Give them to `tell --all`. With --check it does not ask a switch, and prints the measures
-of FILE; --diff changes nothing then:
+of FILE. Give them to `tell --all`. With --check it does not ask a switch, ignores --diff, and prints
+the measures of FILE:
   groups G members M charge C
 If the rules change meanwhile (M1), or readers hold all rows (B2), it tries again, at most 16 times.
-Else prints, with status 1:
+Otherwise prints, with status 1:
   refused C1                   if CONTROL is no address, or is not given
   refused CODE line I          if line I of FILE is refused, from 1, or
   refused CODE NUMBER line I   if there is a number; standard error shows the place
@@ -351,7 +336,7 @@ Else prints, with status 1:
   the switch's reply           if it refuses the change; standard error says what its code means
 Or it fails with status 3: with `failed E1` if FILE cannot be read, with `failed E4` if a line has no
 reply, and with `failed E5` if the rules changed each time. After E4 the change may have been made:
-`load` again. Without --control the environment's DSWITCH_CONTROL is taken.
+`load` again. Without --control it takes DSWITCH_CONTROL from the environment.
 
 Examples:
   $ dswitch load --control unix:/run/dswitch/control --diff rules.txt
@@ -375,7 +360,7 @@ If the rules change meanwhile, it starts again, at most 16 times.
 Prints `refused C1`, with status 1, if CONTROL or FRONT is no address. Fails with status 3: with
 `failed E1` if /proc/net/udp cannot be read or has no such socket, with `failed E4` if a line has no
 reply, and with `failed E5` if the rules changed each time.
-Without --control the environment's DSWITCH_CONTROL is taken.
+Without --control it takes DSWITCH_CONTROL from the environment.
 
 Example:
   $ dswitch metrics --control unix:/run/dswitch/control | grep result=
@@ -388,16 +373,15 @@ Example:
 pub const TOP: &str = "Watch what each group and each member of a running switch gets";
 
 pub const TOP_INTERVAL: &str =
-    "How many seconds from one screen to the next, from 1 to 3600; without it one second";
+    "How many seconds from one screen to the next, from 1 to 3600; 1 if it is left out";
 
-pub const TOP_COUNT: &str = "How many screens, from 1 on; without it there is no end";
+pub const TOP_COUNT: &str = "How many screens, from 1 on; no end if it is left out";
 
 pub const TOP_MORE: &str = "\
-Reads no input. Reads the counters of the switch at CONTROL at each interval, and writes a screen of
-what came since the reading before: so the first one comes after one interval. On a terminal each
-screen takes the place of the one before; else they follow each other. A screen has two lines of
-numbers, those since the switch began and those a second, a line of names, and a row for each group
-and each of its members; an empty line ends it:
+Reads no input. Reads the counters of the switch at CONTROL at each interval, and prints how much
+they grew, so the first screen comes after one interval. On a terminal each screen replaces the one
+before; otherwise they follow each other. A screen has two lines of numbers, since the switch began
+and per second, a line of names, and a row for each group and each member; an empty line ends it:
   totals malformed A nogroup B nomembers C dropped D delivered E sendfailed F receivefailed G
   rates malformed A nogroup B nomembers C dropped D delivered E sendfailed F receivefailed G
   GROUP MEMBER PACKETS/S BYTES/S DROPPED/S FAILED SHARE
@@ -406,7 +390,7 @@ packets that were not delivered, each a second and rounded down, how many sends 
 screen before, and the member's percentage of the packets of its group.
 Prints `refused C1`, with status 1, if CONTROL is no address. Fails with status 3: with `failed E4`
 if a line has no reply, and with `failed E5` if the rules changed at each of 17 attempts of a reading.
-Without --control the environment's DSWITCH_CONTROL is taken.
+Without --control it takes DSWITCH_CONTROL from the environment.
 
 Examples:
   $ dswitch top --control unix:/run/dswitch/control

@@ -12,6 +12,7 @@ fn takes_control(name: &str) -> bool
         || name == "tell"
         || name == "rules"
         || name == "load"
+        || name == "drain"
         || name == "metrics"
         || name == "top"
 }

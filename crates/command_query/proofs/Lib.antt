@@ -1,4 +1,5 @@
 mod JoinLemmas
+mod PackLemmas
 mod QueryLemmas
 pub mod StopLemmas
 mod WriteLemmas

@@ -1,5 +1,5 @@
 -- What a command makes of its arguments, where it looks at no more than these.
-use Rattle.std.proofs.Common.{◌≡◌, ◌<◌, ◌^◌, ◌++◌, ◌⊎◌, ℕ, Err, IsSome, IsSomeAnd, List, MatchOption, [], None, Ok, Option, Result, Some, codes, inl, inr, refl, subst, sym, unwrap_or}
+use Rattle.std.proofs.Common.{◌≡◌, ◌∙◌, ◌<◌, ◌^◌, ◌++◌, ◌⊎◌, ap, ap₂, ℕ, Err, IsSome, IsSomeAnd, List, MatchOption, [], None, Ok, Option, Result, Some, codes, inl, inr, refl, subst, sym, unwrap_or}
 use Rattle.std.specs.Prelude.{IfOk, OnOk}
 use Rattle.std.specs.Io.KnownBytes.{Appends}
 use Rattle.std.proofs.lemmas.List.Elements.{All-from_get_or}
@@ -15,7 +15,7 @@ use Rattle.command_line.specs.declared.ending.Failure.{Failure}
 use Rattle.command_line.specs.declared.ending.Failure.TheVariants.{OutOfMemory, ReadFailed}
 use Rattle.command_query.specs.declared.stop.Stop.{Stop}
 use Rattle.command_query.specs.declared.stop.Stop.TheVariants.{Failed, Misformed, Refused}
-use Rattle.command_query.specs.CommandResult.{IsCheckAnswer, IsExplainAnswer, IsJudgeAnswer, IsRunAnswer}
+use Rattle.command_query.specs.CommandResult.{IsCheckAnswer, IsExplainAnswer, IsJudgeAnswer, IsRunAnswer, IsSpreadAnswer}
 use Rattle.command_line.specs.declared.ending.Status.{Status}
 use Rattle.command_line.specs.declared.ending.Status.TheVariants as status
 use Rattle.fault_code.specs.Code.{code_text}
@@ -24,12 +24,20 @@ use Rattle.bpf_formats.specs.Code.{format_code}
 use Rattle.bpf_formats.specs.declared.fault.FormatFault.{FormatFault}
 use Rattle.command_query.specs.Format.{IsFormatFault, IsRefusalOfProgram, input_format_of, misformed_text}
 use Rattle.command_query.specs.declared.format.InputFormat.{InputFormat}
-use Rattle.command_line.specs.CommandLine.{Request, check, compile, explain, first, judge, run}
+use Rattle.command_line.specs.CommandLine.{Request, check, compile, explain, first, judge, pack, run, spread}
 use Rattle.command_query.specs.FirstPath.{first_lines}
+use Rattle.selector_buckets.specs.declared.hash.HashBy.{HashBy}
+use Rattle.selector_buckets.specs.declared.share.Share.{Share}
+use Rattle.selector_buckets.specs.Buckets.{BucketsValue}
+use Rattle.selector_buckets.specs.Shares.{ids_of, weights_of}
+use Rattle.selector_buckets.specs.Turns.{table_of}
+use Rattle.selector_buckets.specs.Words.{selector_words}
+use Rattle.bpf_asm.specs.Text.{printed}
 use Rattle.command_query.specs.declared.first_path.Line.{Line}
 use Rattle.command_query.proofs.WriteLemmas.{first_text_of, versions_of}
 use Rattle.command_line.specs.Input.{IsInput}
 use Rattle.command_query.specs.body.Stop.{IsStopBy, IsStopByProgram}
+use Rattle.command_query.specs.Packing.{IsPackAnswer, IsRefusalOfPack}
 use Rattle.command_query.specs.Query.{IsFailureOf, IsMisformedBy, IsRefusalOfCode, IsRefusalReason, IsResult, IsResultOf, IsStopOf, ReadsInput, WritesAnswer}
 
 -- the bytes that digits write are a packet
@@ -47,6 +55,13 @@ misformed_written request known (Ok status) before after code fault is same refu
     subst (λ s. WritesAnswer request known s before after) (sym refused)
     (misformed_text fault ++ codes "\n", inr (fault, is, refl), subst (λ c. Appends before after ((codes "refused " ++ code_text c) ++ codes "\n")) same written)
 misformed_written request known (Err failure) before after code fault is same refused written = tt
+
+-- the listing of a selector is that of the table that was asked for
+pub spread_listed : (depth : ℕ) (by : HashBy) (shares : List Share) (buckets : BucketsValue) (words listing : List ℕ) → buckets.depth ≡ depth
+    → buckets.members ≡ table_of (ids_of shares) (weights_of shares) (2 ^ depth) → words ≡ selector_words by buckets → listing ≡ printed words
+    → listing ≡ printed (selector_words by (record { depth = depth; members = table_of (ids_of shares) (weights_of shares) (2 ^ depth) }))
+spread_listed depth by shares buckets words listing depth_is members_are words_are is =
+    is ∙ ap printed (words_are ∙ ap₂ (λ (d : ℕ) (members : List ℕ). selector_words by (record { depth = d; members = members })) depth_is members_are)
 
 -- a stop by one refusal is one by another that follows
 pub stopped_alike : (refuses others : Reason → Type 0) (stop : Stop) → ((reason : Reason) → refuses reason → others reason) → IsStopBy refuses stop → IsStopBy others stop
@@ -92,6 +107,14 @@ module _ (known : Option (List ℕ)) where
   pub explain_stops : (words : List (List ℕ)) (stop : Stop) → IsStopBy (IsRefusalOfCode (spaced words)) stop → IsStopOf (explain words) known stop
   explain_stops words stop = stops_before (explain words) (IsRefusalOfCode (spaced words)) stop (λ reason why. why)
 
+  pub pack_stops : (source destination : List ℕ) (digits text : Option (List ℕ)) (stop : Stop)
+      → IsStopBy (IsRefusalOfPack source destination digits text) stop → IsStopOf (pack source destination digits text) known stop
+  pack_stops source destination digits text stop =
+      stops_before (pack source destination digits text) (IsRefusalOfPack source destination digits text) stop (λ reason why. why)
+
+  pub spread_stops : (depth : ℕ) (by : HashBy) (shares : List Share) (stop : Stop) → IsStopBy (λ reason. ⊥) stop → IsStopOf (spread depth by shares) known stop
+  spread_stops depth by shares stop = stops_before (spread depth by shares) (λ reason. ⊥) stop (λ reason why. why)
+
   pub judge_stops : (digits expression packet : List ℕ) (stop : Stop) → SpellsPacket digits packet
       → IsStopBy (IsRefusalOfExpression expression) stop → IsStopOf (judge digits expression) known stop
   judge_stops digits expression packet stop spelt =
@@ -103,6 +126,14 @@ module _ (known : Option (List ℕ)) where
 
   pub explain_found : (words : List (List ℕ)) (answer : CommandResult) → IsExplainAnswer (spaced words) answer → IsResultOf (explain words) known answer
   explain_found words answer found = (some_input, is_input, found)
+
+  pub pack_found : (source destination : List ℕ) (digits text : Option (List ℕ)) (answer : CommandResult)
+      → IsPackAnswer source destination digits text answer → IsResultOf (pack source destination digits text) known answer
+  pack_found source destination digits text answer found = (some_input, is_input, found)
+
+  pub spread_found : (depth : ℕ) (by : HashBy) (shares : List Share) (answer : CommandResult) → IsSpreadAnswer depth by shares answer
+      → IsResultOf (spread depth by shares) known answer
+  spread_found depth by shares answer found = (some_input, is_input, found)
 
   pub judge_found : (digits expression packet : List ℕ) (answer : CommandResult) → SpellsPacket digits packet
       → IsJudgeAnswer packet expression answer → IsResultOf (judge digits expression) known answer

@@ -1,5 +1,5 @@
 -- What each command answers (docs/COMMANDS.md).
-use Rattle.std.specs.Prelude.{◌≡◌, ◌++◌, IsTrue, List, Option, codes, decimal, false, length, min, string_bytes, true, ℕ, ◌↔◌}
+use Rattle.std.specs.Prelude.{◌≡◌, ◌++◌, ◌^◌, IsTrue, List, Option, codes, decimal, false, length, min, string_bytes, true, ℕ, ◌↔◌}
 use Rattle.bpf_asm.specs.Text.{printed}
 use Rattle.bpf_machine.specs.Meaning.{Ret, cost_of, ending_of}
 use Rattle.bpf_verify.specs.Program.{ProgramValue}
@@ -11,10 +11,15 @@ use Rattle.command_query.specs.declared.format.InputFormat.{InputFormat}
 use Rattle.command_query.specs.declared.format.OutputFormat.{OutputFormat}
 use Rattle.command_query.specs.declared.format.OutputFormat.TheVariants.{Assembly, Dd, Ddd, Hex}
 use Rattle.command_query.specs.declared.command_result.CommandResult.{CommandResult}
-use Rattle.command_query.specs.declared.command_result.CommandResult.TheVariants.{Accepted, Compiled, Explained, Judged, Listed, Ran, Versions}
+use Rattle.command_query.specs.declared.command_result.CommandResult.TheVariants.{Accepted, Compiled, Explained, Judged, Listed, Packed, Ran, Versions}
 use Rattle.command_explain.specs.Explanation.{IsExplanation}
 use Rattle.command_explain.specs.Printed.{ShowsCode}
 use Rattle.command_query.specs.FirstPath.{line_text}
+use Rattle.selector_buckets.specs.Shares.{ids_of, weights_of}
+use Rattle.selector_buckets.specs.Turns.{table_of}
+use Rattle.selector_buckets.specs.Words.{selector_words}
+use Rattle.selector_buckets.specs.declared.hash.HashBy.{HashBy}
+use Rattle.selector_buckets.specs.declared.share.Share.{Share}
 
 -- the lines of a result
 abbrev pub answer_text : CommandResult → List ℕ
@@ -26,6 +31,7 @@ answer_text (Compiled charge listing) = codes "charge " ++ decimal charge ++ cod
 answer_text (Listed listing) = string_bytes listing
 answer_text (Judged true) = codes "accept\n"
 answer_text (Judged false) = codes "reject\n"
+answer_text (Packed digits) = string_bytes digits ++ codes "\n"
 answer_text (Explained text) = text.now ++ codes "\n"
 
 -- ---- programs, given as texts
@@ -75,6 +81,14 @@ abbrev pub IsJudgeAnswer : List ℕ → List ℕ → CommandResult → Type 0
 IsJudgeAnswer packet text (Judged is_accepted) =
     (tree : Tree) × IsCompilable text tree × (IsTrue is_accepted ↔ accepts tree packet)
 IsJudgeAnswer packet text _ = ⊥
+
+-- ---- members
+
+-- the text of the selector of the table that the members share
+abbrev pub IsSpreadAnswer : ℕ → HashBy → List Share → CommandResult → Type 0
+IsSpreadAnswer depth by shares (Listed listing) =
+    string_bytes listing ≡ printed (selector_words by (record { depth = depth; members = table_of (ids_of shares) (weights_of shares) (2 ^ depth) }))
+IsSpreadAnswer depth by shares _ = ⊥
 
 -- ---- codes
 

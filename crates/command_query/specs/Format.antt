@@ -1,5 +1,5 @@
 -- The formats of programs: their names, and what a text is in each (docs/COMMANDS.md, "Formats of programs").
-use Rattle.std.specs.Prelude.{◌++◌, List, None, Option, Some, codes, decimal, if◌then◌else◌, ℕ}
+use Rattle.std.specs.Prelude.{◌++◌, List, None, Option, Some, codes, if◌then◌else◌, ℕ}
 use Rattle.std.specs.Str.{bytes_eq}
 use Rattle.bpf_asm.specs.Text.{printed}
 use Rattle.bpf_verify.specs.Accepted.{IsAccepted}

@@ -15,12 +15,13 @@ use Rattle.command_line.specs.declared.ending.Status.{Status}
 use Rattle.command_line.specs.declared.ending.Status.TheVariants.{Done, Refused}
 use Rattle.command_query.specs.declared.stop.Stop.{Stop}
 use Rattle.command_query.specs.declared.stop.Stop.TheVariants as stop
-use Rattle.command_query.specs.CommandResult.{IsCheckAnswer, IsCompileAnswer, IsExplainAnswer, IsJudgeAnswer, IsRunAnswer, answer_text}
-use Rattle.command_line.specs.CommandLine.{Request, check, compile, explain, first, judge, packets, replay, run}
+use Rattle.command_query.specs.CommandResult.{IsCheckAnswer, IsCompileAnswer, IsExplainAnswer, IsJudgeAnswer, IsRunAnswer, IsSpreadAnswer, answer_text}
+use Rattle.command_line.specs.CommandLine.{Request, check, compile, explain, first, judge, pack, packets, replay, run, spread}
 use Rattle.bpf_formats.specs.declared.fault.FormatFault.{FormatFault}
 use Rattle.command_explain.specs.Printed.{ShowsCode}
 use Rattle.command_query.specs.Format.{IsFormatFault, IsRefusalOfProgram, input_format_of, misformed_text, output_format_of}
 use Rattle.command_query.specs.FirstPath.{first_text}
+use Rattle.command_query.specs.Packing.{IsPackAnswer, IsRefusalOfPack}
 use Rattle.command_line.specs.Input.{IsInput}
 
 -- the two lines of the first path
@@ -40,9 +41,11 @@ IsResult (run digits name) input answer =
     × IsSomeAnd (input_format_of name) (λ format. IsRunAnswer packet format input answer)
 IsResult (judge digits expression) input answer =
     (packet : List ℕ) × SpellsPacket digits packet × IsJudgeAnswer packet expression answer
+IsResult (pack source destination digits text) input answer = IsPackAnswer source destination digits text answer
 IsResult (explain words) input answer = IsExplainAnswer (spaced words) answer
+IsResult (spread depth by shares) input answer = IsSpreadAnswer depth by shares answer
 IsResult (replay summary quiet) input answer = ⊥
-IsResult packets input answer = ⊥
+IsResult (packets unwrapped) input answer = ⊥
 
 -- a text that shows no code
 abbrev pub IsRefusalOfCode : List ℕ → Reason → Type 0
@@ -63,9 +66,11 @@ IsRefusalReason (run digits name) input reason =
     IsRefusalOfHex digits reason ⊎ ((packet : List ℕ) × SpellsPacket digits packet × IsRefusalOfInput name input reason)
 IsRefusalReason (judge digits expression) input reason =
     IsRefusalOfHex digits reason ⊎ ((packet : List ℕ) × SpellsPacket digits packet × IsRefusalOfExpression expression reason)
+IsRefusalReason (pack source destination digits text) input reason = IsRefusalOfPack source destination digits text reason
 IsRefusalReason (explain words) input reason = IsRefusalOfCode (spaced words) reason
+IsRefusalReason (spread depth by shares) input reason = ⊥
 IsRefusalReason (replay summary quiet) input reason = ⊥
-IsRefusalReason packets input reason = ⊥
+IsRefusalReason (packets unwrapped) input reason = ⊥
 
 -- or a text that is not in the format of this name
 abbrev pub IsMisformed : Request → List ℕ → FormatFault → Type 0
@@ -81,7 +86,7 @@ IsMisformed _ input fault = ⊥
 abbrev pub ReadsInput : Request → Type 0
 ReadsInput (check name) = IsSome (input_format_of name)
 ReadsInput (replay summary quiet) = Unit {0}
-ReadsInput packets = Unit {0}
+ReadsInput (packets unwrapped) = Unit {0}
 ReadsInput (run digits name) = (packet : List ℕ) × SpellsPacket digits packet × IsSome (input_format_of name)
 ReadsInput _ = ⊥
 

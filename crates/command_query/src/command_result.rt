@@ -17,10 +17,12 @@ pub enum CommandResult {
     Ran { value: u32, steps: u32, kept: usize },
     /// `compile`: the program and its charge.
     Compiled { charge: u32, listing: String },
-    /// `compile` with a format other than assembly text: the program alone.
+    /// `compile` with a format other than assembly text, or `spread`: the program alone.
     Listed { listing: String },
     /// `run --expr`: whether the expression is true of the packet.
     Judged { accepts: bool },
+    /// `pack`: the digits of a packet.
+    Packed { digits: String },
     /// `explain`: what the code means.
     Explained { text: &'static str },
 }
@@ -39,6 +41,7 @@ impl fmt::Display for CommandResult {
             CommandResult::Listed { listing } => write!(f, "{listing}"),
             CommandResult::Judged { accepts: true } => writeln!(f, "accept"),
             CommandResult::Judged { accepts: false } => writeln!(f, "reject"),
+            CommandResult::Packed { digits } => writeln!(f, "{digits}"),
             CommandResult::Explained { text } => writeln!(f, "{text}"),
         }
     }

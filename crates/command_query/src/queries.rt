@@ -17,7 +17,9 @@ use crate::explaining::explain;
 use crate::expression_commands::{compile, judge};
 use crate::first_path;
 use crate::format::{input_format_of, output_format_of};
+use crate::packing::pack;
 use crate::program_commands::{check, run_program};
+use crate::spreading::spread_selector;
 use crate::stop::Stop;
 use command_line::{Failure, Query, Status, read_whole};
 use control_line::{Reason, packet_of_hex};
@@ -66,7 +68,14 @@ fn find_answer<R: Read + Drop>(
             let packet = read_packet(alloc, packet)?;
             judge(alloc, &packet, expression.as_bytes())
         }
+        Query::Pack {
+            from,
+            to,
+            payload,
+            text,
+        } => pack(alloc, from, to, payload, text),
         Query::Explain { words } => explain(alloc, &words),
+        Query::Spread(asked) => spread_selector(alloc, asked.depth, asked.by, &asked.shares),
     }
 }
 
@@ -108,7 +117,7 @@ fn run_input<R: Read + Drop>(
 }
 
 // The packet that the digits write. They are looked at before anything is read.
-fn read_packet(alloc: Global, digits: &str) -> Result<Vec<u8>, Stop>
+pub(crate) fn read_packet(alloc: Global, digits: &str) -> Result<Vec<u8>, Stop>
     ensures spelt { IfOk result (λ packet. SpellsPacket digits.now packet.items) }
     ensures refused { IfErr result (IsStopBy (IsRefusalOfHex digits.now)) }
 {

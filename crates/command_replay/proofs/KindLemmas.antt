@@ -28,16 +28,16 @@ use Rattle.filter_parse.specs.Code.{parse_code}
 use Rattle.member_group.specs.Code.{command_code}
 use Rattle.retire.specs.Code.{publish_code}
 use Rattle.control.specs.Reason.{reason_code}
-use Rattle.control.specs.Reply.{flag, reply_text, spaced_word}
+use Rattle.control.specs.Reply.{flag, malformation_text, reply_text, spaced_word}
 use Rattle.control_line.specs.declared.reason.Reason.{Reason}
 use Rattle.control_line.specs.declared.reason.Reason.TheVariants.{BadForm, Command, LineTooLong, OtherVersion, PacketTooLong, Publishing, Text}
 use Rattle.filter_program.specs.declared.fault.TextFault.TheVariants.{Assembly, Compiling, Expression, OutOfMemory, Words}
-use Rattle.control_line.specs.declared.reply.LineAnswer.TheVariants.{GroupRead, MemberRead, Shown, Swept, WordsRead}
+use Rattle.control_line.specs.declared.reply.LineAnswer.TheVariants.{GroupRead, MemberRead, PacketMalformed, Shown, Swept, WordsRead}
 use Rattle.packet_verdict.specs.declared.verdict.Verdict.TheVariants.{Deliver, Dropped, Malformed, NoGroup, NoMembers}
 use Rattle.control_summary.specs.Kind.{refusal_in, reply_kind}
 use Rattle.control_summary.specs.Verdict.{verdict_at, verdict_in, words_of}
 use Rattle.control_summary.proofs.WordLemmas.{cut_words, one_word}
-use Rattle.command_replay.specs.Counted.{ChangesAreNotCounted, ReadsAreNotCounted, RefusalsAreCounted, ShowsAreNotCounted, SweepsAreNotCounted, VerdictsAreCounted}
+use Rattle.command_replay.specs.Counted.{ChangesAreNotCounted, MalformationsAreCounted, ReadsAreNotCounted, RefusalsAreCounted, ShowsAreNotCounted, SweepsAreNotCounted, VerdictsAreCounted}
 
 -- each byte is above the space
 abbrev pub is_above_space : List ℕ → Bool
@@ -282,15 +282,15 @@ shows_are_not_counted version groups members charge small =
     ∙ shown_at (decimal version) (words_of rest)
 
 -- a reply that reads: `version N`, another word, and more
-read_at : (word : List ℕ) → ((number : List ℕ) (behind : List (List ℕ)) → option_or (verdict_in (codes "version" ∷ (number ∷ (word ∷ behind)))) (refusal_in (codes "version" ∷ (number ∷ (word ∷ behind)))) ≡ None)
-    → Lacks 32 word → (version : ℕ) (text rest : List ℕ) → text ≡ codes "version" ++ 32 ∷ (decimal version ++ 32 ∷ (word ++ 32 ∷ rest)) → reply_kind text ≡ None
-read_at word none lacks version text rest is =
+read_at : (word : List ℕ) (kind : Option (List ℕ)) → ((number : List ℕ) (behind : List (List ℕ)) → option_or (verdict_in (codes "version" ∷ (number ∷ (word ∷ behind)))) (refusal_in (codes "version" ∷ (number ∷ (word ∷ behind)))) ≡ kind)
+    → Lacks 32 word → (version : ℕ) (text rest : List ℕ) → text ≡ codes "version" ++ 32 ∷ (decimal version ++ 32 ∷ (word ++ 32 ∷ rest)) → reply_kind text ≡ kind
+read_at word kind known lacks version text rest is =
     kind_by_words text (codes "version" ∷ (decimal version ∷ (word ∷ words_of rest)))
     (ap words_of is
     ∙ (cut (codes "version") (decimal version ++ 32 ∷ (word ++ 32 ∷ rest)) (lacks-test 32 (codes "version") refl)
     ∙ more (codes "version") _ _ (cut (decimal version) (word ++ 32 ∷ rest) (lacks-number version)
     ∙ more (decimal version) _ _ (cut word rest lacks))))
-    ∙ none (decimal version) (words_of rest)
+    ∙ known (decimal version) (words_of rest)
 
 none_read : (number : List ℕ) (behind : List (List ℕ))
     → (option_or (verdict_in (codes "version" ∷ (number ∷ (codes "group" ∷ behind)))) (refusal_in (codes "version" ∷ (number ∷ (codes "group" ∷ behind)))) ≡ None)
@@ -317,15 +317,29 @@ words_regrouped version place count words = simp append_assoc
 pub reads_are_not_counted : ReadsAreNotCounted
 reads_are_not_counted = (
   λ version index groups key members selector.
-      read_at (codes "group") (λ number behind. (none_read number behind).0) (lacks-test 32 (codes "group") refl) version (reply_text (GroupRead version index groups key members selector)) _
+      read_at (codes "group") None (λ number behind. (none_read number behind).0) (lacks-test 32 (codes "group") refl) version (reply_text (GroupRead version index groups key members selector)) _
       (group_regrouped (decimal version) (decimal index) (decimal groups) (endpoint_text key) (decimal members) (decimal selector)),
   λ version index members id to filter locked.
-      read_at (codes "member") (λ number behind. (none_read number behind).1) (lacks-test 32 (codes "member") refl) version (reply_text (MemberRead version index members id to filter locked)) _
+      read_at (codes "member") None (λ number behind. (none_read number behind).1) (lacks-test 32 (codes "member") refl) version (reply_text (MemberRead version index members id to filter locked)) _
       (member_regrouped (decimal version) (decimal index) (decimal members) (decimal id) (endpoint_text to) (decimal filter) (decimal (flag locked))),
   λ version place count words.
-      read_at (codes "words") (λ number behind. (none_read number behind).2) (lacks-test 32 (codes "words") refl) version (reply_text (WordsRead version place count words)) _
+      read_at (codes "words") None (λ number behind. (none_read number behind).2) (lacks-test 32 (codes "words") refl) version (reply_text (WordsRead version place count words)) _
       (words_regrouped (decimal version) (decimal place) (decimal count) (flat_map spaced_word (take (count - place) words))),
 )
+
+-- a malformed packet that a line judges
+malformed_at : (number : List ℕ) (behind : List (List ℕ))
+    → option_or (verdict_in (codes "version" ∷ (number ∷ (codes "malformed" ∷ behind)))) (refusal_in (codes "version" ∷ (number ∷ (codes "malformed" ∷ behind)))) ≡ Some (codes "malformed")
+unfolding verdict_in verdict_at refusal_in
+malformed_at number behind = refl
+
+malformed_regrouped : (version why : List ℕ) → codes "version " ++ version ++ codes " malformed " ++ why ≡ codes "version" ++ 32 ∷ (version ++ 32 ∷ (codes "malformed" ++ 32 ∷ why))
+malformed_regrouped version why = simp append_assoc
+
+pub malformations_are_counted : MalformationsAreCounted
+malformations_are_counted version why =
+    read_at (codes "malformed") (Some (codes "malformed")) malformed_at (lacks-test 32 (codes "malformed") refl) version (reply_text (PacketMalformed version why)) (malformation_text why)
+    (malformed_regrouped (decimal version) (malformation_text why))
 
 swept_at : (behind : List (List ℕ)) → option_or (verdict_in (codes "reclaimed" ∷ behind)) (refusal_in (codes "reclaimed" ∷ behind)) ≡ None
 unfolding verdict_in refusal_in

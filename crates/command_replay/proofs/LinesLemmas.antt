@@ -11,13 +11,15 @@ use Rattle.ipv4_fields.proofs.TextLemmas.{lacks-append, lacks-cons, lacks-decima
 use Rattle.control.specs.Endpoint.{endpoint_text}
 use Rattle.fault_code.specs.Code.{name_text, place_text}
 use Rattle.control.specs.Reason.{reason_code, refusal_text}
-use Rattle.control.specs.Reply.{flag, reply_text, spaced_word}
-use Rattle.control.specs.Script.{AreAnswered, IsRequest, RepliesTo, Standing, at_start, judged_text, no_request, of_nothing, of_requests, one_more, text_value, to_control, to_long_packet, to_packet, verdict_text}
+use Rattle.control.specs.Reply.{flag, judged_text, malformation_text, reply_text, spaced_word, verdict_text}
+use Rattle.control.specs.Script.{AreAnswered, IsRequest, RepliesTo, Standing, at_start, no_request, of_nothing, of_requests, one_more, text_value, to_control, to_long_packet, to_packet}
 use Rattle.dispatch.specs.Verdict.{verdict}
 use Rattle.control_line.specs.declared.reason.Reason.{Reason}
 use Rattle.control_line.specs.declared.reason.Reason.TheVariants.{PacketTooLong}
 use Rattle.control_line.specs.declared.reply.LineAnswer.{LineAnswer}
-use Rattle.control_line.specs.declared.reply.LineAnswer.TheVariants.{GroupRead, LineRefused, MemberRead, Published, Refused, Shown, Swept, WordsRead}
+use Rattle.control_line.specs.declared.reply.LineAnswer.TheVariants.{GroupRead, LineRefused, MemberRead, PacketJudged, PacketMalformed, Published, Refused, Shown, Swept, WordsRead}
+use Rattle.packet_verdict.specs.declared.malformed.Malformation.{Malformation}
+use Rattle.packet_verdict.specs.declared.malformed.Malformation.TheVariants as broken
 use Rattle.packet_verdict.specs.declared.verdict.Verdict.{Verdict}
 use Rattle.packet_verdict.specs.declared.verdict.Verdict.TheVariants.{Deliver, Dropped, Malformed, NoGroup, NoMembers}
 use Rattle.control_summary.specs.Summary.{lines_of}
@@ -87,6 +89,41 @@ lacks-program : (program : List ℕ) → Lacks 10 (flat_map spaced_word program)
 lacks-program [] = λ k inside. absurd (omega arith)
 lacks-program (word ∷ program) = both (spaced_word word) (flat_map spaced_word program) (both (codes " ") (hex_digits 16 word) blank (lacks-hex 16 word)) (lacks-program program)
 
+-- a name, the group's key and the member's number
+with_member : (name key id : List ℕ) → Lacks 10 name → Lacks 10 key → Lacks 10 id → Lacks 10 (name ++ key ++ codes " " ++ id)
+with_member name key id first second last = spaced (name ++ key) id (both name key first second) last
+
+delivered : (key id receiver bytes : List ℕ) → Lacks 10 key → Lacks 10 id → Lacks 10 receiver → Lacks 10 bytes
+    → Lacks 10 (codes "deliver " ++ key ++ codes " " ++ id ++ codes " " ++ receiver ++ codes " " ++ bytes)
+delivered key id receiver bytes first second third last =
+    let text : List ℕ = codes "deliver " ++ key ++ codes " " ++ id in
+    let member = with_member (codes "deliver ") key id (lacks-test 10 (codes "deliver ") refl) first second in
+    spaced (text ++ codes " " ++ receiver) bytes (spaced text receiver member third) last
+
+lacks-verdict : (judged : Verdict) → Lacks 10 (verdict_text judged)
+lacks-verdict Malformed = lacks-test 10 (codes "malformed") refl
+lacks-verdict NoGroup = lacks-test 10 (codes "nogroup") refl
+lacks-verdict NoMembers = lacks-test 10 (codes "nomembers") refl
+lacks-verdict (Dropped key id) =
+    with_member (codes "dropped ") (endpoint_text key) (decimal id) (lacks-test 10 (codes "dropped ") refl) (lacks-endpoint 10 key (omega arith)) (lacks-number id)
+lacks-verdict (Deliver key id to bytes) =
+    delivered (endpoint_text key) (decimal id) (endpoint_text to) (decimal bytes) (lacks-endpoint 10 key (omega arith)) (lacks-number id) (lacks-endpoint 10 to (omega arith)) (lacks-number bytes)
+
+judged : (version told : List ℕ) → Lacks 10 version → Lacks 10 told → Lacks 10 (codes "version " ++ version ++ codes " " ++ told)
+judged version told first last = spaced (codes "version " ++ version) told (both (codes "version ") version (lacks-test 10 (codes "version ") refl) first) last
+
+lacks-judged : (version : ℕ) (told : Verdict) → Lacks 10 (judged_text version told)
+lacks-judged version told = judged (decimal version) (verdict_text told) (lacks-number version) (lacks-verdict told)
+
+lacks-malformation : (why : Malformation) → Lacks 10 (malformation_text why)
+lacks-malformation broken.Short = lacks-test 10 (codes "short") refl
+lacks-malformation broken.Version = lacks-test 10 (codes "version") refl
+lacks-malformation broken.Header = lacks-test 10 (codes "header") refl
+lacks-malformation broken.Length = lacks-test 10 (codes "length") refl
+lacks-malformation broken.Protocol = lacks-test 10 (codes "protocol") refl
+lacks-malformation broken.Fragment = lacks-test 10 (codes "fragment") refl
+lacks-malformation broken.UdpLength = lacks-test 10 (codes "udplength") refl
+
 lacks-answer : (answer : LineAnswer) → Lacks 10 (reply_text answer)
 lacks-answer (Refused reason) = lacks-refusal reason
 lacks-answer (LineRefused number reason) = with_number (refusal_text reason) (codes " line ") number (lacks-refusal reason) (lacks-test 10 (codes " line ") refl)
@@ -124,34 +161,13 @@ lacks-answer (WordsRead version place count words) =
     let lacks_place = with_number begun (codes " words ") place (named (codes "version ") version (lacks-test 10 (codes "version ") refl)) (lacks-test 10 (codes " words ") refl) in
     let lacks_count = with_number with_place (codes " of ") count lacks_place (lacks-test 10 (codes " of ") refl) in
     both with_count (flat_map spaced_word (take (count - place) words)) lacks_count (lacks-program (take (count - place) words))
+lacks-answer (PacketJudged version told) = lacks-judged version told
+lacks-answer (PacketMalformed version why) =
+    let begun : List ℕ = codes "version " ++ decimal version in
+    let lacks_name = both begun (codes " malformed ") (named (codes "version ") version (lacks-test 10 (codes "version ") refl)) (lacks-test 10 (codes " malformed ") refl) in
+    both (begun ++ codes " malformed ") (malformation_text why) lacks_name (lacks-malformation why)
 lacks-answer (Swept reclaimed) =
     swept (decimal reclaimed.first) (decimal reclaimed.count) (lacks-number reclaimed.first) (lacks-number reclaimed.count)
-
--- a name, the group's key and the member's number
-with_member : (name key id : List ℕ) → Lacks 10 name → Lacks 10 key → Lacks 10 id → Lacks 10 (name ++ key ++ codes " " ++ id)
-with_member name key id first second last = spaced (name ++ key) id (both name key first second) last
-
-delivered : (key id receiver bytes : List ℕ) → Lacks 10 key → Lacks 10 id → Lacks 10 receiver → Lacks 10 bytes
-    → Lacks 10 (codes "deliver " ++ key ++ codes " " ++ id ++ codes " " ++ receiver ++ codes " " ++ bytes)
-delivered key id receiver bytes first second third last =
-    let text : List ℕ = codes "deliver " ++ key ++ codes " " ++ id in
-    let member = with_member (codes "deliver ") key id (lacks-test 10 (codes "deliver ") refl) first second in
-    spaced (text ++ codes " " ++ receiver) bytes (spaced text receiver member third) last
-
-lacks-verdict : (judged : Verdict) → Lacks 10 (verdict_text judged)
-lacks-verdict Malformed = lacks-test 10 (codes "malformed") refl
-lacks-verdict NoGroup = lacks-test 10 (codes "nogroup") refl
-lacks-verdict NoMembers = lacks-test 10 (codes "nomembers") refl
-lacks-verdict (Dropped key id) =
-    with_member (codes "dropped ") (endpoint_text key) (decimal id) (lacks-test 10 (codes "dropped ") refl) (lacks-endpoint 10 key (omega arith)) (lacks-number id)
-lacks-verdict (Deliver key id to bytes) =
-    delivered (endpoint_text key) (decimal id) (endpoint_text to) (decimal bytes) (lacks-endpoint 10 key (omega arith)) (lacks-number id) (lacks-endpoint 10 to (omega arith)) (lacks-number bytes)
-
-judged : (version told : List ℕ) → Lacks 10 version → Lacks 10 told → Lacks 10 (codes "version " ++ version ++ codes " " ++ told)
-judged version told first last = spaced (codes "version " ++ version) told (both (codes "version ") version (lacks-test 10 (codes "version ") refl) first) last
-
-lacks-judged : (version : ℕ) (told : Verdict) → Lacks 10 (judged_text version told)
-lacks-judged version told = judged (decimal version) (verdict_text told) (lacks-number version) (lacks-verdict told)
 
 lacks-reply : (now : Standing) (line reply : List ℕ) (next : Standing) → RepliesTo now line reply next → Lacks 10 reply
 lacks-reply now line _ _ (to_control answer next no_packet answers comes) = lacks-answer answer

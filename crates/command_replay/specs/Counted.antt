@@ -4,10 +4,10 @@ use Rattle.ipv4_fields.specs.declared.endpoint.Endpoint.{Endpoint}
 use Rattle.control.specs.Endpoint.{IsEndpoint, endpoint_text}
 use Rattle.fault_code.specs.Code.{name_text}
 use Rattle.control.specs.Reason.{reason_code, refusal_text}
-use Rattle.control.specs.Reply.{reply_text}
-use Rattle.control.specs.Script.{judged_text}
+use Rattle.control.specs.Reply.{judged_text, reply_text}
 use Rattle.control_line.specs.declared.reason.Reason.{Reason}
-use Rattle.control_line.specs.declared.reply.LineAnswer.TheVariants.{GroupRead, LineRefused, MemberRead, Published, Shown, Swept, WordsRead}
+use Rattle.control_line.specs.declared.reply.LineAnswer.TheVariants.{GroupRead, LineRefused, MemberRead, PacketMalformed, Published, Shown, Swept, WordsRead}
+use Rattle.packet_verdict.specs.declared.malformed.Malformation.{Malformation}
 use Rattle.packet_verdict.specs.declared.verdict.Verdict.{Verdict}
 use Rattle.packet_verdict.specs.declared.verdict.Verdict.TheVariants.{Deliver, Dropped, Malformed, NoGroup, NoMembers}
 use Rattle.read_section.specs.declared.operator.Reclaimed.{Reclaimed}
@@ -34,6 +34,10 @@ NamesMember judged = Unit {0}
 -- the reply to a packet is counted by its verdict
 abbrev pub VerdictsAreCounted : Type 0
 VerdictsAreCounted = (version : ℕ) (judged : Verdict) → version < 2 ^ 64 → NamesMember judged → reply_kind (judged_text version judged) ≡ Some (verdict_kind judged)
+
+-- so is the reply to a line that judges a malformed packet; for another packet it is the reply to a packet
+abbrev pub MalformationsAreCounted : Type 0
+MalformationsAreCounted = (version : ℕ) (why : Malformation) → reply_kind (reply_text (PacketMalformed version why)) ≡ Some (verdict_kind Malformed)
 
 -- the reply that refuses a request is counted by its code, also if a line of a block is refused
 abbrev pub RefusalsAreCounted : Type 0

@@ -11,6 +11,7 @@ use std::io::Write;
 use std::marker::{Brand, Model, PhantomData};
 
 /// What a writer held as a `CountedOutput` was made over it. The type tells it, since whoever writes tells only what is written.
+/// The reason: docs/INTERNALS.md, "Texts and types that only contracts see".
 pub(crate) trait Opened {
     ghost opened: { Option (List ℕ) };
 }

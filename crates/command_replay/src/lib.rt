@@ -3,7 +3,7 @@
 //! `run_replay` gives the script to `control::replay`, and counts the replies if a summary is asked for.
 #![tactic(auto)]
 
-ghost use Rattle.command_replay.specs.Counted.{ChangesAreNotCounted, ReadsAreNotCounted, RefusalsAreCounted, ShowsAreNotCounted, SweepsAreNotCounted, VerdictsAreCounted};
+ghost use Rattle.command_replay.specs.Counted.{ChangesAreNotCounted, MalformationsAreCounted, ReadsAreNotCounted, RefusalsAreCounted, ShowsAreNotCounted, SweepsAreNotCounted, VerdictsAreCounted};
 ghost use Rattle.command_replay.specs.Lines.{LinesAreReplies};
 
 mod counted_output;
@@ -13,11 +13,12 @@ mod unwritten;
 
 pub use replaying::run_replay;
 
-/// Law: the kind of the reply to a packet is its verdict, the kind of the reply that refuses a request is its code, and other replies
-/// have no kind; and the lines of a script's text, which a summary counts by their kinds, are the replies to the script's requests, one
+/// Law: the kind of the reply to a packet is its verdict, also if a line judges it, the kind of the reply that refuses a request is its
+/// code, and other replies have no kind; and the lines of a script's text, which a summary counts by their kinds, are the replies to the script's requests, one
 /// to each, in their order. Verdicts are those of versions below 2^64, of keys that are endpoints, and of IDs below 2^32. It runs nothing.
 pub fn replies_are_counted()
     ensures verdicts { VerdictsAreCounted }
+    ensures malformations { MalformationsAreCounted }
     ensures refusals { RefusalsAreCounted }
     ensures changes { ChangesAreNotCounted }
     ensures shows { ShowsAreNotCounted }

@@ -1,13 +1,13 @@
 -- How commands fail, and what they have written then.
 use Rattle.std.proofs.Common.{◌≡◌, ◌∙◌, ◌⊎◌, Bool, Err, List, None, Ok, Option, Result, Some, [], ap, false, inl, inr, refl, subst, sym, true, ℕ}
-use Rattle.std.specs.Prelude.{IfErr, IfOk, OnErr}
+use Rattle.std.specs.Prelude.{IfErr, IfOk, IfSome, OnErr}
 use Rattle.std.specs.Result.{result_ok}
 use Rattle.command_line.specs.declared.command.Waiting.{Waiting}
 use Rattle.clap.specs.Words.{HasKind, IsAmong, Text, kind_of}
 use Rattle.clap.specs.declared.error.Error.{Error}
 use Rattle.clap.specs.declared.error.kind.ErrorKind.TheVariants as kind
-use Rattle.command_line.specs.CommandLine.{Command, Request, check, command_in, compile, explain, faults_in, first, judge, packets, query_request, replay, returning, run, waiting, waiting_of}
-use Rattle.command_line.specs.Ending.{AppendsBeginning, line_of}
+use Rattle.command_line.specs.CommandLine.{Command, Request, check, command_in, compile, explain, faults_in, first, judge, pack, packets, query_request, replay, returning, run, spread, waiting, waiting_of}
+use Rattle.command_line.specs.Ending.{AppendsBeginning, IsStatus, line_of}
 use Rattle.command_line.specs.declared.ending.Status.{Status}
 use Rattle.command_line.specs.declared.ending.Status.TheVariants.{Done, Failed, Misused}
 use Rattle.command_line.specs.declared.command.Query.{Query}
@@ -44,8 +44,10 @@ never_failed (check name) known before after writes = writes.1
 never_failed (compile expression name) known before after writes = writes.1
 never_failed (run digits name) known before after writes = writes.1
 never_failed (judge digits expression) known before after writes = writes.1
+never_failed (pack source destination digits text) known before after writes = writes.1
 never_failed (explain code) known before after writes = writes.1
-never_failed packets known before after writes = writes.2.text_is
+never_failed (packets unwrap) known before after writes = writes.2.text_is
+never_failed (spread depth by shares) known before after writes = writes.1
 never_failed (replay summary quiet) known before after writes = let done = writes.done in cc
 
 pub never_misused : (request : Request) (known before after : Option (List ℕ)) → Writes request known Misused before after → ⊥
@@ -54,8 +56,10 @@ never_misused (check name) known before after writes = writes.1
 never_misused (compile expression name) known before after writes = writes.1
 never_misused (run digits name) known before after writes = writes.1
 never_misused (judge digits expression) known before after writes = writes.1
+never_misused (pack source destination digits text) known before after writes = writes.1
 never_misused (explain code) known before after writes = writes.1
-never_misused packets known before after writes = writes.2.text_is
+never_misused (packets unwrap) known before after writes = writes.2.text_is
+never_misused (spread depth by shares) known before after writes = writes.1
 never_misused (replay summary quiet) known before after writes = let done = writes.done in cc
 
 query_before : (it : Query) (failure : Failure) (known before after : Option (List ℕ)) → QueryWritesBefore failure before after
@@ -65,7 +69,9 @@ query_before (query.Check _) failure known before after is = is
 query_before (query.Compile _ _) failure known before after is = is
 query_before (query.Run _ _) failure known before after is = is
 query_before (query.Judge _ _) failure known before after is = is
+query_before (query.Pack _ _ _ _) failure known before after is = is
 query_before (query.Explain _) failure known before after is = is
+query_before (query.Spread _) failure known before after is = is
 
 pub query_fails : (it : Query) (result : Result Status Failure) (known before after : Option (List ℕ)) → IfErr result (λ failure. QueryWritesBefore failure before after)
     → IfErr result (λ failure. WritesBefore (query_request it) failure known before after)
@@ -89,8 +95,10 @@ before_anything (check name) known before = refl
 before_anything (compile expression name) known before = refl
 before_anything (run digits name) known before = refl
 before_anything (judge digits expression) known before = refl
+before_anything (pack source destination digits text) known before = refl
 before_anything (explain code) known before = refl
-before_anything packets known before = inl refl
+before_anything (packets unwrap) known before = inl refl
+before_anything (spread depth by shares) known before = refl
 before_anything (replay false false) known before = begins_with_none known before
 before_anything (replay true false) known before = inl (begins_with_none known before)
 before_anything (replay false true) known before = refl
@@ -180,3 +188,8 @@ pub asks_to_wait : (words : List Text) (ended : Result ℕ Waiting) → IfErr en
     → result_ok ended ≡ None → AskToWait words
 asks_to_wait words (Ok status) waits none = absurd cc
 asks_to_wait words (Err command) waits none = (waits.0, (waiting_of command, waits.1))
+
+-- the status, if there is one
+pub status_of : (ended : Result ℕ Waiting) (status : Option ℕ) → status ≡ result_ok ended → IfOk ended IsStatus → IfSome status IsStatus
+status_of (Ok code) status same is = subst (λ (s : Option ℕ). IfSome s IsStatus) (sym same) is
+status_of (Err command) status same is = subst (λ (s : Option ℕ). IfSome s IsStatus) (sym same) tt

@@ -14,18 +14,18 @@ use Rattle.packet_capture.specs.Packets.{TellsCounts, WritesBeginning, WritesFir
 use Rattle.command_query.specs.Query.{QueryWritesBefore, ReadsInput, WritesAnswer}
 
 -- the input was read to its end, and the text of that file was written, and nothing else
-abbrev pub WritesPackets : Option (List ℕ) → Status → Option (List ℕ) → Option (List ℕ) → Type 0
-WritesPackets known status before after = (file : List ℕ) × IsInput known file × WritesText file status before after
+abbrev pub WritesPackets : Option ℕ → Option (List ℕ) → Status → Option (List ℕ) → Option (List ℕ) → Type 0
+WritesPackets unwrap known status before after = (file : List ℕ) × IsInput known file × WritesText unwrap file status before after
 
 -- the input was read to its end, and a beginning of the counts of that file was told, and nothing else; nothing where its header is at
 -- fault
-abbrev pub TellsCountsOf : Option (List ℕ) → Option (List ℕ) → Option (List ℕ) → Type 0
-TellsCountsOf known before after = (file : List ℕ) × IsInput known file × TellsCounts file before after
+abbrev pub TellsCountsOf : Option ℕ → Option (List ℕ) → Option (List ℕ) → Option (List ℕ) → Type 0
+TellsCountsOf unwrap known before after = (file : List ℕ) × IsInput known file × TellsCounts unwrap file before after
 
 -- what a command has written that ends with a status
 abbrev pub Writes : Request → Option (List ℕ) → Status → Option (List ℕ) → Option (List ℕ) → Type 0
 Writes (replay summary quiet) known status before after = WritesScript summary quiet known status before after
-Writes packets known status before after = WritesPackets known status before after
+Writes (packets unwrap) known status before after = WritesPackets unwrap known status before after
 Writes request known status before after = WritesAnswer request known status before after
 
 -- the same of the command that the words name
@@ -51,22 +51,22 @@ MayFailBy words RulesChanged = ⊥
 -- ---- what a command that failed has written
 
 -- of the packets of the input, those of some first records were written, and nothing else
-abbrev pub WritesFirstPackets : Option (List ℕ) → Option (List ℕ) → Option (List ℕ) → Type 0
-WritesFirstPackets known before after = (file : List ℕ) × IsInput known file × WritesFirst file before after
+abbrev pub WritesFirstPackets : Option ℕ → Option (List ℕ) → Option (List ℕ) → Option (List ℕ) → Type 0
+WritesFirstPackets unwrap known before after = (file : List ℕ) × IsInput known file × WritesFirst unwrap file before after
 
 -- a beginning of the text of the input was written, and nothing else
-abbrev pub BeginsPackets : Option (List ℕ) → Option (List ℕ) → Option (List ℕ) → Type 0
-BeginsPackets known before after = (file : List ℕ) × IsInput known file × WritesBeginning file before after
+abbrev pub BeginsPackets : Option ℕ → Option (List ℕ) → Option (List ℕ) → Option (List ℕ) → Type 0
+BeginsPackets unwrap known before after = (file : List ℕ) × IsInput known file × WritesBeginning unwrap file before after
 
-abbrev pub PacketsWriteBefore : Failure → Option (List ℕ) → Option (List ℕ) → Option (List ℕ) → Type 0
-PacketsWriteBefore OutOfMemory known before after = (after ≡ before) ⊎ WritesFirstPackets known before after
-PacketsWriteBefore WriteFailed known before after = BeginsPackets known before after
-PacketsWriteBefore failure known before after = QueryWritesBefore failure before after
+abbrev pub PacketsWriteBefore : Option ℕ → Failure → Option (List ℕ) → Option (List ℕ) → Option (List ℕ) → Type 0
+PacketsWriteBefore unwrap OutOfMemory known before after = (after ≡ before) ⊎ WritesFirstPackets unwrap known before after
+PacketsWriteBefore unwrap WriteFailed known before after = BeginsPackets unwrap known before after
+PacketsWriteBefore unwrap failure known before after = QueryWritesBefore failure before after
 
 -- what was written before each failure: what is promised of a failed write is promised of `replay` and `packets` alone
 abbrev pub WritesBefore : Request → Failure → Option (List ℕ) → Option (List ℕ) → Option (List ℕ) → Type 0
 WritesBefore (replay summary quiet) failure known before after = ReplayWritesBefore summary quiet failure known before after
-WritesBefore packets failure known before after = PacketsWriteBefore failure known before after
+WritesBefore (packets unwrap) failure known before after = PacketsWriteBefore unwrap failure known before after
 WritesBefore request failure known before after = QueryWritesBefore failure before after
 
 -- the same of the command that words without a fault name; of one that may wait, nothing was written

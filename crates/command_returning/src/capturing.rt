@@ -10,20 +10,21 @@ use packet_capture::print_packets;
 use std::alloc::Global;
 use std::io::{Read, Write};
 
-/// Writes the packets of the file that the input is, and its counts to `errs`.
+/// Writes the packets of the file that the input is, or those that datagrams to a port carry, and its counts to `errs`.
 pub fn run_packets<R: Read + Drop, W: Write, E: Write>(
     alloc: Global,
+    unwrap: Option<u16>,
     input: R,
     out: &mut W,
     errs: &mut E,
 ) -> Result<Status, Failure>
-    ensures failed { IfErr result (MayFail packets) }
+    ensures failed { IfErr result (MayFail (packets unwrap)) }
     ensures failed_written { IfErr result (λ failure.
-        WritesBefore packets failure (R.remaining input) (W.contents out.old) (W.contents out.new)) }
-    ensures written { IfOk result (λ status. WritesPackets (R.remaining input) status (W.contents out.old) (W.contents out.new)) }
-    ensures counted { OnOk result (TellsCountsOf (R.remaining input) (E.contents errs.old) (E.contents errs.new)) }
+        WritesBefore (packets unwrap) failure (R.remaining input) (W.contents out.old) (W.contents out.new)) }
+    ensures written { IfOk result (λ status. WritesPackets unwrap (R.remaining input) status (W.contents out.old) (W.contents out.new)) }
+    ensures counted { OnOk result (TellsCountsOf unwrap (R.remaining input) (E.contents errs.old) (E.contents errs.new)) }
     ensures untold { OnErr result (errs.new ≡ errs.old) }
 {
     let file = read_whole(alloc, input)?;
-    print_packets(alloc, &file, out, errs)
+    print_packets(alloc, unwrap, &file, out, errs)
 }

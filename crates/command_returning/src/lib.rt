@@ -1,10 +1,10 @@
 //! The commands of words and texts, from the words to the output and the exit status (docs/COMMANDS.md).
 //!
-//! `run_returning` reads the words, runs `first`, `check`, `compile`, `run`, `explain`, `replay` or `packets` over any input and outputs,
-//! and returns a command that may wait to its caller. `tool` is the same without that command.
+//! `run_returning` reads the words, runs `first`, `check`, `compile`, `run`, `pack`, `explain`, `spread`, `replay` or `packets` over any
+//! input and outputs, and returns a command that may wait to its caller. `tool` is the same without that command.
 #![tactic(auto)]
 
-ghost use Rattle.std.specs.Prelude.{◌≡◌, ◌≢◌, ◌⊎◌, [], IfErr, IfOk, IfSome, IsErr, None, OnErr, OnOk, Ok, Err, Some, map, string_bytes};
+ghost use Rattle.std.specs.Prelude.{◌≡◌, ◌≢◌, ◌⊎◌, [], IfErr, IfOk, IfSome, IsErr, None, OnErr, OnOk, Ok, Err, Option, Some, map, string_bytes, ℕ};
 ghost use Rattle.clap.specs.Words.{kind_of};
 ghost use Rattle.command_line.specs.CommandLine.{AsksForText, HasMisuse, command_in, faults_in, packets, request_of, returning, waiting, waiting_of};
 ghost use Rattle.command_line.specs.Ending.{IsStatus, code_of};
@@ -53,10 +53,10 @@ pub fn run_returning<'a, R: Read + Drop, W: Write, E: Write>(
         → EndsInFailure (map string_bytes words.now) (R.remaining input)
         (W.contents out.old) (W.contents out.new) (E.contents errs.old) (E.contents errs.new) }
     ensures no_errors { IsErr result ⊎ (result ≡ Ok (code_of Status.Done)) ⊎ (result ≡ Ok (code_of Status.Refused))
-        → (command_in (map string_bytes words.now) ≢ Some (returning packets)) → errs.new ≡ errs.old }
+        → ((port : Option ℕ) → command_in (map string_bytes words.now) ≢ Some (returning (packets port))) → errs.new ≡ errs.old }
     ensures counted { (result ≡ Ok (code_of Status.Done)) ⊎ (result ≡ Ok (code_of Status.Refused))
-        → faults_in (map string_bytes words.now) ≡ [] → command_in (map string_bytes words.now) ≡ Some (returning packets)
-        → TellsCountsOf (R.remaining input) (E.contents errs.old) (E.contents errs.new) }
+        → faults_in (map string_bytes words.now) ≡ [] → (port : Option ℕ) → command_in (map string_bytes words.now) ≡ Some (returning (packets port))
+        → TellsCountsOf port (R.remaining input) (E.contents errs.old) (E.contents errs.new) }
 {
     match read_words(alloc, words) {
         Ok(Subcommand::Returning(command)) => {
@@ -98,10 +98,10 @@ pub fn tool<R: Read + Drop, W: Write, E: Write>(
         → EndsInFailure (map string_bytes words.now) (R.remaining input)
         (W.contents out.old) (W.contents out.new) (E.contents errs.old) (E.contents errs.new) }
     ensures no_errors { (result ≡ None) ⊎ (result ≡ Some (code_of Status.Done)) ⊎ (result ≡ Some (code_of Status.Refused))
-        → (command_in (map string_bytes words.now) ≢ Some (returning packets)) → errs.new ≡ errs.old }
+        → ((port : Option ℕ) → command_in (map string_bytes words.now) ≢ Some (returning (packets port))) → errs.new ≡ errs.old }
     ensures counted { (result ≡ Some (code_of Status.Done)) ⊎ (result ≡ Some (code_of Status.Refused))
-        → faults_in (map string_bytes words.now) ≡ [] → command_in (map string_bytes words.now) ≡ Some (returning packets)
-        → TellsCountsOf (R.remaining input) (E.contents errs.old) (E.contents errs.new) }
+        → faults_in (map string_bytes words.now) ≡ [] → (port : Option ℕ) → command_in (map string_bytes words.now) ≡ Some (returning (packets port))
+        → TellsCountsOf port (R.remaining input) (E.contents errs.old) (E.contents errs.new) }
 {
     run_returning(alloc, words, input, out, errs).ok()
 }
@@ -114,8 +114,8 @@ fn run_command<R: Read + Drop, W: Write, E: Write>(
     out: &mut W,
     errs: &mut E,
 ) -> Result<Status, Failure>
-    ensures counted { OnOk result (request_of command.entry ≡ packets → TellsCountsOf (R.remaining input) (E.contents errs.old) (E.contents errs.new)) }
-    ensures no_errors { OnOk result ((request_of command.entry ≢ packets) → errs.new ≡ errs.old) }
+    ensures counted { OnOk result ((port : Option ℕ) → request_of command.entry ≡ packets port → TellsCountsOf port (R.remaining input) (E.contents errs.old) (E.contents errs.new)) }
+    ensures no_errors { OnOk result (((port : Option ℕ) → request_of command.entry ≢ packets port) → errs.new ≡ errs.old) }
     ensures untold { OnErr result (errs.new ≡ errs.old) }
     ensures failed { IfErr result (MayFail (request_of command.entry)) }
     ensures failed_written { IfErr result (λ failure.
@@ -126,7 +126,7 @@ fn run_command<R: Read + Drop, W: Write, E: Write>(
     match command {
         Returning::Query(query) => run_query(alloc, query, input, out),
         Returning::Replay { summary, quiet } => run_replay(alloc, summary, quiet, input, out),
-        Returning::Packets => run_packets(alloc, input, out, errs),
+        Returning::Packets { unwrap } => run_packets(alloc, unwrap, input, out, errs),
     }
 }
 

@@ -1,5 +1,5 @@
 -- What the counters that were read make of `metrics` and `top`.
-use Rattle.std.proofs.Common.{◌≡◌, ◌≢◌, ◌∙◌, ◌≤◌, ◌<◌, ◌+◌, ◌++◌, ◌∷◌, ◌⊎◌, Bool, List, None, Option, Some, [], ap, append-nil, append_assoc, inl, inr, refl, subst, sym, ℕ}
+use Rattle.std.proofs.Common.{◌≡◌, ◌∙◌, ◌<◌, ◌+◌, ◌++◌, Bool, List, None, Option, Some, [], ap, append-nil, append_assoc, inr, refl, subst, sym, ℕ}
 use Rattle.std.specs.Prelude.{Err, IfErr, IsErrAnd, Ok, OnOk, Result}
 use Rattle.std.specs.Borrow.{Bor}
 use Rattle.std.specs.Io.KnownBytes.{Appends}
@@ -15,7 +15,7 @@ use Rattle.control_client.specs.Wire.{peer_of}
 use Rattle.control_client.specs.declared.device.Peer.{Peer}
 use Rattle.control_rules.specs.History.{ClientValue, History}
 use Rattle.control_counters.specs.Frame.{IsFrameOf}
-use Rattle.control_counters.specs.Reading.{AreCountersOf, IsKnown}
+use Rattle.control_counters.specs.Reading.{AreCountersOf}
 use Rattle.control_counters.specs.Watching.{Watches}
 use Rattle.counter_text.specs.Screen.{screen_text}
 use Rattle.counter_text.specs.declared.counters.Counters.{Counters}

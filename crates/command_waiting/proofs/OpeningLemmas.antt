@@ -1,5 +1,5 @@
 -- What is read of a rules file is refused, or makes a configuration, as the whole file does.
-use Rattle.std.proofs.Common.{◌≡◌, ◌≢◌, ◌∙◌, ◌<◌, ◌≤◌, ◌⊎◌, List, None, Option, Some, ap, arith, inl, inr, is_some, length, refl, subst, take, true, ℕ}
+use Rattle.std.proofs.Common.{◌≡◌, ◌∙◌, ◌<◌, ◌≤◌, ◌⊎◌, List, None, Option, Some, ap, arith, inl, inr, is_some, length, refl, subst, take, true, ℕ}
 use Rattle.std.proofs.lemmas.Bool.{cases_lt}
 use Rattle.std.proofs.lemmas.List.{length-take-le, take_all}
 use Rattle.std.specs.Io.KnownBytes.{Appends}
@@ -20,7 +20,6 @@ use Rattle.control_line.specs.declared.reason.Reason.{Reason}
 use Rattle.control_line.specs.declared.rules_file.RulesFault.TheVariants as fault
 use Rattle.control_line.specs.Rules.{IsConfigOf, IsFaultOfFile, RefusesFileBy, bad_line, long, too_big}
 use Rattle.control_line.proofs.ChangeLemmas.{charged_alike}
-use Rattle.serve_udp.specs.Service.{IsServeFailure, WritesReadyOrNothing}
 use Rattle.command_waiting.specs.Opening.{EndsUnread, IsMadeFrom, RefusesRules, file_refusal_text}
 use Rattle.command_waiting.specs.Serving.{FailsServing, told_alone}
 use Rattle.command_waiting.specs.Waiting.{EndsInServeFailure, IsAddress, IsControl}

@@ -3,7 +3,7 @@ use Rattle.std.proofs.Common.{◌≡◌, ◌++◌, List, Option, [], codes, inl,
 use Rattle.std.proofs.KnownBytes.{Appends-nil}
 use Rattle.command_line.specs.Ending.{AppendsBeginning, line_of}
 use Rattle.command_line.specs.declared.ending.Failure.{Failure}
-use Rattle.command_line.specs.declared.ending.Failure.TheVariants.{BindFailed, NoAnswer, OutOfMemory, ReadFailed, RulesChanged}
+use Rattle.command_line.specs.declared.ending.Failure.TheVariants.{BindFailed, OutOfMemory}
 use Rattle.serve_udp.specs.Service.{IsServeFailure}
 use Rattle.serve_udp.specs.declared.bound.BindFault.{BindFault}
 use Rattle.command_waiting.specs.Serving.{FailsServing, IsBindLine, socket_name, told_after_why, told_alone}

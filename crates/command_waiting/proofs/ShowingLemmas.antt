@@ -17,7 +17,7 @@ use Rattle.config_diff.specs.Words.{words_config}
 use Rattle.control_rules.specs.Load.{IsDifference, Loads}
 use Rattle.control_rules.specs.Rules.{rules_file}
 use Rattle.control_client.specs.declared.device.Peer.{Peer}
-use Rattle.command_waiting.specs.Reported.{IsTold, told_after_trouble, told_alone}
+use Rattle.command_waiting.specs.Reported.{IsTold, told_alone}
 use Rattle.command_line.specs.ControlAddress.{IsNoControlAddress, SpellsControlAddress}
 use Rattle.command_line.specs.declared.control_address.ControlAddress.{ControlAddress}
 use Rattle.command_line.specs.declared.control_address.ControlAddress.TheVariants as address_of

@@ -4,7 +4,7 @@ use Rattle.std.specs.Prelude.{IfErr, IfOk, OnErr}
 use Rattle.clap.specs.Words.{Text}
 use Rattle.control_client.specs.Exchange.{has_refusal, is_refusal}
 use Rattle.control_client.specs.Refused.{Refusal, ShownOn, ShowsAll, ShowsIf, Told, exchanges_of, none_shown, one_shown, refusal_of, refusals_of}
-use Rattle.control_client.specs.Tell.{ChangeStopsOverSocket, RequestTold, StopsOverSocket, TellsAll, TellsChange, TellsFirst, not_made, socket_not_made, stopped_behind}
+use Rattle.control_client.specs.Tell.{ChangeStopsOverSocket, StopsOverSocket, TellsAll, TellsChange, not_made, socket_not_made, stopped_behind}
 use Rattle.command_line.specs.ControlAddress.{IsNoControlAddress, SpellsControlAddress}
 use Rattle.command_line.specs.declared.control_address.ControlAddress.{ControlAddress}
 use Rattle.command_line.specs.declared.control_address.ControlAddress.TheVariants.{Udp, Unix}

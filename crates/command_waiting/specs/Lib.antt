@@ -1,3 +1,4 @@
+pub mod Draining
 pub mod Measured
 pub mod Opening
 pub mod RefusalLines
@@ -16,6 +17,7 @@ pub use Rattle.control_client.specs.Trouble
 pub use Rattle.control_client.specs.Wire
 pub use Rattle.control_rules.specs.History
 pub use Rattle.control_rules.specs.Load
+pub use Rattle.control_rules.specs.Drain
 pub use Rattle.control_rules.specs.Rules
 pub use Rattle.dispatch.specs.Counted
 pub use Rattle.dispatch.specs.Totals

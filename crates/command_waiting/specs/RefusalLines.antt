@@ -1,5 +1,5 @@
 -- How people are shown a request of `tell` that was not done (docs/COMMANDS.md, "tell").
-use Rattle.std.specs.Prelude.{◌≡◌, ◌-◌, ◌∷◌, List, None, Option, Some, [], if◌then◌else◌, nat_lt, take, ℕ}
+use Rattle.std.specs.Prelude.{◌-◌, ◌∷◌, List, None, Option, Some, [], if◌then◌else◌, nat_lt, take, ℕ}
 use Rattle.command_explain.specs.Meaning.{cause_line, meaning_of}
 use Rattle.command_explain.specs.Printed.{ShowsCode}
 use Rattle.command_explain.specs.Shown.{shown_text}

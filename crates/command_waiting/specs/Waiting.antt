@@ -1,19 +1,19 @@
--- What the commands that may wait write (docs/COMMANDS.md, "flood", "serve", "tell", "rules", "load", "metrics", "top").
+-- What the commands that may wait write (docs/COMMANDS.md, "flood", "serve", "tell", "rules", "load", "drain", "metrics", "top").
 use Rattle.std.specs.Prelude.{◌≡◌, ◌≢◌, ◌⊎◌, Bool, List, None, Option, Some, codes, false, true, ℕ}
 use Rattle.std.specs.Io.KnownBytes.{Appends}
 use Rattle.clap.specs.Words.{Text}
 use Rattle.config_image.specs.Image.{Group}
 use Rattle.command_line.specs.declared.ending.Failure.{Failure}
 use Rattle.command_line.specs.declared.ending.Failure.TheVariants.{BindFailed, NoAnswer, OutOfMemory, ReadFailed, RulesChanged, WriteFailed}
-use Rattle.command_line.specs.CommandLine.{WaitingRequest, flood, load, metrics, rules, serve, tell, top}
+use Rattle.command_line.specs.CommandLine.{WaitingRequest, drain, flood, load, metrics, rules, serve, tell, top}
 use Rattle.command_line.specs.ControlAddress.{IsNoControlAddress, SpellsControlAddress}
 use Rattle.command_line.specs.declared.control_address.ControlAddress.{ControlAddress}
-use Rattle.command_line.specs.Ending.{AppendsBeginning, line_of}
 use Rattle.ipv4_fields.specs.Endpoint.{IsEndpoint, endpoint_text}
 use Rattle.ipv4_fields.specs.declared.endpoint.Endpoint.{Endpoint}
 use Rattle.serve_udp.specs.Service.{WritesReadyOrNothing, WritesServedFrom}
 use Rattle.command_flood.specs.Failing.{EndsInFloodFailure}
 use Rattle.command_flood.specs.Flood.{WritesFlood}
+use Rattle.command_waiting.specs.Draining.{RefusesDrain, WritesDrain}
 use Rattle.command_waiting.specs.Measured.{EndsInTopFailure, IsNoFront, WritesMetrics, WritesTop}
 use Rattle.command_waiting.specs.Opening.{IsOpening, RefusesRules}
 use Rattle.command_waiting.specs.Serving.{IsServeTold}
@@ -46,6 +46,7 @@ WritesFor terminal (serve front control workers file logs receive buffer) input 
 WritesFor terminal (tell control timeout all words) input before after told_before told_after = WritesReplies control all words input before after told_before told_after false
 WritesFor terminal (rules control timeout) input before after told_before told_after = WritesRules control before after
 WritesFor terminal (load control timeout file only_check only_diff) input before after told_before told_after = WritesLoad control before after only_check only_diff
+WritesFor terminal (drain control timeout key member) input before after told_before told_after = WritesDrain control key member before after
 WritesFor terminal (metrics control front timeout) input before after told_before told_after = WritesMetrics control front before after
 WritesFor terminal (top control interval count timeout) input before after told_before told_after = WritesTop control terminal count before after
 
@@ -69,6 +70,7 @@ ShowsNoRefusal (serve front control workers file logs receive buffer) = file ≡
 ShowsNoRefusal (tell control timeout all words) = IsNoControlAddress control
 ShowsNoRefusal (rules control timeout) = Unit {0}
 ShowsNoRefusal (load control timeout file only_check only_diff) = ⊥
+ShowsNoRefusal (drain control timeout key member) = Unit {0}
 ShowsNoRefusal (metrics control front timeout) = Unit {0}
 ShowsNoRefusal (top control interval count timeout) = Unit {0}
 
@@ -79,6 +81,7 @@ WritesRefusal (serve front control workers file logs receive buffer) input befor
 WritesRefusal (tell control timeout all words) input before after told_before told_after = IsToldRefusal control all words input before after told_before told_after
 WritesRefusal (rules control timeout) input before after told_before told_after = IsNoControlAddress control × Appends before after (codes "refused C1\n")
 WritesRefusal (load control timeout file only_check only_diff) input before after told_before told_after = RefusesLoad control before after only_check only_diff
+WritesRefusal (drain control timeout key member) input before after told_before told_after = RefusesDrain control key member before after
 WritesRefusal (metrics control front timeout) input before after told_before told_after =
     (IsNoControlAddress control ⊎ IsNoFront front) × Appends before after (codes "refused C1\n")
 WritesRefusal (top control interval count timeout) input before after told_before told_after = IsNoControlAddress control × Appends before after (codes "refused C1\n")
@@ -106,6 +109,8 @@ EndsInWaitingFailure terminal (tell control timeout all lines) input before afte
 EndsInWaitingFailure terminal (rules control timeout) input before after told_before told_after = EndsInRulesFailure (Some control) before after told_before told_after
 EndsInWaitingFailure terminal (load control timeout file only_check only_diff) input before after told_before told_after =
     EndsInRulesFailure control before after told_before told_after
+EndsInWaitingFailure terminal (drain control timeout key member) input before after told_before told_after =
+    EndsInRulesFailure (Some control) before after told_before told_after
 EndsInWaitingFailure terminal (metrics control front timeout) input before after told_before told_after =
     EndsInRulesFailure (Some control) before after told_before told_after
 EndsInWaitingFailure terminal (top control interval count timeout) input before after told_before told_after =

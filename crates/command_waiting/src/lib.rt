@@ -1,7 +1,7 @@
 //! The commands that run worker threads or await replies, so that they may wait (docs/COMMANDS.md, "flood", "serve", "tell",
-//! "rules", "load", "metrics", "top").
+//! "rules", "load", "drain", "metrics", "top").
 //!
-//! `run_waiting` runs one: `flood` of command_flood, `serve` of serve_udp, `tell` of control_client, `rules` or `load` of
+//! `run_waiting` runs one: `flood` of command_flood, `serve` of serve_udp, `tell` of control_client, `rules`, `load` or `drain` of
 //! control_rules, or `metrics` or `top` of control_counters.
 #![tactic(auto)]
 
@@ -12,6 +12,7 @@ ghost use Rattle.command_line.specs.Ending.{AppendsBeginning, line_of};
 ghost use Rattle.command_line.specs.declared.ending.Failure.TheVariants as failure;
 ghost use Rattle.command_waiting.specs.Waiting.{EndsInWaitingFailure, ShowsNoRefusal, WritesFor, WritesRefusal};
 
+mod draining;
 mod loading;
 mod logging;
 mod measuring;
@@ -27,6 +28,7 @@ mod watching;
 use command_flood::run_flood;
 pub use command_flood::{DATAGRAMS, flood};
 use command_line::{Failure, Status, Waiting};
+use draining::{Draining, run_drain};
 use loading::{Loading, run_load};
 use logging::ServeLog;
 use measuring::run_metrics;
@@ -146,6 +148,20 @@ pub fn run_waiting<
                 diff,
             };
             run_load(rt, alloc, loading, out, errs)
+        }
+        Waiting::Drain {
+            control,
+            timeout,
+            key,
+            member,
+        } => {
+            let draining = Draining {
+                control,
+                timeout,
+                key,
+                member,
+            };
+            run_drain(rt, alloc, draining, out, errs)
         }
         Waiting::Metrics {
             control,

@@ -65,7 +65,7 @@ fn measures(config: &Config) -> Reply
     line
 }
 
-fn version_line(version: u64, rest: &str) -> Reply
+pub(crate) fn version_line(version: u64, rest: &str) -> Reply
     requires { length rest.now ≤ 16 }
     ensures { result ≡ version_line version rest.now }
 {

@@ -1,53 +1,21 @@
--- What a configuration makes of a packet does not look into its programs: it is the same over programs that answer it the same.
-use Rattle.std.proofs.Common.{◌≡◌, ◌∙◌, ◌∷◌, List, None, Option, Some, [], ap, get_or, length, map, refl, suc, sym, zero, ℕ}
-use Rattle.std.specs.Option.{option_map}
-use Rattle.std.proofs.lemmas.List.{length-map}
+-- Configurations that agree make the same of a packet.
+use Rattle.std.proofs.Common.{◌≡◌, ◌∙◌, ◌++◌, ◌<◌, List, None, Option, Some, ap, append_assoc, codes, decimal, is_some, refl, subst, sym, ℕ}
+use Rattle.std.proofs.lemmas.List.{get_or_default}
 use Rattle.config_image.specs.Image.{Group}
 use Rattle.filter_compile.specs.Answer.{IsPacket}
-use Rattle.ipv4_fields.specs.declared.endpoint.Endpoint.{Endpoint}
-use Rattle.ipv4_fields.specs.declared.endpoint.Flow.{Flow}
-use Rattle.ipv4_fields.specs.Dispatchable.{flow_of}
-use Rattle.member_group.specs.declared.member.Member.{Member}
-use Rattle.member_group.specs.Group.{GroupOf, group_of}
-use Rattle.dispatch.specs.Verdict.{choice, flow_verdict, group_verdict, kept, member_verdict, members_verdict, returned, value_of, verdict}
+use Rattle.dispatch.specs.Verdict.{returned, value_of, verdict}
 use Rattle.control_line.specs.Agrees.{Agrees, TextConfig}
+use Rattle.control_line.proofs.JudgeLemmas.{packet_is_judged}
+use Rattle.control_line.specs.Packet.{SpellsPacket}
+use Rattle.control_line.specs.Reading.{judged_answer}
+use Rattle.control_line.specs.Reply.{judged_text, malformation_text, reply_text}
+use Rattle.control.specs.Judged.{JudgesAsPacket, SaysWhyMalformed, line_reply, packet_reply}
 use Rattle.control.specs.Script.{text_value}
-use Rattle.member_group.proofs.OverLemmas.{group-over}
-use Rattle.member_group.specs.Over.{config_over, group_over, member_over}
-
-module _ {P Q : Type 0} (over : P → Q) (f : Q → List ℕ → ℕ) (g : P → List ℕ → ℕ) (packet : List ℕ) (same : (program : P) → f (over program) packet ≡ g program packet) where
-  answer-over : (program : Option P) → option_map (λ q. f q packet) (option_map over program) ≡ option_map (λ p. g p packet) program
-  answer-over None = refl
-  answer-over (Some program) = ap Some (same program)
-
-  member_verdict-over : (key : Endpoint) (member : Member P) → member_verdict f key packet (member_over over member) ≡ member_verdict g key packet member
-  member_verdict-over key member = ap (λ answer. kept key member.id member.to answer (length packet)) (answer-over member.filter)
-
-  get_or-over : (members : List (Member P)) (index : ℕ) (other : Member P) → get_or (map (member_over over) members) index (member_over over other) ≡ member_over over (get_or members index other)
-  get_or-over [] index other = refl
-  get_or-over (member ∷ rest) zero other = refl
-  get_or-over (member ∷ rest) (suc index) other = get_or-over rest index other
-
-  members_verdict-over : (flow : Flow) (selector : Option P) (members : List (Member P))
-      → members_verdict f flow packet (option_map over selector) (map (member_over over) members) ≡ members_verdict g flow packet selector members
-  members_verdict-over flow selector [] = refl
-  members_verdict-over flow selector (first ∷ rest) =
-      let members : List (Member Q) = map (member_over over) (first ∷ rest) in
-      ap (λ answer. member_verdict f flow.destination packet (get_or members (choice answer flow (length members)) (member_over over first))) (answer-over selector)
-      ∙ ap (λ count. member_verdict f flow.destination packet (get_or members (choice (option_map (λ p. g p packet) selector) flow count) (member_over over first))) (length-map (first ∷ rest) (member_over over))
-      ∙ ap (member_verdict f flow.destination packet) (get_or-over (first ∷ rest) (choice (option_map (λ p. g p packet) selector) flow (length (first ∷ rest))) first)
-      ∙ member_verdict-over flow.destination (get_or (first ∷ rest) (choice (option_map (λ p. g p packet) selector) flow (length (first ∷ rest))) first)
-
-  group_verdict-over : (flow : Flow) (group : Option (GroupOf P)) → group_verdict f flow packet (option_map (group_over over) group) ≡ group_verdict g flow packet group
-  group_verdict-over flow None = refl
-  group_verdict-over flow (Some group) = members_verdict-over flow group.selector group.members
-
-  flow_verdict-over : (config : List (GroupOf P)) (flow : Option Flow) → flow_verdict f (config_over over config) packet flow ≡ flow_verdict g config packet flow
-  flow_verdict-over config None = refl
-  flow_verdict-over config (Some flow) = ap (group_verdict f flow packet) (group-over over flow.destination config) ∙ group_verdict-over flow (group_of flow.destination config)
-
-  pub verdict-over : (config : List (GroupOf P)) → verdict f (config_over over config) packet ≡ verdict g config packet
-  verdict-over config = flow_verdict-over config (flow_of packet)
+use Rattle.hex.proofs.HexLemmas.{decode_of-ok}
+use Rattle.packet_verdict.proofs.MalformedLemmas.{breaks_one}
+use Rattle.packet_verdict.specs.Malformed.{malformation_of}
+use Rattle.packet_verdict.specs.declared.malformed.Malformation.{Malformation}
+use Rattle.packet_verdict.proofs.OverLemmas.{verdict-over}
 
 -- configurations that agree have the same verdict
 pub same_verdict : (text : TextConfig) (config : List Group) (packet : List ℕ) → Agrees text config → IsPacket packet → verdict value_of config packet ≡ verdict text_value text packet
@@ -56,3 +24,39 @@ same_verdict text config packet (pairs, text_is, config_is) bytes =
     ∙ verdict-over (λ both. both.program) value_of (λ both p. text_value both.loaded p) packet (λ both. ap returned (both.ending packet bytes)) pairs
     ∙ sym (verdict-over (λ both. both.loaded) text_value (λ both p. text_value both.loaded p) packet (λ both. refl) pairs)
     ∙ ap (λ (c : TextConfig). verdict text_value c packet) (sym text_is)
+
+-- ---- the reply to a line that judges
+
+module _ (version : ℕ) (text : TextConfig) (config : List Group) (digits packet : List ℕ) (agrees : Agrees text config) (spells : SpellsPacket digits packet) where
+  is_packet : IsPacket packet
+  is_packet = record {
+    bytes = λ k d inside. subst (λ (byte : ℕ). byte < 256) (get_or_default packet k 0 d inside) ((decode_of-ok digits packet spells.spells).3 k);
+    not_too_long = spells.not_too_long;
+  }
+
+  reply_is : (why : Option Malformation) → malformation_of packet ≡ why → line_reply version config digits ≡ reply_text (judged_answer version why (verdict value_of config packet))
+  reply_is why is =
+      ap reply_text (sym (packet_is_judged version config digits packet spells.spells spells.not_too_long))
+      ∙ ap (λ w. reply_text (judged_answer version w (verdict value_of config packet))) is
+
+  same : verdict value_of config packet ≡ verdict text_value text packet
+  same = same_verdict text config packet agrees is_packet
+
+  judged_whole : malformation_of packet ≡ None → line_reply version config digits ≡ packet_reply version text packet
+  judged_whole none = reply_is None none ∙ ap (judged_text version) same
+
+  judged_malformed : (why : Malformation) → malformation_of packet ≡ Some why → line_reply version config digits ≡ packet_reply version text packet ++ (codes " " ++ malformation_text why)
+  judged_malformed why is =
+      let malformed = (breaks_one config packet).1 (ap (λ (o : Option Malformation). is_some o) is) in
+      reply_is (Some why) is
+      ∙ regrouped (decimal version) (malformation_text why)
+      ∙ ap (λ judged. judged_text version judged ++ (codes " " ++ malformation_text why)) (sym malformed ∙ same)
+    where
+      regrouped : (number name : List ℕ) → codes "version " ++ number ++ codes " malformed " ++ name ≡ (codes "version " ++ number ++ codes " " ++ codes "malformed") ++ (codes " " ++ name)
+      regrouped number name = simp append_assoc
+
+pub judges_as_packet : JudgesAsPacket
+judges_as_packet version text config digits packet agrees spells none = judged_whole version text config digits packet agrees spells none
+
+pub says_why_malformed : SaysWhyMalformed
+says_why_malformed version text config digits packet why agrees spells is = judged_malformed version text config digits packet agrees spells why is

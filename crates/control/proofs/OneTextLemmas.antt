@@ -8,19 +8,19 @@ use Rattle.retire.specs.declared.fault.PublishFault.TheVariants.{Busy}
 use Rattle.control_line.specs.declared.TheConstants.{LINE_LIMIT}
 use Rattle.control_line.specs.declared.reason.Reason.TheVariants.{Publishing}
 use Rattle.control_line.specs.declared.reply.LineAnswer.{LineAnswer}
-use Rattle.control_line.specs.declared.reply.LineAnswer.TheVariants.{GroupRead, LineRefused, MemberRead, Published, Refused, Shown, Swept, WordsRead}
+use Rattle.control_line.specs.declared.reply.LineAnswer.TheVariants.{GroupRead, LineRefused, MemberRead, PacketJudged, PacketMalformed, Published, Refused, Shown, Swept, WordsRead}
 use Rattle.control_line.specs.Agrees.{Compiler, TextConfig}
 use Rattle.control_line.specs.Answer.{AnswersBy, AreOne, HasOneAnswer, HasOneAnswerBy, HaveSameTexts, IsOperatorsChoice, by_function}
 use Rattle.control_line.specs.Reading.{Reading}
 use Rattle.control_line.specs.Request.{Spells, read}
 use Rattle.filter_program.specs.Program.{IsProgramFor, text_ending}
 use Rattle.control.proofs.EndLemmas.{part_of_script}
-use Rattle.control.proofs.JudgeLemmas.{verdict-over}
+use Rattle.packet_verdict.proofs.OverLemmas.{verdict-over}
 use Rattle.control.proofs.RequestLemmas.{same_last, same_request}
 use Rattle.control.specs.PacketLine.{HasNoPacket, IsPacketLine}
 use Rattle.control_line.specs.Packet.{IsHex, SpellsPacket, SpellsTooMuch}
-use Rattle.control_line.specs.Reply.{reply_text}
-use Rattle.control.specs.Script.{AreAnsweredBy, BeginsRequest, ComesInScript, HasOneText, HasOneTextBy, IsRequest, IsScriptTextBy, RepliesToBy, Standing, at_start, judged_text, no_request, of_nothing, of_requests, one_more, standing_after, text_value, to_control, to_long_packet, to_packet, with_last_lf}
+use Rattle.control_line.specs.Reply.{judged_text, reply_text}
+use Rattle.control.specs.Script.{AreAnsweredBy, BeginsRequest, ComesInScript, HasOneText, HasOneTextBy, IsRequest, IsScriptTextBy, RepliesToBy, Standing, at_start, no_request, of_nothing, of_requests, one_more, standing_after, text_value, to_control, to_long_packet, to_packet, with_last_lf}
 use Rattle.member_group.specs.Over.{config_over}
 
 -- ---- lines that have a packet
@@ -113,6 +113,8 @@ module _ (AreAlike : TextConfig → TextConfig → Type 0) (by by' : Compiler) (
     at_after (GroupRead version index groups key members selector) next also alike = record { version = at.version; config = alike; reported = at.reported }
     at_after (MemberRead version index members id to filter locked) next also alike = record { version = at.version; config = alike; reported = at.reported }
     at_after (WordsRead version place count words) next also alike = record { version = at.version; config = alike; reported = at.reported }
+    at_after (PacketJudged version judged) next also alike = record { version = at.version; config = alike; reported = at.reported }
+    at_after (PacketMalformed version why) next also alike = record { version = at.version; config = alike; reported = at.reported }
     at_after (Swept reclaimed) next also alike = record { version = at.version; config = alike; reported = refl }
 
     same_reply : (line one other : List ℕ) (next also : Standing) → IsFit line → RepliesToBy by now line one next → RepliesToBy by' now' line other also → (one ≡ other) × AreAt next also

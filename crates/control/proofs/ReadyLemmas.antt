@@ -26,7 +26,7 @@ use Rattle.control_line.specs.declared.reason.Reason.{Reason}
 use Rattle.control_line.specs.declared.reason.Reason.TheVariants.{Publishing}
 use Rattle.control_line.specs.declared.reason.Reason.TheVariants as reason
 use Rattle.control_line.specs.declared.reply.LineAnswer.{LineAnswer}
-use Rattle.control_line.specs.declared.reply.LineAnswer.TheVariants.{GroupRead, LineRefused, MemberRead, Published, Refused, Shown, Swept, WordsRead}
+use Rattle.control_line.specs.declared.reply.LineAnswer.TheVariants.{GroupRead, LineRefused, MemberRead, PacketJudged, PacketMalformed, Published, Refused, Shown, Swept, WordsRead}
 use Rattle.control_line.specs.Agrees.{AgreesNow, TextConfig}
 use Rattle.control_line.specs.declared.head.Start.{Start}
 use Rattle.control_line.specs.Answer.{Answers, AnswersMessageBy, Changes, ChangesTogetherBy, Does, DoesRefused, PublishesText, all_made, bad_form, busy, changed, changed_at, changed_together, exhausted, is_made, line_refused, not_made, other_version, published, replied, shown, swept, too_big, too_long, was_read}
@@ -64,7 +64,7 @@ message_number version config next message answer (changed_at wanted command oth
 message_number version config next message answer (changed_together head lines other after fits changes) = together_number version config next head.start lines answer changes
 message_number version config next message answer shown = tt
 message_number version config next message answer (was_read reading) =
-    each_reading (λ program. program.words) (IsNextNumber version) (λ refusal. tt) (λ version' index groups key members selector. tt) (λ version' index members id to filter locked. tt) (λ version' place count words. tt) version config reading
+    each_reading (λ program. program.words) (IsNextNumber version) (λ refusal. tt) (λ version' index groups key members selector. tt) (λ version' index members id to filter locked. tt) (λ version' place count words. tt) tt tt (λ version' judged. tt) (λ version' why. tt) version config reading
 message_number version config next message answer (swept reclaimed) = tt
 
 next_number : (version : ℕ) (config next : TextConfig) (request : List ℕ) (answer : LineAnswer) → Answers version config request answer next → IsNextNumber version answer
@@ -206,6 +206,8 @@ module _ (before : OperatorValue) (now : Standing) (stands : Stands before now) 
   comes_and_stands line (GroupRead version index groups key members selector) next after answers does agrees = (tt, stands_same after next does agrees)
   comes_and_stands line (MemberRead version index members id to filter locked) next after answers does agrees = (tt, stands_same after next does agrees)
   comes_and_stands line (WordsRead version place count words) next after answers does agrees = (tt, stands_same after next does agrees)
+  comes_and_stands line (PacketJudged version judged) next after answers does agrees = (tt, stands_same after next does agrees)
+  comes_and_stands line (PacketMalformed version why) next after answers does agrees = (tt, stands_same after next does agrees)
   comes_and_stands line (Swept reclaimed) next after answers does agrees = (
     (from_reported after reclaimed.first reclaimed.count does, up_to_current after reclaimed.first reclaimed.count does),
     stands_swept after reclaimed.first reclaimed.count does next agrees,

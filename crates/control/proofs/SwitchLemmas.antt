@@ -19,14 +19,14 @@ use Rattle.retire.proofs.RowLemmas.{worker_inside}
 use Rattle.control_line.specs.declared.TheConstants.{LINE_LIMIT}
 use Rattle.control_line.specs.declared.reason.Reason.TheVariants.{PacketTooLong}
 use Rattle.control_line.specs.declared.reply.LineAnswer.{LineAnswer}
-use Rattle.control_line.specs.declared.reply.LineAnswer.TheVariants.{GroupRead, LineRefused, MemberRead, Published, Refused, Shown, Swept, WordsRead}
+use Rattle.control_line.specs.declared.reply.LineAnswer.TheVariants.{GroupRead, LineRefused, MemberRead, PacketJudged, PacketMalformed, Published, Refused, Shown, Swept, WordsRead}
 use Rattle.control_line.specs.Answer.{Answers, Does}
 use Rattle.control_line.specs.Answer.{IsAnswered}
 use Rattle.control.specs.PacketLine.{HasNoPacket, IsPacketLine}
 use Rattle.control_line.specs.Packet.{SpellsPacket, SpellsTooMuch}
 use Rattle.control.specs.body.Ready.{AreOutside, IsOutsideAt, IsReady, MetFirst, Stands}
-use Rattle.control_line.specs.Reply.{reply_text}
-use Rattle.control.specs.Script.{RepliesTo, Standing, at_start, judged_text, standing_after, text_value, to_control, to_long_packet, to_packet}
+use Rattle.control_line.specs.Reply.{judged_text, reply_text}
+use Rattle.control.specs.Script.{RepliesTo, Standing, at_start, standing_after, text_value, to_control, to_long_packet, to_packet}
 use Rattle.control.specs.body.Switch.{JudgesPacket}
 use Rattle.control_line.proofs.ChangeLemmas.{agrees_with, still_agrees}
 use Rattle.control.proofs.JudgeLemmas.{same_verdict}
@@ -93,6 +93,8 @@ keeps_table (Shown version groups members charge) before after same = ap (λ (o 
 keeps_table (GroupRead version index groups key members selector) before after same = ap (λ (o : OperatorValue). o.table) same
 keeps_table (MemberRead version index members id to filter locked) before after same = ap (λ (o : OperatorValue). o.table) same
 keeps_table (WordsRead version place count words) before after same = ap (λ (o : OperatorValue). o.table) same
+keeps_table (PacketJudged version judged) before after same = ap (λ (o : OperatorValue). o.table) same
+keeps_table (PacketMalformed version why) before after same = ap (λ (o : OperatorValue). o.table) same
 keeps_table (Swept reclaimed) before after sweeps =
     ap (λ (o : OperatorValue). o.table) (sweeps.reported)
     ∙ ap (λ (o : OperatorValue). o.table) sweeps.each.no_more

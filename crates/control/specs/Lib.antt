@@ -1,5 +1,6 @@
 pub mod PacketLine
 pub mod Script
+pub mod Judged
 pub mod Streams
 pub mod Replay
 pub mod body

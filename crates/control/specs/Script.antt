@@ -1,16 +1,14 @@
 -- What the requests of a script are, and their replies (docs/COMMANDS.md, "replay"). It speaks of the texts and what they mean. Only
 -- replies that read a program back contain compiled words.
-use Rattle.std.specs.Prelude.{◌==◌, ◌≡◌, ◌+◌, ◌≤◌, ◌++◌, ◌∷◌, if◌then◌else◌, List, [], codes, decimal, length, ℕ}
+use Rattle.std.specs.Prelude.{◌==◌, ◌≡◌, ◌+◌, ◌≤◌, ◌++◌, ◌∷◌, if◌then◌else◌, List, [], length, ℕ}
 use Rattle.std.specs.List.{All}
 use Rattle.dispatch.specs.Verdict.{returned, verdict}
-use Rattle.packet_verdict.specs.declared.verdict.Verdict.{Verdict}
-use Rattle.packet_verdict.specs.declared.verdict.Verdict.TheVariants.{Deliver, Dropped, Malformed, NoGroup, NoMembers}
 use Rattle.retire.specs.declared.fault.PublishFault.TheVariants.{Busy}
 use Rattle.control_line.specs.declared.TheConstants.{LINE_LIMIT}
 use Rattle.control_line.specs.declared.head.Head.{Head}
 use Rattle.control_line.specs.declared.reason.Reason.TheVariants.{PacketTooLong, Publishing}
 use Rattle.control_line.specs.declared.reply.LineAnswer.{LineAnswer}
-use Rattle.control_line.specs.declared.reply.LineAnswer.TheVariants.{GroupRead, LineRefused, MemberRead, Published, Refused, Shown, Swept, WordsRead}
+use Rattle.control_line.specs.declared.reply.LineAnswer.TheVariants.{GroupRead, LineRefused, MemberRead, PacketJudged, PacketMalformed, Published, Refused, Shown, Swept, WordsRead}
 use Rattle.filter_tree.specs.Tree.{Tree}
 use Rattle.control_line.specs.Agrees.{Compiler, LoadedProgram, TextConfig}
 use Rattle.control_line.specs.Answer.{AnswersBy, by_function}
@@ -18,12 +16,11 @@ use Rattle.control_line.specs.Block.{HasHead, IsBlock, after_line_feeds}
 use Rattle.control_line.specs.Reading.{Reading}
 use Rattle.control_line.specs.Request.{Spells, read}
 use Rattle.ipv4_fields.specs.Cut.{Lacks}
-use Rattle.ipv4_fields.specs.Endpoint.{endpoint_text}
 use Rattle.control.specs.PacketLine.{HasNoPacket, IsPacketLine}
 use Rattle.control_line.specs.Packet.{SpellsPacket, SpellsTooMuch}
 use Rattle.filter_program.specs.Program.{IsProgramFor, text_ending}
 use Rattle.control_line.specs.Reason.{refusal_text}
-use Rattle.control_line.specs.Reply.{reply_text}
+use Rattle.control_line.specs.Reply.{judged_text, reply_text}
 
 -- ---- requests
 
@@ -60,19 +57,6 @@ at_start = record { version = 0; config = []; reported = 0 }
 abbrev pub text_value : LoadedProgram → List ℕ → ℕ
 text_value program packet = returned (text_ending program.text packet)
 
--- a verdict, as its reply names it
-abbrev pub verdict_text : Verdict → List ℕ
-verdict_text Malformed = codes "malformed"
-verdict_text NoGroup = codes "nogroup"
-verdict_text NoMembers = codes "nomembers"
-verdict_text (Dropped key id) = codes "dropped " ++ endpoint_text key ++ codes " " ++ decimal id
-verdict_text (Deliver key id to bytes) =
-    codes "deliver " ++ endpoint_text key ++ codes " " ++ decimal id ++ codes " " ++ endpoint_text to ++ codes " " ++ decimal bytes
-
--- the version that judged, and its verdict
-abbrev pub judged_text : ℕ → Verdict → List ℕ
-judged_text version verdict = codes "version " ++ decimal version ++ codes " " ++ verdict_text verdict
-
 -- Each worker is outside whenever a request is answered. So a publication is never busy, and a sweep reports every version that was
 -- replaced and not yet reported.
 abbrev pub ComesInScript : Standing → LineAnswer → Type 0
@@ -84,6 +68,8 @@ ComesInScript now (Shown version groups members charge) = Unit {0}
 ComesInScript now (GroupRead version index groups key members selector) = Unit {0}
 ComesInScript now (MemberRead version index members id to filter locked) = Unit {0}
 ComesInScript now (WordsRead version place count words) = Unit {0}
+ComesInScript now (PacketJudged version judged) = Unit {0}
+ComesInScript now (PacketMalformed version why) = Unit {0}
 ComesInScript now (Swept reclaimed) = (reclaimed.first ≡ now.reported) × (reclaimed.first + reclaimed.count ≡ now.version)
 
 -- where the script stands after an answer that leaves this configuration
@@ -95,6 +81,8 @@ standing_after now (Shown version groups members charge) next = record now { con
 standing_after now (GroupRead version index groups key members selector) next = record now { config = next }
 standing_after now (MemberRead version index members id to filter locked) next = record now { config = next }
 standing_after now (WordsRead version place count words) next = record now { config = next }
+standing_after now (PacketJudged version judged) next = record now { config = next }
+standing_after now (PacketMalformed version why) next = record now { config = next }
 standing_after now (Swept reclaimed) next = record now { config = next; reported = reclaimed.first + reclaimed.count }
 
 -- the reply to a request, and where the script stands then, with expressions compiled by this compiler

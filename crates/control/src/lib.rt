@@ -4,11 +4,11 @@
 //! these over the standard library's readers and writers.
 #![tactic(auto)]
 
+ghost use Rattle.control.specs.Judged.{JudgesAsPacket, SaysWhyMalformed};
 ghost use Rattle.control.specs.Script.{HasOneText, HasOneTextBy};
 
 mod fault;
 mod held;
-mod judged;
 mod packet_line;
 mod replaying;
 mod replies;
@@ -19,12 +19,11 @@ mod switch;
 mod writing;
 
 pub use control_line::{
-    LINE_LIMIT, OutOfMemory, REPLY_LIMIT, Reason, Reply, empty_agrees, line, one_reply,
-    one_request, packet_of_hex,
+    LINE_LIMIT, OutOfMemory, REPLY_LIMIT, Reason, Reply, empty_agrees, judged_reply, line,
+    one_reply, one_request, packet_of_hex,
 };
 pub use dispatch::Failed;
 pub use fault::ReplayFault;
-pub use judged::judged_reply;
 pub use packet_line::{PacketLine, read_packet_line};
 pub use replaying::replay;
 pub use std_streams::{FromRead, READ_LIMIT, ToWrite, limits_as_numbers};
@@ -38,3 +37,11 @@ pub fn one_text()
 {
     one_reply();
 }
+
+/// Law: the reply to `judge` is the reply to `packet`, if the configurations agree; of a malformed packet it says why, too. It runs
+/// nothing.
+#[tactic(auto, using(crate::proofs::JudgeLemmas::judges_as_packet, crate::proofs::JudgeLemmas::says_why_malformed))]
+pub fn judged_as_packet()
+    ensures same { JudgesAsPacket }
+    ensures malformed { SaysWhyMalformed }
+{}

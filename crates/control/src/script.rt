@@ -141,6 +141,7 @@ impl Script {
 fn split_line(text: &[u8]) -> Option<(&[u8], &[u8])>
     ensures { MatchOption result (Lacks 10 text.now) (λ parts. IsSplitAt 10 text.now parts.0.now parts.1.now) }
 {
+    // The reason: docs/INTERNALS.md, "Numbers and line ends".
     let end = memchr(b'\n', text)?;
     Some((&text[..end], &text[end + 1..]))
 }

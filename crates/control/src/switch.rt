@@ -8,9 +8,8 @@ ghost use Rattle.control.specs.body.Ready.{AreOutside, IsReady, MetFirst};
 ghost use Rattle.control.specs.Script.{RepliesTo, Standing, at_start};
 ghost use Rattle.control.specs.body.Switch.{JudgesPacket};
 
-use crate::judged::judged_reply;
 use crate::packet_line::{PacketSize, read_packet_into};
-use control_line::{Reason, Reply, line};
+use control_line::{Reason, Reply, judged_reply, line};
 use dispatch::judge;
 use member_group::Config;
 use read_section::{Operator, Worker, open_within};

@@ -6,7 +6,7 @@ use Rattle.control_line.specs.Answer.{NumberedLine}
 use Rattle.control_line.specs.Block.{IsHead, after_line_feeds, head_text}
 use Rattle.control_line.specs.declared.head.Head.{Head}
 use Rattle.control_client.specs.Lines.{AreNone, AreNumbersOf, IsBlockOf, IsNextRequest, IsNoHead, LosesLine, LosesRequest, Request, block, cut, numbers_of, single, texts_of}
-use Rattle.control_client.specs.body.Collecting.{Adds, AddsAll, AddsLine, AddsSome, AddsUpTo, AreAdded, Collected}
+use Rattle.control_client.specs.body.Collecting.{Adds, AddsAll, AddsLine, AddsSome, AddsUpTo, Collected}
 
 pub adds_nothing : (coming : Option (List NumberedLine)) (start : Collected) → AddsSome 0 coming coming start start
 adds_nothing None start = tt

@@ -1,14 +1,12 @@
 -- How groups and members are added to those that were read.
-use Rattle.std.proofs.Common.{◌≡◌, ◌∙◌, ◌+◌, ◌<◌, ◌∷◌, ◌++◌, List, Some, [], ap, ap₂, append-nil, append_assoc, length, map, subst, sym, take, ℕ}
+use Rattle.std.proofs.Common.{◌≡◌, ◌∙◌, ◌+◌, ◌∷◌, ◌++◌, List, Some, [], ap, ap₂, append-nil, append_assoc, length, map, subst, sym, take, ℕ}
 use Rattle.std.specs.Prelude.{slice_get}
 use Rattle.std.specs.List.{flat_map}
 use Rattle.std.proofs.lemmas.Grind.{flat_map-append}
 use Rattle.std.proofs.lemmas.List.{map-append}
 use Rattle.ipv4_fields.specs.declared.endpoint.Endpoint.{Endpoint}
-use Rattle.bpf_verify.specs.Program.{ProgramValue}
 use Rattle.config_image.specs.Image.{Group}
 use Rattle.member_group.specs.Group.{IsConfig, group_of}
-use Rattle.member_group.specs.declared.member.Member.{Member}
 use Rattle.control_rules.specs.Shown.{IsGroupAt, IsMemberAt}
 use Rattle.control_rules.specs.declared.replies.GroupShown.{GroupShown}
 use Rattle.control_rules.specs.declared.replies.MemberShown.{MemberShown}

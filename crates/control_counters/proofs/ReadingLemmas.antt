@@ -2,7 +2,6 @@
 use Rattle.std.proofs.Common.{◌≡◌, ◌∙◌, ◌+◌, ◌<◌, ◌≤◌, ◌∷◌, ◌++◌, List, None, Option, Some, [], ap, ap₂, append_assoc, arith, codes, decimal, get_or, length, map, refl, subst, suc, sym, take, zero, ℕ}
 use Rattle.std.specs.Prelude.{IfSome}
 use Rattle.std.proofs.lemmas.List.{map-append}
-use Rattle.member_group.specs.Charge.{charge_of}
 use Rattle.control_client.specs.Exchange.{Exchange}
 use Rattle.control_rules.specs.History.{History}
 use Rattle.counter_text.specs.declared.counters.Counters.{Counters}

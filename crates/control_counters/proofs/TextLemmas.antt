@@ -1,5 +1,5 @@
 -- A reply is the text of its fields.
-use Rattle.std.proofs.Common.{◌≡◌, ◌≢◌, ◌∙◌, ◌==◌, ◌∷◌, ◌++◌, Bool, List, [], ap, ap₂, codes, cond, eqb-true, false, refl, sym, true, ℕ}
+use Rattle.std.proofs.Common.{◌≡◌, ◌≢◌, ◌∙◌, ◌==◌, ◌∷◌, Bool, List, [], ap, ap₂, codes, cond, eqb-true, false, refl, sym, true, ℕ}
 use Rattle.ipv4_fields.specs.declared.endpoint.Endpoint.{Endpoint}
 use Rattle.control_line.specs.Request.{spaced}
 use Rattle.control_line.specs.Rules.{grow_first}

@@ -102,6 +102,7 @@ fn read_once<R: Clock, D: Wire + Drop>(
 ///
 /// The groups and members of an earlier reading are not read again if the version and the measures are still the same, and no total
 /// fell.
+/// The reason: docs/INTERNALS.md, "Members are not read again".
 pub fn read_counters<R: Clock, D: Wire + Drop>(
     clock: &R,
     client: &mut Client<D>,

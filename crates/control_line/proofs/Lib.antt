@@ -1,10 +1,10 @@
-mod FindLemmas
 mod WindowLemmas
 mod ShortLemmas
 mod FormLemmas
 mod ReadingLemmas
 mod RequestLemmas
 mod PacketLemmas
+pub mod JudgeLemmas
 mod LaneLemmas
 mod ProgramLemmas
 pub mod ChangeLemmas

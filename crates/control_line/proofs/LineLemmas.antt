@@ -18,7 +18,7 @@ use Rattle.control_line.specs.declared.reason.Reason.{Reason}
 use Rattle.control_line.specs.declared.reason.Reason.TheVariants.{Publishing}
 use Rattle.control_line.specs.declared.reason.Reason.TheVariants as reason
 use Rattle.control_line.specs.declared.reply.LineAnswer.{LineAnswer}
-use Rattle.control_line.specs.declared.reply.LineAnswer.TheVariants.{GroupRead, LineRefused, MemberRead, Published, Refused, Shown, Swept, WordsRead}
+use Rattle.control_line.specs.declared.reply.LineAnswer.TheVariants.{GroupRead, LineRefused, MemberRead, PacketJudged, PacketMalformed, Published, Refused, Shown, Swept, WordsRead}
 use Rattle.control_line.specs.Agrees.{Agrees, AgreesNow, TextConfig}
 use Rattle.control_line.specs.Answer.{Answers, Does, DoesNothing, DoesRefused, IsRefusedReply, IsReplyTo, LeavesConfig, PublishesNothing, bad_form, changed, changed_at, charge_of_text, other_version, replied, shown, swept, too_long, was_read}
 use Rattle.control_line.specs.Block.{IsTooLong, Message, SpellsMessage, after_line_feeds, block, for_version, long_block, long_line, single}
@@ -211,6 +211,8 @@ refusal_does_nothing (Shown version groups members charge) before after does rep
 refusal_does_nothing (GroupRead version index groups key members selector) before after does reply is (rest, begins) = absurd (differ 0 (sym is ∙ begins) refl)
 refusal_does_nothing (MemberRead version index members id to filter locked) before after does reply is (rest, begins) = absurd (differ 0 (sym is ∙ begins) refl)
 refusal_does_nothing (WordsRead version place count words) before after does reply is (rest, begins) = absurd (differ 0 (sym is ∙ begins) refl)
+refusal_does_nothing (PacketJudged version judged) before after does reply is (rest, begins) = absurd (differ 0 (sym is ∙ begins) refl)
+refusal_does_nothing (PacketMalformed version why) before after does reply is (rest, begins) = absurd (differ 0 (sym is ∙ begins) refl)
 refusal_does_nothing (Swept reclaimed) before after does reply is (rest, begins) = absurd (differ 2 (sym is ∙ begins) refl)
 
 -- ---- the reply

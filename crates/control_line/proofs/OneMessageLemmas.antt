@@ -20,18 +20,18 @@ use Rattle.control_line.proofs.ReadingLemmas.{no_reading_request, other_word}
 
 -- ---- a line of the table begins with none of these words
 
-no_request : (word fields : List ℕ) → Lacks 32 word → row_by word ≡ None → word ≢ codes "group" → word ≢ codes "member" → word ≢ codes "words" → (request : Request) → Spells (word ++ 32 ∷ fields) request → ⊥
-no_request word fields lacks none not_group not_member not_words request spells =
-    no_reading_request word fields word lacks refl none (λ reading. other_word word fields reading lacks not_group not_member not_words) request spells
+no_request : (word fields : List ℕ) → Lacks 32 word → row_by word ≡ None → word ≢ codes "group" → word ≢ codes "member" → word ≢ codes "words" → word ≢ codes "judge" → (request : Request) → Spells (word ++ 32 ∷ fields) request → ⊥
+no_request word fields lacks none not_group not_member not_words not_judge request spells =
+    no_reading_request word fields word lacks refl none (λ reading. other_word word fields reading lacks not_group not_member not_words not_judge) request spells
 
 pub no_request_at : (v : ℕ) (rest : List ℕ) (request : Request) → Spells (version_prefix (Some v) ++ rest) request → ⊥
 no_request_at v rest request spells =
-    no_request (codes "at") (decimal v ++ 32 ∷ rest) (lacks-test 32 (codes "at") refl) refl (λ e. differ 0 e refl) (λ e. differ 0 e refl) (λ e. differ 0 e refl) request
+    no_request (codes "at") (decimal v ++ 32 ∷ rest) (lacks-test 32 (codes "at") refl) refl (λ e. differ 0 e refl) (λ e. differ 0 e refl) (λ e. differ 0 e refl) (λ e. differ 0 e refl) request
     (subst (λ text. Spells text request) (prefix_is v rest) spells)
 
 pub no_request_start : (start : Start) (rest : List ℕ) (request : Request) → Spells (start_text start ++ rest) request → ⊥
-no_request_start Current rest request spells = no_request (codes "all") rest (lacks-start Current) refl (λ e. differ 0 e refl) (λ e. differ 0 e refl) (λ e. differ 0 e refl) request spells
-no_request_start Empty rest request spells = no_request (codes "anew") rest (lacks-start Empty) refl (λ e. differ 0 e refl) (λ e. differ 0 e refl) (λ e. differ 0 e refl) request spells
+no_request_start Current rest request spells = no_request (codes "all") rest (lacks-start Current) refl (λ e. differ 0 e refl) (λ e. differ 0 e refl) (λ e. differ 0 e refl) (λ e. differ 0 e refl) request spells
+no_request_start Empty rest request spells = no_request (codes "anew") rest (lacks-start Empty) refl (λ e. differ 0 e refl) (λ e. differ 0 e refl) (λ e. differ 0 e refl) (λ e. differ 0 e refl) request spells
 
 -- what follows the version of a block
 rest_of_head : (head : Head) (rest : List ℕ) → head_text head ++ rest ≡ version_prefix head.version ++ (start_text head.start ++ (decimal head.count ++ rest))

@@ -30,7 +30,7 @@ some_below : (o : Option ℕ) → unwrap_or o 16 < 16 → o ≡ Some (unwrap_or 
 some_below (Some v) low = refl
 some_below None low = absurd (omega arith)
 
-value_small : (c v : ℕ) → hex_digit_value c ≡ Some v → v < 16
+pub value_small : (c v : ℕ) → hex_digit_value c ≡ Some v → v < 16
 value_small c v is = grind arith
 
 is_some_value : (o : Option ℕ) → is_some o ≡ true → (v : ℕ) × (o ≡ Some v)

@@ -8,7 +8,7 @@ use Rattle.ipv4_fields.specs.Endpoint.{IsEndpoint, endpoint_text}
 use Rattle.ipv4_fields.proofs.TextLemmas.{has_separator, lacks-decimal, lacks-endpoint, lacks-test, number_parts, one_cut, one_endpoint}
 use Rattle.member_group.specs.declared.command.Command.{Command}
 use Rattle.filter_program.specs.Program.{Source}
-use Rattle.control_line.specs.Reading.{Reading, filter_words, group_at, member_at, selector_words}
+use Rattle.control_line.specs.Reading.{Reading, filter_words, group_at, member_at, selector_words, verdict_on}
 use Rattle.control_line.specs.Request.{Request, Spells, change, read, show, spaced, sweep}
 use Rattle.control_line.proofs.FormLemmas.{differ, lacks-row, no_row, parts, row_by, row_of, word_of, args_of}
 
@@ -19,24 +19,28 @@ reading_word (group_at index) = codes "group"
 reading_word (member_at key index) = codes "member"
 reading_word (selector_words key place) = codes "words"
 reading_word (filter_words key id place) = codes "words"
+reading_word (verdict_on digits) = codes "judge"
 
 abbrev pub reading_args : Reading → List ℕ
 reading_args (group_at index) = decimal index
 reading_args (member_at key index) = endpoint_text key ++ 32 ∷ decimal index
 reading_args (selector_words key place) = endpoint_text key ++ 32 ∷ (codes "selector" ++ 32 ∷ decimal place)
 reading_args (filter_words key id place) = endpoint_text key ++ 32 ∷ (decimal id ++ 32 ∷ decimal place)
+reading_args (verdict_on digits) = digits
 
 reading_parts : (line : List ℕ) (reading : Reading) → Spells line (read reading) → line ≡ reading_word reading ++ 32 ∷ reading_args reading
 reading_parts line (group_at index) (fields, is, has) = is ∙ ap spaced has.1
 reading_parts line (member_at key index) (fields, is, has) = is ∙ ap spaced has.2
 reading_parts line (selector_words key place) (fields, is, has) = is ∙ ap spaced has.2
 reading_parts line (filter_words key id place) (fields, is, has) = is ∙ ap spaced has.3
+reading_parts line (verdict_on digits) (fields, is, has) = is ∙ ap spaced has
 
 lacks-reading : (reading : Reading) → Lacks 32 (reading_word reading)
 lacks-reading (group_at index) = lacks-test 32 (codes "group") refl
 lacks-reading (member_at key index) = lacks-test 32 (codes "member") refl
 lacks-reading (selector_words key place) = lacks-test 32 (codes "words") refl
 lacks-reading (filter_words key id place) = lacks-test 32 (codes "words") refl
+lacks-reading (verdict_on digits) = lacks-test 32 (codes "judge") refl
 
 at_reading : (word args : List ℕ) (reading : Reading) → Lacks 32 word → Spells (word ++ 32 ∷ args) (read reading) → (word ≡ reading_word reading) × (args ≡ reading_args reading)
 at_reading word args reading lacks spells = one_cut 32 word (reading_word reading) args (reading_args reading) lacks (lacks-reading reading) (reading_parts _ reading spells)
@@ -62,12 +66,14 @@ two_readings line other (group_at i) (group_at j) (fields, is, has) (more, also,
 two_readings line other (group_at i) (member_at key j) spells also word args = absurd (differ 0 word refl)
 two_readings line other (group_at i) (selector_words key p) spells also word args = absurd (differ 0 word refl)
 two_readings line other (group_at i) (filter_words key id p) spells also word args = absurd (differ 0 word refl)
+two_readings line other (group_at i) (verdict_on digits) spells also word args = absurd (differ 0 word refl)
 two_readings line other (member_at key i) (group_at j) spells also word args = absurd (differ 0 word refl)
 two_readings line other (member_at key i) (member_at key' j) (fields, is, has) (more, also, too) word args =
     let behind = behind_keys key key' _ _ has.0 too.0 args in
     ap (λ k. member_at k i) behind.0 ∙ ap (member_at key') (decimal_injective i j (omega (arith, has.1)) (omega (arith, too.1)) behind.1)
 two_readings line other (member_at key i) (selector_words key' p) spells also word args = absurd (differ 0 word refl)
 two_readings line other (member_at key i) (filter_words key' id p) spells also word args = absurd (differ 0 word refl)
+two_readings line other (member_at key i) (verdict_on digits) spells also word args = absurd (differ 0 word refl)
 two_readings line other (selector_words key p) (group_at j) spells also word args = absurd (differ 0 word refl)
 two_readings line other (selector_words key p) (member_at key' j) spells also word args = absurd (differ 0 word refl)
 two_readings line other (selector_words key p) (selector_words key' q) (fields, is, has) (more, also, too) word args =
@@ -75,6 +81,7 @@ two_readings line other (selector_words key p) (selector_words key' q) (fields, 
     let place = append_cancel_left (codes "selector ") (decimal p) (decimal q) behind.1 in
     ap (λ k. selector_words k p) behind.0 ∙ ap (selector_words key') (decimal_injective p q (omega (arith, has.1)) (omega (arith, too.1)) place)
 two_readings line other (selector_words key p) (filter_words key' id q) (fields, is, has) (more, also, too) word args = absurd (no_filter key key' id p q has.0 too.0 too.1 args)
+two_readings line other (selector_words key p) (verdict_on digits) spells also word args = absurd (differ 0 word refl)
 two_readings line other (filter_words key id p) (group_at j) spells also word args = absurd (differ 0 word refl)
 two_readings line other (filter_words key id p) (member_at key' j) spells also word args = absurd (differ 0 word refl)
 two_readings line other (filter_words key id p) (selector_words key' q) (fields, is, has) (more, also, too) word args = absurd (no_filter key' key id q p too.0 has.0 has.1 (sym args))
@@ -84,6 +91,12 @@ two_readings line other (filter_words key id p) (filter_words key' id' q) (field
     ap (λ k. filter_words k id p) behind.0
     ∙ ap (λ n. filter_words key' n p) number.0
     ∙ ap (filter_words key' id') (decimal_injective p q (omega (arith, has.2)) (omega (arith, too.2)) number.1)
+two_readings line other (filter_words key id p) (verdict_on digits) spells also word args = absurd (differ 0 word refl)
+two_readings line other (verdict_on digits) (group_at j) spells also word args = absurd (differ 0 word refl)
+two_readings line other (verdict_on digits) (member_at key j) spells also word args = absurd (differ 0 word refl)
+two_readings line other (verdict_on digits) (selector_words key q) spells also word args = absurd (differ 0 word refl)
+two_readings line other (verdict_on digits) (filter_words key id q) spells also word args = absurd (differ 0 word refl)
+two_readings line other (verdict_on digits) (verdict_on more) spells also word args = ap verdict_on args
 
 pub one_reading : (line : List ℕ) (one two : Reading) → Spells line (read one) → Spells line (read two) → one ≡ two
 one_reading line one two spells also =
@@ -97,6 +110,7 @@ unlisted (group_at index) = refl
 unlisted (member_at key index) = refl
 unlisted (selector_words key place) = refl
 unlisted (filter_words key id place) = refl
+unlisted (verdict_on digits) = refl
 
 pub no_change : (line : List ℕ) (command : Command Source) (reading : Reading) → Spells line (change command) → Spells line (read reading) → ⊥
 no_change line command reading spells also =
@@ -130,6 +144,7 @@ module _ (fields : List ℕ) where
       (key, spells.2.0, index, omega arith, (at_reading (codes "member") fields (member_at key index) (lacks-test 32 (codes "member") refl) spells).1)
   member_fields (selector_words key place) spells = absurd (differ 0 (at_reading (codes "member") fields (selector_words key place) (lacks-test 32 (codes "member") refl) spells).0 refl)
   member_fields (filter_words key id place) spells = absurd (differ 0 (at_reading (codes "member") fields (filter_words key id place) (lacks-test 32 (codes "member") refl) spells).0 refl)
+  member_fields (verdict_on digits) spells = absurd (differ 0 (at_reading (codes "member") fields (verdict_on digits) (lacks-test 32 (codes "member") refl) spells).0 refl)
 
   pub none_of_members : Lacks 32 fields → IsNoReading (codes "member " ++ fields)
   none_of_members lacks reading spells =
@@ -168,6 +183,7 @@ module _ (fields : List ℕ) where
         (at_reading (codes "words") fields (filter_words key id place) (lacks-test 32 (codes "words") refl) spells).1,
         inr (id, omega arith, refl),
       )
+  words_fields (verdict_on digits) spells = absurd (differ 0 (at_reading (codes "words") fields (verdict_on digits) (lacks-test 32 (codes "words") refl) spells).0 refl)
 
   pub none_of_words : Lacks 32 fields → IsNoReading (codes "words " ++ fields)
   none_of_words lacks reading spells =
@@ -225,8 +241,9 @@ no_reading_request word fields name lacks is none no_reading (read reading) spel
 no_reading_request word fields name lacks is none no_reading sweep spells = has_separator 32 word fields (subst (Lacks 32) (sym spells) (lacks-test 32 (codes "sweep") refl))
 
 -- a line that begins with another word reads nothing
-pub other_word : (word fields : List ℕ) (reading : Reading) → Lacks 32 word → word ≢ codes "group" → word ≢ codes "member" → word ≢ codes "words" → Spells (word ++ 32 ∷ fields) (read reading) → ⊥
-other_word word fields (group_at index) lacks not_group not_member not_words spells = not_group (at_reading word fields (group_at index) lacks spells).0
-other_word word fields (member_at key index) lacks not_group not_member not_words spells = not_member (at_reading word fields (member_at key index) lacks spells).0
-other_word word fields (selector_words key place) lacks not_group not_member not_words spells = not_words (at_reading word fields (selector_words key place) lacks spells).0
-other_word word fields (filter_words key id place) lacks not_group not_member not_words spells = not_words (at_reading word fields (filter_words key id place) lacks spells).0
+pub other_word : (word fields : List ℕ) (reading : Reading) → Lacks 32 word → word ≢ codes "group" → word ≢ codes "member" → word ≢ codes "words" → word ≢ codes "judge" → Spells (word ++ 32 ∷ fields) (read reading) → ⊥
+other_word word fields (group_at index) lacks not_group not_member not_words not_judge spells = not_group (at_reading word fields (group_at index) lacks spells).0
+other_word word fields (member_at key index) lacks not_group not_member not_words not_judge spells = not_member (at_reading word fields (member_at key index) lacks spells).0
+other_word word fields (selector_words key place) lacks not_group not_member not_words not_judge spells = not_words (at_reading word fields (selector_words key place) lacks spells).0
+other_word word fields (filter_words key id place) lacks not_group not_member not_words not_judge spells = not_words (at_reading word fields (filter_words key id place) lacks spells).0
+other_word word fields (verdict_on digits) lacks not_group not_member not_words not_judge spells = not_judge (at_reading word fields (verdict_on digits) lacks spells).0

@@ -220,9 +220,9 @@ no_word line lacks not_show not_sweep show spells = not_show spells
 no_word line lacks not_show not_sweep (read reading) spells = reads_with_space line reading spells lacks
 no_word line lacks not_show not_sweep sweep spells = not_sweep spells
 
-pub no_request : (word fields : List ℕ) → Lacks 32 word → word ≢ codes "group" → word ≢ codes "member" → word ≢ codes "words" → ((command : Command Source) → Spells (word ++ 32 ∷ fields) (change command) → ⊥)
+pub no_request : (word fields : List ℕ) → Lacks 32 word → word ≢ codes "group" → word ≢ codes "member" → word ≢ codes "words" → word ≢ codes "judge" → ((command : Command Source) → Spells (word ++ 32 ∷ fields) (change command) → ⊥)
     → (request : Request) → Spells (word ++ 32 ∷ fields) request → ⊥
-no_request word fields lacks not_group not_member not_words no_command (change command) spells = no_command command spells
-no_request word fields lacks not_group not_member not_words no_command show spells = has_separator 32 word fields (subst (Lacks 32) (sym spells) (lacks-test 32 (codes "show") refl))
-no_request word fields lacks not_group not_member not_words no_command (read reading) spells = other_word word fields reading lacks not_group not_member not_words spells
-no_request word fields lacks not_group not_member not_words no_command sweep spells = has_separator 32 word fields (subst (Lacks 32) (sym spells) (lacks-test 32 (codes "sweep") refl))
+no_request word fields lacks not_group not_member not_words not_judge no_command (change command) spells = no_command command spells
+no_request word fields lacks not_group not_member not_words not_judge no_command show spells = has_separator 32 word fields (subst (Lacks 32) (sym spells) (lacks-test 32 (codes "show") refl))
+no_request word fields lacks not_group not_member not_words not_judge no_command (read reading) spells = other_word word fields reading lacks not_group not_member not_words not_judge spells
+no_request word fields lacks not_group not_member not_words not_judge no_command sweep spells = has_separator 32 word fields (subst (Lacks 32) (sym spells) (lacks-test 32 (codes "sweep") refl))

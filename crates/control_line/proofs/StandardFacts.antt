@@ -11,13 +11,18 @@ use Rattle.member_group.specs.declared.refusal.Refusal.TheVariants.{GroupExists,
 use Rattle.filter_program.specs.declared.fault.TextFault.TheVariants.{Assembly, Words}
 use Rattle.retire.specs.declared.fault.PublishFault.TheVariants.{Busy}
 use Rattle.control_line.specs.declared.reason.Reason.TheVariants.{BadForm, Command, OtherVersion, Publishing, Text}
-use Rattle.control_line.specs.declared.reply.LineAnswer.TheVariants.{LineRefused, Published, Refused, Shown, Swept}
+use Rattle.control_line.specs.declared.reply.LineAnswer.TheVariants.{LineRefused, PacketJudged, PacketMalformed, Published, Refused, Shown, Swept}
 use Rattle.control_line.specs.Agrees.{Agrees, TextConfig}
-use Rattle.control_line.specs.Answer.{Answers, changed, is_made, not_made, published, refused, replied, shown}
+use Rattle.control_line.specs.Answer.{Answers, changed, is_made, not_made, published, refused, replied, shown, was_read}
 use Rattle.control_line.specs.Block.{single}
 use Rattle.control_line.proofs.OneMessageLemmas.{spelled_short}
 use Rattle.control_line.specs.Reply.{reply_text}
-use Rattle.control_line.specs.Request.{Spells, change, show}
+use Rattle.control_line.specs.Reading.{verdict_on}
+use Rattle.control_line.specs.Request.{Spells, change, read, show}
+use Rattle.hex.specs.Hex.{decode_pairs}
+use Rattle.packet_verdict.specs.Malformed.{malformation_of}
+use Rattle.packet_verdict.specs.declared.malformed.Malformation.TheVariants.{Fragment, Short}
+use Rattle.packet_verdict.specs.declared.verdict.Verdict.TheVariants.{NoGroup}
 use Rattle.filter_program.specs.Program.{assembly, expression}
 
 -- 10.0.0.2:53 and 127.0.0.1:9001
@@ -56,6 +61,12 @@ filters = (codes "filter" ∷ codes "10.0.0.2:53" ∷ codes "3" ∷ codes "expr"
 shows : Spells (codes "show") show
 shows = refl
 
+judges : Spells (codes "judge 4500") (read (verdict_on (codes "4500")))
+judges = (codes "judge" ∷ codes "4500" ∷ [], refl, refl)
+
+judges_no_byte : Spells (codes "judge ") (read (verdict_on []))
+judges_no_byte = (codes "judge" ∷ [] ∷ [], refl, refl)
+
 -- ---- what a line is answered, from the empty configuration on
 
 empty_agrees : Agrees [] []
@@ -77,6 +88,17 @@ refuses_it_again =
 shows_it : Answers 1 one_group (codes "show") (Shown 1 1 0 6) one_group
 shows_it = replied (single show) _ _ (spelled_short _ show shows (lit≤ tt)) shows shown
 
+two_bytes_are_short : Answers 1 one_group (codes "judge 4500") (PacketMalformed 1 Short) one_group
+unfolding decode_pairs malformation_of
+two_bytes_are_short =
+    replied (single (read (verdict_on (codes "4500")))) _ _ (spelled_short _ (read (verdict_on (codes "4500"))) judges (lit≤ tt)) judges (was_read (verdict_on (codes "4500")))
+
+half_a_byte_is_none : Answers 1 one_group (codes "judge 450") (Refused BadForm) one_group
+unfolding decode_pairs
+half_a_byte_is_none =
+    replied (single (read (verdict_on (codes "450")))) _ _ (spelled_short _ (read (verdict_on (codes "450"))) (codes "judge" ∷ codes "450" ∷ [], refl, refl) (lit≤ tt))
+    (codes "judge" ∷ codes "450" ∷ [], refl, refl) (was_read (verdict_on (codes "450")))
+
 -- ---- replies
 
 published_text : reply_text (Published 7) ≡ codes "ok version 7"
@@ -94,6 +116,14 @@ other_version = refl
 shown_text : reply_text (Shown 7 1 2 28) ≡ codes "version 7 groups 1 members 2 charge 28"
 unfolding digits
 shown_text = refl
+
+judged_text : reply_text (PacketJudged 7 NoGroup) ≡ codes "version 7 nogroup"
+unfolding digits
+judged_text = refl
+
+malformed_text : reply_text (PacketMalformed 7 Fragment) ≡ codes "version 7 malformed fragment"
+unfolding digits
+malformed_text = refl
 
 swept : reply_text (Swept (record { first = 0; count = 7 })) ≡ codes "reclaimed 0 7"
 unfolding digits

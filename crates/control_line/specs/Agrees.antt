@@ -43,6 +43,7 @@ pub record Agreeing : Type 0 where
 
 -- two configurations are the sides of one whose programs are pairs that agree: they have the same keys, the same members with
 -- the same locks, and a program in the same places, with the same words, the same charge and the same ending on every packet
+-- The reason: docs/INTERNALS.md, "A configuration of texts".
 abbrev pub Agrees : TextConfig → List Group → Type 0
 Agrees text config =
     (pairs : List (GroupOf Agreeing))

@@ -26,7 +26,7 @@ use Rattle.control_line.specs.declared.reason.Reason.{Reason}
 use Rattle.control_line.specs.declared.reason.Reason.TheVariants.{BadForm, LineTooLong, OtherVersion, Publishing}
 use Rattle.control_line.specs.declared.reason.Reason.TheVariants as reason
 use Rattle.control_line.specs.declared.reply.LineAnswer.{LineAnswer}
-use Rattle.control_line.specs.declared.reply.LineAnswer.TheVariants.{GroupRead, LineRefused, MemberRead, Published, Refused, Shown, Swept, WordsRead}
+use Rattle.control_line.specs.declared.reply.LineAnswer.TheVariants.{GroupRead, LineRefused, MemberRead, PacketJudged, PacketMalformed, Published, Refused, Shown, Swept, WordsRead}
 use Rattle.control_line.specs.Agrees.{AgreesNow, Compiler, IsLoadedBy, LoadedProgram, TextConfig}
 use Rattle.control_line.specs.Block.{IsTooLong, Message, SpellsMessage, block, for_version, single, wanted_version}
 use Rattle.control_line.specs.Reading.{Reading, reading_answer}
@@ -232,6 +232,8 @@ Does (Shown version groups members charge) before after = after ≡ before
 Does (GroupRead version index groups key members selector) before after = after ≡ before
 Does (MemberRead version index members id to filter locked) before after = after ≡ before
 Does (WordsRead version place count words) before after = after ≡ before
+Does (PacketJudged version judged) before after = after ≡ before
+Does (PacketMalformed version why) before after = after ≡ before
 Does (Swept reclaimed) before after = Sweeps before after reclaimed.first reclaimed.count
 
 -- what a line that reads is answered, from the configuration that was published last

@@ -13,3 +13,5 @@ pub use Rattle.ipv4_fields.specs.Endpoint
 pub use Rattle.ipv4_fields.specs.Cut
 pub use Rattle.filter_program.specs.Program
 pub use Rattle.filter_program.specs.Fault
+pub use Rattle.packet_verdict.specs.Malformed
+pub use Rattle.packet_verdict.specs.Verdict

@@ -1,21 +1,31 @@
 -- Lines that read the configuration back, and what they are answered (docs/COMMANDS.md, "Control lines").
-use Rattle.std.specs.Prelude.{◌++◌, List, None, Option, Some, drop, length, replicate, slice_get, take, ℕ}
+use Rattle.std.specs.Prelude.{◌++◌, Err, List, None, Ok, Option, Result, Some, drop, if◌then◌else◌, length, nat_le, replicate, slice_get, take, ℕ}
+use Rattle.bpf_machine.specs.Meaning.{ending_of}
+use Rattle.bpf_machine.specs.declared.TheConstants.{MAX_PACKET}
+use Rattle.hex.specs.Hex.{decode_of}
+use Rattle.hex.specs.declared.error.FromHexError.{FromHexError}
 use Rattle.ipv4_fields.specs.declared.endpoint.Endpoint.{Endpoint}
 use Rattle.member_group.specs.Group.{GroupOf, group_of, member_of}
 use Rattle.member_group.specs.declared.member.Member.{Member}
 use Rattle.member_group.specs.declared.refusal.Refusal.{Refusal}
 use Rattle.member_group.specs.declared.refusal.Refusal.TheVariants.{NoGroup, NoMember, NoProgram}
-use Rattle.control_line.specs.declared.reason.Reason.TheVariants.{Command}
+use Rattle.packet_verdict.specs.Malformed.{malformation_of}
+use Rattle.packet_verdict.specs.Verdict.{returned, verdict}
+use Rattle.packet_verdict.specs.declared.malformed.Malformation.{Malformation}
+use Rattle.packet_verdict.specs.declared.verdict.Verdict.{Verdict}
+use Rattle.control_line.specs.declared.reason.Reason.TheVariants.{BadForm, Command, PacketTooLong}
 use Rattle.control_line.specs.declared.reply.TheConstants.{WINDOW}
 use Rattle.control_line.specs.declared.reply.LineAnswer.{LineAnswer}
-use Rattle.control_line.specs.declared.reply.LineAnswer.TheVariants.{GroupRead, MemberRead, Refused, WordsRead}
+use Rattle.control_line.specs.declared.reply.LineAnswer.TheVariants.{GroupRead, MemberRead, PacketJudged, PacketMalformed, Refused, WordsRead}
 
--- a group by its place among the groups, a member by its index in a group, or words of a program from a place on
+-- a group by its place among the groups, a member by its index in a group, words of a program from a place on, or the verdict on the
+-- packet that digits write
 pub data Reading : Type 0 where
   group_at : ℕ → Reading
   member_at : Endpoint → ℕ → Reading
   selector_words : Endpoint → ℕ → Reading
   filter_words : Endpoint → ℕ → ℕ → Reading
+  verdict_on : List ℕ → Reading
 
 -- the answer about what is there, or the refusal because it is not
 abbrev pub or_refused : {A : Type 0} → Refusal → (A → LineAnswer) → Option A → LineAnswer
@@ -31,6 +41,15 @@ abbrev pub count_of : {P : Type 0} → (P → List ℕ) → Option P → ℕ
 count_of words_of None = 0
 count_of words_of (Some program) = length (words_of program)
 
+-- what a program answers a packet, by its words
+abbrev pub value_by_words : {P : Type 0} → (P → List ℕ) → P → List ℕ → ℕ
+value_by_words words_of program packet = returned (ending_of (words_of program) packet)
+
+-- the verdict of a version on a packet, or why it is malformed
+abbrev pub judged_answer : ℕ → Option Malformation → Verdict → LineAnswer
+judged_answer version None judged = PacketJudged version judged
+judged_answer version (Some why) judged = PacketMalformed version why
+
 -- configurations over programs of any kind, with the words of each
 module _ {P : Type 0} (words_of : P → List ℕ) (version : ℕ) where
   abbrev pub group_answer : ℕ → ℕ → GroupOf P → LineAnswer
@@ -41,6 +60,13 @@ module _ {P : Type 0} (words_of : P → List ℕ) (version : ℕ) where
 
   abbrev pub words_answer : ℕ → P → LineAnswer
   words_answer place program = WordsRead version place (length (words_of program)) (window (words_of program) place)
+
+  -- what digits were decoded to: a packet, if it is not too long
+  abbrev pub packet_answer : List (GroupOf P) → Result (List ℕ) FromHexError → LineAnswer
+  packet_answer config (Err fault) = Refused BadForm
+  packet_answer config (Ok packet) =
+      if nat_le (length packet) MAX_PACKET then judged_answer version (malformation_of packet) (verdict (value_by_words words_of) config packet)
+      else Refused PacketTooLong
 
   -- what is read of a configuration
   abbrev pub reading_answer : List (GroupOf P) → Reading → LineAnswer
@@ -55,3 +81,4 @@ module _ {P : Type 0} (words_of : P → List ℕ) (version : ℕ) where
       or_refused NoGroup
       (λ group. or_refused NoMember (λ member. or_refused NoProgram (words_answer place) member.filter) (member_of id group))
       (group_of key config)
+  reading_answer config (verdict_on digits) = packet_answer config (decode_of digits)

@@ -4,7 +4,7 @@ use Rattle.ipv4_fields.specs.Endpoint.{IsEndpoint, endpoint_text}
 use Rattle.member_group.specs.declared.command.Command.{Command}
 use Rattle.member_group.specs.declared.command.Command.TheVariants.{AddGroup, ClearFilter, ClearSelector, Join, Leave, LockFilter, RemoveGroup, SetFilter, SetSelector}
 use Rattle.filter_program.specs.Program.{Source, assembly, expression}
-use Rattle.control_line.specs.Reading.{Reading, filter_words, group_at, member_at, selector_words}
+use Rattle.control_line.specs.Reading.{Reading, filter_words, group_at, member_at, selector_words, verdict_on}
 
 -- a line asks for a change of the configuration, for its measures, for a part of it, or for a sweep
 pub data Request : Type 0 where
@@ -51,6 +51,7 @@ HasReadingFields fields (selector_words key place) =
 HasReadingFields fields (filter_words key id place) =
     IsEndpoint key × (id < 2 ^ 32) × (place < 2 ^ 32)
     × (fields ≡ codes "words" ∷ endpoint_text key ∷ decimal id ∷ decimal place ∷ [])
+HasReadingFields fields (verdict_on digits) = fields ≡ codes "judge" ∷ digits ∷ []
 
 -- a line of the table
 abbrev pub Spells : List ℕ → Request → Type 0

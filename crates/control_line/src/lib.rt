@@ -24,6 +24,7 @@ mod block;
 mod change;
 mod column;
 mod head;
+mod judging;
 mod packet;
 mod program;
 mod reading;
@@ -42,7 +43,7 @@ use program::LineFault;
 use read_section::Operator;
 use reading::{Reading, read_back};
 pub use reason::Reason;
-pub use reply::{LineAnswer, NUMBER_LIMIT, REPLY_LIMIT, Reply, WINDOW};
+pub use reply::{LineAnswer, NUMBER_LIMIT, REPLY_LIMIT, Reply, WINDOW, judged_reply};
 pub use request::is_word;
 use request::{Request, read_change, read_request};
 use retire::Retire;
@@ -82,8 +83,8 @@ fn shown(operator: &Operator) -> LineAnswer
     }
 }
 
-fn part_read(operator: &Operator, reading: Reading) -> LineAnswer
-    ensures read { IsReadBack (reading_of reading) operator.now.view result }
+fn part_read(operator: &Operator, reading: Reading<'_>) -> LineAnswer
+    ensures read { IsReadBack (reading_of reading.entry) operator.now.view result }
     ensures short { IsShort result }
 {
     read_back(operator.number(), operator.config().groups(), reading)

@@ -36,6 +36,13 @@ fn worth_of(byte: u8) -> u8
     DIGITS[byte as usize]
 }
 
+/// Tells whether a byte is a digit, of either case.
+pub(crate) fn is_digit(byte: u8) -> bool
+    ensures { result ≡ is_hex_digit byte }
+{
+    worth_of(byte) < NO_DIGIT
+}
+
 // How many bytes of a packet are made at once, each of two digits: the lanes of a vector.
 const BLOCK: usize = 16;
 
@@ -54,6 +61,7 @@ fn worths_of(bytes: u8x16) -> u8x16
 }
 
 // Writes a block of bytes, from this place on, and tells whether all of their digits were good.
+// The reason: docs/INTERNALS.md, "Hexadecimal digits in blocks".
 #[inline(always)]
 fn read_block(digits: &[u8], packet: &mut [u8], at: usize) -> bool
     requires pairs { length digits.now ≡ 2 * length packet.old }
@@ -120,7 +128,7 @@ fn read_tail(digits: &[u8], packet: &mut [u8]) -> bool
 }
 
 // Writes the bytes of pairs of digits, and tells whether all were digits.
-fn read_pairs(digits: &[u8], packet: &mut [u8]) -> bool
+pub(crate) fn read_pairs(digits: &[u8], packet: &mut [u8]) -> bool
     requires { length digits.now ≡ 2 * length packet.old }
     ensures packet { IsTrue result → decode_of digits.now ≡ Ok packet.new }
     ensures no_packet { IsFalse result → AllPass is_hex_digit digits.now → ⊥ }

@@ -1,23 +1,25 @@
 //! Lines that read the configuration back: a group, a member, or words of a program (docs/COMMANDS.md, "Control lines").
 
 ghost use Rattle.std.specs.Prelude.{◌≡◌, ◌<◌, option_map, slice_index_or};
-ghost use Rattle.member_group.specs.Group.{group_of, member_of};
+ghost use Rattle.member_group.specs.Group.{member_of};
 ghost use Rattle.member_group.specs.declared.refusal.Refusal.TheVariants.{NoProgram};
 ghost use Rattle.control_line.specs.Reading.{count_of, filter_words, group_at, member_at, or_refused, reading_answer, selector_words, window, words_answer};
 ghost use Rattle.control_line.specs.body.Reading.{reading_of};
 ghost use Rattle.control_line.specs.declared.reason.Reason.TheVariants.{Command};
 ghost use Rattle.control_line.specs.declared.reply.LineAnswer.TheVariants as answer;
 
+use crate::judging::judge_digits;
 use crate::reason::Reason;
 use crate::reply::{LineAnswer, WINDOW};
 use bpf_verify::Program;
 use ipv4_fields::Endpoint;
 use member_group::{Group, Member, Refusal};
+use packet_verdict::group_by_key;
 use std::alloc::Global;
 
 /// What a line reads back.
 #[derive(Clone, Copy)]
-pub(crate) enum Reading {
+pub(crate) enum Reading<'a> {
     /// The group at a place, in rising order of key.
     Group {
         index: u32,
@@ -38,23 +40,16 @@ pub(crate) enum Reading {
         member: u32,
         place: u32,
     },
+    /// The verdict on the packet that digits write.
+    Judge {
+        digits: &'a [u8],
+    },
 }
 
 fn refused(refusal: Refusal) -> LineAnswer
     ensures { result ≡ answer.Refused (Command refusal) }
 {
     LineAnswer::Refused(Reason::Command(refusal))
-}
-
-fn group_by_key(groups: &[Group<Global>], key: Endpoint) -> Option<&Group<Global>>
-    ensures { option_map (λ group. group.now) result ≡ group_of key groups.now }
-{
-    for group in groups {
-        if group.key().number() == key.number() {
-            return Some(group);
-        }
-    }
-    None
 }
 
 fn member_by_number(group: &Group<Global>, number: u32) -> Option<&Member<Program<Global>>>
@@ -175,8 +170,8 @@ fn read_filter(
 }
 
 /// What a line reads of the groups of a configuration, at its version.
-pub(crate) fn read_back(version: u64, groups: &[Group<Global>], reading: Reading) -> LineAnswer
-    ensures { result ≡ reading_answer (λ program. program.words) version groups.now (reading_of reading) }
+pub(crate) fn read_back(version: u64, groups: &[Group<Global>], reading: Reading<'_>) -> LineAnswer
+    ensures { result ≡ reading_answer (λ program. program.words) version groups.now (reading_of reading.entry) }
 {
     match reading {
         Reading::Group { index } => read_group(version, groups, index),
@@ -185,5 +180,6 @@ pub(crate) fn read_back(version: u64, groups: &[Group<Global>], reading: Reading
         Reading::Filter { key, member, place } => {
             read_filter(version, groups, key, member, place)
         }
+        Reading::Judge { digits } => judge_digits(version, groups, digits),
     }
 }

@@ -16,7 +16,7 @@ pub enum Reason {
     BadForm,
     /// C2: the line has more than `LINE_LIMIT` bytes.
     LineTooLong,
-    /// C3: the packet has more than `bpf_machine::MAX_PACKET` bytes. `line` reads no packet, and never gives it.
+    /// C3: the packet has more than `bpf_machine::MAX_PACKET` bytes.
     PacketTooLong,
     /// A1 to A5, V1 to V11, P1 to P5, F1, F2: the text means no program.
     Text(TextFault),

@@ -3,10 +3,13 @@
 ghost use Rattle.std.specs.Prelude.{◌≡◌, ◌≤◌, ◌<◌, ◌+◌, ◌^◌, ◌++◌, ◌∷◌, [], decimal, length};
 
 mod answers;
+mod judged;
 
 use crate::reason::Reason;
 use ipv4_fields::{Endpoint, TextBuffer};
 use itoa::write_digits;
+pub use judged::judged_reply;
+use packet_verdict::{Malformation, Verdict};
 use read_section::Reclaimed;
 use std::marker::Model;
 
@@ -67,6 +70,16 @@ pub enum LineAnswer {
         count: usize,
         words: [u64; WINDOW],
     },
+    /// The verdict on a packet, by the current version.
+    PacketJudged {
+        version: u64,
+        verdict: Verdict,
+    },
+    /// The first rule that a malformed packet breaks.
+    PacketMalformed {
+        version: u64,
+        why: Malformation,
+    },
     /// The versions that may be reused.
     Swept(Reclaimed),
 }
@@ -102,6 +115,7 @@ fn few_digits(number: u64) -> usize
 }
 
 // How many digits a number has, four at a step.
+// The reason: docs/INTERNALS.md, "Numbers and line ends".
 fn digit_count(number: u64) -> usize
     ensures { result ≡ length (decimal number) }
 {

@@ -4,8 +4,8 @@ ghost use Rattle.std.specs.Prelude.{◌≡◌, ◌≢◌, ◌<◌, ◌^◌, ◌+
 ghost use Rattle.ipv4_fields.specs.Endpoint.{IsEndpoint, endpoint_text};
 ghost use Rattle.ipv4_fields.specs.Cut.{Lacks};
 ghost use Rattle.filter_program.specs.Program.{Source};
-ghost use Rattle.control_line.specs.Request.{spaced};
-ghost use Rattle.control_line.specs.body.Reading.{IsCommandRead, IsMemberWord, IsRead, IsReadingRead, program_fields, source_of};
+ghost use Rattle.control_line.specs.Request.{Spells, read, spaced};
+ghost use Rattle.control_line.specs.body.Reading.{IsCommandRead, IsMemberWord, IsRead, IsReadingRead, program_fields, reading_of, source_of};
 
 use crate::reading::Reading;
 use ipv4_fields::{Endpoint, read_number, split_at};
@@ -26,7 +26,7 @@ pub(crate) enum Request<'a> {
     /// The version and the measures of the current configuration.
     Show,
     /// A part of the current configuration.
-    Read(Reading),
+    Read(Reading<'a>),
     /// The versions that may be reused.
     Sweep,
 }
@@ -150,14 +150,14 @@ fn read_command<'a>(word: &'a [u8], fields: &'a [u8]) -> Option<Command<ProgramT
     read_member_line(word, key, fields)
 }
 
-fn read_group(fields: &[u8]) -> Option<Reading>
+fn read_group(fields: &[u8]) -> Option<Reading<'_>>
     ensures { IsReadingRead (codes "group " ++ fields.now) result }
 {
     let index = read_number(u32::MAX, fields)?;
     Some(Reading::Group { index })
 }
 
-fn read_member(fields: &[u8]) -> Option<Reading>
+fn read_member(fields: &[u8]) -> Option<Reading<'_>>
     ensures { IsReadingRead (codes "member " ++ fields.now) result }
 {
     let (key, index) = split_at(b' ', fields)?;
@@ -166,7 +166,7 @@ fn read_member(fields: &[u8]) -> Option<Reading>
     Some(Reading::Member { key, index })
 }
 
-fn read_words(fields: &[u8]) -> Option<Reading>
+fn read_words(fields: &[u8]) -> Option<Reading<'_>>
     ensures { IsReadingRead (codes "words " ++ fields.now) result }
 {
     let (key, fields) = split_at(b' ', fields)?;
@@ -178,6 +178,12 @@ fn read_words(fields: &[u8]) -> Option<Reading>
     }
     let member = read_number(u32::MAX, program)?;
     Some(Reading::Filter { key, member, place })
+}
+
+fn read_judge(digits: &[u8]) -> Reading<'_>
+    ensures { Spells (codes "judge " ++ digits.now) (read (reading_of result)) }
+{
+    Reading::Judge { digits }
 }
 
 fn read_fields<'a>(word: &'a [u8], fields: &'a [u8]) -> Option<Request<'a>>
@@ -192,6 +198,9 @@ fn read_fields<'a>(word: &'a [u8], fields: &'a [u8]) -> Option<Request<'a>>
     }
     if is_word(word, "words") {
         return Some(Request::Read(read_words(fields)?));
+    }
+    if is_word(word, "judge") {
+        return Some(Request::Read(read_judge(fields)));
     }
     Some(Request::Change(read_command(word, fields)?))
 }

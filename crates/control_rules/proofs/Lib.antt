@@ -13,3 +13,4 @@ mod LengthLemmas
 mod LeadLemmas
 mod MeaningLemmas
 mod AttemptLemmas
+mod DrainingLemmas

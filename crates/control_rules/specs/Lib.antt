@@ -4,4 +4,5 @@ pub mod History
 pub mod Shown
 pub mod Rules
 pub mod Load
+pub mod Drain
 pub mod body

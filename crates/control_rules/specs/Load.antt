@@ -1,5 +1,5 @@
 -- How a rules file replaces the rules of a switch (docs/COMMANDS.md, "load").
-use Rattle.std.specs.Prelude.{◌≡◌, ◌≢◌, ◌++◌, ◌∷◌, ◌⊎◌, Bool, List, Some, [], codes, decimal, false, length, nat_eq, true, ℕ}
+use Rattle.std.specs.Prelude.{◌≡◌, ◌≢◌, ◌++◌, ◌∷◌, ◌⊎◌, Bool, List, Some, [], codes, decimal, false, nat_eq, true, ℕ}
 use Rattle.std.specs.List.{starts_with}
 use Rattle.config_diff.specs.Lead.{LeadTo}
 use Rattle.config_diff.specs.Words.{words_config}

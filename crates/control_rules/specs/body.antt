@@ -5,3 +5,4 @@ pub mod Lines
 pub mod Added
 pub mod Progress
 pub mod Attempt
+pub mod Draining

@@ -1,4 +1,5 @@
-//! The rules of a running switch: read back, written as a rules file, and replaced (docs/COMMANDS.md, "rules", "load").
+//! The rules of a running switch: read back, written as a rules file, and replaced, and a member drained (docs/COMMANDS.md, "rules",
+//! "load", "drain").
 //!
 //! A `Client` asks a switch, and `ask_group` and `ask_member` ask it for parts of its configuration.
 #![tactic(auto)]
@@ -8,14 +9,19 @@ ghost use Rattle.control_rules.specs.Rules.{RulesMakeNothingElse, RulesMakeTheir
 mod asking;
 mod change_text;
 mod client;
+mod drain_refusal;
+mod draining;
 mod fields;
 mod loading;
+mod planning;
 mod reading;
 mod replies;
 
 pub use asking::{ask_group, ask_member};
 pub use change_text::changes_text;
 pub use client::Client;
+pub use drain_refusal::DrainRefusal;
+pub use draining::{Drained, drain};
 pub use fields::Fields;
 pub use loading::{Loaded, differences, load};
 pub use reading::{AGAIN, RulesRead, read_rules};

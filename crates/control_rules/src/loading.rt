@@ -35,7 +35,7 @@ pub enum Loaded {
 
 // How one attempt ended.
 #[derive(Drop)]
-enum Attempt {
+pub(crate) enum Attempt {
     Ended(Loaded),
     // The version is another one, a publication is busy, or the reply is none to a change: what was done, the rules show.
     Again { busy: bool },
@@ -43,9 +43,9 @@ enum Attempt {
 
 // The configuration that a switch has at a version, by the words of its programs.
 #[derive(Drop)]
-struct Running {
-    version: u64,
-    config: Config,
+pub(crate) struct Running {
+    pub(crate) version: u64,
+    pub(crate) config: Config,
 }
 
 // How long a busy publication is waited for, in milliseconds.
@@ -57,7 +57,9 @@ const BUSY: &[u8] = b"refused B2";
 const OUTDATED: &[u8] = b"refused M1 ";
 
 // The configuration of a switch, or none if its rules changed each time that they were read.
-fn read_running<D: Wire + Drop>(client: &mut Client<D>) -> Result<Option<Running>, Failure>
+pub(crate) fn read_running<D: Wire + Drop>(
+    client: &mut Client<D>,
+) -> Result<Option<Running>, Failure>
     ensures { IfOk result (λ answer. Learns client.old client.new (λ history.
         IfSome answer (λ running. words_config running.config ≡ words_config (history running.version)))) }
 {
@@ -107,7 +109,7 @@ fn request_for(alloc: Global, version: u64, file: &[u8]) -> Result<Vec<u8>, Fail
     block_of(alloc, front.as_bytes(), &mut InputLines::new(file))
 }
 
-fn read_reply(reply: Vec<u8>) -> Attempt
+pub(crate) fn read_reply(reply: Vec<u8>) -> Attempt
     ensures { IsReplyRead reply.items result }
 {
     if let Some(version) = read_published(&reply) {
@@ -145,7 +147,7 @@ fn try_once<D: Wire + Drop>(
     Ok(read_reply(reply))
 }
 
-fn pause<R: Clock>(clock: &R, busy: bool) {
+pub(crate) fn pause<R: Clock>(clock: &R, busy: bool) {
     if busy {
         sleep(clock, Duration::from_millis(PAUSE));
     }

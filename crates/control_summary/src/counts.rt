@@ -19,6 +19,7 @@ pub struct ReplyCounts {
     refused: bool,
 }
 
+// The reason: docs/INTERNALS.md, "Texts and types that only contracts see".
 impl Model for ReplyCounts {
     ghost use Rattle.std.specs.Prelude.{◌≡◌, List, false, ℕ};
     ghost use Rattle.control_summary.specs.body.Counted.{IsAt};

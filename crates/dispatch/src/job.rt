@@ -1,8 +1,9 @@
 //! Jobs: batches until a worker's source has no more (docs/SWITCH.md, "Workers").
 
-ghost use Rattle.std.specs.Prelude.{◌≡◌, ◌≤◌, false, length, true};
+ghost use Rattle.std.specs.Prelude.{◌≡◌, ◌≤◌, ◌∷◌, List, Option, [], false, length, true};
 ghost use Rattle.bpf_machine.specs.declared.TheConstants.{MAX_PACKET};
-ghost use Rattle.dispatch.specs.Job.{EndsWith, GoesOn, IsJob};
+ghost use Rattle.dispatch.specs.Device.{Takes};
+ghost use Rattle.dispatch.specs.Job.{EndsWith, GateEvent, GoesOn, IsJob, IsToldJob, ended, started};
 
 use crate::batches::{BatchDone, BatchFault, batch};
 use crate::device::{Outbox, Source};
@@ -24,6 +25,38 @@ impl Gate for OpenGate {
     fn start(&self, _batch: u64) {}
 
     fn done(&self, _batch: u64) {}
+}
+
+/// Is told where each batch of one worker's job begins and ends, by the batch's number. Contracts see the numbers in their order, if they
+/// are known.
+pub trait WorkerGate {
+    ghost log: { Self → Option (List GateEvent) };
+
+    fn start(&mut self, batch: u64)
+        ensures logged { Takes (log self.old) (log self.new) (started batch ∷ []) };
+
+    fn done(&mut self, batch: u64)
+        ensures logged { Takes (log self.old) (log self.new) (ended batch ∷ []) };
+}
+
+// The gate of all workers, as one of them knows it. Others tell it numbers meanwhile, so contracts know none.
+#[derive(Drop)]
+struct SharedGate<'a, G: Gate> {
+    gate: &'a G,
+}
+
+impl<G: Gate> WorkerGate for SharedGate<'_, G> {
+    ghost use Rattle.std.specs.Prelude.{None};
+
+    ghost log = { λ _. None };
+
+    fn start(&mut self, batch: u64) {
+        self.gate.start(batch);
+    }
+
+    fn done(&mut self, batch: u64) {
+        self.gate.done(batch);
+    }
 }
 
 // Whether a job goes on after a batch that ended so.
@@ -57,6 +90,30 @@ pub fn run_job<R: Wait, S: Source, O: Outbox, G: Gate>(
     requires buffer { length buf.old ≤ MAX_PACKET }
     requires at_least_one { 1 ≤ limit }
     ensures done_by_batches { IsJob (length buf.old) limit
+        (record { worker = worker.old; counter = counter.old; source = S.state source.old; outbox = O.state outbox.old })
+        (record { worker = worker.new; counter = counter.new; source = S.state source.new; outbox = O.state outbox.new }) }
+{
+    let mut gate = SharedGate { gate };
+    run_told_job(
+        rt, &mut gate, numbers, worker, counter, source, outbox, buf, limit,
+    )
+}
+
+/// As `run_job`, with a gate of this worker alone.
+pub fn run_told_job<R: Wait, S: Source, O: Outbox, G: WorkerGate>(
+    rt: &R,
+    gate: &mut G,
+    numbers: (u64, u64),
+    worker: &mut Worker,
+    counter: &mut Counter,
+    source: &mut S,
+    outbox: &mut O,
+    buf: &mut [u8],
+    limit: u64,
+)
+    requires buffer { length buf.old ≤ MAX_PACKET }
+    requires at_least_one { 1 ≤ limit }
+    ensures told { IsToldJob (length buf.old) limit numbers.1 numbers.0 (G.log gate.old) (G.log gate.new)
         (record { worker = worker.old; counter = counter.old; source = S.state source.old; outbox = O.state outbox.old })
         (record { worker = worker.new; counter = counter.new; source = S.state source.new; outbox = O.state outbox.new }) }
 {

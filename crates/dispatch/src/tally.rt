@@ -211,6 +211,7 @@ fn load_all(table: &TallyTable, seat: &mut TallySeat) -> [u64; KINDS]
 }
 
 /// Ends a tally: how often its counters, all of them, counted each kind. Takes no memory.
+/// The reason: docs/INTERNALS.md, "Seats and sums of a tally".
 #[tactic(auto, using(crate::proofs::TallyLemmas::place_low))]
 pub fn gather(tally: Tally, counters: Vec<Counter>) -> Totals
     requires counters { AreCountersOf tally.table counters.items }

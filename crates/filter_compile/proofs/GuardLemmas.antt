@@ -11,7 +11,6 @@ use Rattle.ipv4_fields.specs.Field.{field_of}
 use Rattle.filter_tree.specs.declared.primitive.Transport.{Transport}
 use Rattle.filter_tree.specs.declared.truth.Truth.{Truth}
 use Rattle.filter_tree.specs.declared.truth.Truth.TheVariants.{No, Yes}
-use Rattle.filter_tree.specs.Measure.{weight_where}
 use Rattle.filter_tree.specs.Outcome.{◌and_then◌, tested, where_so}
 use Rattle.filter_tree.specs.Primitive.{has_ports, is_first_fragment, is_ip}
 use Rattle.filter_facts.specs.declared.known.Known.{Known}

@@ -17,7 +17,7 @@ use Rattle.filter_emit.proofs.PushedLemmas.{after_effect, mean_pushed}
 use Rattle.ipv4_fields.specs.declared.header.Field.TheVariants.{Protocol}
 use Rattle.ipv4_fields.specs.Field.{behind_header, bits_from, field_of, ihl_of, number_at}
 use Rattle.filter_tree.specs.declared.truth.Truth.{Truth}
-use Rattle.filter_tree.specs.declared.truth.Truth.TheVariants.{Fails, No, Yes}
+use Rattle.filter_tree.specs.declared.truth.Truth.TheVariants.{Fails}
 use Rattle.filter_tree.specs.declared.primitive.Direction.{Direction}
 use Rattle.filter_tree.specs.declared.primitive.Direction.TheVariants.{Both, Destination as Destination', Either, Source as Source'}
 use Rattle.filter_tree.specs.Outcome.{◌and_then◌, ◌or_else◌, answer, opposite, tested}
@@ -33,7 +33,7 @@ use Rattle.filter_compile.specs.Answer.{IsPacket}
 use Rattle.filter_compile.specs.declared.check.Check.{Check}
 use Rattle.filter_compile.specs.declared.check.Check.TheVariants.{Between, Covered, Equal}
 use Rattle.filter_compile.specs.declared.ends.Part.{Part}
-use Rattle.filter_compile.specs.declared.ends.Part.TheVariants.{Address, Port}
+use Rattle.filter_compile.specs.declared.ends.Part.TheVariants.{Port}
 use Rattle.filter_compile.specs.body.Header.{by_header, destination_of, ends_pass, passes, source_of, weight_of_check}
 use Rattle.filter_compile.specs.body.Piece.{Asks, Brings, BringsTo, ComesWith, Computes, DecidedBy, Decides, Facts, GoesBy, IsPlain, LoadsAs, Tests, behind}
 use Rattle.filter_compile.specs.body.Sides.{IsSameButA}

@@ -100,6 +100,7 @@ fn common_ports<B: Allocator>(expr: &Expr<B>, known: Known) -> Option<Transport>
     }
 }
 
+// The reason: docs/INTERNALS.md, "The version is tested once before alternatives".
 fn first_guard<B: Allocator>(expr: &Expr<B>, known: Known) -> Option<Guard>
     ensures may_ask { IfSome result (λ guard. MayAsk guard known) }
     ensures begins { IfSome result (λ guard. BeginsWith guard (tree_of expr.now)) }

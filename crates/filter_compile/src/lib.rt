@@ -90,6 +90,7 @@ fn within_limits<A: Allocator>(expr: &Expr<A>, size: u32) -> Result<(), CompileF
 // Up to this size an expression has fewer cells than there are.
 const FEW: u32 = 64;
 
+// The reason: docs/INTERNALS.md, "Cells are counted only in long expressions".
 fn exceeds_cells<A: Allocator>(expr: &Expr<A>, size: u32) -> bool
     requires size { size ≡ min (size_of (tree_of expr.now)) u32.MAX }
     ensures exceeds { result ≡ true → CELLS < cells_of (tree_of expr.now) }

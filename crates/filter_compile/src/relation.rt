@@ -94,6 +94,7 @@ fn compare_with<'a, A: Allocator, B: Allocator>(
 }
 
 // Apart from the recursion, whose every level would clear room for what it needs.
+// The reason: docs/INTERNALS.md, "Inlining is by count".
 #[inline(never)]
 pub(crate) fn relation<'a, A: Allocator, B: Allocator>(
     code: &mut Code<'a, A>,

@@ -43,6 +43,7 @@ pub(crate) fn settled<'a, A: Allocator>(
 }
 
 /// What is known behind guards, and where one of them goes to no, `None` where none ever does.
+/// The reason: docs/INTERNALS.md, "Guards cost little if they write nothing".
 #[derive(Clone, Copy)]
 pub(crate) struct Passed {
     pub(crate) on: Known,

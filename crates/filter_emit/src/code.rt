@@ -210,6 +210,7 @@ impl<'a, A: Allocator> Code<'a, A> {
 }
 
 // Tests whether a label can be too far for the jump of a test at the place.
+// The reason: docs/INTERNALS.md, "A far jump is decided by weights".
 fn is_far(place: u32, by: u32) -> bool
     requires room { place ≤ MAX_INSTRUCTIONS }
     ensures far { result ≡ true → place + 256 < by }

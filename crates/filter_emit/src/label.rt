@@ -11,6 +11,7 @@ use std::marker::Model;
 /// A place after the code that is written: the jumps that are to lead there, and the last place that it can be.
 ///
 /// Contracts see it as a `LabelValue`: its list of fixups, and `by`.
+/// The reason: docs/INTERNALS.md, "A program is compiled forward".
 #[derive(Drop)]
 pub struct Label<'a, A: Allocator> {
     fixups: SmallVec<Fixup, 8, &'a A>,

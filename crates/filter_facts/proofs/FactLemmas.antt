@@ -1,16 +1,16 @@
 -- What holds of a packet, of A and of X where the facts hold: the truth of each test that they settle, and the loads that were made.
-use Rattle.std.proofs.Common.{◌≡◌, ◌∙◌, ◌*◌, Bool, List, None, Option, Some, ap, false, refl, subst, sym, true, ℕ, ⊎_elim}
+use Rattle.std.proofs.Common.{◌≡◌, ◌∙◌, Bool, List, None, Some, ap, false, refl, subst, sym, true, ℕ, ⊎_elim}
 use Rattle.std.specs.Prelude.{◌==◌, if◌then◌else◌}
 use Rattle.std.proofs.lemmas.Bool.{cases_eq, eq-eqb, ne_eqb}
 use Rattle.ipv4_fields.specs.declared.header.Field.TheVariants as field_is
-use Rattle.ipv4_fields.specs.Field.{field_of, ihl_of}
+use Rattle.ipv4_fields.specs.Field.{field_of}
 use Rattle.filter_tree.specs.declared.arithmetic.Protocol.{Protocol as DataProtocol}
 use Rattle.filter_tree.specs.declared.arithmetic.Protocol.TheVariants as data_is
 use Rattle.filter_tree.specs.declared.primitive.Transport.{Transport}
 use Rattle.filter_tree.specs.declared.primitive.Transport.TheVariants.{Tcp, Udp, Unnamed}
 use Rattle.filter_tree.specs.declared.sides.Accesses.{Accesses}
 use Rattle.filter_tree.specs.declared.truth.Truth.{Truth}
-use Rattle.filter_tree.specs.declared.truth.Truth.TheVariants.{No, Yes}
+use Rattle.filter_tree.specs.declared.truth.Truth.TheVariants.{Yes}
 use Rattle.filter_tree.specs.Outcome.{answer, tested}
 use Rattle.filter_tree.specs.Primitive.{has_ports, is_first_fragment, is_ip, is_protocol}
 use Rattle.filter_tree.specs.Truth.{guards, used_by}
@@ -19,8 +19,8 @@ use Rattle.filter_facts.specs.declared.header.Header.TheVariants as header_is
 use Rattle.filter_facts.specs.declared.header.Protocol.{Protocol}
 use Rattle.filter_facts.specs.declared.header.Protocol.TheVariants.{Any, Is, IsNot}
 use Rattle.filter_facts.specs.declared.known.Known.{Known}
-use Rattle.filter_facts.specs.Known.{HasPorts, Holds, IsFirst, IsHeader, IsInA, IsProtocol, Knows, Settles}
-use Rattle.filter_facts.specs.Told.{first_fragment_of, first_in, header_in_x_of, in_a_of, ip_of, ip_told, named_told, number_told, ports_in, ports_told, protocol_in, protocol_of, transport_of}
+use Rattle.filter_facts.specs.Known.{HasPorts, Holds, IsFirst, IsHeader, IsProtocol, Knows, Settles}
+use Rattle.filter_facts.specs.Told.{first_fragment_of, first_in, header_in_x_of, ip_of, ip_told, named_told, number_told, ports_in, ports_told, protocol_in, transport_of}
 
 -- ---- what is settled
 

@@ -16,6 +16,7 @@ use crate::load::{Loaded, join_loads};
 use filter_tree::Transport;
 
 /// What is known of a packet, whether X holds the length of its IPv4 header, and what A holds.
+/// The reason: docs/INTERNALS.md, "What is known is a few facts".
 #[derive(Clone, Copy, Debug, PartialEq, Eq)]
 pub struct Known {
     pub(crate) header: Header,

@@ -90,5 +90,6 @@ abbrev pub HasTree : List ℕ → Tree → Type 0
 HasTree text tree = (tokens : List Placed) × AreTokens 0 text tokens × IsTreeOf tokens tree
 
 -- the text is none, and this is its fault
+-- The reason: docs/INTERNALS.md, "A fault is a relation".
 abbrev pub HasFault : List ℕ → ParseFault → Type 0
 HasFault text fault = (tokens : List Placed) × AreTokens 0 text tokens × IsFaultOf text tokens fault

@@ -80,6 +80,7 @@ fn boxed<A: Allocator + Clone, T: Drop>(alloc: &A, value: T) -> Result<Box<T, A>
 
 // A place is filled once. What stood in it has no parts, so nothing is read there to be dropped.
 
+// Why parts are written in place: docs/INTERNALS.md, "A tree is taken from its last part".
 #[inline(always)]
 fn put_arithmetic<A: Allocator>(to: &mut Arith<A>, made: Arith<A>)
     requires { IsBlankArithmetic to.old }

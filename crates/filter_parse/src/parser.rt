@@ -14,6 +14,7 @@ use crate::step::open_after;
 use std::alloc::Allocator;
 
 /// What has been shifted last, what is pending, and the output so far.
+/// The reason: docs/INTERNALS.md, "The parser is an operator-precedence parser".
 #[derive(Drop)]
 pub(crate) struct Parser<'a, A: Allocator> {
     pub(crate) state: State,

@@ -10,6 +10,7 @@ use std::alloc::Allocator;
 // Short texts need no memory for it.
 #[derive(Drop)]
 pub(crate) struct Stack<'a, T: Copy + Default + Drop, A: Allocator> {
+    // The reason: docs/INTERNALS.md, "Short texts are parsed without memory".
     entries: SmallVec<T, 16, &'a A>,
 }
 

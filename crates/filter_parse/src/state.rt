@@ -62,6 +62,7 @@ pub(crate) enum Pending {
     #[default]
     Negated,
     /// `(`, and whether only an arithmetic expression may stand in it.
+    /// The reason: docs/INTERNALS.md, "One kind of open bracket".
     Bracket(bool),
     /// An arithmetic expression and a relation.
     Compared(Relation),

@@ -29,6 +29,7 @@ fn program_of_assembly(alloc: Global, text: &[u8]) -> Result<Program<Global>, Te
 }
 
 // The tree lives in an arena of its own, and both are given up before the answer: only the program's words leave.
+// The reason: docs/INTERNALS.md, "filter_program".
 fn program_of_expression(alloc: Global, text: &[u8]) -> Result<Program<Global>, TextFault>
     ensures program { IfOk result (IsProgramOfExpression text.now) }
     ensures fault { IfErr result (λ fault. (fault ≡ OutOfMemory) ⊎ IsExpressionFault text.now fault) }

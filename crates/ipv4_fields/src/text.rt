@@ -47,6 +47,7 @@ fn number_of(field: &[u8]) -> Option<u64>
 }
 
 /// Reads a number up to a limit, decimal and without leading zeros.
+/// The reason: docs/INTERNALS.md, "A number is read by its digits".
 pub fn read_number(limit: u32, field: &[u8]) -> Option<u32>
     ensures { MatchOption result
         ((n : ℕ) → n ≤ limit → field.now ≢ decimal n)

@@ -1,65 +1,88 @@
--- The last run of a log, written in its place, or a run after it.
-use Rattle.std.proofs.Common.{◌≡◌, ◌≤◌, ◌<◌, ◌-◌, ◌∙◌, ◌++◌, ◌∷◌, List, [], ap, arith, false, get_or, length, refl, set, suc, true, ℕ}
-use Rattle.std.proofs.lemmas.List.{set-get_or}
+-- The last run of a log, after those before it.
+use Rattle.std.proofs.Common.{◌≡◌, ◌∙◌, ◌++◌, ◌∷◌, Bool, IsSome, List, None, Option, Some, [], ap, arith, false, length, refl, subst, sym, true, ℕ}
 use Rattle.member_counts.specs.declared.counts.Counts.{Counts}
 use Rattle.member_counts.specs.declared.key.CountKey.{CountKey}
 use Rattle.member_counts.specs.declared.log.Run.{Run}
 use Rattle.member_counts.specs.Counts.{failed_one, plus}
 use Rattle.member_counts.specs.Key.{same_key}
-use Rattle.member_counts.specs.Log.{last_failed, with_run}
+use Rattle.member_counts.specs.Log.{earlier_runs, last_failed, last_run, marked_failed, with_run}
+use Rattle.member_counts.specs.body.Runs.{runs}
+use Rattle.member_counts.proofs.KeyLemmas.{same_from_same_key}
 
 module _ (key : CountKey) (counts : Counts) where
-  set-last : (entries : List Run) (last : Run) → 0 < length entries → last ≡ get_or entries (length entries - 1) last → same_key last.key key ≡ true
-      → set entries (length entries - 1) (record last { counts = plus last.counts counts }) ≡ with_run key counts entries
-  set-last [] last some there same = absurd (omega (arith, some))
-  set-last (first ∷ []) last some there same =
-      let own : same_key first.key key ≡ true = rw there at same in
-      rw own (ap (λ (run : Run). record run { counts = plus run.counts counts } ∷ []) there)
-  set-last (first ∷ (next ∷ rest)) last some there same =
-      let past : length (first ∷ (next ∷ rest)) - 1 ≡ suc (length (next ∷ rest) - 1) = omega arith in
-      let found : last ≡ get_or (next ∷ rest) (length (next ∷ rest) - 1) last = rw past at there in
-      rw past (ap (λ entries. first ∷ entries) (set-last (next ∷ rest) last (omega arith) found same))
+  same : (earlier : List Run) (last : Run) → same_key last.key key ≡ true
+      → earlier ++ record last { counts = plus last.counts counts } ∷ [] ≡ with_run key counts (earlier ++ last ∷ [])
+  same [] last is = rw is refl
+  same (first ∷ []) last is = ap (λ runs. first ∷ runs) (same [] last is)
+  same (first ∷ (next ∷ rest)) last is = ap (λ runs. first ∷ runs) (same (next ∷ rest) last is)
 
-  pub set-with_run : (entries : List Run) (last : Run) (len : ℕ) → len ≡ length entries → 0 < len → last ≡ get_or entries (len - 1) last → same_key last.key key ≡ true
-      → set entries (len - 1) (record last { counts = plus last.counts counts }) ≡ with_run key counts entries
-  set-with_run entries last len counted some there same =
-      let found : last ≡ get_or entries (length entries - 1) last = rw counted at there in
-      rw counted (set-last entries last (omega (arith, counted, some)) found same)
+  other : (earlier : List Run) (last : Run) → same_key last.key key ≡ false
+      → (earlier ++ last ∷ []) ++ record { key = key; counts = counts } ∷ [] ≡ with_run key counts (earlier ++ last ∷ [])
+  other [] last is = rw is refl
+  other (first ∷ []) last is = ap (λ runs. first ∷ runs) (other [] last is)
+  other (first ∷ (next ∷ rest)) last is = ap (λ runs. first ∷ runs) (other (next ∷ rest) last is)
 
-  new-run : (entries : List Run) (last : Run) → last ≡ get_or entries (length entries - 1) last → same_key last.key key ≡ false
-      → entries ++ record { key = key; counts = counts } ∷ [] ≡ with_run key counts entries
-  new-run [] last there other = refl
-  new-run (first ∷ []) last there other =
-      let apart : same_key first.key key ≡ false = rw there at other in
-      rw apart refl
-  new-run (first ∷ (next ∷ rest)) last there other =
-      let past : length (first ∷ (next ∷ rest)) - 1 ≡ suc (length (next ∷ rest) - 1) = omega arith in
-      let found : last ≡ get_or (next ∷ rest) (length (next ∷ rest) - 1) last = rw past at there in
-      ap (λ entries. first ∷ entries) (new-run (next ∷ rest) last found other)
+  -- counts of the last run's key are added to it; where there is no run the key is a member's, and what lies there is not
+  pub same-run : (earlier : List Run) (has_last : Bool) (last : Run) (sent : Bool)
+      → (has_last ≡ false → (length earlier ≡ 0) × (sent ≡ false) × (last.key.member ≡ None)) → (runs earlier has_last last ≡ [] → IsSome key.member)
+      → same_key last.key key ≡ true
+      → runs earlier has_last (record last { counts = plus last.counts counts }) ≡ with_run key counts (runs earlier has_last last)
+  same-run earlier true last sent none member is = same earlier last is
+  same-run [] false last sent none member is =
+      let own : last.key ≡ key = same_from_same_key last.key key is in
+      let lacks : key.member ≡ None = sym (ap (λ (key : CountKey). key.member) own) ∙ (none refl).2 in
+      let impossible : IsSome {T = ℕ} None = subst (λ (member : Option ℕ). IsSome member) lacks (member refl) in
+      cc
+  same-run (run ∷ earlier) false last sent none member is = absurd (omega (arith, (none refl).0))
 
-  -- after the last run was looked at
-  pub next-run : (entries : List Run) (last : Run) (len : ℕ) → len ≡ length entries → last ≡ get_or entries (len - 1) last → same_key last.key key ≡ false
-      → set entries (len - 1) last ++ record { key = key; counts = counts } ∷ [] ≡ with_run key counts entries
-  next-run entries last len counted there other =
-      let same : set entries (len - 1) last ≡ entries = ap (λ run. set entries (len - 1) run) there ∙ set-get_or entries (len - 1) last in
-      let found : last ≡ get_or entries (length entries - 1) last = rw counted at there in
-      ap (λ before. before ++ record { key = key; counts = counts } ∷ []) same ∙ new-run entries last found other
+  -- counts of another key are a new run, and so are the first ones
+  pub next-run : (earlier : List Run) (has_last : Bool) (last : Run) (sent : Bool)
+      → (has_last ≡ false → (length earlier ≡ 0) × (sent ≡ false) × (last.key.member ≡ None)) → (has_last ≡ true → same_key last.key key ≡ false)
+      → runs earlier has_last last ++ record { key = key; counts = counts } ∷ [] ≡ with_run key counts (runs earlier has_last last)
+  next-run earlier true last sent none is = other earlier last (is refl)
+  next-run [] false last sent none is = refl
+  next-run (run ∷ earlier) false last sent none is = absurd (omega (arith, (none refl).0))
 
-set-failed : (entries : List Run) (last : Run) → last ≡ get_or entries (length entries - 1) last
-    → set entries (length entries - 1) (record last { counts = plus last.counts failed_one }) ≡ last_failed entries
-set-failed [] last there = refl
-set-failed (first ∷ []) last there = ap (λ (run : Run). record run { counts = plus run.counts failed_one } ∷ []) there
-set-failed (first ∷ (next ∷ rest)) last there =
-    let past : length (first ∷ (next ∷ rest)) - 1 ≡ suc (length (next ∷ rest) - 1) = omega arith in
-    let found : last ≡ get_or (next ∷ rest) (length (next ∷ rest) - 1) last = rw past at there in
-    rw past (ap (λ entries. first ∷ entries) (set-failed (next ∷ rest) last found))
+failed : (earlier : List Run) (last : Run)
+    → earlier ++ record last { counts = plus last.counts failed_one } ∷ [] ≡ last_failed (earlier ++ last ∷ [])
+failed [] last = refl
+failed (first ∷ []) last = refl
+failed (first ∷ (next ∷ rest)) last = ap (λ runs. first ∷ runs) (failed (next ∷ rest) last)
 
-pub set-last_failed : (entries : List Run) (last : Run) (len : ℕ) → len ≡ length entries → last ≡ get_or entries (len - 1) last
-    → set entries (len - 1) (record last { counts = plus last.counts failed_one }) ≡ last_failed entries
-set-last_failed entries last len counted there =
-    let found : last ≡ get_or entries (length entries - 1) last = rw counted at there in
-    rw counted (set-failed entries last found)
+pub failed-log : (earlier : List Run) (has_last : Bool) (last : Run) (room : ℕ) (sent : Bool) → sent ≡ true
+    → (has_last ≡ false → (length earlier ≡ 0) × (sent ≡ false) × (last.key.member ≡ None))
+    → record { entries = runs earlier has_last (record last { counts = plus last.counts failed_one }); room = room; sent = false }
+    ≡ marked_failed (record { entries = runs earlier has_last last; room = room; sent = sent })
+failed-log earlier true last room true is none = ap (λ (entries : List Run). record { entries = entries; room = room; sent = false }) (failed earlier last)
+failed-log earlier false last room true is none = let nothing = (none refl).1 in cc
+failed-log earlier has_last last room false is none = cc
 
-pub last_failed-nil : (entries : List Run) → length entries ≤ 0 → entries ≡ last_failed entries
-last_failed-nil [] empty = refl
-last_failed-nil (entry ∷ entries) empty = absurd (omega (arith, empty))
+earlier : (runs : List Run) (last : Run) → runs ≡ earlier_runs (runs ++ last ∷ [])
+earlier [] last = refl
+earlier (first ∷ []) last = refl
+earlier (first ∷ (next ∷ rest)) last = ap (λ runs. first ∷ runs) (earlier (next ∷ rest) last)
+
+pub earlier-runs : (before : List Run) (has_last : Bool) (last : Run) → (has_last ≡ false → length before ≡ 0) → before ≡ earlier_runs (runs before has_last last)
+earlier-runs before true last none = earlier before last
+earlier-runs [] false last none = refl
+earlier-runs (run ∷ before) false last none = let empty = none refl in absurd (omega (arith, empty))
+
+last-of : (before : List Run) (last : Run) → Some last ≡ last_run (before ++ last ∷ [])
+last-of [] last = refl
+last-of (first ∷ []) last = refl
+last-of (first ∷ (next ∷ rest)) last = last-of (next ∷ rest) last
+
+pub last-run : (before : List Run) (has_last : Bool) (last : Run) → has_last ≡ true → Some last ≡ last_run (runs before has_last last)
+last-run before true last there = last-of before last
+last-run before false last there = cc
+
+-- the runs before the last one, and the last one, are all
+pub all-runs : (runs : List Run) (last : Run) → Some last ≡ last_run runs → earlier_runs runs ++ last ∷ [] ≡ runs
+all-runs [] last there = cc
+all-runs (run ∷ []) last there = let one : last ≡ run = cc in ap (λ last. last ∷ []) one
+all-runs (first ∷ (next ∷ rest)) last there = ap (λ runs. first ∷ runs) (all-runs (next ∷ rest) last there)
+
+pub no-runs : (runs : List Run) → None ≡ last_run runs → earlier_runs runs ≡ runs
+no-runs [] none = refl
+no-runs (run ∷ []) none = cc
+no-runs (first ∷ (next ∷ rest)) none = ap (λ runs. first ∷ runs) (no-runs (next ∷ rest) none)

@@ -1,5 +1,5 @@
 -- What the additions of a log's entries leave at each key.
-use Rattle.std.proofs.Common.{◌≡◌, ◌+◌, ◌<◌, ◌∙◌, ◌++◌, ◌∷◌, Bool, IsSome, List, None, Option, Some, [], ap, append-nil, arith, cond, false, get_or, inl, inr, length, refl, subst, sym, take, true, ℕ}
+use Rattle.std.proofs.Common.{◌≡◌, ◌+◌, ◌<◌, ◌≤◌, ◌∙◌, ◌++◌, ◌∷◌, Bool, IsSome, List, None, Option, Some, [], ap, append-nil, arith, cond, false, get_or, inl, inr, length, refl, subst, sym, take, take_all, true, ℕ}
 use Rattle.std.proofs.lemmas.List.{take_more}
 use Rattle.std.proofs.lemmas.List.Elements.{All-pop, All-push, All-weaker, filter-append}
 use Rattle.std.proofs.lemmas.List.Sums.{fold_push, sum_by_push}
@@ -10,10 +10,11 @@ use Rattle.member_counts.specs.declared.key.CountKey.{CountKey}
 use Rattle.member_counts.specs.declared.log.Run.{Run}
 use Rattle.member_counts.specs.Counts.{plus}
 use Rattle.member_counts.specs.Key.{same_key}
-use Rattle.member_counts.specs.Log.{is_for}
+use Rattle.member_counts.specs.Log.{earlier_runs, is_for, last_run}
 use Rattle.member_counts.specs.Table.{Conserves, CountsLog, GrowsBy, IsSplit, Table, joined, kept_after, kept_at, nothing, one_added, one_lost, total}
 use Rattle.member_counts.specs.body.Step.{AddsAt, GrowsEach, IsKept, IsLost}
 use Rattle.member_counts.proofs.KeyLemmas.{same_key-symm, same_from_same_key}
+use Rattle.member_counts.proofs.LogLemmas.{all-runs, no-runs}
 
 pub none_yet : (table : Table) → CountsLog table [] table
 none_yet table = record {
@@ -159,3 +160,18 @@ pub counted_step_at : (old mid new : Table) (log : List Run) (i : ℕ) (d : Run)
     → key ≡ (get_or log i d).key → counts ≡ (get_or log i d).counts → AddsAt key counts mid new → GrowsEach mid counts new → IsCountedSoFar old (take (i + 1) log) new
 counted_step_at old mid new log i d key counts inside so_far is_key is adds grows =
     rw (take_more log i d inside) (counted_step old mid new (take i log) (get_or log i d) key counts so_far is_key is adds grows)
+
+-- and after the loop over the runs before the last one, with the last run or without one
+module _ (old mid : Table) (log items : List Run) (i : ℕ) (earlier : items ≡ earlier_runs log) (ended : length items ≤ i)
+    (so_far : IsCountedSoFar old (take i items) mid) where
+  before-last : IsCountedSoFar old (earlier_runs log) mid
+  before-last = subst (λ (entries : List Run). IsCountedSoFar old entries mid) (take_all i items ended ∙ earlier) so_far
+
+  pub counted-last : (new : Table) (last : Run) → Some last ≡ last_run log → AddsAt last.key last.counts mid new → GrowsEach mid last.counts new
+      → IsCountedSoFar old log new
+  counted-last new last there adds grows =
+      subst (λ (entries : List Run). IsCountedSoFar old entries new) (all-runs log last there)
+      (counted_step old mid new (earlier_runs log) last last.key last.counts before-last refl refl adds grows)
+
+  pub counted-all : None ≡ last_run log → IsCountedSoFar old log mid
+  counted-all none = subst (λ (entries : List Run). IsCountedSoFar old entries mid) (no-runs log none) before-last

@@ -1,4 +1,4 @@
--- What is counted of packets, and the texts of these counts (docs/SWITCH.md, "Counts by member").
+-- What is counted of packets, and the texts of these counts (docs/SWITCH.md, "Counters by member").
 use Rattle.std.specs.Prelude.{◌+◌, ◌-◌, ◌^◌, ◌++◌, List, codes, decimal, min, ℕ}
 use Rattle.member_counts.specs.declared.counts.Counts.{Counts}
 use Rattle.member_counts.specs.declared.counts.GroupCounts.{GroupCounts}

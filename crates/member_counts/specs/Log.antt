@@ -1,5 +1,5 @@
 -- What a contract sees of a VerdictLog.
-use Rattle.std.specs.Prelude.{◌∷◌, Bool, List, [], false, if◌then◌else◌, true, ℕ}
+use Rattle.std.specs.Prelude.{◌∷◌, Bool, List, None, Option, Some, [], false, if◌then◌else◌, true, ℕ}
 use Rattle.ipv4_fields.specs.declared.endpoint.Endpoint.{Endpoint}
 use Rattle.packet_verdict.specs.declared.verdict.Verdict.{Verdict}
 use Rattle.packet_verdict.specs.declared.verdict.Verdict.TheVariants as verdict
@@ -9,7 +9,8 @@ use Rattle.member_counts.specs.declared.log.Run.{Run}
 use Rattle.member_counts.specs.Counts.{delivered_one, dropped_one, failed_one, no_members_one, plus}
 use Rattle.member_counts.specs.Key.{group_key, member_key, same_key}
 
--- the runs in their order, how many there is room for, and whether the last packet was delivered and its send has not failed
+-- the runs in their order, how many there is room for, and whether the last packet that was counted was delivered and its send has not
+-- failed
 pub record Log : Type 0 where
   pub entries : List Run
   pub room : ℕ
@@ -45,6 +46,18 @@ last_failed (first ∷ (next ∷ rest)) = first ∷ last_failed (next ∷ rest)
 -- only what is delivered has a send that fails, and it fails once
 abbrev pub marked_failed : Log → Log
 marked_failed log = if log.sent then record log { entries = last_failed log.entries; sent = false } else log
+
+-- the runs before the last one
+abbrev pub earlier_runs : List Run → List Run
+earlier_runs [] = []
+earlier_runs (last ∷ []) = []
+earlier_runs (first ∷ (next ∷ rest)) = first ∷ earlier_runs (next ∷ rest)
+
+-- the last run
+abbrev pub last_run : List Run → Option Run
+last_run [] = None
+last_run (last ∷ []) = Some last
+last_run (first ∷ (next ∷ rest)) = last_run (next ∷ rest)
 
 -- a run is counted by the key
 abbrev pub is_for : CountKey → Run → Bool

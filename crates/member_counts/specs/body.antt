@@ -1,2 +1,3 @@
 -- What the contracts of private functions cite.
 pub mod Step
+pub mod Runs

@@ -1,4 +1,4 @@
-//! What is counted of verdicts, and the texts of these counts (docs/SWITCH.md, "Counts by member").
+//! What is counted of verdicts, and the texts of these counts (docs/SWITCH.md, "Counters by member").
 
 ghost use Rattle.std.specs.Prelude.{◌≡◌, Some};
 ghost use Rattle.member_counts.specs.Counts.{group_part, group_text, member_part, member_text, no_counts, plus};

@@ -1,6 +1,6 @@
-//! Verdicts counted by group and member, whatever the versions that judged them (docs/SWITCH.md, "Counts by member").
+//! Verdicts counted by group and member, whatever the versions that judged them (docs/SWITCH.md, "Counters by member").
 //!
-//! A worker keeps its verdicts in a `VerdictLog` of its own. `MemberTable::count` adds a log to the table that all workers share.
+//! A worker counts its verdicts in its own `VerdictLog`. `MemberTable::count` adds a log to the table that all workers share.
 #![tactic(auto)]
 
 ghost use Rattle.std.specs.Prelude.{◌≡◌};

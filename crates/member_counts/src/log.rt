@@ -1,7 +1,7 @@
-//! What a worker counted and has not added to the table (docs/SWITCH.md, "Counts by member").
+//! What a worker counted and has not added to the table (docs/SWITCH.md, "Counters by member").
 
-ghost use Rattle.std.specs.Prelude.{◌≡◌, ◌<◌, ◌≤◌, ◌↔◌, ◌++◌, ◌∷◌, IfOk, IsTrue, [], false, length};
-ghost use Rattle.member_counts.specs.Log.{Log, marked_failed, with_counts, with_no_members, with_verdict};
+ghost use Rattle.std.specs.Prelude.{◌≡◌, ◌<◌, ◌≤◌, ◌↔◌, ◌++◌, ◌∷◌, IfOk, IsSome, IsTrue, None, [], false, length};
+ghost use Rattle.member_counts.specs.Log.{earlier_runs, last_run, marked_failed, with_counts, with_no_members, with_verdict};
 
 use crate::counts::Counts;
 use crate::key::CountKey;
@@ -17,25 +17,51 @@ pub struct Run {
     pub counts: Counts,
 }
 
+impl Run {
+    // What lies where there is no run: its key is no member's.
+    fn nothing() -> Run
+        ensures { result.key.member ≡ None }
+    {
+        let group = Endpoint {
+            address: 0,
+            port: 0,
+        };
+        let member = None;
+        Run {
+            key: CountKey { group, member },
+            counts: Counts::none(),
+        }
+    }
+}
+
 /// The runs that a worker has not added to the table, and for how many there is room.
+/// The reason: docs/INTERNALS.md, "A log adds up runs".
 #[derive(Drop)]
 pub struct VerdictLog {
-    entries: Vec<Run>,
-    room: usize,
-    // The last packet was delivered, and its send has not failed.
+    // The runs before the last one.
+    earlier: Vec<Run>,
+    // The last run, if there is one. It lies beside the others, since nearly each packet is counted in it.
+    last: Run,
+    has_last: bool,
+    // The last packet that was counted was delivered, and its send has not failed.
     sent: bool,
+    // How many more runs there is room for.
+    left: usize,
+    room: usize,
 }
 
 impl Model for VerdictLog {
-    ghost use Rattle.std.specs.Prelude.{◌≡◌, ◌≤◌, false, length, vec_capacity};
+    ghost use Rattle.std.specs.Prelude.{◌≡◌, ◌+◌, ◌≤◌, None, false, length, vec_capacity};
     ghost use Rattle.member_counts.specs.Log.{Log};
+    ghost use Rattle.member_counts.specs.body.Runs.{runs};
 
     ghost Value = { Log };
 
-    ghost view = { λ log. record { entries = log.entries.items; room = log.room; sent = log.sent } };
+    ghost view = { λ log. record { entries = runs log.earlier.items log.has_last log.last; room = log.room; sent = log.sent } };
 
-    ghost invariant = { λ log. (length log.entries.items ≤ log.room) × (log.room ≤ vec_capacity log.entries)
-        × (length log.entries.items ≡ 0 → log.sent ≡ false) };
+    ghost invariant = { λ log. (length (runs log.earlier.items log.has_last log.last) + log.left ≡ log.room)
+        × (log.room ≤ vec_capacity log.earlier)
+        × (log.has_last ≡ false → (length log.earlier.items ≡ 0) × (log.sent ≡ false) × (log.last.key.member ≡ None)) };
 }
 
 impl VerdictLog {
@@ -44,9 +70,12 @@ impl VerdictLog {
         ensures empty { IfOk result (λ log. log ≡ record { entries = []; room = room; sent = false }) }
     {
         Ok(VerdictLog {
-            entries: Vec::with_capacity(alloc, room)?,
-            room,
+            earlier: Vec::with_capacity(alloc, room)?,
+            last: Run::nothing(),
+            has_last: false,
             sent: false,
+            left: room,
+            room,
         })
     }
 
@@ -55,7 +84,7 @@ impl VerdictLog {
     pub fn is_full(&self) -> bool
         ensures { IsTrue result ↔ (self.now.room ≤ length self.now.entries) }
     {
-        self.entries.len() >= self.room
+        self.left == 0
     }
 
     /// Tests whether nothing is logged.
@@ -63,14 +92,21 @@ impl VerdictLog {
         ensures empty { IsTrue result ↔ (self.now.entries ≡ []) }
         ensures nothing_sent { self.now.entries ≡ [] → self.now.sent ≡ false }
     {
-        self.entries.is_empty()
+        !self.has_last
     }
 
-    /// Lends the runs, in their order.
-    pub fn entries(&self) -> &[Run]
-        ensures { result.now ≡ self.now.entries }
+    /// Lends the runs before the last one, in their order.
+    pub fn earlier(&self) -> &[Run]
+        ensures { result.now ≡ earlier_runs self.now.entries }
     {
-        self.entries.as_slice()
+        self.earlier.as_slice()
+    }
+
+    /// Returns the last run. `None` if nothing is logged.
+    pub fn last(&self) -> Option<Run>
+        ensures { result ≡ last_run self.now.entries }
+    {
+        if self.has_last { Some(self.last) } else { None }
     }
 
     // Begins a run. It is not inlined, as packets that come one after another seldom need it.
@@ -79,23 +115,38 @@ impl VerdictLog {
         requires { length self.old.entries < self.old.room }
         ensures { self.new ≡ record self.old { entries = self.old.entries ++ run ∷ []; sent = sent } }
     {
-        let Ok(()) = self.entries.push(run) else {
-            unreachable!()
-        };
+        if self.has_last {
+            let Ok(()) = self.earlier.push(self.last) else {
+                unreachable!()
+            };
+        }
+        self.last = run;
+        self.has_last = true;
         self.sent = sent;
+        self.left -= 1;
     }
 
-    // Adds counts to the last run, if it has the key, or else begins a run. It is inlined always, so that no zero is added.
+    // Adds counts to the last run, if it has the key, or else begins a run. Both are inlined always, so that no zero is added.
     #[inline(always)]
     fn add(&mut self, key: CountKey, counts: Counts, sent: bool)
         requires { length self.old.entries < self.old.room }
         ensures { self.new ≡ with_counts key counts sent self.old }
     {
-        let Some(last) = self.entries.last_mut() else {
-            return self.begin(Run { key, counts }, sent);
-        };
-        if last.key == key {
-            last.counts = last.counts.plus(counts);
+        if self.has_last {
+            return self.add_to_last(key, counts, sent);
+        }
+        self.begin(Run { key, counts }, sent)
+    }
+
+    // The same for a key that no empty log has as its last one.
+    #[inline(always)]
+    fn add_to_last(&mut self, key: CountKey, counts: Counts, sent: bool)
+        requires room { length self.old.entries < self.old.room }
+        requires last { self.old.entries ≡ [] → IsSome key.member }
+        ensures { self.new ≡ with_counts key counts sent self.old }
+    {
+        if self.last.key == key {
+            self.last.counts = self.last.counts.plus(counts);
             self.sent = sent;
             return;
         }
@@ -119,7 +170,7 @@ impl VerdictLog {
                     dropped: 1,
                     ..Counts::none()
                 };
-                self.add(key, counts, false);
+                self.add_to_last(key, counts, false);
             }
             Verdict::Deliver {
                 group,
@@ -136,7 +187,7 @@ impl VerdictLog {
                     bytes: bytes as u64,
                     ..Counts::none()
                 };
-                self.add(key, counts, true);
+                self.add_to_last(key, counts, true);
             }
         }
     }
@@ -157,7 +208,7 @@ impl VerdictLog {
         self.add(key, counts, false);
     }
 
-    /// Counts that the send of the last packet failed, once, if the packet was delivered. An empty log stays as it is.
+    /// Counts that the send of the last packet that was counted failed, once, if that packet was delivered. An empty log stays as it is.
     pub fn send_failed(&mut self)
         ensures { self.new ≡ marked_failed self.old }
     {
@@ -165,20 +216,21 @@ impl VerdictLog {
             return;
         }
         self.sent = false;
-        if let Some(last) = self.entries.last_mut() {
-            let counts = Counts {
-                send_failed: 1,
-                ..Counts::none()
-            };
-            last.counts = last.counts.plus(counts);
-        }
+        let counts = Counts {
+            send_failed: 1,
+            ..Counts::none()
+        };
+        self.last.counts = self.last.counts.plus(counts);
     }
 
     /// Removes all runs.
     pub fn clear(&mut self)
         ensures { self.new ≡ record { entries = []; room = self.old.room; sent = false } }
     {
-        self.entries.clear();
+        self.earlier.clear();
+        self.last = Run::nothing();
+        self.has_last = false;
         self.sent = false;
+        self.left = self.room;
     }
 }

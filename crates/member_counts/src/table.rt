@@ -1,4 +1,4 @@
-//! The counts of all workers, by key (docs/SWITCH.md, "Counts by member").
+//! The counts of all workers, by key (docs/SWITCH.md, "Counters by member").
 
 ghost use Rattle.std.specs.Prelude.{◌≡◌, ◌≤◌, IsSome, IsTrue, [], length};
 ghost use Rattle.std.specs.List.{IsDistinct, filter};
@@ -82,8 +82,11 @@ impl MemberTable {
             → kept_at key self.new ≡ kept_after (kept_at key self.old) (filter (is_for key) log.now.entries) }
         ensures conserved { Conserves self.old log.now.entries self.new }
     {
-        for entry in log.entries() {
+        for entry in log.earlier() {
             self.add(entry.key, entry.counts);
+        }
+        if let Some(last) = log.last() {
+            self.add(last.key, last.counts);
         }
     }
 

@@ -19,9 +19,9 @@ use Rattle.hex.specs.Hex.{encode_lower}
 abbrev pub packet_line : List ℕ → List ℕ
 packet_line packet = codes "packet " ++ encode_lower packet ++ codes "\n"
 
--- the lines of the packets among what records hold
-abbrev pub packet_lines : List Content → List ℕ
-packet_lines contents = flat_map packet_line (packets_of contents)
+-- the lines of the packets among what records hold; if a port is given, of the packets that the datagrams to it carry
+abbrev pub packet_lines : Option ℕ → List Content → List ℕ
+packet_lines unwrap contents = flat_map packet_line (packets_of unwrap contents)
 
 -- how the fault of a header is told
 abbrev pub header_fault_text : HeaderFault → List ℕ
@@ -37,20 +37,20 @@ cut_text None = []
 cut_text (Some place) = codes "refused L5 " ++ decimal place ++ codes "\n"
 
 -- the text of a capture: a line for each packet in it
-pub record IsTextOfCapture (file text : List ℕ) : Type 0 where
+pub record IsTextOfCapture (unwrap : Option ℕ) (file text : List ℕ) : Type 0 where
   pub header : FileHeader
   pub contents : List Content
   pub is_capture : IsCapture file header contents []
-  pub text_is : text ≡ packet_lines contents
+  pub text_is : text ≡ packet_lines unwrap contents
 
 -- the text of a capture that is cut in a record: a line for each packet before that, and the refusal
-pub record IsTextOfCut (file text : List ℕ) : Type 0 where
+pub record IsTextOfCut (unwrap : Option ℕ) (file text : List ℕ) : Type 0 where
   pub header : FileHeader
   pub contents : List Content
   pub rest : List ℕ
   pub is_capture : IsCapture file header contents rest
   pub is_cut : rest ≢ []
-  pub text_is : text ≡ packet_lines contents ++ cut_text (place_of file rest)
+  pub text_is : text ≡ packet_lines unwrap contents ++ cut_text (place_of file rest)
 
 -- the text of a file whose header is not read
 pub record IsTextOfFault (file text : List ℕ) : Type 0 where
@@ -59,32 +59,32 @@ pub record IsTextOfFault (file text : List ℕ) : Type 0 where
   pub text_is : text ≡ header_fault_text fault ++ codes "\n"
 
 -- the text that is written of a file, by the status
-abbrev pub IsPacketsText : List ℕ → Status → List ℕ → Type 0
-IsPacketsText file Done text = IsTextOfCapture file text
-IsPacketsText file Refused text = IsTextOfCut file text ⊎ IsTextOfFault file text
-IsPacketsText file _ text = ⊥
+abbrev pub IsPacketsText : Option ℕ → List ℕ → Status → List ℕ → Type 0
+IsPacketsText unwrap file Done text = IsTextOfCapture unwrap file text
+IsPacketsText unwrap file Refused text = IsTextOfCut unwrap file text ⊎ IsTextOfFault file text
+IsPacketsText unwrap file _ text = ⊥
 
 -- that text was written behind what stood before, and nothing else
-pub record WritesText (file : List ℕ) (status : Status) (before after : Option (List ℕ)) : Type 0 where
+pub record WritesText (unwrap : Option ℕ) (file : List ℕ) (status : Status) (before after : Option (List ℕ)) : Type 0 where
   pub text : List ℕ
-  pub text_is : IsPacketsText file status text
+  pub text_is : IsPacketsText unwrap file status text
   pub written : Appends before after text
 
 -- a beginning of the text that a status means was written, possibly none of it or the whole, and nothing else
-pub record WritesBeginning (file : List ℕ) (before after : Option (List ℕ)) : Type 0 where
+pub record WritesBeginning (unwrap : Option ℕ) (file : List ℕ) (before after : Option (List ℕ)) : Type 0 where
   pub status : Status
   pub text : List ℕ
-  pub text_is : IsPacketsText file status text
+  pub text_is : IsPacketsText unwrap file status text
   pub begun : AppendsBeginning before after text
 
 -- of the packets of a file, those of some first records were written, and nothing else
-pub record WritesFirst (file : List ℕ) (before after : Option (List ℕ)) : Type 0 where
+pub record WritesFirst (unwrap : Option ℕ) (file : List ℕ) (before after : Option (List ℕ)) : Type 0 where
   pub header : FileHeader
   pub contents : List Content
   pub rest : List ℕ
   pub is_header : IsFileHeader file header
   pub are_records : AreRecords header (drop 24 file) contents rest
-  pub written : Appends before after (packet_lines contents)
+  pub written : Appends before after (packet_lines unwrap contents)
 
 -- the counts of a file, as a line
 abbrev pub counts_text : Summary → List ℕ
@@ -92,7 +92,7 @@ counts_text summary =
     codes "packets " ++ decimal summary.whole ++ codes " cut " ++ decimal summary.cut ++ codes " other " ++ decimal summary.other ++ codes "\n"
 
 -- a beginning of the counts was told, where the header was read
-abbrev pub TellsCounts : List ℕ → Option (List ℕ) → Option (List ℕ) → Type 0
-TellsCounts file before after =
-    ((summary : Summary) × IsSummary file summary × AppendsBeginning before after (counts_text summary))
+abbrev pub TellsCounts : Option ℕ → List ℕ → Option (List ℕ) → Option (List ℕ) → Type 0
+TellsCounts unwrap file before after =
+    ((summary : Summary) × IsSummary unwrap file summary × AppendsBeginning before after (counts_text summary))
     ⊎ ((fault : HeaderFault) × IsHeaderFault file fault × (after ≡ before))

@@ -3,7 +3,7 @@
 //! A file is read record by record: `read_header` reads its header, `first_record` cuts a record off, and `content_of` tells what
 //! it holds. Both byte orders are read, times in microseconds and in nanoseconds, and the link types of `LinkType`. `summarize` counts
 //! the records of a file, and tells where it is cut. `print_packets` writes a line of a script for each packet, and the refusal of a file
-//! that is none or is cut. No other call takes memory.
+//! that is none or is cut. Both do so for the packets that datagrams to a port carry, if a port is given. No other call takes memory.
 #![tactic(auto)]
 
 ghost use Rattle.std.specs.Prelude.{◌≡◌, ◌+◌, ◌<◌, ◌^◌, IfErr, IfOk, None};
@@ -20,6 +20,7 @@ mod line;
 mod link_type;
 mod order;
 mod packet_lines;
+mod printed;
 mod record;
 mod refusal;
 
@@ -29,17 +30,18 @@ pub use header::{FILE_HEADER, FileHeader, one_header, read_header};
 pub use link_type::LinkType;
 pub use order::Order;
 pub use packet_lines::print_packets;
+use printed::printed_packet;
 pub use record::{RECORD_HEADER, first_record};
 
 /// What the header of a file tells, how many of its records hold what, and where it is cut.
 #[derive(Clone, Copy, Debug, PartialEq, Eq)]
 pub struct Summary {
     pub header: FileHeader,
-    /// IPv4 packets, whole.
+    /// IPv4 packets, whole; with a port, the packets that datagrams to it carry.
     pub whole: usize,
     /// IPv4 packets that were cut, and records that end before it can be told what they hold.
     pub cut: usize,
-    /// Records that hold something else.
+    /// Records that hold something else; with a port, other packets too.
     pub other: usize,
     /// The place of the first byte behind the last whole record, counted from 0, where bytes stand there.
     pub cut_at: Option<usize>,
@@ -47,13 +49,14 @@ pub struct Summary {
 
 /// Counts the records of a capture file by what they hold, and tells where it is cut.
 ///
-/// `file` is the file whole. `Err` is the first fault of its header.
-pub fn summarize(file: &[u8]) -> Result<Summary, HeaderFault>
-    ensures summary { IfOk result (IsSummary file.now) }
+/// `file` is the file whole. `unwrap` is the port whose datagrams are replaced by the packets that they carry, if one is given. `Err` is
+/// the first fault of the header.
+pub fn summarize(unwrap: Option<u16>, file: &[u8]) -> Result<Summary, HeaderFault>
+    ensures summary { IfOk result (IsSummary unwrap file.now) }
     ensures fault { IfErr result (IsHeaderFault file.now) }
 {
     let header = read_header(file)?;
-    let (mut summary, rest) = count_records(header, &file[FILE_HEADER..]);
+    let (mut summary, rest) = count_records(unwrap, header, &file[FILE_HEADER..]);
     if !rest.is_empty() {
         summary.cut_at = Some(file.len() - rest.len());
     }
@@ -61,9 +64,9 @@ pub fn summarize(file: &[u8]) -> Result<Summary, HeaderFault>
 }
 
 // Counts the records, and gives what stands behind them.
-fn count_records(header: FileHeader, bytes: &[u8]) -> (Summary, &[u8])
+fn count_records(unwrap: Option<u16>, header: FileHeader, bytes: &[u8]) -> (Summary, &[u8])
     ensures header { result.0.header ≡ header }
-    ensures counted { IsCounted header bytes.entry.now result.0 result.1.now }
+    ensures counted { IsCounted unwrap header bytes.entry.now result.0 result.1.now }
     ensures no_more { HasNoRecord header.order result.1.now }
     ensures uncut { result.0.cut_at ≡ None }
 {
@@ -77,6 +80,7 @@ fn count_records(header: FileHeader, bytes: &[u8]) -> (Summary, &[u8])
     let mut rest = bytes;
     while let Some((captured, behind)) = first_record(header.order, rest) {
         count(
+            unwrap,
             &content_of(header.link_type, header.order, captured),
             &mut summary,
         );
@@ -85,12 +89,15 @@ fn count_records(header: FileHeader, bytes: &[u8]) -> (Summary, &[u8])
     (summary, rest)
 }
 
-fn count(content: &Content<'_>, summary: &mut Summary)
+fn count(unwrap: Option<u16>, content: &Content<'_>, summary: &mut Summary)
     requires room { summary.old.whole + summary.old.cut + summary.old.other < 2 ^ 63 }
-    ensures { CountsOne content.now summary.old summary.new }
+    ensures { CountsOne unwrap content.now summary.old summary.new }
 {
     match content {
-        Content::Packet(_) => summary.whole += 1,
+        Content::Packet(packet) => match printed_packet(unwrap, packet) {
+            Some(_) => summary.whole += 1,
+            None => summary.other += 1,
+        },
         Content::Cut => summary.cut += 1,
         Content::Other => summary.other += 1,
     }

@@ -12,6 +12,7 @@ use crate::content::{Content, content_of};
 use crate::fault::HeaderFault;
 use crate::header::{FILE_HEADER, FileHeader};
 use crate::line::write_line;
+use crate::printed::printed_packet;
 use crate::record::first_record;
 use crate::refusal::write_fault;
 use crate::{Summary, summarize};
@@ -22,29 +23,30 @@ use std::io::Write;
 
 /// Writes the packets of a capture file as lines, and then its counts to `errs`, whose own errors change nothing.
 ///
-/// `file` is the file whole. A file that is cut in a record is refused behind the packets before that. Where its header is refused
+/// `file` is the file whole. `unwrap` is the port whose datagrams are replaced by the packets that they carry, if one is given. A file that is cut in a record is refused behind the packets before that. Where its header is refused
 /// nothing else is written. At a failure a beginning of this was written; at `OutOfMemory` the lines of some first packets, each whole.
 pub fn print_packets<W: Write, E: Write>(
     alloc: Global,
+    unwrap: Option<u16>,
     file: &[u8],
     out: &mut W,
     errs: &mut E,
 ) -> Result<Status, Failure>
-    ensures written { IfOk result (λ status. WritesText file.now status (W.contents out.old) (W.contents out.new)) }
-    ensures counted { OnOk result (TellsCounts file.now (E.contents errs.old) (E.contents errs.new)) }
+    ensures written { IfOk result (λ status. WritesText unwrap file.now status (W.contents out.old) (W.contents out.new)) }
+    ensures counted { OnOk result (TellsCounts unwrap file.now (E.contents errs.old) (E.contents errs.new)) }
 
     ensures failed { IfErr result (λ failure. (failure ≡ Failure.WriteFailed) ⊎ (failure ≡ Failure.OutOfMemory)) }
-    ensures no_memory { result ≡ Err Failure.OutOfMemory → WritesFirst file.now (W.contents out.old) (W.contents out.new) }
-    ensures beginning { OnErr result (WritesBeginning file.now (W.contents out.old) (W.contents out.new)) }
+    ensures no_memory { result ≡ Err Failure.OutOfMemory → WritesFirst unwrap file.now (W.contents out.old) (W.contents out.new) }
+    ensures beginning { OnErr result (WritesBeginning unwrap file.now (W.contents out.old) (W.contents out.new)) }
     ensures untold { OnErr result (errs.new ≡ errs.old) }
 {
-    let summary = match summarize(file) {
+    let summary = match summarize(unwrap, file) {
         Ok(summary) => summary,
         Err(fault) => return write_refusal(fault, out),
     };
     // Made before anything is written, so that want of memory for it comes first.
     let counts = counts_line(alloc, summary)?;
-    let status = write_capture(alloc, summary.header, file, out)?;
+    let status = write_capture(alloc, unwrap, summary.header, file, out)?;
     let _ = write_whole(counts.as_bytes(), errs);
     let _ = errs.flush();
     Ok(status)
@@ -70,17 +72,18 @@ fn write_refusal<W: Write>(fault: HeaderFault, out: &mut W) -> Result<Status, Fa
 // Writes the packets of a file with this header, and where it is cut.
 fn write_capture<W: Write>(
     alloc: Global,
+    unwrap: Option<u16>,
     header: FileHeader,
     file: &[u8],
     out: &mut W,
 ) -> Result<Status, Failure>
     requires { IsFileHeader file.now header }
     ensures failed { IfErr result (λ failure. (failure ≡ Failure.WriteFailed) ⊎ (failure ≡ Failure.OutOfMemory)) }
-    ensures no_memory { result ≡ Err Failure.OutOfMemory → WritesSome header (drop 24 file.now) (W.contents out.old) (W.contents out.new) }
-    ensures beginning { OnErr result (BeginsCapture header file.now (W.contents out.old) (W.contents out.new)) }
-    ensures written { IfOk result (λ status. WritesText file.now status (W.contents out.old) (W.contents out.new)) }
+    ensures no_memory { result ≡ Err Failure.OutOfMemory → WritesSome unwrap header (drop 24 file.now) (W.contents out.old) (W.contents out.new) }
+    ensures beginning { OnErr result (BeginsCapture unwrap header file.now (W.contents out.old) (W.contents out.new)) }
+    ensures written { IfOk result (λ status. WritesText unwrap file.now status (W.contents out.old) (W.contents out.new)) }
 {
-    let rest = write_packets(alloc, header, &file[FILE_HEADER..], out)?;
+    let rest = write_packets(alloc, unwrap, header, &file[FILE_HEADER..], out)?;
     let status = write_cut(file.len() - rest.len(), rest, out)?;
     out.flush().map_err(|_| Failure::WriteFailed)?;
     Ok(status)
@@ -89,20 +92,22 @@ fn write_capture<W: Write>(
 // Writes the packets of the records, and gives what stands behind these.
 fn write_packets<'a, W: Write>(
     alloc: Global,
+    unwrap: Option<u16>,
     header: FileHeader,
     records: &'a [u8],
     out: &mut W,
 ) -> Result<&'a [u8], Failure>
     ensures failed { IfErr result (λ failure. (failure ≡ Failure.WriteFailed) ⊎ (failure ≡ Failure.OutOfMemory)) }
-    ensures no_memory { result ≡ Err Failure.OutOfMemory → WritesSome header records.entry.now (W.contents out.old) (W.contents out.new) }
-    ensures beginning { OnErr result (BeginsRecords header records.entry.now (W.contents out.old) (W.contents out.new)) }
-    ensures written { IfOk result (λ rest. WritesRecords header records.entry.now rest.now (W.contents out.old) (W.contents out.new)) }
+    ensures no_memory { result ≡ Err Failure.OutOfMemory → WritesSome unwrap header records.entry.now (W.contents out.old) (W.contents out.new) }
+    ensures beginning { OnErr result (BeginsRecords unwrap header records.entry.now (W.contents out.old) (W.contents out.new)) }
+    ensures written { IfOk result (λ rest. WritesRecords unwrap header records.entry.now rest.now (W.contents out.old) (W.contents out.new)) }
     ensures no_more { IfOk result (λ rest. HasNoRecord header.order rest.now) }
 {
     let mut rest = records;
     while let Some((captured, behind)) = first_record(header.order, rest) {
         write_content(
             alloc,
+            unwrap,
             &content_of(header.link_type, header.order, captured),
             out,
         )?;
@@ -111,14 +116,22 @@ fn write_packets<'a, W: Write>(
     Ok(rest)
 }
 
-fn write_content<W: Write>(alloc: Global, content: &Content<'_>, out: &mut W) -> Result<(), Failure>
+fn write_content<W: Write>(
+    alloc: Global,
+    unwrap: Option<u16>,
+    content: &Content<'_>,
+    out: &mut W,
+) -> Result<(), Failure>
     ensures failed { IfErr result (λ failure. (failure ≡ Failure.WriteFailed) ⊎ (failure ≡ Failure.OutOfMemory)) }
     ensures no_memory { result ≡ Err Failure.OutOfMemory → out.new ≡ out.old }
-    ensures beginning { OnErr result (AppendsBeginning (W.contents out.old) (W.contents out.new) (packet_lines (content.now ∷ []))) }
-    ensures written { OnOk result (Appends (W.contents out.old) (W.contents out.new) (packet_lines (content.now ∷ []))) }
+    ensures beginning { OnErr result (AppendsBeginning (W.contents out.old) (W.contents out.new) (packet_lines unwrap (content.now ∷ []))) }
+    ensures written { OnOk result (Appends (W.contents out.old) (W.contents out.new) (packet_lines unwrap (content.now ∷ []))) }
 {
     match content {
-        Content::Packet(packet) => write_packet(alloc, packet, out),
+        Content::Packet(packet) => match printed_packet(unwrap, packet) {
+            Some(printed) => write_packet(alloc, printed, out),
+            None => Ok(()),
+        },
         Content::Cut | Content::Other => Ok(()),
     }
 }

@@ -1,1 +1,4 @@
+pub mod FindLemmas
+pub mod MalformedLemmas
+pub mod OverLemmas
 pub mod VerdictLemmas

@@ -43,12 +43,12 @@ member_there [] i inside = absurd (omega arith)
 member_there (member ∷ rest) zero inside = (member, refl)
 member_there (member ∷ rest) (suc i) inside = member_there rest i (omega arith)
 
-among_none : (flow : Flow) (packet : List ℕ) (selector : Option ProgramValue) (members : List (Member ProgramValue)) → length members ≡ 0
+pub among_none : (flow : Flow) (packet : List ℕ) (selector : Option ProgramValue) (members : List (Member ProgramValue)) → length members ≡ 0
     → members_verdict value_of flow packet selector members ≡ NoMembers
 among_none flow packet selector [] none = refl
 among_none flow packet selector (member ∷ rest) none = absurd (omega arith)
 
-among_some : (flow : Flow) (packet : List ℕ) (selector : Option ProgramValue) (members : List (Member ProgramValue)) (member : Member ProgramValue)
+pub among_some : (flow : Flow) (packet : List ℕ) (selector : Option ProgramValue) (members : List (Member ProgramValue)) (member : Member ProgramValue)
     → slice_get members (choice (option_map (λ s. value_of s packet) selector) flow (length members)) ≡ Some member
     → members_verdict value_of flow packet selector members ≡ member_verdict value_of flow.destination packet member
 among_some flow packet selector [] member there = let inside = slice_get_within [] (choice (option_map (λ s. value_of s packet) selector) flow 0) member there in absurd (omega arith)

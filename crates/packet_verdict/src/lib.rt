@@ -9,15 +9,19 @@ ghost use Rattle.config_image.specs.Lookup.{BeginsWithImage};
 ghost use Rattle.packet_verdict.specs.Sound.{ProgramsAreSound};
 ghost use Rattle.packet_verdict.specs.Verdict.{value_of, verdict};
 
+mod config;
 mod kind;
+mod malformed;
 mod member;
 mod verdict;
 
 use crate::member::{choose, judge_by_member};
 use bpf_insn::Words;
+pub use config::{group_by_key, judge_by_config};
 use config_image::find_group;
 use ipv4_fields::dispatchable;
 pub use kind::Kind;
+pub use malformed::{Malformation, malformation_of, malformed_exactly};
 pub use verdict::Verdict;
 
 /// Judges a packet by the configuration whose image the words begin with.

@@ -46,7 +46,7 @@ fn plain_choice(flow: &Flow, count: usize) -> usize
 }
 
 // The index of the member that a packet goes to, by what the selector answered.
-fn choice(answer: Option<u32>, flow: &Flow, count: usize) -> usize
+pub fn choice(answer: Option<u32>, flow: &Flow, count: usize) -> usize
     requires { 0 < count }
     ensures choice { result ≡ choice answer flow.now count }
     ensures inside { result < count }
@@ -74,7 +74,7 @@ pub fn choose<W: Words>(words: &mut W, group: &FoundGroup, flow: &Flow, packet: 
 }
 
 // What a member makes of a packet of so many bytes, by what its filter answered.
-fn kept(key: Endpoint, member: MemberEntry, answer: Option<u32>, bytes: usize) -> Verdict
+pub fn kept(key: Endpoint, member: MemberEntry, answer: Option<u32>, bytes: usize) -> Verdict
     ensures { result ≡ kept key member.id member.to answer bytes }
 {
     let MemberEntry { id: member, to } = member;

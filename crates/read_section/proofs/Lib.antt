@@ -1,3 +1,4 @@
+mod OrderLemmas
 mod ListLemmas
 mod VersionsRuleLemmas
 mod HeldLemmas

@@ -5,5 +5,6 @@ pub mod Held
 pub mod Worker
 pub mod Section
 pub mod Reads
+pub mod WorkerOrder
 pub mod Operator
 pub mod body

@@ -6,3 +6,4 @@ pub mod Found
 pub mod Cache
 pub mod Sought
 pub mod OperatorKept
+pub mod Order

@@ -39,6 +39,7 @@ pub struct Reclaimed {
 /// The updater of a table.
 ///
 /// Contracts see its table, its log with what it published, and how many versions it reported.
+/// The reason: docs/INTERNALS.md, "What the operator keeps".
 #[derive(Drop)]
 pub struct Operator {
     seat: OperatorSeat,

@@ -134,6 +134,7 @@ fn read_from_form(worker: &mut Worker, row: usize, i: usize) -> u64
 }
 
 /// Reads word `i`, whatever it is, and puts into the worker's cache where it is.
+/// Why it is cold and not inlined: docs/INTERNALS.md, "A section keeps by value where words are".
 #[cold]
 #[inline(never)]
 pub(crate) fn read_by_row(worker: &mut Worker, row: usize, i: usize) -> u64

@@ -46,6 +46,7 @@ fn ready_words(extent: Extent) -> ReadyWords
 /// A section cannot be dropped: `leave` or `abandon` spends it.
 // The row and where words were found are kept here, and not looked up in the worker at each word: a caller that has the section as
 // a local keeps them in registers while a program runs. No word that is answered is kept.
+/// The reason: docs/INTERNALS.md, "A section keeps by value where words are".
 pub struct Section<'a> {
     worker: &'a mut Worker,
     kept: Kept,

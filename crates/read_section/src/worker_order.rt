@@ -1,7 +1,10 @@
 //! In which order a command takes workers (docs/DECISIONS.md, "Which worker is taken first").
 
 ghost use Rattle.std.specs.Prelude.{◌≡◌, ◌≤◌, vec_len, IsPermutation};
+ghost use Rattle.read_section.specs.WorkerOrder.{IsSpread};
+ghost use Rattle.read_section.specs.body.Order.{first_of_lines_moved, moved_to_end};
 ghost use Rattle.read_section.specs.declared.worker_order.TheConstants.{APART};
+ghost use Rattle.versions.specs.declared.layout.TheConstants.{WORKERS};
 
 use crate::worker::Worker;
 use versions::WORKERS;
@@ -14,6 +17,7 @@ const LINES: usize = WORKERS / APART - 1;
 
 // Moves the worker at a place behind the others.
 fn move_to_end(workers: &mut Vec<Worker>, place: usize)
+    ensures moved { workers.new.items ≡ moved_to_end place workers.old.items }
     ensures same_workers { IsPermutation workers.old.items workers.new.items }
     ensures count { vec_len workers.new ≡ vec_len workers.old }
 {
@@ -30,6 +34,7 @@ fn move_to_end(workers: &mut Vec<Worker>, place: usize)
 // stands before the lines.
 fn move_first_of_lines(workers: &mut Vec<Worker>, left: usize)
     requires { left ≤ APART }
+    ensures moved { workers.new.items ≡ first_of_lines_moved left 7 workers.old.items }
     ensures same_workers { IsPermutation workers.old.items workers.new.items }
     ensures count { vec_len workers.new ≡ vec_len workers.old }
 {
@@ -43,10 +48,11 @@ fn move_first_of_lines(workers: &mut Vec<Worker>, left: usize)
 /// First come workers 7, 15, 23 .. 63, whose read words are eight apart from each other and from `current`; then 14, 22 .. 62, and so
 /// on; and last 6, 5 .. 0, whose read words lie beside `current`.
 pub fn spread(workers: &mut Vec<Worker>)
+    ensures order { vec_len workers.old ≡ WORKERS → IsSpread workers.old.items workers.new.items }
     ensures same_workers { IsPermutation workers.old.items workers.new.items }
     ensures count { vec_len workers.new ≡ vec_len workers.old }
 {
-    for _ in 1..APART {
+    for _first in 0..APART - 1 {
         move_to_end(workers, 0);
     }
     for moved in 0..APART {

@@ -52,6 +52,7 @@ fn same_four(words: &[u64], other: &[u64], at: usize) -> bool
 
 // Most programs are short, and equal: so four words are tested at once, without a call. The last four of them may have been tested
 // before in part.
+// The reason: docs/INTERNALS.md, "Words are compared four at a time".
 #[inline(always)]
 pub(crate) fn same_words(words: &[u64], other: &[u64]) -> bool
     ensures { IsTrue result ↔ (words.now ≡ other.now) }
@@ -117,6 +118,7 @@ impl<'a> PagedPrograms<'a> {
 
     // Passes programs as long as they have the words of the next ones here, and gives the pages of these. Gives the first program that
     // differs, too: it was passed, and so was the next one here.
+    // The reason: docs/INTERNALS.md, "Programs are passed in runs".
     fn pass_equal<'b>(
         &mut self,
         programs: &mut Programs<'b, Global>,

@@ -135,6 +135,7 @@ fn walk_groups<'a>(
 /// Compares two configurations. Gives none where they are not alike, or where more than one program has other words.
 ///
 /// Where they are alike their rows differ in the pages that they name, and in nothing else.
+/// When it gives up: docs/INTERNALS.md, "A row is reused if one program alone changes".
 pub(crate) fn compare<'a>(config: &'a Config, other: &Config) -> Option<Walk<'a>>
     requires room { pages_in (words_of_programs config.now) ≤ PAGE_LIMIT }
     ensures alike { IfSome result (λ walk. AreAlike config.now other.now) }

@@ -207,6 +207,7 @@ fn ends_before(own: &[u32], end: usize) -> bool
 }
 
 // Stops behind the last of the pages that were free, which is the one before `end`.
+// Why it stops at `end`: docs/INTERNALS.md, "Which programs are filled".
 fn fill_programs(operator: &mut Operator, programs: Programs<'_, Global>, pages: &[u32], end: usize)
     requires ready { AreReady operator.old programs pages.now }
     requires counted { IsCounted programs pages.now }

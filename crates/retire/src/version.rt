@@ -38,6 +38,7 @@ fn fill_by<const N: usize>(operator: &mut Operator, row: usize, config: &Config)
 }
 
 // The same, of a configuration with this charge.
+// Why there are two rooms: docs/INTERNALS.md, "Room for few pages".
 pub(crate) fn fill_version(operator: &mut Operator, row: usize, config: &Config, charge: u64)
     requires free { IsFreeRow the_shape operator.old.view row }
     requires publishable { IsPublishable config.now }

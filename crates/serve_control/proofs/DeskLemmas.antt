@@ -1,5 +1,5 @@
 -- A request that is not answered since memory is refused: nothing is appended, and the rules and the log stay as they were.
-use Rattle.std.proofs.Common.{◌≡◌, ◌⊎◌, ◌+◌, ◌<◌, ◌≤◌, List, Option, Result, ap, arith, inl, inr, refl, ℕ}
+use Rattle.std.proofs.Common.{◌≡◌, ◌⊎◌, ◌<◌, ◌≤◌, List, Option, Result, ap, arith, inl, inr, refl, ℕ}
 use Rattle.std.proofs.lemmas.Bool.{false≢true}
 use Rattle.std.specs.Result.{IsErr}
 use Rattle.std.specs.declared.result.Result.TheVariants.{Err, Ok}

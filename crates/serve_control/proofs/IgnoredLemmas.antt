@@ -7,7 +7,7 @@ use Rattle.ipv4_fields.specs.Cut.{IsSplitAt, Lacks}
 use Rattle.ipv4_fields.proofs.TextLemmas.{has_separator, lacks-test, one_cut}
 use Rattle.control_line.specs.Reply.{reply_text}
 use Rattle.control_line.specs.declared.reply.LineAnswer.{LineAnswer}
-use Rattle.control_line.specs.declared.reply.LineAnswer.TheVariants.{GroupRead, LineRefused, MemberRead, Published, Refused, Shown, Swept, WordsRead}
+use Rattle.control_line.specs.declared.reply.LineAnswer.TheVariants.{GroupRead, LineRefused, MemberRead, PacketJudged, PacketMalformed, Published, Refused, Shown, Swept, WordsRead}
 use Rattle.member_counts.specs.Table.{Table}
 use Rattle.member_counts.specs.declared.key.CountKey.{CountKey}
 use Rattle.read_section.specs.Operator.{OperatorValue}
@@ -82,6 +82,8 @@ line_answer_looks (Shown number groups members charge) = begun (codes "version")
 line_answer_looks (GroupRead number index groups key members selector) = begun (codes "version") _ version
 line_answer_looks (MemberRead number index members id to filter locked) = begun (codes "version") _ version
 line_answer_looks (WordsRead number place count words) = begun (codes "version") _ version
+line_answer_looks (PacketJudged number judged) = begun (codes "version") _ version
+line_answer_looks (PacketMalformed number why) = begun (codes "version") _ version
 line_answer_looks (Swept found) = begun (codes "reclaimed") _ reclaimed
 
 line_reply_looks : (text : List ℕ) (operator operator' : OperatorValue) (line : List ℕ) → RepliesToLine text operator operator' line → LooksLikeReply line

@@ -1,5 +1,5 @@
 -- Which names a text has: a group's key, or that and a member's number.
-use Rattle.std.proofs.Common.{◌≡◌, ◌≢◌, ◌∙◌, ◌<◌, ◌≤◌, ◌++◌, ◌∷◌, List, None, Option, Some, [], ap, append-nil, arith, codes, decimal, refl, subst, sym, ℕ}
+use Rattle.std.proofs.Common.{◌≡◌, ◌≢◌, ◌∙◌, ◌<◌, ◌≤◌, ◌++◌, ◌∷◌, List, None, Option, Some, ap, append-nil, arith, codes, decimal, refl, subst, sym, ℕ}
 use Rattle.std.specs.Prelude.{IfSome}
 use Rattle.ipv4_fields.specs.Cut.{IsSplitAt, Lacks}
 use Rattle.ipv4_fields.specs.Endpoint.{IsEndpoint, endpoint_text}

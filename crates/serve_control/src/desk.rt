@@ -16,11 +16,12 @@ use dispatch::{NamedTally, TallyName};
 use ipv4_fields::Endpoint;
 use member_counts::MemberTable;
 use read_section::Operator;
-use serve_stream::{After, Answers};
+use serve_stream::{After, Answers, AnswersClients};
 use std::alloc::Global;
 use std::sync::{Mutex, Wait};
 
 /// What answers the requests of a peer.
+/// The reason: docs/INTERNALS.md, "The desk has the lock of the counters".
 #[derive(Drop)]
 pub struct Desk<'a, N: TallyName, L: LogLines, R: Wait> {
     pub rt: &'a R,
@@ -116,6 +117,10 @@ impl<N: TallyName, L: LogLines, R: Wait> Answers for Desk<'_, N, L, R> {
         (record { operator = after.operator.now; tally = after.tally.now.tally; members = None }) exchange
         × LogsExchange before.log.now after.log.now before.peer exchange × (after.peer ≡ before.peer) };
 
+    ghost notes = { λ before after front reply.
+        (length reply ≤ REPLY_LIMIT → TellsRequest before.log.now after.log.now before.peer front reply)
+        × (after.operator.now ≡ before.operator.now) × (after.tally.now ≡ before.tally.now) × (after.peer ≡ before.peer) };
+
     fn answer(&mut self, request: &[u8], reply: &mut Vec<u8>) -> Result<After, OutOfMemory> {
         // The room is taken before anything is done.
         reply.reserve(REPLY_LIMIT)?;
@@ -129,13 +134,20 @@ impl<N: TallyName, L: LogLines, R: Wait> Answers for Desk<'_, N, L, R> {
         Ok(after_of(&answer))
     }
 
-    fn not_held(&mut self, front: &[u8], reply: &[u8])
-        ensures logged { length reply.now ≤ REPLY_LIMIT
-            → TellsRequest self.old.log.now self.new.log.now self.old.peer front.now reply.now }
-        ensures operator { self.new.operator.now ≡ self.old.operator.now }
-        ensures tally { self.new.tally.now ≡ self.old.tally.now }
-    {
+    fn not_held(&mut self, front: &[u8], reply: &[u8]) {
         // Only a reply that is longer than a control line's needs memory.
         let _ = self.log.tell_request(self.peer, front, reply);
+    }
+}
+
+impl<N: TallyName, L: LogLines, R: Wait> AnswersClients for Desk<'_, N, L, R> {
+    ghost use Rattle.serve_control.specs.declared.log.Peer.TheVariants as peers;
+
+    ghost turns_to = { λ before after number.
+        (after.peer ≡ peers.Unix number) × (after.operator.now ≡ before.operator.now) × (after.tally.now ≡ before.tally.now)
+        × (after.log.now ≡ before.log.now) };
+
+    fn turn_to(&mut self, number: u64) {
+        self.peer = Peer::Unix(number);
     }
 }

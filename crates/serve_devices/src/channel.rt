@@ -41,6 +41,7 @@ pub fn open_channel<T: Drop>(
 ) -> Result<(ChannelSender<T>, ChannelReceiver<T>), AllocError>
     requires { 0 < places }
 {
+    // The reason: docs/INTERNALS.md, "Queues".
     let (sender, receiver, mut pass) = bounded_with::<T, (), Free, Global>(alloc, places)?;
     let other = sender.another::<Ends>(&mut pass);
     Ok((

@@ -18,7 +18,7 @@ use std::alloc::{AllocError, Global};
 use std::marker::Model;
 use std::sync::{Mutex, Wait};
 
-/// How many verdicts a worker keeps for itself at most.
+/// How many runs a worker logs at most before it adds them to the table.
 pub const LOG_ROOM: usize = 64;
 
 /// The table that all workers count in.
@@ -26,7 +26,7 @@ pub type SharedCounts = Mutex<MemberTable>;
 
 /// An outbox over an egress, which counts by member.
 ///
-/// It keeps the verdicts of a batch in a log of its own. It takes the lock of the table when the log is handed on, and never while a
+/// It logs the verdicts of a batch in its own log. It takes the lock of the table when the log is handed on, and never while a
 /// packet is judged. Contracts see how often a send failed, what was sent, if the egress tells it, and what is in the log.
 #[derive(Drop)]
 pub struct MemberOutbox<'a, E: Egress + Drop, R: Wait> {

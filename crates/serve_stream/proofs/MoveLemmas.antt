@@ -100,6 +100,15 @@ not_happened event [] events none none' here = none' here
 not_happened event (first ∷ past) events none none' (inl is) = none (inl is)
 not_happened event (first ∷ past) events none none' (inr here) = not_happened event past events (λ h. none (inr h)) none' here
 
+pub happened_parts : (event : Event) (past events : List Event) → Happened event (past ++ events) → Happened event past ⊎ Happened event events
+happened_parts event [] events here = inr here
+happened_parts event (first ∷ past) events (inl is) = inl (inl is)
+happened_parts event (first ∷ past) events (inr here) = by (happened_parts event past events here)
+  where
+    by : Happened event past ⊎ Happened event events → Happened event (first ∷ past) ⊎ Happened event events
+    by (inl before) = inl (inr before)
+    by (inr after) = inr after
+
 ends_more : (past events : List Event) (answered : List Exchange) (left words : List ℕ) → EndsBy past answered left words → EndsBy (past ++ events) answered left words
 ends_more past events answered left _ (by_client here go_on part) = by_client (happened_before ended past events here) go_on part
 ends_more past events answered left _ (by_bad_head earlier last is go_on bad) = by_bad_head earlier last is go_on bad

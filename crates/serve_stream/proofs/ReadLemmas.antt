@@ -14,10 +14,10 @@ pub empty_is : (empty : Bool) (shown list : List ℕ) → shown ≡ list → emp
 empty_is empty shown list is tested empty_here = sym is ∙ nil_from_length shown (eqb-true (length shown) 0 (sym tested ∙ empty_here))
 
 pub none_read : (log : Option (List Event)) (c : Conversation) → IsRead log log c c true
-none_read log c = record { events = []; logged = logs_none log; moves = stays c; brief = omega arith; no_stop = λ none. none; took_all = λ here. here; some_more = λ is here. here; no_more = λ no. absurd cc }
+none_read log c = record { events = []; logged = logs_none log; moves = stays c; brief = omega arith; no_stop = λ none. none; took_all = λ here. here; some_more = λ is here. here; no_more = λ no. absurd cc; over_if_failed = λ here. absurd here; closed_if_ended = λ here. absurd here; not_opened = λ none. none }
 
 pub not_open : (log : Option (List Event)) (c : Conversation) → (c.stage ≡ Open → ⊥) → IsRead log log c c false
-not_open log c other = record { events = []; logged = logs_none log; moves = stays c; brief = omega arith; no_stop = λ none. none; took_all = λ here. here; some_more = λ is here. here; no_more = λ no here. absurd (other here) }
+not_open log c other = record { events = []; logged = logs_none log; moves = stays c; brief = omega arith; no_stop = λ none. none; took_all = λ here. here; some_more = λ is here. here; no_more = λ no here. absurd (other here); over_if_failed = λ here. absurd here; closed_if_ended = λ here. absurd here; not_opened = λ none. none }
 
 quiet_read : (came : Arrived) (room : List ℕ) → taken (events_of_read came room) ≡ []
 quiet_read (arrived.Bytes count) room = refl
@@ -45,6 +45,20 @@ no_none arrived.Interrupted room other here = here
 no_none arrived.Ended room other here = one_only (λ is. absurd cc) here
 no_none arrived.Failed room other here = one_only (λ is. absurd cc) here
 
+no_failure : (came : Arrived) (room : List ℕ) → (came ≡ arrived.Failed → ⊥) → Happened failed (events_of_read came room) → ⊥
+no_failure (arrived.Bytes count) room other here = one_only (λ is. absurd cc) here
+no_failure arrived.NotYet room other here = one_only (λ is. absurd cc) here
+no_failure arrived.Interrupted room other here = here
+no_failure arrived.Ended room other here = one_only (λ is. absurd cc) here
+no_failure arrived.Failed room other here = other refl
+
+no_end : (came : Arrived) (room : List ℕ) → (came ≡ arrived.Ended → ⊥) → Happened ended (events_of_read came room) → ⊥
+no_end (arrived.Bytes count) room other here = one_only (λ is. absurd cc) here
+no_end arrived.NotYet room other here = one_only (λ is. absurd cc) here
+no_end arrived.Interrupted room other here = here
+no_end arrived.Ended room other here = other refl
+no_end arrived.Failed room other here = one_only (λ is. absurd cc) here
+
 brief_read : (came : Arrived) (room : List ℕ) → length (events_of_read came room) ≤ 1
 brief_read (arrived.Bytes count) room = omega arith
 brief_read arrived.NotYet room = omega arith
@@ -54,8 +68,8 @@ brief_read arrived.Failed room = omega arith
 
 module _ (log log' : Option (List Event)) (c : Conversation) (open_stage : c.stage ≡ Open) (none : c.unread ≡ []) (came : Arrived) (unread : List ℕ)
     (read : (room : List ℕ) × Logs log log' (events_of_read came room) × (unread ≡ given (events_of_read came room))) where
-  pub read_some : (came ≡ arrived.NotYet → ⊥) → IsRead log log' c (record c { unread = unread }) true
-  read_some other = record {
+  pub read_some : (came ≡ arrived.NotYet → ⊥) → (came ≡ arrived.Failed → ⊥) → (came ≡ arrived.Ended → ⊥) → IsRead log log' c (record c { unread = unread }) true
+  read_some other lives goes_on = record {
     events = events_of_read came read.0;
     logged = read.1;
     moves = reads c open_stage none unread (events_of_read came read.0) read.2 (quiet_read came read.0);
@@ -64,6 +78,9 @@ module _ (log log' : Option (List Event)) (c : Conversation) (open_stage : c.sta
     took_all = no_took came read.0;
     some_more = λ is. no_none came read.0 other;
     no_more = λ no. absurd cc;
+    over_if_failed = λ here. absurd (no_failure came read.0 lives here);
+    closed_if_ended = λ here. absurd (no_end came read.0 goes_on here);
+    not_opened = λ none is. none open_stage;
   }
 
   pub read_none : came ≡ arrived.NotYet → IsRead log log' c (record c { unread = unread }) false
@@ -77,6 +94,9 @@ module _ (log log' : Option (List Event)) (c : Conversation) (open_stage : c.sta
         took_all = λ here. one_only (λ is. absurd cc) here;
         some_more = λ is. absurd cc;
         no_more = λ no here. (empty, inl refl);
+        over_if_failed = λ here. absurd (one_only (λ is. absurd cc) here);
+        closed_if_ended = λ here. absurd (one_only (λ is. absurd cc) here);
+        not_opened = λ none is. none open_stage;
       }
 
   pub read_end : came ≡ arrived.Ended → IsRead log log' c (record c { unread = unread; stage = Closing }) false
@@ -89,6 +109,9 @@ module _ (log log' : Option (List Event)) (c : Conversation) (open_stage : c.sta
     took_all = λ here. one_only (λ is. absurd cc) here;
     some_more = λ is. absurd cc;
     no_more = λ no here. absurd cc;
+    over_if_failed = λ here. absurd (one_only (λ is. absurd cc) here);
+    closed_if_ended = λ here is. absurd cc;
+    not_opened = λ none is. absurd cc;
   }
 
   pub read_failed : came ≡ arrived.Failed → IsRead log log' c (record c { unread = unread; stage = Over }) false
@@ -101,8 +124,20 @@ module _ (log log' : Option (List Event)) (c : Conversation) (open_stage : c.sta
     took_all = λ here. one_only (λ is. absurd cc) here;
     some_more = λ is. absurd cc;
     no_more = λ no here. absurd cc;
+    over_if_failed = λ here. refl;
+    closed_if_ended = λ here is. absurd cc;
+    not_opened = λ none is. absurd cc;
   }
 
+-- bytes came, or the read was interrupted
 pub not_yet : (came : Arrived) → came ≡ arrived.NotYet → ((count : ℕ) × (came ≡ arrived.Bytes count)) ⊎ (came ≡ arrived.Interrupted) → ⊥
 not_yet came is (inl (count, other)) = absurd cc
 not_yet came is (inr other) = absurd cc
+
+pub not_failed : (came : Arrived) → came ≡ arrived.Failed → ((count : ℕ) × (came ≡ arrived.Bytes count)) ⊎ (came ≡ arrived.Interrupted) → ⊥
+not_failed came is (inl (count, other)) = absurd cc
+not_failed came is (inr other) = absurd cc
+
+pub not_ended : (came : Arrived) → came ≡ arrived.Ended → ((count : ℕ) × (came ≡ arrived.Bytes count)) ⊎ (came ≡ arrived.Interrupted) → ⊥
+not_ended came is (inl (count, other)) = absurd cc
+not_ended came is (inr other) = absurd cc

@@ -1,14 +1,22 @@
 -- What a turn comes to.
 use Rattle.std.proofs.Common.{◌≡◌, ◌∙◌, ◌≤◌, ◌++◌, ◌↔◌, ◌≢◌, ◌⊎◌, Bool, List, Option, [], ap, append-nil, arith, false, inl, inr, length, length-append, refl, subst, sym, true, ℕ}
 use Rattle.serve_stream.specs.declared.conversation.Conversation.{Conversation}
-use Rattle.serve_stream.specs.declared.conversation.Stage.TheVariants.{Open, Over, Stopping}
+use Rattle.serve_stream.specs.declared.conversation.Stage.{Stage}
+use Rattle.serve_stream.specs.declared.conversation.Stage.TheVariants.{Closing, Open, Over, Stopping}
 use Rattle.serve_stream.specs.declared.conversation.Turn.{Turn}
 use Rattle.serve_stream.specs.declared.conversation.Turn.TheVariants.{Closed, Stop}
 use Rattle.serve_stream.specs.Answers.{Exchange}
 use Rattle.serve_stream.specs.Standing.{ComesTo, HearsMore, IsHindered, IsTurn, Moves, SaysMore, waiting_of}
-use Rattle.serve_stream.specs.Stream.{Event, Happened, Logs, failed, gave_none, interrupted, took_none}
+use Rattle.serve_stream.specs.Stream.{Event, Happened, Logs, ended, failed, gave_none, interrupted, took_none}
 use Rattle.serve_stream.specs.body.Waiting.{AnswersFew, IsKept, IsRead, IsWritten}
-use Rattle.serve_stream.proofs.MoveLemmas.{happened_after, happened_before, logs_more, logs_none, moves_more, not_happened, stays}
+use Rattle.serve_stream.proofs.MoveLemmas.{happened_after, happened_before, happened_parts, logs_more, logs_none, moves_more, not_happened, stays}
+
+-- what is over stays so
+stays_over : (one other : Stage) → ((other ≡ Over → ⊥) → other ≡ one) → one ≡ Over → other ≡ Over
+stays_over one Open kept is = let same : Open ≡ one = kept (λ over. absurd cc) in absurd (cc (same, is))
+stays_over one Closing kept is = let same : Closing ≡ one = kept (λ over. absurd cc) in absurd (cc (same, is))
+stays_over one Stopping kept is = let same : Stopping ≡ one = kept (λ over. absurd cc) in absurd (cc (same, is))
+stays_over one Over kept is = refl
 
 -- a write, and the end if it is due
 pub write_and_close : (log log' : Option (List Event)) (d e f : Conversation) (more : Bool) (written : IsWritten log log' d e more) → Moves e f [] [] → Moves d f written.events []
@@ -28,13 +36,19 @@ module _ {S : Type 0} (Does : S → S → Exchange → Type 0) where
     brief = λ other. omega arith;
     stop = λ none. (none, (λ is. absurd cc, λ stop. absurd stop));
     ended = λ here. (refl, refl, refl);
+    over_if_failed = λ here. over;
+    closed_if_ended = λ here. absurd here;
+    not_opened = λ none. none;
+    over_if_taken = λ is. absurd (cc (is, over));
   }
 
   module _ (budget : ℕ) (log middle later : Option (List Event)) (state state' : S) (a b d f : Conversation) (more : Bool) (turn : Turn) (read : IsRead log middle a b more)
       (few : AnswersFew Does budget state state' b d) (lives : a.stage ≡ Over → ⊥) where
     pub turn_made : (events : List Event) → Logs middle later events → Moves d f events [] → ComesTo turn f (read.events ++ events) → (turn ≢ Stop → length events ≤ 1)
-        → (f.stage ≡ Stopping → ⊥) → ((turn ≡ Stop) ↔ (d.stage ≡ Stopping)) → IsTurn Does budget log later state state' a f turn
-    turn_made events logged moves comes brief ends stop = record {
+        → (f.stage ≡ Stopping → ⊥) → ((turn ≡ Stop) ↔ (d.stage ≡ Stopping)) → (Happened failed (read.events ++ events) → f.stage ≡ Over)
+        → (Happened ended (read.events ++ events) → f.stage ≡ Open → ⊥) → ((a.stage ≡ Open → ⊥) → f.stage ≡ Open → ⊥) → (f.stage ≡ Closing → waiting_of f ≡ [] → ⊥)
+        → IsTurn Does budget log later state state' a f turn
+    turn_made events logged moves comes brief ends stop failing closing not_opened taken = record {
       events = read.events ++ events;
       exchanges = few.exchanges;
       logged = logs_more log middle later read.events events read.logged logged;
@@ -46,14 +60,43 @@ module _ {S : Type 0} (Does : S → S → Exchange → Type 0) where
       brief = λ other. let len = length-append read.events events in let first = read.brief in let next = brief other in omega (arith, len, first, next);
       stop = λ none. (ends, let last = few.stop (read.no_stop none) in (λ is. last.0 (stop.0 is), λ is. stop.1 (last.1 is)));
       ended = λ over. absurd (lives over);
+      over_if_failed = failing;
+      closed_if_ended = closing;
+      not_opened = not_opened;
+      over_if_taken = taken;
     }
 
     -- a write, and the end if it is due
     pub turn_written : (e : Conversation) (more' : Bool) (written : IsWritten middle later d e more') → Moves e f [] [] → IsKept e f → ComesTo turn f (read.events ++ written.events)
-        → (turn ≡ Stop → ⊥) → (d.stage ≡ Stopping → ⊥) → IsTurn Does budget log later state state' a f turn
-    turn_written e more' written closes kept comes other quiet =
+        → (turn ≡ Stop → ⊥) → (d.stage ≡ Stopping → ⊥) → (d.stage ≡ Open → b.stage ≡ Open) → (b.stage ≡ Over → d.stage ≡ Over) → (f.stage ≡ Closing → waiting_of f ≡ [] → ⊥)
+        → IsTurn Does budget log later state state' a f turn
+    turn_written e more' written closes kept comes other quiet opens ends taken =
         turn_made written.events written.logged (write_and_close middle later d e f more' written closes) comes (λ is. written.brief) by (λ is. absurd (other is), λ here. absurd (quiet here))
+        (λ here. failing (happened_parts failed read.events written.events here)) (λ here. closing (happened_parts ended read.events written.events here))
+        (λ none is. read.not_opened none (opens (opened is))) taken
       where
+        opened : f.stage ≡ Open → d.stage ≡ Open
+        opened is = from written.stage
+          where
+            same : f.stage ≡ e.stage
+            same = kept.stage (λ over. absurd (cc (over, is)))
+
+            from : (e.stage ≡ d.stage) ⊎ (e.stage ≡ Over) → d.stage ≡ Open
+            from (inl was) = sym was ∙ (sym same ∙ is)
+            from (inr over) = absurd (cc (over, same, is))
+
+        failing : Happened failed read.events ⊎ Happened failed written.events → f.stage ≡ Over
+        failing (inl first) = stays_over e.stage f.stage kept.stage (still written.stage)
+          where
+            still : (e.stage ≡ d.stage) ⊎ (e.stage ≡ Over) → e.stage ≡ Over
+            still (inl was) = was ∙ ends (read.over_if_failed first)
+            still (inr over) = over
+        failing (inr next) = stays_over e.stage f.stage kept.stage (written.over_if_failed next)
+
+        closing : Happened ended read.events ⊎ Happened ended written.events → f.stage ≡ Open → ⊥
+        closing (inl first) is = read.closed_if_ended first (opens (opened is))
+        closing (inr next) is = written.not_ended next
+
         by : f.stage ≡ Stopping → ⊥
         by here = by_stage written.stage
           where

@@ -23,6 +23,8 @@ not_written log c why = record {
   progress = λ is. absurd cc;
   goes_on = λ is. refl;
   fails = λ over lives. absurd (lives over);
+  over_if_failed = λ here. absurd here;
+  not_ended = λ here. here;
   stage = inl refl;
   held = refl;
   unread = refl;
@@ -68,6 +70,8 @@ module _ (log log' : Option (List Event)) (c c' : Conversation) (same : IsSameBu
         let left = ap length less in omega (arith, moved, some, left, length-drop count (waiting_of c)));
     goes_on = λ is. same.stage;
     fails = λ over here. absurd (here (sym same.stage ∙ over));
+    over_if_failed = λ here. absurd (one_only (λ is. absurd cc) here);
+    not_ended = λ here. one_only (λ is. absurd cc) here;
     stage = inl same.stage;
     held = same.held;
     unread = same.unread;
@@ -89,6 +93,8 @@ module _ (log log' : Option (List Event)) (c : Conversation) (lives : c.stage �
     progress = λ is_more. inr (inl refl);
     goes_on = λ is_more. refl;
     fails = λ over here. absurd (here over);
+    over_if_failed = λ here. absurd (one_only (λ is_same. absurd cc) here);
+    not_ended = λ here. one_only (λ is_same. absurd cc) here;
     stage = inl refl;
     held = refl;
     unread = refl;
@@ -106,6 +112,8 @@ module _ (log log' : Option (List Event)) (c : Conversation) (lives : c.stage �
     progress = λ is_more. absurd cc;
     goes_on = λ is_more. refl;
     fails = λ over here. absurd (here over);
+    over_if_failed = λ here. absurd (one_only (λ is_same. absurd cc) here);
+    not_ended = λ here. one_only (λ is_same. absurd cc) here;
     stage = inl refl;
     held = refl;
     unread = refl;
@@ -123,6 +131,8 @@ module _ (log log' : Option (List Event)) (c : Conversation) (lives : c.stage �
     progress = λ is_more. absurd cc;
     goes_on = λ is_more. absurd cc;
     fails = λ over here. inl refl;
+    over_if_failed = λ here. refl;
+    not_ended = λ here. one_only (λ is_same. absurd cc) here;
     stage = inr refl;
     held = refl;
     unread = refl;

@@ -19,6 +19,7 @@ abbrev pub ended_by_lf : List (List ℕ) → List ℕ
 ended_by_lf requests = flat_map (λ request. request ++ 10 ∷ []) requests
 
 -- the bytes begin with these requests
+-- The reason: docs/INTERNALS.md, "Relations for requests, logs for streams".
 pub record IsCut (bytes : List ℕ) (requests : List (List ℕ)) (left : List ℕ) : Type 0 where
   pub each : All IsRequest requests
   pub whole : bytes ≡ ended_by_lf requests ++ left

@@ -9,6 +9,7 @@ use Rattle.serve_stream.specs.declared.conversation.Turn.TheVariants.{Closed, St
 use Rattle.serve_stream.specs.Answers.{Exchange, LastStops, LeadsTo}
 use Rattle.serve_stream.specs.Conversation.{AreAllAnswered, EndsBy, GoesOnAfter, IsClosed, IsConversation, IsStopped}
 use Rattle.serve_stream.specs.Stream.{Event, Happened, Logs, failed, gave_none, interrupted, took_none}
+use Rattle.serve_stream.specs.Stream as stream
 use Rattle.serve_stream.specs.body.Held.{Holds}
 
 -- the bytes that the stream has not taken
@@ -72,6 +73,12 @@ pub record IsTurn {S : Type 0} (Does : S → S → Exchange → Type 0) (budget 
   -- between turns no conversation is `Stopping`
   pub stop : before.stage ≢ Stopping → (later.stage ≢ Stopping) × ((turn ≡ Stop) ↔ LastStops exchanges)
   pub ended : before.stage ≡ Over → (turn ≡ Closed) × (events ≡ []) × (exchanges ≡ [])
+  -- a failure of the stream ends the conversation
+  pub over_if_failed : Happened failed events → later.stage ≡ Over
+  -- after the client has closed its side no more requests are answered; the conversation ends as soon as all replies are taken
+  pub closed_if_ended : Happened stream.ended events → later.stage ≢ Open
+  pub not_opened : before.stage ≢ Open → later.stage ≢ Open
+  pub over_if_taken : later.stage ≡ Closing → waiting_of later ≢ []
 
 -- a conversation that waits for bytes has had every whole request answered
 abbrev pub AnswersAll : Type 0

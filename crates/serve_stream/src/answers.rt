@@ -1,6 +1,6 @@
 //! Whoever answers the requests of a client.
 
-ghost use Rattle.std.specs.Prelude.{◌≡◌, ◌++◌};
+ghost use Rattle.std.specs.Prelude.{◌≡◌, ◌++◌, List, ℕ};
 ghost use Rattle.serve_stream.specs.Answers.{Exchange, IsAnswered};
 
 use control_line::OutOfMemory;
@@ -24,7 +24,21 @@ pub trait Answers {
     fn answer(&mut self, request: &[u8], reply: &mut Vec<u8>) -> Result<After, OutOfMemory>
         ensures { IsAnswered (exchanges self.old self.new) request.now reply.old.items reply.new.items result };
 
+    /// That a note of a request that is not held leads from one state to another: of its beginning, and of what the client is told.
+    ghost notes: { Self → Self → List ℕ → List ℕ → Type 0 };
+
     /// Takes note of a request that is not answered, since it is too long or memory for it was refused. `front` is a beginning of it,
     /// and `reply` what the client is told, without an LF.
-    fn not_held(&mut self, _front: &[u8], _reply: &[u8]) {}
+    fn not_held(&mut self, front: &[u8], reply: &[u8])
+        ensures { notes self.old self.new front.now reply.now };
+}
+
+/// Answers the requests of several clients, who are known by numbers.
+pub trait AnswersClients: Answers {
+    /// That from one state to another the client with this number gets its turn.
+    ghost turns_to: { Self → Self → ℕ → Type 0 };
+
+    /// Notes that the next requests are those of the client with this number.
+    fn turn_to(&mut self, number: u64)
+        ensures { turns_to self.old self.new number };
 }

@@ -187,6 +187,7 @@ impl Conversation {
         ensures answered { AnswersFew A.exchanges budget answers.old answers.new self.old self.new }
         ensures none { self.old.unread ≡ [] → self.new.unread ≡ [] }
         ensures was_open { self.new.stage ≡ stage.Open → self.old.stage ≡ stage.Open }
+        ensures over { self.old.stage ≡ stage.Over → self.new.stage ≡ stage.Over }
     {
         let mut left = budget;
         while left > 0 && self.may_go_on() {
@@ -287,6 +288,7 @@ impl Conversation {
         ensures moves { Moves self.old self.new [] [] }
         ensures few { self.new.stage ≢ stage.Over → length (waiting_of self.new) < WAITING_LIMIT }
         ensures kept { IsKept self.old self.new }
+        ensures taken { self.new.stage ≡ stage.Closing → waiting_of self.new ≢ [] }
     {
         if self.waits_too_long() {
             self.stage = Stage::Over;

@@ -30,7 +30,7 @@ mod replies;
 mod stream;
 mod unread;
 
-pub use answers::{After, Answers};
+pub use answers::{After, Answers, AnswersClients};
 pub use conversation::{Conversation, Turn};
 pub use stream::{Arrived, Sent, Stream};
 

@@ -79,6 +79,7 @@ impl Replies {
         match answers.answer(request, &mut self.bytes) {
             Ok(after) => Answered {
                 after: Some(after),
+                // The reason: docs/INTERNALS.md, "The LF after a reply".
                 last: match self.bytes.push(b'\n') {
                     Ok(()) => b"",
                     Err(_) => b"\n",

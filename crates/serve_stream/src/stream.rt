@@ -32,6 +32,7 @@ pub enum Sent {
 }
 
 /// A stream of bytes to a client and from it. No call of it waits.
+/// The reason: docs/INTERNALS.md, "Relations for requests, logs for streams".
 pub trait Stream {
     /// What happened on the stream, if it tells that. A socket tells nothing.
     ghost log: { Self → Option (List Event) };

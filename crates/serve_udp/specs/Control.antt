@@ -1,26 +1,29 @@
 -- What contracts see of control over datagrams: what came, and what was sent back (docs/COMMANDS.md, "serve").
-use Rattle.std.specs.Prelude.{◌≡◌, ◌++◌, ◌∷◌, ◌≤◌, Bool, List, None, Option, Some, [], false, take, true, ℕ}
+use Rattle.std.specs.Prelude.{◌≡◌, ◌+◌, ◌++◌, ◌∷◌, ◌≤◌, Bool, List, None, Option, Some, [], false, take, true, ℕ}
 use Rattle.dispatch.specs.Device.{Takes}
 use Rattle.ipv4_fields.specs.declared.endpoint.Endpoint.{Endpoint}
 use Rattle.serve_control.specs.Answer.{AnswersDatagram, IsTotals, Service, bytes_of}
 use Rattle.serve_control.specs.declared.ControlAnswer.{ControlAnswer}
 use Rattle.serve_control.specs.declared.ControlAnswer.TheVariants.{Line, Stop, Totals as TotalsAnswer}
 use Rattle.serve_control.specs.declared.ignored.BoundAddresses.{BoundAddresses}
+use Rattle.serve_udp.specs.declared.control_turn.TheConstants.{CONTROL_TURN}
 use Rattle.serve_udp.specs.declared.control_turn.Asked.{Asked}
 use Rattle.serve_udp.specs.declared.control_turn.Asked.TheVariants.{Datagram, Failed, Nothing}
 use Rattle.serve_udp.specs.declared.control_turn.Next.{Next}
 use Rattle.serve_udp.specs.declared.control_turn.Next.TheVariants as next
 
--- one thing that happened: a datagram came, or a reply was sent
+-- one thing that happened: a datagram came, or none, or a receive failed; or a reply was sent
 pub data ControlEvent : Type 0 where
   came : (from : Endpoint) (text : List ℕ) → ControlEvent
+  none_came : ControlEvent
+  receive_failed : ControlEvent
   replied : (to : Endpoint) (bytes : List ℕ) → ControlEvent
 
 -- what happened in a receive that found this, and whose buffer then has these bytes
 abbrev pub came_by : Asked → List ℕ → List ControlEvent
 came_by (Datagram from len) buffer = came from (take len buffer) ∷ []
-came_by Nothing buffer = []
-came_by Failed buffer = []
+came_by Nothing buffer = none_came ∷ []
+came_by Failed buffer = receive_failed ∷ []
 
 -- a datagram is within its buffer
 abbrev pub IsWithin : ℕ → Asked → Type 0
@@ -41,13 +44,15 @@ is_stop (Some Stop) = true
 is_stop (Some (TotalsAnswer totals)) = false
 is_stop (Some (Line reply)) = false
 
--- datagrams came, one after the other; each was answered, and had its reply, before the next one came, and none came after one that asked to
--- stop. The truth value says whether the last one did
-pub data AnswersInTurn (bound : BoundAddresses) (before : Service) : List ControlEvent → Bool → Service → Type 0 where
-  none : (after : Service) → after ≡ before → AnswersInTurn bound before [] false after
-  one_more : (events replies : List ControlEvent) (mid after : Service) (from : Endpoint) (text : List ℕ) (answer : Option ControlAnswer)
-      → AnswersInTurn bound before events false mid → AnswersDatagram bound from text mid after answer → IsRepliedTo from answer replies
-      → AnswersInTurn bound before (events ++ came from text ∷ replies) (is_stop answer) after
+-- So many receives were made, one after the other. A receive that failed is passed over. Each datagram that came was answered, and had its
+-- reply, before the next receive, and no receive was made after a datagram that asked to stop. The truth value says whether the last one did.
+pub data AnswersInTurn (bound : BoundAddresses) (before : Service) : ℕ → List ControlEvent → Bool → Service → Type 0 where
+  none : (after : Service) → after ≡ before → AnswersInTurn bound before 0 [] false after
+  one_more : (count : ℕ) (events replies : List ControlEvent) (mid after : Service) (from : Endpoint) (text : List ℕ) (answer : Option ControlAnswer)
+      → AnswersInTurn bound before count events false mid → AnswersDatagram bound from text mid after answer → IsRepliedTo from answer replies
+      → AnswersInTurn bound before (count + 1) (events ++ came from text ∷ replies) (is_stop answer) after
+  one_failed : (count : ℕ) (events : List ControlEvent) (after : Service) → AnswersInTurn bound before count events false after
+      → AnswersInTurn bound before (count + 1) (events ++ receive_failed ∷ []) false after
 
 -- the turn ended at a request to stop
 abbrev pub stops_at : Next → Bool
@@ -55,8 +60,18 @@ stops_at next.Answered = false
 stops_at next.Nothing = false
 stops_at next.Stop = true
 
+-- A turn ends at a request to stop, after `CONTROL_TURN` receives, or with one by which none came. `last` is what happened after the receives
+-- that were counted.
+abbrev pub EndsTurn : Next → ℕ → List ControlEvent → Type 0
+EndsTurn next.Answered count last = (count ≡ CONTROL_TURN) × (last ≡ [])
+EndsTurn next.Nothing count last = last ≡ none_came ∷ []
+EndsTurn next.Stop count last = last ≡ []
+
 -- this happened in a turn that ended so, as far as the log is known
 pub record IsControlTurn (bound : BoundAddresses) (log log' : Option (List ControlEvent)) (before after : Service) (ended : Next) : Type 0 where
+  pub count : ℕ
   pub events : List ControlEvent
-  pub logged : Takes log log' events
-  pub answered_each : AnswersInTurn bound before events (stops_at ended) after
+  pub last : List ControlEvent
+  pub logged : Takes log log' (events ++ last)
+  pub answered_each : AnswersInTurn bound before count events (stops_at ended) after
+  pub ends : EndsTurn ended count last

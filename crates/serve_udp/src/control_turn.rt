@@ -3,7 +3,7 @@
 ghost use Rattle.std.specs.Prelude.{◌≡◌, ◌∷◌, List, Option, Some, [], length};
 ghost use Rattle.dispatch.specs.Device.{Takes};
 ghost use Rattle.serve_control.specs.Answer.{IsTotals};
-ghost use Rattle.serve_udp.specs.Control.{ControlEvent, IsControlTurn, IsWithin, came_by, is_stop, replied, stops_at};
+ghost use Rattle.serve_udp.specs.Control.{ControlEvent, IsControlTurn, IsWithin, came_by, is_stop, replied};
 ghost use Rattle.serve_udp.specs.body.Turns.{AnswersOne, GoesOnBy, IsSentBack};
 
 use dispatch::{NamedTally, TallyName};
@@ -84,17 +84,18 @@ fn send_reply<C: ControlWire>(
     }
 }
 
-fn next_after(answer: &ControlAnswer) -> Next
-    ensures { stops_at result ≡ is_stop (Some answer.now) }
+// Whether the switch is to stop after this answer.
+fn is_stop(answer: &ControlAnswer) -> bool
+    ensures { result ≡ is_stop (Some answer.now) }
 {
     match answer {
-        ControlAnswer::Stop => Next::Stop,
-        ControlAnswer::Totals(_) => Next::Answered,
-        ControlAnswer::Line(_) => Next::Answered,
+        ControlAnswer::Stop => true,
+        ControlAnswer::Totals(_) => false,
+        ControlAnswer::Line(_) => false,
     }
 }
 
-// Answers a datagram that came.
+// Answers a datagram that came. True if it asked the switch to stop.
 fn answer_one<C: ControlWire, N: TallyName, L: LogLines, M: MemberTotals>(
     alloc: Global,
     wire: &mut C,
@@ -106,16 +107,16 @@ fn answer_one<C: ControlWire, N: TallyName, L: LogLines, M: MemberTotals>(
     named: &mut NamedTally<N>,
     members: &mut M,
     log: &mut Log<L>,
-) -> Next
+) -> bool
     ensures { AnswersOne bound.now from text.now (C.log wire.old) (C.log wire.new)
         (record { operator = operator.old; tally = named.old.tally; members = M.table members.old })
         (record { operator = operator.new; tally = named.new.tally; members = M.table members.new }) result }
 {
     let Some(answer) = answer_from(alloc, bound, from, text, operator, named, members, log) else {
-        return Next::Answered;
+        return false;
     };
     send_reply(wire, room, &answer, from);
-    next_after(&answer)
+    is_stop(&answer)
 }
 
 // Receives a datagram, and answers it.
@@ -137,9 +138,10 @@ fn answer_next<C: ControlWire, N: TallyName, L: LogLines, M: MemberTotals>(
     match wire.receive(buf) {
         Asked::Datagram { from, len } => {
             let text = &buf[..len];
-            answer_one(
+            let stops = answer_one(
                 alloc, wire, bound, from, text, room, operator, named, members, log,
-            )
+            );
+            if stops { Next::Stop } else { Next::Answered }
         }
         Asked::Nothing => Next::Nothing,
         Asked::Failed => Next::Answered,

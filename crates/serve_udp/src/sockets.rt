@@ -10,7 +10,6 @@ use mio::{Events, Interest, Poll, Registry, Token};
 use read_section::Operator;
 use serve_control::{BoundAddresses, Desk, Log, LogLines, Peer, SharedTotals};
 use serve_devices::SharedCounts;
-use serve_stream::Turn;
 use serve_unix::{CLIENTS, UnixControl};
 use std::alloc::{AllocError, Global};
 use std::io;
@@ -103,6 +102,7 @@ enum Control {
 ///
 /// An event tells that a socket has something, and it tells it once; so what is not known to be empty is read until it would
 /// block.
+/// The reason: docs/INTERNALS.md, "Queued: a receive that finds nothing".
 #[derive(Drop)]
 pub struct Sockets<'a> {
     poll: Poll,
@@ -232,17 +232,17 @@ impl UdpControl {
     }
 }
 
-// Gives the client in a place its turn, at a desk of its own.
-fn client_turn<'a, N: TallyName, L: LogLines, R: Wait>(
+// Gives the next clients their turns, at a desk. True if the switch is asked to stop.
+fn client_turns<'a, N: TallyName, L: LogLines, R: Wait>(
     control: &mut UnixControl,
-    place: usize,
+    registry: &Registry,
     alloc: Global,
     rt: &'a R,
     counts: &'a SharedCounts,
     operator: &'a mut Operator,
     named: &'a mut NamedTally<N>,
     log: &'a mut Log<L>,
-) -> Turn {
+) -> bool {
     let mut desk = Desk {
         rt,
         alloc,
@@ -250,31 +250,10 @@ fn client_turn<'a, N: TallyName, L: LogLines, R: Wait>(
         tally: named,
         counts,
         log,
-        peer: Peer::Unix(control.number(place)),
+        // Until the first of them has its turn.
+        peer: Peer::Unix(0),
     };
-    control.turn(place, &mut desk)
-}
-
-// Gives the next clients their turns. True if the switch is asked to stop.
-fn client_turns<N: TallyName, L: LogLines, R: Wait>(
-    control: &mut UnixControl,
-    alloc: Global,
-    operator: &mut Operator,
-    named: &mut NamedTally<N>,
-    totals: &SharedTotals<'_, R>,
-    log: &mut Log<L>,
-) -> bool {
-    for _client in 0..CONTROL_TURN {
-        let Some(place) = control.next_turn() else {
-            return false;
-        };
-        let (rt, counts) = (totals.rt, totals.counts);
-        let turn = client_turn(control, place, alloc, rt, counts, operator, named, log);
-        if let Turn::Stop = turn {
-            return true;
-        }
-    }
-    false
+    control.turns(&mut desk, registry, CONTROL_TURN)
 }
 
 impl<'a> Sockets<'a> {
@@ -337,8 +316,10 @@ impl<'a> Sockets<'a> {
                     && control.turn(alloc, &mut self.room, operator, named, totals, log)
             }
             Control::Unix(control) => {
-                control.accept(alloc, self.poll.registry());
-                client_turns(control, alloc, operator, named, totals, log)
+                let registry = self.poll.registry();
+                control.accept(alloc, registry);
+                let (rt, counts) = (totals.rt, totals.counts);
+                client_turns(control, registry, alloc, rt, counts, operator, named, log)
             }
         }
     }

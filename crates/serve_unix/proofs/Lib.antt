@@ -1,0 +1,2 @@
+mod ClientLemmas
+mod PlaceLemmas

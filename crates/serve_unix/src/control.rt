@@ -1,10 +1,11 @@
 //! The listening socket with its clients, and the events that wake them.
 
 use crate::clients::{CLIENTS, Clients};
+use crate::connections::{Accepted, Connections};
 use crate::stream::ClientStream;
 use mio::net::{UnixListener, UnixStream};
 use mio::{Interest, Registry, Token};
-use serve_stream::{Answers, Turn};
+use serve_stream::AnswersClients;
 use std::alloc::Global;
 use std::io;
 use std::io::ErrorKind;
@@ -20,9 +21,47 @@ pub struct UnixControl {
     first_token: usize,
 }
 
+// The connections of the listening socket, of which contracts see nothing.
+#[derive(Drop)]
+struct SocketConnections<'a> {
+    listener: &'a UnixListener,
+    registry: &'a Registry,
+    listener_ready: bool,
+    first_token: usize,
+}
+
 // Waits for what a client sends, and for room for what it is sent.
 fn register(registry: &Registry, stream: &mut UnixStream, token: Token) -> io::Result<()> {
     registry.register(stream, token, Interest::READABLE | Interest::WRITABLE)
+}
+
+impl Connections<ClientStream> for SocketConnections<'_> {
+    ghost use Rattle.std.specs.Prelude.{None};
+
+    ghost log = { λ _. None };
+
+    fn accept(&mut self) -> Accepted<ClientStream> {
+        match self.listener.accept() {
+            Ok((stream, _)) => Accepted::Client(ClientStream::new(stream)),
+            Err(error) if error.kind() == ErrorKind::Interrupted => Accepted::Interrupted,
+            // None waits, or there is no descriptor for it. The next client that comes gives an event.
+            Err(_) => {
+                self.listener_ready = false;
+                Accepted::NotYet
+            }
+        }
+    }
+
+    fn watch(&mut self, stream: &mut ClientStream, place: usize) -> bool {
+        let token = self.first_token.saturating_add(place).saturating_add(1);
+        register(self.registry, stream.socket(), Token(token)).is_ok()
+    }
+
+    fn close(&mut self, stream: ClientStream) {
+        drop(stream);
+        // There may be a descriptor again for a client that could not be accepted.
+        self.listener_ready = true;
+    }
 }
 
 impl UnixControl {
@@ -59,52 +98,36 @@ impl UnixControl {
         self.listener_ready || self.clients.is_active()
     }
 
-    // Takes a client into a place, or lets it go if there is none.
-    fn admit(&mut self, alloc: Global, registry: &Registry, mut stream: UnixStream) {
-        let Some(place) = self.clients.free_place() else {
-            return;
-        };
-        let token = Token(self.first_token.saturating_add(place).saturating_add(1));
-        if register(registry, &mut stream, token).is_ok() {
-            self.clients.admit(alloc, place, ClientStream::new(stream));
-        }
-    }
-
     /// Accepts the clients that wait for it. One more than `CLIENTS` is closed at once.
     pub fn accept(&mut self, alloc: Global, registry: &Registry) {
         if !self.listener_ready {
             return;
         }
-        for _client in 0..CLIENTS {
-            match self.listener.accept() {
-                Ok((stream, _)) => self.admit(alloc, registry, stream),
-                Err(error) if error.kind() == ErrorKind::Interrupted => {}
-                // None waits, or there is no descriptor for it. The next client that comes gives an event.
-                Err(_) => {
-                    self.listener_ready = false;
-                    return;
-                }
-            }
-        }
+        let mut connections = SocketConnections {
+            listener: &self.listener,
+            registry,
+            listener_ready: true,
+            first_token: self.first_token,
+        };
+        self.clients.accept(alloc, &mut connections);
+        self.listener_ready = connections.listener_ready;
     }
 
-    /// Chooses the client whose turn is next, and returns its place.
-    pub fn next_turn(&mut self) -> Option<usize> {
-        self.clients.next_turn()
-    }
-
-    /// The number of the client in a place.
-    pub fn number(&self, place: usize) -> u64 {
-        self.clients.number(place)
-    }
-
-    /// Gives the client in a place its turn.
-    pub fn turn<A: Answers>(&mut self, place: usize, answers: &mut A) -> Turn {
-        let turn = self.clients.turn(place, answers);
-        if let Turn::Closed = turn {
-            // There may be a descriptor again for a client that could not be accepted.
-            self.listener_ready = true;
-        }
-        turn
+    /// Gives clients their turns, at most as many as `budget`. True if one of them asked the service to stop.
+    pub fn turns<A: AnswersClients>(
+        &mut self,
+        answers: &mut A,
+        registry: &Registry,
+        budget: usize,
+    ) -> bool {
+        let mut connections = SocketConnections {
+            listener: &self.listener,
+            registry,
+            listener_ready: self.listener_ready,
+            first_token: self.first_token,
+        };
+        let stops = self.clients.turns(answers, &mut connections, budget);
+        self.listener_ready = connections.listener_ready;
+        stops
     }
 }

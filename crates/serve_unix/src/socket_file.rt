@@ -1,5 +1,5 @@
-//! The socket file: who may connect to it, and when it is taken over or removed (unix(7); docs/OPERATING.md, "Who may control the
-//! switch").
+//! The socket file: who may connect to it, and when it is taken over or removed (unix(7); docs/OPERATING.md, "Who may control
+//! it").
 
 use mio::net::{UnixListener, UnixStream};
 use std::fs::{Files, Permissions};

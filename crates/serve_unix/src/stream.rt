@@ -16,6 +16,11 @@ impl ClientStream {
     pub fn new(socket: UnixStream) -> ClientStream {
         ClientStream { socket }
     }
+
+    /// The socket, to be registered.
+    pub(crate) fn socket(&mut self) -> &mut UnixStream {
+        &mut self.socket
+    }
 }
 
 fn unread(error: &Error) -> Arrived

@@ -1,6 +1,7 @@
-//! Tests of lists of words, of the verifier, and of packets.
+//! Tests of lists of words, of the verifier, of packets and their endpoints, and of selectors that spread by weight.
 
 mod counted_words;
 mod instructions;
 mod packets;
+mod selectors;
 mod verifier;

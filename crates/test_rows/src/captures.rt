@@ -10,7 +10,7 @@ pub fn describe_capture(alloc: Global, digits: &str) -> io::Result<String> {
     let Ok(file) = hex::decode(alloc, digits.as_bytes()) else {
         return Ok(String::from_str(alloc, "no file")?);
     };
-    match summarize(file.as_slice()) {
+    match summarize(None, file.as_slice()) {
         Ok(it) => { Ok(format!(in alloc; "{} {} {} {:?}", it.whole, it.cut, it.other, it.cut_at)?) }
         Err(fault) => Ok(format!(in alloc; "{fault:?}")?),
     }

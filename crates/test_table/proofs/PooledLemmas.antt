@@ -1,5 +1,5 @@
 -- A row without page table entries holds a configuration without programs.
-use Rattle.std.proofs.Common.{◌≡◌, ◌∙◌, ◌+◌, ◌*◌, ◌<◌, List, None, Some, [], ap, arith, length, slice_get, slice_index, sym, ℕ}
+use Rattle.std.proofs.Common.{◌≡◌, ◌∙◌, ◌+◌, ◌*◌, ◌<◌, List, [], ap, arith, length, slice_index, sym, ℕ}
 use Rattle.config_image.specs.declared.TheConstants.{ROW_WORDS}
 use Rattle.config_image.specs.Image.{Group}
 use Rattle.config_image.specs.Pooled.{parts, pooled_row}

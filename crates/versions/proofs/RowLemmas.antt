@@ -1,5 +1,5 @@
 -- The words of a configuration's row: its image, and then zeros.
-use Rattle.std.proofs.Common.{◌≡◌, ℕ, ◌+◌, ◌-◌, ◌<◌, ◌≤◌, List, Some, ◌++◌, ◌∷◌, [], ap, append_assoc, arith, get_or, length, length-append, replicate, slice_get, slice_index, sym, take, ◌∙◌}
+use Rattle.std.proofs.Common.{◌≡◌, ℕ, ◌+◌, ◌-◌, ◌<◌, ◌≤◌, List, Some, ◌++◌, arith, get_or, length, length-append, replicate, slice_get, slice_index, sym, take, ◌∙◌}
 use Rattle.std.proofs.lemmas.List.{get_or-append_right, get_or-replicate, get_or-take, get_or_append_left, length-replicate, length-take-le}
 use Rattle.std.proofs.lemmas.Option.{get_or_from_slice_get, slice_get_within}
 use Rattle.config_image.specs.declared.TheConstants.{ROW_WORDS}

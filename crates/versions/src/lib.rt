@@ -57,6 +57,7 @@ pub fn every_trace()
 
 /// Law: all of this holds too where configurations are stored in another form, whatever stands in rows and whatever in pages. It
 /// runs nothing.
+/// The reason: docs/INTERNALS.md, "Facts are of states".
 pub fn every_form()
     ensures pin_is_newest { (form : Form (List Group)) → InEveryTrace (stored_by form) (LoadsNewest (stored_by form)) }
     ensures seen_up_to_last_load { (form : Form (List Group)) → InEveryTrace (stored_by form) (SeesUpToLastLoad (stored_by form)) }

@@ -53,21 +53,21 @@ returns-in-Ok-Returning-clause-no_errors g c = λ either other. elim either [
   | inr one ↦ elim one [
     | inl zero ↦
         let is : c.reported.result ≡ Done = search rules in
-        (rw (ended_ok c.run_command-ended.result c.reported.result Done c.reported.ensures.status c.reported.ensures.failed is (λ e. cc)) at c.reported.ensures.untold) ∙ (rw (ended_ok c.run_command-ended.result c.reported.result Done c.reported.ensures.status c.reported.ensures.failed is (λ e. cc)) at c.run_command-ended.ensures.no_errors) (λ same. other ((c.in-Ok-Returning.ensures.named ∙ ap (λ (s : Subcommand). Some (command_of s)) c.in-Ok-Returning.field-0-is) ∙ ap (λ r. Some (returning r)) same))
+        (rw (ended_ok c.run_command-ended.result c.reported.result Done c.reported.ensures.status c.reported.ensures.failed is (λ e. cc)) at c.reported.ensures.untold) ∙ (rw (ended_ok c.run_command-ended.result c.reported.result Done c.reported.ensures.status c.reported.ensures.failed is (λ e. cc)) at c.run_command-ended.ensures.no_errors) (λ port same. other port ((c.in-Ok-Returning.ensures.named ∙ ap (λ (s : Subcommand). Some (command_of s)) c.in-Ok-Returning.field-0-is) ∙ ap (λ r. Some (returning r)) same))
     | inr refused ↦
         let is : c.reported.result ≡ Refused = search rules in
-        (rw (ended_ok c.run_command-ended.result c.reported.result Refused c.reported.ensures.status c.reported.ensures.failed is (λ e. cc)) at c.reported.ensures.untold) ∙ (rw (ended_ok c.run_command-ended.result c.reported.result Refused c.reported.ensures.status c.reported.ensures.failed is (λ e. cc)) at c.run_command-ended.ensures.no_errors) (λ same. other ((c.in-Ok-Returning.ensures.named ∙ ap (λ (s : Subcommand). Some (command_of s)) c.in-Ok-Returning.field-0-is) ∙ ap (λ r. Some (returning r)) same))
+        (rw (ended_ok c.run_command-ended.result c.reported.result Refused c.reported.ensures.status c.reported.ensures.failed is (λ e. cc)) at c.reported.ensures.untold) ∙ (rw (ended_ok c.run_command-ended.result c.reported.result Refused c.reported.ensures.status c.reported.ensures.failed is (λ e. cc)) at c.run_command-ended.ensures.no_errors) (λ port same. other port ((c.in-Ok-Returning.ensures.named ∙ ap (λ (s : Subcommand). Some (command_of s)) c.in-Ok-Returning.field-0-is) ∙ ap (λ r. Some (returning r)) same))
   ]
 ]
 
 pub returns-in-Ok-Returning-clause-counted : goal.returns-in-Ok-Returning-clause-counted
-returns-in-Ok-Returning-clause-counted g c = λ either none also. elim either [
+returns-in-Ok-Returning-clause-counted g c = λ either none port also. elim either [
   | inl zero ↦
       let is : c.reported.result ≡ Done = search rules in
-      rw (rw (ended_ok c.run_command-ended.result c.reported.result Done c.reported.ensures.status c.reported.ensures.failed is (λ e. cc)) at c.reported.ensures.untold) ((rw (ended_ok c.run_command-ended.result c.reported.result Done c.reported.ensures.status c.reported.ensures.failed is (λ e. cc)) at c.run_command-ended.ensures.counted) (same_request (map string_bytes c.args.words.now) (request_of c.in-Ok-Returning.command) packets (c.in-Ok-Returning.ensures.named ∙ ap (λ (s : Subcommand). Some (command_of s)) c.in-Ok-Returning.field-0-is) also))
+      rw (rw (ended_ok c.run_command-ended.result c.reported.result Done c.reported.ensures.status c.reported.ensures.failed is (λ e. cc)) at c.reported.ensures.untold) ((rw (ended_ok c.run_command-ended.result c.reported.result Done c.reported.ensures.status c.reported.ensures.failed is (λ e. cc)) at c.run_command-ended.ensures.counted) port (same_request (map string_bytes c.args.words.now) (request_of c.in-Ok-Returning.command) (packets port) (c.in-Ok-Returning.ensures.named ∙ ap (λ (s : Subcommand). Some (command_of s)) c.in-Ok-Returning.field-0-is) also))
   | inr one ↦
       let is : c.reported.result ≡ Refused = search rules in
-      rw (rw (ended_ok c.run_command-ended.result c.reported.result Refused c.reported.ensures.status c.reported.ensures.failed is (λ e. cc)) at c.reported.ensures.untold) ((rw (ended_ok c.run_command-ended.result c.reported.result Refused c.reported.ensures.status c.reported.ensures.failed is (λ e. cc)) at c.run_command-ended.ensures.counted) (same_request (map string_bytes c.args.words.now) (request_of c.in-Ok-Returning.command) packets (c.in-Ok-Returning.ensures.named ∙ ap (λ (s : Subcommand). Some (command_of s)) c.in-Ok-Returning.field-0-is) also))
+      rw (rw (ended_ok c.run_command-ended.result c.reported.result Refused c.reported.ensures.status c.reported.ensures.failed is (λ e. cc)) at c.reported.ensures.untold) ((rw (ended_ok c.run_command-ended.result c.reported.result Refused c.reported.ensures.status c.reported.ensures.failed is (λ e. cc)) at c.run_command-ended.ensures.counted) port (same_request (map string_bytes c.args.words.now) (request_of c.in-Ok-Returning.command) (packets port) (c.in-Ok-Returning.ensures.named ∙ ap (λ (s : Subcommand). Some (command_of s)) c.in-Ok-Returning.field-0-is) also))
 ]
 
 pub returns-in-Ok-Waiting-clause-waits : goal.returns-in-Ok-Waiting-clause-waits
@@ -135,7 +135,7 @@ returns-in-Err-clause-no_errors g c = λ either other. elim either [
 ]
 
 pub returns-in-Err-clause-counted : goal.returns-in-Err-clause-counted
-returns-in-Err-clause-counted g c = λ either none also. elim either [
+returns-in-Err-clause-counted g c = λ either none port also. elim either [
   | inl zero ↦
       let is : c.reported-in-Err.result ≡ Done = search rules in
       elim c.in-Err.ensures.faults [

@@ -1,9 +1,12 @@
 use Rattle.std.proofs.Common.{◌∙◌, inl, inr, map, string_bytes, sym}
-use Rattle.command_returning.proofs.FailureLemmas.{asks_to_wait, ok_kept}
+use Rattle.command_returning.proofs.FailureLemmas.{asks_to_wait, ok_kept, status_of}
 use Rattle.command_returning.proofs.tool.Goals as goal
 
 pub returns-clause-waits : goal.returns-clause-waits
 returns-clause-waits g c = λ none. asks_to_wait (map string_bytes c.args.words.now) c.run_returning.result c.run_returning.ensures.waits (sym c.ok.ensures.value ∙ none)
+
+pub returns-clause-status : goal.returns-clause-status
+returns-clause-status g c = status_of c.run_returning.result c.ok.result c.ok.ensures.value c.run_returning.ensures.status
 
 pub returns-clause-done_written : goal.returns-clause-done_written
 returns-clause-done_written g c = λ zero. c.run_returning.ensures.done_written (ok_kept c.run_returning.result 0 (sym c.ok.ensures.value ∙ zero))

@@ -30,6 +30,7 @@ pub struct Extent {
 /// The cache of one reader: the first word of one version's row, its header, and extents of its image.
 ///
 /// A header is never 0, so 0 means that the cache has none.
+/// The reason: docs/INTERNALS.md, "A worker caches where words were found".
 #[derive(Drop)]
 pub struct ExtentCache {
     version: u64,

@@ -24,6 +24,7 @@ pub struct FoundPart {
 ///
 /// `ask` returns the index of the entry to read next, `tell` takes that entry, and so on until `ask` returns `None`; then `found` has
 /// the part. No entry is asked for twice.
+/// The reason: docs/INTERNALS.md, "Names of pages".
 #[derive(Clone, Copy, Debug, PartialEq, Eq)]
 pub struct Search {
     // The greatest number that is an entry of a part that starts at the place.

@@ -4,7 +4,7 @@ use Rattle.dispatch.specs.Verdict.{value_of, verdict}
 use Rattle.read_section.specs.Section.{HoldsLastSeen, IsWholeSection, held_version}
 use Rattle.read_section.specs.Worker.{WorkerValue}
 use Rattle.versions.specs.View.{IsTold}
-use Rattle.control.specs.Script.{judged_text}
+use Rattle.control_line.specs.Reply.{judged_text}
 
 -- in one whole section the packet was judged by the newest version that the worker had seen at its pin, whose number the reply has
 pub record JudgesPacket (before after : WorkerValue) (packet reply : List ℕ) : Type 0 where

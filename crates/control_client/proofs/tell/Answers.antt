@@ -1,4 +1,4 @@
-use Rattle.std.proofs.Common.{Bool, List, ap, inl, refl, subst, sym, ◌≡◌, ◌||◌, ◌∙◌, ℕ, rules}
+use Rattle.std.proofs.Common.{Bool, ap, inl, refl, subst, sym, ◌≡◌, ◌||◌, ◌∙◌, rules}
 use Rattle.std.proofs.lemmas.Bool.{or_right}
 use Rattle.control_client.specs.Refused.{ShownOn}
 use Rattle.command_line.specs.declared.ending.Failure.{Failure}

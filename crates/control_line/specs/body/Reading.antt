@@ -10,7 +10,7 @@ use Rattle.control_line.specs.declared.request.Request.{Request as LentRequest}
 use Rattle.control_line.specs.declared.request.Request.TheVariants as lent_request
 use Rattle.control_line.specs.declared.reading.Reading.{Reading as LentReading}
 use Rattle.control_line.specs.declared.reading.Reading.TheVariants as lent_reading
-use Rattle.control_line.specs.Reading.{Reading, filter_words, group_at, member_at, selector_words}
+use Rattle.control_line.specs.Reading.{Reading, filter_words, group_at, member_at, selector_words, verdict_on}
 use Rattle.control_line.specs.Request.{Request, Spells, change, read, show, sweep}
 
 -- the fields that a program ends a line with, or none
@@ -29,6 +29,7 @@ reading_of (lent_reading.Group index) = group_at index
 reading_of (lent_reading.Member key index) = member_at key index
 reading_of (lent_reading.Selector key place) = selector_words key place
 reading_of (lent_reading.Filter key member place) = filter_words key member place
+reading_of (lent_reading.Judge digits) = verdict_on digits.now
 
 abbrev pub request_of : LentRequest → Request
 request_of (lent_request.Change command) = change (command_over source_of command)

@@ -11,6 +11,7 @@ ghost use Rattle.control_line.specs.declared.reply.TheConstants.{REPLY_LIMIT};
 ghost use Rattle.control_line.specs.declared.reply.LineAnswer.TheVariants as answer;
 
 use crate::reason::Reason;
+use crate::reply::judged::{judged_reply, malformed_reply};
 use crate::reply::{LineAnswer, Reply, WINDOW};
 use fault_code::Code;
 use ipv4_fields::Endpoint;
@@ -234,6 +235,8 @@ impl Reply {
                 count,
                 words,
             } => Reply::words_read(version, place, count, words),
+            LineAnswer::PacketJudged { version, verdict } => judged_reply(version, verdict),
+            LineAnswer::PacketMalformed { version, why } => malformed_reply(version, why),
             LineAnswer::Swept(reclaimed) => Reply::swept(reclaimed),
         }
     }

@@ -75,6 +75,7 @@ impl<A: Allocator + Clone> Config<A> {
     ///
     /// `Err` is that of `apply`. A group that no other configuration has gains or loses a member in place. A shared group is replaced by a
     /// new one, so other configurations do not change.
+    /// Why there is `change` beside `apply`: docs/INTERNALS.md, "Configurations share groups".
     pub fn change<B: Allocator>(&mut self, command: &Command<Program<B>>) -> Result<(), Refusal>
         ensures applies { OnOk result (self.new ≡ after command.now self.old) }
         ensures refuses_first { IfSome (first_refusal command.now self.old) (λ refusal. result ≡ Err refusal) }

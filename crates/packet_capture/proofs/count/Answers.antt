@@ -1,9 +1,6 @@
 use Rattle.std.proofs.Common.{rules}
 use Rattle.packet_capture.proofs.count.Goals as goal
 
-pub returns-in-Packet : goal.returns-in-Packet
-returns-in-Packet c = search rules
-
 pub returns-in-Cut : goal.returns-in-Cut
 returns-in-Cut c = search rules
 

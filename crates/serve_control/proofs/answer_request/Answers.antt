@@ -1,7 +1,7 @@
 use Rattle.std.proofs.lemmas.Bool.{false≢true}
 use Rattle.std.proofs.Common.{ap, refl, rules}
 use Rattle.dispatch.specs.Tally.{TallyValue}
-use Rattle.serve_control.specs.Answer.{Service, answers_line, stops, tells_counters, tells_totals}
+use Rattle.serve_control.specs.Answer.{answers_line, stops, tells_counters, tells_totals}
 use Rattle.serve_control.proofs.answer_request.Goals as goal
 
 pub returns-then-is_word-clause-answered : goal.returns-then-is_word-clause-answered

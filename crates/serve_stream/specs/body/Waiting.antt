@@ -4,7 +4,7 @@ use Rattle.serve_stream.specs.declared.conversation.Conversation.{Conversation}
 use Rattle.serve_stream.specs.declared.conversation.Stage.TheVariants.{Open, Over, Stopping}
 use Rattle.serve_stream.specs.Answers.{Exchange, LastStops, LeadsTo}
 use Rattle.serve_stream.specs.Standing.{IsHindered, Moves, waiting_of}
-use Rattle.serve_stream.specs.Stream.{Event, Happened, Logs, failed, gave_none, interrupted, took_none}
+use Rattle.serve_stream.specs.Stream.{Event, Happened, Logs, ended, failed, gave_none, interrupted, took_none}
 
 -- replies are written first
 abbrev pub first_of : List ℕ → List ℕ → List ℕ
@@ -37,6 +37,9 @@ pub record IsRead (log log' : Option (List Event)) (before later : Conversation)
   pub took_all : ¬ Happened took_none events
   pub some_more : more ≡ true → ¬ Happened gave_none events
   pub no_more : more ≡ false → later.stage ≡ Open → (later.unread ≡ []) × Happened gave_none events
+  pub over_if_failed : Happened failed events → later.stage ≡ Over
+  pub closed_if_ended : Happened ended events → later.stage ≢ Open
+  pub not_opened : before.stage ≢ Open → later.stage ≢ Open
 
 -- what a write came to: more may be taken at once, if it is not told otherwise
 pub record IsWritten (log log' : Option (List Event)) (before later : Conversation) (more : Bool) : Type 0 where
@@ -50,6 +53,8 @@ pub record IsWritten (log log' : Option (List Event)) (before later : Conversati
   pub progress : more ≡ true → (length (waiting_of later) < length (waiting_of before)) ⊎ Happened interrupted events
   pub goes_on : more ≡ true → later.stage ≡ before.stage
   pub fails : later.stage ≡ Over → before.stage ≢ Over → Happened failed events
+  pub over_if_failed : Happened failed events → later.stage ≡ Over
+  pub not_ended : ¬ Happened ended events
   pub stage : (later.stage ≡ before.stage) ⊎ (later.stage ≡ Over)
   pub held : later.held ≡ before.held
   pub unread : later.unread ≡ before.unread

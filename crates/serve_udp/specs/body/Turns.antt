@@ -1,19 +1,32 @@
 -- A turn of control, one datagram after the other.
-use Rattle.std.specs.Prelude.{◌≡◌, ◌++◌, List, Option, Some, false, ℕ}
+use Rattle.std.specs.Prelude.{◌≡◌, ◌+◌, ◌++◌, ◌∷◌, Bool, List, Option, Some, [], false, true, ℕ}
 use Rattle.dispatch.specs.Device.{Takes}
 use Rattle.serve_control.specs.Answer.{AnswersDatagram, Service}
 use Rattle.serve_control.specs.declared.ignored.BoundAddresses.{BoundAddresses}
 use Rattle.ipv4_fields.specs.declared.endpoint.Endpoint.{Endpoint}
 use Rattle.serve_control.specs.declared.ControlAnswer.{ControlAnswer}
-use Rattle.serve_udp.specs.Control.{AnswersInTurn, ControlEvent, IsRepliedTo, is_stop, stops_at}
+use Rattle.serve_udp.specs.Control.{AnswersInTurn, ControlEvent, IsRepliedTo, is_stop, none_came}
 use Rattle.serve_udp.specs.declared.control_turn.Next.{Next}
+use Rattle.serve_udp.specs.declared.control_turn.Next.TheVariants as next
 
--- what happened goes on from whatever happened before in the turn
-pub record GoesOnBy (bound : BoundAddresses) (log log' : Option (List ControlEvent)) (before after : Service) (ended : Next) : Type 0 where
+-- so many receives of a turn were made
+pub record IsBegun (bound : BoundAddresses) (count : ℕ) (log log' : Option (List ControlEvent)) (before after : Service) : Type 0 where
   pub events : List ControlEvent
   pub logged : Takes log log' events
-  pub goes_on : (first : Service) (earlier : List ControlEvent) → AnswersInTurn bound first earlier false before
-      → AnswersInTurn bound first (earlier ++ events) (stops_at ended) after
+  pub answered_each : AnswersInTurn bound before count events false after
+
+-- one more receive was made, whatever happened before in the turn
+pub record ReceivesOne (bound : BoundAddresses) (log log' : Option (List ControlEvent)) (before after : Service) (stops : Bool) : Type 0 where
+  pub events : List ControlEvent
+  pub logged : Takes log log' events
+  pub goes_on : (first : Service) (count : ℕ) (earlier : List ControlEvent) → AnswersInTurn bound first count earlier false before
+      → AnswersInTurn bound first (count + 1) (earlier ++ events) stops after
+
+-- or none came
+abbrev pub GoesOnBy : BoundAddresses → Option (List ControlEvent) → Option (List ControlEvent) → Service → Service → Next → Type 0
+GoesOnBy bound log log' before after next.Answered = ReceivesOne bound log log' before after false
+GoesOnBy bound log log' before after next.Nothing = (after ≡ before) × Takes log log' (none_came ∷ [])
+GoesOnBy bound log log' before after next.Stop = ReceivesOne bound log log' before after true
 
 -- an answer was sent back
 pub record IsSentBack (log log' : Option (List ControlEvent)) (to : Endpoint) (answer : ControlAnswer) : Type 0 where
@@ -22,10 +35,10 @@ pub record IsSentBack (log log' : Option (List ControlEvent)) (to : Endpoint) (a
   pub replied_to : IsRepliedTo to (Some answer) events
 
 -- a datagram that came was answered, and had its reply
-pub record AnswersOne (bound : BoundAddresses) (from : Endpoint) (text : List ℕ) (log log' : Option (List ControlEvent)) (before after : Service) (ended : Next) : Type 0 where
+pub record AnswersOne (bound : BoundAddresses) (from : Endpoint) (text : List ℕ) (log log' : Option (List ControlEvent)) (before after : Service) (stops : Bool) : Type 0 where
   pub answer : Option ControlAnswer
   pub replies : List ControlEvent
   pub answered : AnswersDatagram bound from text before after answer
   pub logged : Takes log log' replies
   pub replied_to : IsRepliedTo from answer replies
-  pub stops : stops_at ended ≡ is_stop answer
+  pub stopped : stops ≡ is_stop answer

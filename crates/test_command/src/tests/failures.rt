@@ -9,8 +9,8 @@ use std::test::Fail;
 
 const G8: &str = "\
 G8: Memory for the new configuration was refused.
-No command prints this code: a call of the libraries answers it. Where memory
-is refused the program says `failed E3` in its place.
+No command prints this code: a call of the libraries returns it. If memory is
+refused, the program prints `failed E3` instead.
 ";
 
 const PROGRAM: &[u8] = b"ldb [9]; jeq #17,0,1; ret #65535; ret #0";
@@ -24,8 +24,12 @@ const CUT_CAPTURE: &[u8] = b"\xd4\xc3\xb2\xa1\x02\0\x04\0\0\0\0\0\0\0\0\0\xff\xf
 // One of link type 105, which is not read.
 const WIRELESS: &[u8] = b"\xd4\xc3\xb2\xa1\x02\0\x04\0\0\0\0\0\0\0\0\0\xff\xff\0\0i\0\0\0";
 
+// One of raw IP with a datagram to port 53, whose payload is one byte.
+const DATAGRAM: &[u8] = b"\xd4\xc3\xb2\xa1\x02\0\x04\0\0\0\0\0\0\0\0\0\xff\xff\0\0e\0\0\0\
+\0\0\0\0\0\0\0\0\x1d\0\0\0\x1d\0\0\0E\0\0\x1d\0\0\0\0@\x11\0\0\n\0\0\x01\n\0\0\x02\x13\x88\05\0\t\0\0a";
+
 // Of each command a result, and of each that refuses a refusal.
-const COMMANDS: [(&[&str], &[u8]); 17] = [
+const COMMANDS: [(&[&str], &[u8]); 21] = [
     (&["first"], b""),
     (&["--help"], b""),
     (&["--version"], b""),
@@ -36,10 +40,25 @@ const COMMANDS: [(&[&str], &[u8]); 17] = [
     (&["run", "--packet", SAMPLE_PACKET], PROGRAM),
     (&["run", "--packet", "0"], PROGRAM),
     (&["run", "--packet", SAMPLE_PACKET, "--expr", "ip"], b""),
+    (
+        &[
+            "pack",
+            "--from",
+            "10.0.0.1:5000",
+            "--to",
+            "10.0.0.2:53",
+            "--text",
+            "a",
+        ],
+        b"",
+    ),
+    (&["pack", "--from", "10.0.0.1", "--to", "10.0.0.2:53"], b""),
     (&["explain", "refused", "G3"], b""),
     (&["explain", "g3"], b""),
+    (&["spread", "--buckets", "2", "--by", "ports", "7=1"], b""),
     (&["replay"], b"add 10.0.0.2:53\nshow\n"),
     (&["packets"], CAPTURE),
+    (&["packets", "--unwrap", "53"], DATAGRAM),
     (&["packets"], CUT_CAPTURE),
     (&["packets"], WIRELESS),
     (&["packets"], b"no capture at all, but a text"),
@@ -173,12 +192,17 @@ fn read_without_memory_is_e3(rt: HostRuntime) -> Result<(), Fail> {
 }
 
 // What commands that read no input print, after their status.
-const UNREAD: [(&[&str], u8, &str); 5] = [
+const UNREAD: [(&[&str], u8, &str); 6] = [
     (&["first"], 0, FIRST),
-    (&["--version"], 0, "dswitch 0.2.0\n"),
+    (&["--version"], 0, "dswitch 0.3.0\n"),
     (&["compile", ""], 1, "refused P1 0\n"),
     (&["run", "--packet", "", "--expr", "ip"], 0, "reject\n"),
     (&["explain", "G8"], 0, G8),
+    (
+        &["spread", "--buckets", "1", "--by", "addresses", "7=1"],
+        0,
+        "ld [12]\nmul #2654435761\nret #0\n",
+    ),
 ];
 
 // The command ends with this status, prints this text and reads nothing.

@@ -16,7 +16,7 @@ const SHOWN: [(&[u8], usize, &str, &str); 6] = [
         b"add",
         1,
         "C1",
-        "rules.txt:7:1: C1: The text is not one that was asked for.\nadd\n^\n",
+        "rules.txt:7:1: C1: The text is malformed.\nadd\n^\n",
     ),
     // The first sentence alone, and the caret after what four bytes are shown as.
     (

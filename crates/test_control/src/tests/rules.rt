@@ -4,7 +4,7 @@ use control_line::{RulesFault, fault_column, line_at, rules};
 use std::alloc::{AllocError, Global};
 use std::test::Fail;
 
-// A file, and the groups, members and charge of its configuration (docs/COMMANDS.md, "Rules files"; SWITCH, "Groups and members").
+// A file, and the groups, members and charge of its configuration (docs/COMMANDS.md, "Rules files"; SWITCH, "Groups, members, commands and refusals").
 const MADE: [(&[u8], (usize, usize, u64)); 9] = [
     (b"", (0, 0, 2)),
     (b"\n\n", (0, 0, 2)),

@@ -15,8 +15,8 @@ returns-clause-faults c =
     let named = command_is (app_of c.in_ok-program.program) words c.in_ok-matches.matches c.in-Some.name.now (rows_of (found_of c.in-Some.found.now))
     program_is rows c.in-Some.ensures.name c.in-Some.ensures.rows in
     let nothing : command_in words ≡ None = named ∙ sym c.in_ok-command.ensures ∙ ap (option_map command_of) c.in-None.is in
-    let fault = c.in_ok-way_fault-in-None.field-0 in
-    inr (subst (IsAmong (kind_of fault)) (sym (way_is_refused words none nothing)) (inl c.in_ok-way_fault-in-None.ensures))
+    let fault = c.in_ok-value_fault-in-None.field-0 in
+    inr (subst (IsAmong (kind_of fault)) (sym (way_is_refused words none nothing)) (inl c.in_ok-value_fault-in-None.ensures))
 
 pub returns-in-Some-2-clause-faults : goal.returns-in-Some-2-clause-faults
 returns-in-Some-2-clause-faults c =

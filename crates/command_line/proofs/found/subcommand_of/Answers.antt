@@ -13,8 +13,14 @@ returns-in-compile c = search rules
 pub returns-in-run : goal.returns-in-run
 returns-in-run c = search rules
 
+pub returns-in-pack : goal.returns-in-pack
+returns-in-pack c = search rules
+
 pub returns-in-explain : goal.returns-in-explain
 returns-in-explain c = search rules
+
+pub returns-in-spread : goal.returns-in-spread
+returns-in-spread c = search rules
 
 pub returns-in-replay : goal.returns-in-replay
 returns-in-replay c = search rules
@@ -36,6 +42,9 @@ returns-in-rules c = search rules
 
 pub returns-in-load : goal.returns-in-load
 returns-in-load c = search rules
+
+pub returns-in-drain : goal.returns-in-drain
+returns-in-drain c = search rules
 
 pub returns-in-metrics : goal.returns-in-metrics
 returns-in-metrics c = search rules

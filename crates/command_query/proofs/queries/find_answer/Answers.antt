@@ -3,12 +3,12 @@ use Rattle.std.proofs.lemmas.Result.{IfErr-weaker, IfOk-weaker}
 use Rattle.control_line.specs.Reason.{IsRefusalOfExpression}
 use Rattle.filter_compile.specs.Answer.{IsPacket}
 use Rattle.control_line.specs.Request.{spaced}
-use Rattle.command_query.specs.CommandResult.{IsExplainAnswer, IsJudgeAnswer}
+use Rattle.command_query.specs.CommandResult.{IsExplainAnswer, IsJudgeAnswer, IsSpreadAnswer}
 use Rattle.command_line.specs.CommandLine.{query_request}
 use Rattle.command_query.specs.Query.{IsRefusalOfCode, IsResultOf, IsStopOf}
 use Rattle.command_query.specs.body.Stop.{IsStopBy}
 use Rattle.command_query.proofs.JoinLemmas.{texts}
-use Rattle.command_query.proofs.QueryLemmas.{compile_found, compile_stops, explain_found, explain_stops, judge_found, judge_stops, judge_stops_by_hex, packet_of_spelt, result_of_first}
+use Rattle.command_query.proofs.QueryLemmas.{compile_found, compile_stops, explain_found, explain_stops, judge_found, judge_stops, judge_stops_by_hex, pack_found, pack_stops, packet_of_spelt, result_of_first, spread_found, spread_stops}
 use Rattle.command_query.proofs.WriteLemmas.{versions_of}
 use Rattle.command_query.proofs.StopLemmas.{stopped_as}
 use Rattle.command_query.proofs.queries.find_answer.Goals as goal
@@ -76,6 +76,33 @@ returns-in-Explain-clause-stopped g c =
     let refused = subst (λ words. IfErr c.explain.result (IsStopBy (IsRefusalOfCode (spaced (texts words))))) c.deref-in-Explain.ensures.value c.explain.ensures.refused in
     subst (λ request. IfErr c.explain.result (IsStopOf request known)) (sym (ap query_request c.in-Explain.is))
     (IfErr-weaker c.explain.result _ _ (explain_stops known (texts c.in-Explain.words.items)) refused)
+
+pub returns-in-Pack-clause-found : goal.returns-in-Pack-clause-found
+returns-in-Pack-clause-found g c =
+    let known = g.R.Read.remaining c.args.input in
+    subst (λ request. IfOk c.pack.result (IsResultOf request known)) (sym (ap query_request c.in-Pack.is))
+    (IfOk-weaker c.pack.result _ _ (pack_found known _ _ _ _) c.pack.ensures.answer)
+
+pub returns-in-Pack-clause-stopped : goal.returns-in-Pack-clause-stopped
+returns-in-Pack-clause-stopped g c =
+    let known = g.R.Read.remaining c.args.input in
+    subst (λ request. IfErr c.pack.result (IsStopOf request known)) (sym (ap query_request c.in-Pack.is))
+    (IfErr-weaker c.pack.result _ _ (pack_stops known _ _ _ _) c.pack.ensures.refused)
+
+pub returns-in-Spread-clause-found : goal.returns-in-Spread-clause-found
+returns-in-Spread-clause-found g c =
+    let known = g.R.Read.remaining c.args.input in
+    let asked = c.in-Spread.asked in
+    let found = subst (λ shares. IfOk c.spread_selector.result (IsSpreadAnswer asked.depth asked.by shares)) c.deref-in-Spread.ensures.value c.spread_selector.ensures.answer in
+    subst (λ request. IfOk c.spread_selector.result (IsResultOf request known)) (sym (ap query_request c.in-Spread.is))
+    (IfOk-weaker c.spread_selector.result _ _ (spread_found known asked.depth asked.by asked.shares.items) found)
+
+pub returns-in-Spread-clause-stopped : goal.returns-in-Spread-clause-stopped
+returns-in-Spread-clause-stopped g c =
+    let known = g.R.Read.remaining c.args.input in
+    let asked = c.in-Spread.asked in
+    subst (λ request. IfErr c.spread_selector.result (IsStopOf request known)) (sym (ap query_request c.in-Spread.is))
+    (IfErr-weaker c.spread_selector.result _ _ (spread_stops known asked.depth asked.by asked.shares.items) c.spread_selector.ensures.never_refused)
 
 pub returns-in-Check-clause-found : goal.returns-in-Check-clause-found
 returns-in-Check-clause-found g c = search rules

@@ -13,7 +13,7 @@ pub returns-clause-failed_written : goal.returns-clause-failed_written
 returns-clause-failed_written g c =
     let before = g.W.Write.contents c.args.out.now in let after = g.W.Write.contents c.print_packets.new.out in
     let is_input : IsInput (g.R.Read.remaining c.args.input) c.deref.result.now = search rules in
-    packets_fail c.print_packets.result (g.R.Read.remaining c.args.input) before after c.deref.result.now is_input
+    packets_fail c.args.unwrap c.print_packets.result (g.R.Read.remaining c.args.input) before after c.deref.result.now is_input
     c.print_packets.ensures.failed c.print_packets.ensures.no_memory c.print_packets.ensures.beginning
 
 pub returns-clause-untold : goal.returns-clause-untold

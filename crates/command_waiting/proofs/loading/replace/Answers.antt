@@ -1,4 +1,3 @@
-use Rattle.std.proofs.Common.{Some}
 use Rattle.command_waiting.proofs.ShowingLemmas.{ended_failed, ended_replaced, nothing_told, told_from}
 use Rattle.command_waiting.proofs.loading.replace.Goals as goal
 

@@ -1,4 +1,3 @@
-use Rattle.std.proofs.Common.{rules}
 use Rattle.command_waiting.specs.Telling.{stopped}
 use Rattle.command_waiting.proofs.TellingLemmas.{never_unshown}
 use Rattle.command_waiting.proofs.telling.run_tell.Goals as goal

@@ -3,7 +3,7 @@ use Rattle.std.proofs.lemmas.List.Elements.{All-from_get_or}
 use Rattle.std.proofs.Math.Facts.{Fits-lt-pow}
 use Rattle.read_section.specs.Section.{SectionRest, held_version, worker_of}
 use Rattle.read_section.proofs.SectionLemmas.{sections_are_whole}
-use Rattle.control.specs.Script.{judged_text}
+use Rattle.control_line.specs.Reply.{judged_text}
 use Rattle.control.proofs.switch.judge_packet.Goals as goal
 
 pub returns-clause-judged : goal.returns-clause-judged

@@ -1,8 +1,8 @@
-use Rattle.std.proofs.Common.{◌≡◌, ap, map, refl, subst, sym, take}
+use Rattle.std.proofs.Common.{◌≡◌, ap, map, subst, sym}
 use Rattle.control_rules.proofs.FoundLemmas.{some_holds}
 use Rattle.control_counters.specs.Frame.{key_of, keys_of}
 use Rattle.control_counters.specs.Counts.{group_exchange}
-use Rattle.control_counters.proofs.ReadingLemmas.{AreCounted, all_taken, counted_more}
+use Rattle.control_counters.proofs.ReadingLemmas.{all_taken, counted_more}
 use Rattle.control_counters.proofs.WatchLemmas.{watches_nothing, watches_then, watches_weaker}
 use Rattle.control_counters.proofs.counting.count_groups.Goals as goal
 

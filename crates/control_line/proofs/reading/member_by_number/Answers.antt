@@ -2,7 +2,7 @@ use Rattle.std.proofs.Common.{ap, sym, ◌∙◌}
 use Rattle.std.specs.List.{find}
 use Rattle.std.proofs.lemmas.Bool.{eq-eqb, ne_eqb}
 use Rattle.member_group.specs.Group.{has_id}
-use Rattle.control_line.proofs.FindLemmas.{found_here, none_more}
+use Rattle.packet_verdict.proofs.FindLemmas.{found_here, none_more}
 use Rattle.control_line.proofs.reading.member_by_number.Goals as goal
 
 pub returns-then-member-number : goal.returns-then-member-number

@@ -22,5 +22,5 @@ returns-in_err-read_words c =
 pub returns-in_err-read_command : goal.returns-in_err-read_command
 returns-in_err-read_command c =
     rw c.from_residual-in_err-read_command.ensures
-    (no_request c.args.word.now c.args.fields.now c.requires (λ e. false≢true (c.if-is_word.ensures.1 e)) (λ e. false≢true (c.if-is_word-2.ensures.1 e)) (λ e. false≢true (c.if-is_word-3.ensures.1 e))
+    (no_request c.args.word.now c.args.fields.now c.requires (λ e. false≢true (c.if-is_word.ensures.1 e)) (λ e. false≢true (c.if-is_word-2.ensures.1 e)) (λ e. false≢true (c.if-is_word-3.ensures.1 e)) (λ e. false≢true (c.if-is_word-4.ensures.1 e))
     c.in_err-read_command.ensures)

@@ -1,7 +1,7 @@
-use Rattle.std.proofs.Common.{Ok, Result, None, Option, ap, arith, length, refl, subst, sym, ◌++◌, ◌∷◌, ◌∙◌, [], List, ℕ}
+use Rattle.std.proofs.Common.{Ok, Option, ap, arith, length, refl, subst, ◌++◌, ◌∷◌, ◌∙◌, [], List}
 use Rattle.std.proofs.lemmas.List.{length-append}
 use Rattle.dispatch.specs.Batch.{Parts, sent_of}
-use Rattle.dispatch.specs.Device.{Gives, OutboxValue, Takes}
+use Rattle.dispatch.specs.Device.{OutboxValue, Takes}
 use Rattle.dispatch.specs.Told.{Told, told_of, told_of_last}
 use Rattle.dispatch.specs.Tally.{CounterValue}
 use Rattle.dispatch.proofs.BatchLemmas.{answered, at_end, at_limit, cut_short, failed, failed_full, run_more, run_of_none, run_on, still_told, told_more}

@@ -1,24 +1,5 @@
-use Rattle.std.proofs.Common.{length, subst, ℕ}
-use Rattle.dispatch.specs.Batch.{IsBatch, Parts}
-use Rattle.dispatch.specs.Job.{runs_to_the_end}
-use Rattle.dispatch.proofs.JobLemmas.{and_again, job_of, not_begun}
+use Rattle.dispatch.proofs.JobLemmas.{job_of}
 use Rattle.dispatch.proofs.job.run_job.Goals as goal
 
-pub loop-init : goal.loop-init
-loop-init g c = not_begun (record { worker = c.args.worker.now; counter = c.args.counter.now; source = g.S.Source.state c.args.source.now; outbox = g.O.Outbox.state c.args.outbox.now })
-
-pub returns-then-not-goes_on : goal.returns-then-not-goes_on
-returns-then-not-goes_on g c =
-    let begun : Parts = record { worker = c.args.worker.now; counter = c.args.counter.now; source = g.S.Source.state c.args.source.now; outbox = g.O.Outbox.state c.args.outbox.now } in
-    let before : Parts = record { worker = c.loop.worker; counter = c.loop.counter; source = g.S.Source.state c.loop.source; outbox = g.O.Outbox.state c.loop.outbox } in
-    let after : Parts = record { worker = c.batch-answer.new.worker; counter = c.batch-answer.new.counter; source = g.S.Source.state c.batch-answer.new.source; outbox = g.O.Outbox.state c.batch-answer.new.outbox } in
-    let last = subst (λ (room : ℕ). IsBatch room c.args.limit before after c.batch-answer.result) c.loop.auto.buf c.batch-answer.ensures.batch in
-    record { done_by_batches = job_of (length c.args.buf.now) c.args.limit begun before after c.loop.invariant (runs_to_the_end before after c.batch-answer.result last (c.goes_on.ensures.ends c.if-not-goes_on.true)) }
-
-pub loop-preserved : goal.loop-preserved
-loop-preserved g c =
-    let begun : Parts = record { worker = c.args.worker.now; counter = c.args.counter.now; source = g.S.Source.state c.args.source.now; outbox = g.O.Outbox.state c.args.outbox.now } in
-    let before : Parts = record { worker = c.loop.worker; counter = c.loop.counter; source = g.S.Source.state c.loop.source; outbox = g.O.Outbox.state c.loop.outbox } in
-    let after : Parts = record { worker = c.batch-answer.new.worker; counter = c.batch-answer.new.counter; source = g.S.Source.state c.batch-answer.new.source; outbox = g.O.Outbox.state c.batch-answer.new.outbox } in
-    let last = subst (λ (room : ℕ). IsBatch room c.args.limit before after c.batch-answer.result) c.loop.auto.buf c.batch-answer.ensures.batch in
-    and_again begun before after c.batch-answer.result c.loop.invariant last (c.goes_on.ensures.goes_on c.if-not-goes_on.false)
+pub returns : goal.returns
+returns g c = record { done_by_batches = job_of _ _ _ _ _ _ c.run_told_job.ensures.told.events c.run_told_job.ensures.told.job }

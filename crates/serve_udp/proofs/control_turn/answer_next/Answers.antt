@@ -1,6 +1,17 @@
-use Rattle.serve_udp.proofs.TurnLemmas.{one_answered}
+use Rattle.std.proofs.Common.{refl}
+use Rattle.serve_udp.proofs.TurnLemmas.{one_answered, one_receive_failed}
 use Rattle.serve_udp.proofs.control_turn.answer_next.Goals as goal
 
-pub returns-in-Datagram : goal.returns-in-Datagram
-returns-in-Datagram g c =
-    one_answered c.args.bound.now _ _ _ _ _ (g.C.ControlWire.log c.receive.new.self) c.in-Datagram.from _ c.in-Datagram.ensures.logged c.answer_one.ensures
+pub returns-then-stops : goal.returns-then-stops
+returns-then-stops g c =
+    one_answered c.args.bound.now _ _ _ _ (g.C.ControlWire.log c.receive.new.self) c.in-Datagram.from _ _ _ c.in-Datagram.ensures.logged c.answer_one-stops.ensures c.if-stops.true
+
+pub returns-else-stops : goal.returns-else-stops
+returns-else-stops g c =
+    one_answered c.args.bound.now _ _ _ _ (g.C.ControlWire.log c.receive.new.self) c.in-Datagram.from _ _ _ c.in-Datagram.ensures.logged c.answer_one-stops.ensures c.if-stops.false
+
+pub returns-in-Nothing : goal.returns-in-Nothing
+returns-in-Nothing g c = (refl, c.in-Nothing.ensures.logged)
+
+pub returns-in-Failed : goal.returns-in-Failed
+returns-in-Failed g c = one_receive_failed c.args.bound.now _ _ _ _ c.in-Failed.ensures.logged refl

@@ -10,5 +10,5 @@ returns-in_default g c = record {
   answered = c.in_default.ensures.answered;
   logged = takes_nothing (g.C.ControlWire.log c.args.wire.now);
   replied_to = ignored;
-  stops = refl;
+  stopped = refl;
 }

@@ -38,6 +38,12 @@ returns-in-Listed-clause-styled g c = search rules
 pub returns-in-Listed-clause-writes : goal.returns-in-Listed-clause-writes
 returns-in-Listed-clause-writes g c = search rules
 
+pub returns-in-Packed-clause-styled : goal.returns-in-Packed-clause-styled
+returns-in-Packed-clause-styled g c = search rules
+
+pub returns-in-Packed-clause-writes : goal.returns-in-Packed-clause-writes
+returns-in-Packed-clause-writes g c = search rules
+
 pub returns-in-Ran-clause-styled : goal.returns-in-Ran-clause-styled
 returns-in-Ran-clause-styled g c = search rules
 

@@ -1,6 +1,5 @@
-use Rattle.std.proofs.Common.{List, Option, subst, ℕ}
+use Rattle.std.proofs.Common.{Option, subst, ℕ}
 use Rattle.command_explain.specs.Meaning.{cause_line, meaning_of}
-use Rattle.command_explain.specs.Shown.{shown_text}
 use Rattle.command_line.specs.Ending.{AppendsBeginning}
 use Rattle.command_waiting.specs.RefusalLines.{explained, unread}
 use Rattle.command_waiting.proofs.refused.MeaningsExplains.show.Goals as goal

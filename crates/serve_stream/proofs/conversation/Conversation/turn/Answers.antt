@@ -14,6 +14,7 @@ returns-then-is-2 g c =
     c.args.self.now c.read-more_comes.new.self c.answer_few.new.self c.stop.new.self c.read-more_comes.result Stop c.read-more_comes.ensures c.answer_few.ensures.answered
     (λ end. absurd (cc (c.is.ensures.1 end, c.if-is.false)))
     stopped.0 stopped.1 stopped.2 (over, λ some. hindered_after c.read-more_comes.ensures.events stopped.0 (stopped.3 some)) (λ other. absurd (other refl)) (λ here. absurd (cc (here, over))) (λ is. c.is-2.ensures.0 c.if-is-2.true, λ here. refl)
+    (λ here. over) (λ here is. absurd (cc (is, over))) (λ none is. absurd (cc (is, over))) (λ is. absurd (cc (is, over)))
 
 pub returns-then-is-3 : goal.returns-then-is-3
 returns-then-is-3 g c =
@@ -22,7 +23,7 @@ returns-then-is-3 g c =
     (λ end. absurd (cc (c.is.ensures.1 end, c.if-is.false)))
     c.write-more_goes.new.self c.write-more_goes.result c.write-more_goes.ensures c.close_if_due.ensures.moves c.close_if_due.ensures.kept
     (c.is-3.ensures.0 c.if-is-3.true)
-    (λ is. absurd cc) (λ here. absurd (cc (c.is-2.ensures.1 here, c.if-is-2.false)))
+    (λ is. absurd cc) (λ here. absurd (cc (c.is-2.ensures.1 here, c.if-is-2.false))) c.answer_few.ensures.was_open c.answer_few.ensures.over c.close_if_due.ensures.taken
 
 pub returns-then-more_goes : goal.returns-then-more_goes
 returns-then-more_goes g c =
@@ -35,7 +36,7 @@ returns-then-more_goes g c =
       inr (says (g.S.Stream.log c.args.stream.now) (g.S.Stream.log c.read-more_comes.new.stream) (g.S.Stream.log c.write-more_goes.new.stream) c.args.self.now c.read-more_comes.new.self c.answer_few.new.self c.write-more_goes.new.self c.close_if_due.new.self
           c.read-more_comes.result c.write-more_goes.result c.read-more_comes.ensures c.write-more_goes.ensures c.close_if_due.ensures.kept (λ over. absurd (cc (c.is-3.ensures.1 over, c.if-is-3.false))) c.if-more_goes.true),
     )
-    (λ is. absurd cc) (λ here. absurd (cc (c.is-2.ensures.1 here, c.if-is-2.false)))
+    (λ is. absurd cc) (λ here. absurd (cc (c.is-2.ensures.1 here, c.if-is-2.false))) c.answer_few.ensures.was_open c.answer_few.ensures.over c.close_if_due.ensures.taken
 
 pub returns-then-hears_more : goal.returns-then-hears_more
 returns-then-hears_more g c =
@@ -48,7 +49,7 @@ returns-then-hears_more g c =
       inl (hears (g.S.Stream.log c.args.stream.now) (g.S.Stream.log c.read-more_comes.new.stream) (g.S.Stream.log c.write-more_goes.new.stream) c.args.self.now c.read-more_comes.new.self c.answer_few.new.self c.write-more_goes.new.self c.close_if_due.new.self
           c.read-more_comes.result c.write-more_goes.result c.read-more_comes.ensures c.write-more_goes.ensures c.close_if_due.ensures.kept (λ over. absurd (cc (c.is-3.ensures.1 over, c.if-is-3.false))) (c.hears_more.ensures.more c.if-hears_more.true)),
     )
-    (λ is. absurd cc) (λ here. absurd (cc (c.is-2.ensures.1 here, c.if-is-2.false)))
+    (λ is. absurd cc) (λ here. absurd (cc (c.is-2.ensures.1 here, c.if-is-2.false))) c.answer_few.ensures.was_open c.answer_few.ensures.over c.close_if_due.ensures.taken
 
 pub returns : goal.returns
 returns g c =
@@ -64,4 +65,4 @@ returns g c =
       waits_to_write (g.S.Stream.log c.args.stream.now) (g.S.Stream.log c.read-more_comes.new.stream) (g.S.Stream.log c.write-more_goes.new.stream) c.args.self.now c.read-more_comes.new.self c.answer_few.new.self c.write-more_goes.new.self c.close_if_due.new.self
           c.read-more_comes.result c.write-more_goes.result c.read-more_comes.ensures c.write-more_goes.ensures c.close_if_due.ensures.kept (λ over. absurd (cc (c.is-3.ensures.1 over, c.if-is-3.false))) c.if-more_goes.false,
     )
-    (λ is. absurd cc) (λ here. absurd (cc (c.is-2.ensures.1 here, c.if-is-2.false)))
+    (λ is. absurd cc) (λ here. absurd (cc (c.is-2.ensures.1 here, c.if-is-2.false))) c.answer_few.ensures.was_open c.answer_few.ensures.over c.close_if_due.ensures.taken

@@ -1,4 +1,4 @@
-use Rattle.std.proofs.Common.{◌+◌, ◌∙◌, ◌≡◌, ap, arith, drop, get_or, map, refl, set, slice_get, ℕ}
+use Rattle.std.proofs.Common.{◌+◌, ◌∙◌, ◌≡◌, ap, arith, drop, get_or, map, refl, set, ℕ}
 use Rattle.std.proofs.lemmas.List.{get_or-map, length-map}
 use Rattle.config_image.specs.PageTable.{page_of}
 use Rattle.versions.specs.Book.{used_by}

@@ -1,0 +1,4 @@
+pub mod SumLemmas
+pub mod PacketLemmas
+pub mod PayloadLemmas
+pub mod StandardFacts

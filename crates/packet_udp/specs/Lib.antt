@@ -1,0 +1,4 @@
+pub mod Checksum
+pub mod Packet
+pub mod Payload
+pub mod body

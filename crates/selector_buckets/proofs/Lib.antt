@@ -1,0 +1,14 @@
+pub mod StandardFacts
+pub mod PartLemmas
+pub mod StepLemmas
+pub mod WidthLemmas
+pub mod TreeWordLemmas
+pub mod TreeLemmas
+pub mod HashLemmas
+pub mod SelectorLemmas
+pub mod ShareLemmas
+pub mod PermutationLemmas
+pub mod TurnLemmas
+pub mod SpreadLemmas
+pub mod ReadingLemmas
+pub mod DrainLemmas

@@ -1,0 +1,4 @@
+use Rattle.selector_buckets.proofs.tree.+push_tree.Given as goal
+
+abbrev pub decreases-push_tree : goal.decreases-push_tree
+decreases-push_tree l = l.depth

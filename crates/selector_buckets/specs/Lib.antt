@@ -1,0 +1,12 @@
+pub mod Buckets
+pub mod Drained
+pub mod Hash
+pub mod Reading
+pub mod Shares
+pub mod Turns
+pub mod Words
+pub mod body
+pub use Rattle.bpf_insn.specs.Word
+pub use Rattle.bpf_verify.specs.Accepted
+pub use Rattle.bpf_machine.specs.Meaning
+pub use Rattle.ipv4_fields.specs.Dispatchable

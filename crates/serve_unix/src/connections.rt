@@ -1,0 +1,37 @@
+//! Where clients come from, and how their connections are closed.
+
+ghost use Rattle.std.specs.Prelude.{◌≡◌, ◌∷◌, List, Option, []};
+ghost use Rattle.serve_unix.specs.Connections.{Connection, IsNewClient, Tells, accepted_by, closed, watched_by};
+
+use serve_stream::Stream;
+
+/// What was accepted.
+pub enum Accepted<S> {
+    /// A client, by its stream.
+    Client(S),
+    /// The call was interrupted, and may be made again at once.
+    Interrupted,
+    /// No client waits, or none can be accepted now.
+    NotYet,
+}
+
+/// The connections of clients, by their streams. No call of it waits.
+pub trait Connections<S: Stream> {
+    /// What was accepted, watched and closed, in order, if that is told. A socket tells nothing.
+    ghost log: { Self → Option (List Connection) };
+
+    /// Accepts a client that waits, on whose stream nothing has happened.
+    fn accept(&mut self) -> Accepted<S>
+        ensures untouched { IsNewClient S.log result }
+        ensures logged { Tells (log self.old) (log self.new) (accepted_by result) };
+
+    /// Has events of a client tell the place that it is to have. False if that fails.
+    fn watch(&mut self, stream: &mut S, place: usize) -> bool
+        ensures stream_kept { S.log stream.new ≡ S.log stream.old }
+        ensures logged { Tells (log self.old) (log self.new) (watched_by result place) };
+
+    /// Closes the connection of a client.
+    /// The reason: docs/INTERNALS.md, "A closed stream is handed back".
+    fn close(&mut self, stream: S)
+        ensures logged { Tells (log self.old) (log self.new) (closed (S.log stream) ∷ []) };
+}
