@@ -24,6 +24,7 @@
 /* crates/bench_calls: each opens a table at a script's configuration, and then makes so many rounds. */
 uint64_t measured_section(const uint8_t *script, size_t length, uint64_t rounds);
 uint64_t measured_judge(const uint8_t *script, size_t length, const uint8_t *packet, size_t bytes, uint64_t rounds);
+uint64_t measured_kind(const uint8_t *script, size_t length, const uint8_t *packet, size_t bytes, uint64_t rounds);
 uint64_t measured_count(const uint8_t *script, size_t length, const uint8_t *packet, size_t bytes, uint64_t adds, uint64_t rounds);
 uint64_t measured_line(const uint8_t *script, size_t length, const uint8_t *text, size_t bytes, const uint8_t *other, size_t more,
                        uint64_t rounds);
@@ -358,7 +359,13 @@ static void judge_ours(const void *about, uint64_t rounds) {
     kept = measured_judge((const uint8_t *)t->script, strlen(t->script), t->packet, t->bytes, rounds);
 }
 
-/* The same, and each verdict is logged. */
+/* The same, and the kind of each verdict is counted in an array. */
+static void kind_ours(const void *about, uint64_t rounds) {
+    const struct table *t = about;
+    kept = measured_kind((const uint8_t *)t->script, strlen(t->script), t->packet, t->bytes, rounds);
+}
+
+/* Each packet is judged, and its verdict is logged. */
 static void log_ours(const void *about, uint64_t rounds) {
     const struct table *t = about;
     kept = measured_count((const uint8_t *)t->script, strlen(t->script), t->packet, t->bytes, 0, rounds);
@@ -534,8 +541,8 @@ static void tables(void) {
     packet[18] = 63;
     groups(&t, 64, true);
     measure("judge: 64 groups with programs", judge, 2, &t);
-    struct contestant counted[] = {{"enter, judge, leave", judge_ours, NULL}, {"and its verdict is logged", log_ours, NULL}, {"and counted by member", count_ours, NULL}};
-    measure("count: 64 groups with programs", counted, 3, &t);
+    struct contestant counted[] = {{"enter, judge, leave", judge_ours, NULL}, {"and its kind is counted", kind_ours, NULL}, {"and its verdict is logged", log_ours, NULL}, {"and counted by member", count_ours, NULL}};
+    measure("count: 64 groups with programs", counted, 4, &t);
     struct contestant publish[] = {{"C: 8192 stores", fill_limit, NULL}, {"the next configuration", make_ours, NULL}, {"and its publication", publish_ours, NULL}, {"a control line that changes nothing", line_ours, NULL}};
     measure("publish: 64 groups with programs", publish, 4, &t);
     t.line = "filter 10.0.31.2:53 1 asm ldb [9]; jeq #17,0,1; ret #65535; ret #0";

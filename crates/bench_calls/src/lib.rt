@@ -1,8 +1,8 @@
-//! What bench/ measures of the version table: calls for a driver in C, each of which repeats one call of the table so many times.
+//! The calls by which bench/ measures the version table. A driver in C makes them; each repeats one call of the table.
 //!
-//! Each opens a table, gives the lines of a script to its operator, each ended by an LF, and then repeats. Opening is dear, so a driver
-//! takes off what no rounds cost. Each answers how many rounds it made: all of them, or none where
-//! memory was refused.
+//! Each opens a table, gives the lines of a script to its operator, each ended by an LF, and then repeats. Opening is
+//! expensive, so a driver subtracts the time of no rounds. Each returns the number of rounds that it made: all of them,
+//! or none if memory was refused. `measured_change` may also stop after fewer rounds.
 #![tactic(auto)]
 
 ghost use Rattle.std.specs.Prelude.{◌≡◌, ◌≤◌, ◌⊎◌, length};
@@ -10,7 +10,7 @@ ghost use Rattle.std.specs.Prelude.{◌≡◌, ◌≤◌, ◌⊎◌, length};
 mod rounds;
 mod script;
 
-use rounds::{change, count_rounds, judge_rounds, line_rounds, section_rounds};
+use rounds::{change, count_rounds, judge_rounds, kind_rounds, line_rounds, section_rounds};
 use script::opened;
 use std::alloc::Global;
 
@@ -33,6 +33,18 @@ pub extern "C" fn measured_judge(alloc: Global, script: &[u8], packet: &[u8], ro
 {
     match opened(alloc, script) {
         Some((_operator, mut worker)) => judge_rounds(&mut worker, packet, rounds),
+        None => 0,
+    }
+}
+
+/// Judges a packet, as `measured_judge` does, and counts the kind of each verdict in an array. Returns the sum of the counts.
+#[unsafe(no_mangle)]
+pub extern "C" fn measured_kind(alloc: Global, script: &[u8], packet: &[u8], rounds: u64) -> u64
+    requires packet { length packet.now ≤ 65535 }
+    ensures rounds { result ≤ rounds }
+{
+    match opened(alloc, script) {
+        Some((_operator, mut worker)) => kind_rounds(&mut worker, packet, rounds),
         None => 0,
     }
 }
@@ -75,7 +87,8 @@ pub extern "C" fn measured_line(
     }
 }
 
-/// Makes the next configuration, with another selector of the group 10.0.0.2:53, and publishes it where `publishes` is not 0.
+/// Makes the next configuration, with another selector of the group 10.0.0.2:53, and publishes it if `publishes` is not
+/// 0.
 #[unsafe(no_mangle)]
 pub extern "C" fn measured_change(alloc: Global, script: &[u8], publishes: u64, rounds: u64) -> u64
     ensures rounds { result ≤ rounds }

@@ -8,7 +8,7 @@ use control_line::line;
 use ipv4_fields::Endpoint;
 use member_counts::{MemberTable, VerdictLog};
 use member_group::{Command, Config};
-use packet_verdict::{Verdict, judge};
+use packet_verdict::{Kind, Verdict, judge};
 use read_section::{Operator, Worker};
 use retire::Retire;
 use std::alloc::Global;
@@ -26,7 +26,7 @@ pub(crate) fn section_rounds(worker: &mut Worker, rounds: u64) -> u64
     rounds
 }
 
-// Not inlined, as what judges packets in dispatch is not.
+// Not inlined, like the function of dispatch that judges packets.
 #[inline(never)]
 fn judge_in_section(worker: &mut Worker, packet: &[u8]) -> Verdict
     requires { length packet.now ≤ 65535 }
@@ -47,7 +47,33 @@ pub(crate) fn judge_rounds(worker: &mut Worker, packet: &[u8], rounds: u64) -> u
     rounds
 }
 
-// A worker's log is handed on after so many verdicts.
+const KINDS: usize = 7;
+
+// Words of its own, not those of a tally, which threads share.
+#[inline]
+fn count_kind(counts: &mut [u64; KINDS], kind: Kind) {
+    let place = kind as usize;
+    counts[place] = counts[place].wrapping_add(1);
+}
+
+/// Returns how many kinds were counted.
+pub(crate) fn kind_rounds(worker: &mut Worker, packet: &[u8], rounds: u64) -> u64
+    requires { length packet.now ≤ 65535 }
+    ensures { result ≤ rounds }
+{
+    let mut counts = [0; KINDS];
+    for _ in 0..rounds {
+        let verdict = judge_in_section(worker, packet);
+        count_kind(&mut counts, verdict.kind());
+    }
+    let mut sum = 0u64;
+    for count in counts {
+        sum = sum.wrapping_add(count);
+    }
+    sum.min(rounds)
+}
+
+// A worker's log is handed on after this many verdicts.
 const BATCH: u64 = 64;
 
 // Adds the log to the table, if that is asked, and empties it.
@@ -58,14 +84,22 @@ fn hand_on(log: &mut VerdictLog, table: &mut MemberTable, adds: bool) {
     log.clear();
 }
 
+// Counts a verdict that begins a run, if there is room.
+#[inline(never)]
+fn begin_run(log: &mut VerdictLog, verdict: Verdict) {
+    if !log.is_full() {
+        log.judged(&verdict);
+    }
+}
+
 // Judges the packet and counts the verdict in the log, if there is room.
 #[inline]
 fn judge_and_log(worker: &mut Worker, packet: &[u8], log: &mut VerdictLog)
     requires { length packet.now ≤ 65535 }
 {
     let verdict = judge_in_section(worker, packet);
-    if !log.is_full() {
-        log.judged(&verdict);
+    if !log.judged_again(&verdict) {
+        begin_run(log, verdict);
     }
 }
 
@@ -126,7 +160,7 @@ fn changed(alloc: Global, config: &Config) -> Option<Config> {
     config.apply(&Command::SetSelector { key, program }).ok()
 }
 
-/// Makes the next configuration, and publishes it where that is asked. Stops where it cannot.
+/// Makes the next configuration, and publishes it if that is asked. Stops if it cannot.
 pub(crate) fn change(alloc: Global, operator: &mut Operator, publishes: bool, rounds: u64) -> u64
     ensures { result ≤ rounds }
 {

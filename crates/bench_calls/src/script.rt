@@ -1,11 +1,11 @@
-//! A table at the configuration that a script makes.
+//! A table at the configuration of a script.
 
 use control_line::line;
 use member_group::Config;
 use read_section::{Operator, Worker, open};
 use std::alloc::Global;
 
-// Gives each line that an LF ends to the operator. What it answers is passed over.
+// Gives each line that ends with an LF to the operator. Its replies are dropped.
 fn give_lines(alloc: Global, script: &[u8], operator: &mut Operator) {
     let mut from = 0;
     for place in 0..script.len() {
@@ -18,7 +18,7 @@ fn give_lines(alloc: Global, script: &[u8], operator: &mut Operator) {
     }
 }
 
-/// An operator at the script's configuration, and a worker of its table. `None` where memory was refused.
+/// Returns an operator at the script's configuration, and a worker of its table. `None` if memory was refused.
 pub(crate) fn opened(alloc: Global, script: &[u8]) -> Option<(Operator, Worker)> {
     let Ok((mut operator, mut workers)) = open(Config::new(alloc)) else {
         return None;

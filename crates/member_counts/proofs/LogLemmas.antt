@@ -1,12 +1,15 @@
 -- The last run of a log, after those before it.
-use Rattle.std.proofs.Common.{◌≡◌, ◌∙◌, ◌++◌, ◌∷◌, Bool, IsSome, List, None, Option, Some, [], ap, arith, false, length, refl, subst, sym, true, ℕ}
+use Rattle.std.proofs.Common.{◌≡◌, ◌==◌, ◌&&◌, ◌<◌, ◌^◌, ◌∙◌, ◌++◌, ◌∷◌, Bool, IsSome, List, None, Option, Some, [], ap, arith, false, length, nat_eq, refl, subst, sym, true, ℕ}
+use Rattle.std.proofs.lemmas.Bool.Decides.{Decides-eqb, nat_tests}
+use Rattle.std.specs.Option.{option_eq}
+use Rattle.ipv4_fields.specs.declared.endpoint.Endpoint.{Endpoint}
 use Rattle.member_counts.specs.declared.counts.Counts.{Counts}
 use Rattle.member_counts.specs.declared.key.CountKey.{CountKey}
 use Rattle.member_counts.specs.declared.log.Run.{Run}
-use Rattle.member_counts.specs.Counts.{failed_one, plus}
-use Rattle.member_counts.specs.Key.{same_key}
-use Rattle.member_counts.specs.Log.{earlier_runs, last_failed, last_run, marked_failed, with_run}
-use Rattle.member_counts.specs.body.Runs.{runs}
+use Rattle.member_counts.specs.Counts.{failed_one, no_counts, plus}
+use Rattle.member_counts.specs.Key.{member_key, same_group, same_key}
+use Rattle.member_counts.specs.Log.{earlier_runs, last_failed, last_has, last_run, marked_failed, with_run}
+use Rattle.member_counts.specs.body.Runs.{number_of, runs}
 use Rattle.member_counts.proofs.KeyLemmas.{same_from_same_key}
 
 module _ (key : CountKey) (counts : Counts) where
@@ -35,6 +38,19 @@ module _ (key : CountKey) (counts : Counts) where
       cc
   same-run (run ∷ earlier) false last sent none member is = absurd (omega (arith, (none refl).0))
 
+  last-has : (earlier : List Run) (last : Run) → last_has key (earlier ++ last ∷ []) ≡ same_key last.key key
+  last-has [] last = refl
+  last-has (first ∷ []) last = refl
+  last-has (first ∷ (next ∷ rest)) last = last-has (next ∷ rest) last
+
+  -- counts are added to the last run, if it has the key
+  pub run-again : (earlier : List Run) (has_last : Bool) (last : Run) → (has_last ≡ false → length earlier ≡ 0)
+      → last_has key (runs earlier has_last last) ≡ true
+      → runs earlier has_last (record last { counts = plus last.counts counts }) ≡ with_run key counts (runs earlier has_last last)
+  run-again earlier true last none has = same earlier last (sym (last-has earlier last) ∙ has)
+  run-again [] false last none has = cc
+  run-again (run ∷ earlier) false last none has = let empty = none refl in absurd (omega (arith, empty))
+
   -- counts of another key are a new run, and so are the first ones
   pub next-run : (earlier : List Run) (has_last : Bool) (last : Run) (sent : Bool)
       → (has_last ≡ false → (length earlier ≡ 0) × (sent ≡ false) × (last.key.member ≡ None)) → (has_last ≡ true → same_key last.key key ≡ false)
@@ -42,6 +58,41 @@ module _ (key : CountKey) (counts : Counts) where
   next-run earlier true last sent none is = other earlier last (is refl)
   next-run [] false last sent none is = refl
   next-run (run ∷ earlier) false last sent none is = absurd (omega (arith, (none refl).0))
+
+and-swap : (a b : Bool) → (a && b) ≡ (b && a)
+and-swap true true = refl
+and-swap true false = refl
+and-swap false true = refl
+and-swap false false = refl
+
+number-none : (id : ℕ) → id < 2 ^ 32 → false ≡ (2 ^ 32 == id)
+number-none id small = grind (arith, nat_tests)
+
+option_eq-number : (member : Option ℕ) (id : ℕ) → id < 2 ^ 32 → option_eq nat_eq member (Some id) ≡ (number_of member == id)
+option_eq-number None id small = number-none id small
+option_eq-number (Some number) id small = refl
+
+-- a member's key is found by the member's number
+pub last_has-number : (earlier : List Run) (has_last : Bool) (last : Run) (group : Endpoint) (id number : ℕ)
+    → (has_last ≡ false → (length earlier ≡ 0) × (last.key.member ≡ None)) → number ≡ number_of last.key.member → id < 2 ^ 32
+    → ((number == id) && same_group last.key.group group) ≡ last_has (member_key group id) (runs earlier has_last last)
+last_has-number earlier true last group id number none is small =
+    rw (last-has (member_key group id) no_counts earlier last, option_eq-number last.key.member id small, is)
+    (and-swap (number_of last.key.member == id) (same_group last.key.group group))
+last_has-number [] false last group id number none is small =
+    let other : (number == id) ≡ false = rw (is, (none refl).1) (sym (number-none id small)) in
+    ap (λ b. b && same_group last.key.group group) other
+last_has-number (run ∷ earlier) false last group id number none is small = absurd (omega (arith, (none refl).0))
+
+not-true : (b : Bool) → (b ≡ true → ⊥) → b ≡ false
+not-true true never = absurd (never refl)
+not-true false never = refl
+
+pub is-same : (number id : ℕ) → number ≡ id → (number == id) ≡ true
+is-same number id is = (Decides-eqb number id).1 is
+
+pub is-other : (number id : ℕ) → (number ≡ id → ⊥) → (number == id) ≡ false
+is-other number id never = not-true (number == id) (λ same. never ((Decides-eqb number id).0 same))
 
 failed : (earlier : List Run) (last : Run)
     → earlier ++ record last { counts = plus last.counts failed_one } ∷ [] ≡ last_failed (earlier ++ last ∷ [])

@@ -1,4 +1,4 @@
--- What is counted of packets, and the texts of these counts (docs/SWITCH.md, "Counters by member").
+-- The counts of packets, and the texts of these counts (docs/SWITCH.md, "Counters by member").
 use Rattle.std.specs.Prelude.{◌+◌, ◌-◌, ◌^◌, ◌++◌, List, codes, decimal, min, ℕ}
 use Rattle.member_counts.specs.declared.counts.Counts.{Counts}
 use Rattle.member_counts.specs.declared.counts.GroupCounts.{GroupCounts}
@@ -21,7 +21,7 @@ plus counts more = record {
   bytes = capped (counts.bytes + more.bytes);
 }
 
--- what is counted of one packet: delivered with so many bytes, dropped, or for a group without members; and of one failed send
+-- the counts of one packet: delivered with this many bytes, dropped, or for a group without members; and of one failed send
 abbrev pub delivered_one : ℕ → Counts
 delivered_one bytes = record no_counts { delivered = 1; bytes = bytes }
 

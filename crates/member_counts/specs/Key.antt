@@ -1,4 +1,4 @@
--- By which keys verdicts are counted, and which keys a configuration has (docs/SWITCH.md, "Counters by member").
+-- The keys by which verdicts are counted, and the keys of a configuration (docs/SWITCH.md, "Counters by member").
 use Rattle.std.specs.Prelude.{◌==◌, ◌&&◌, Bool, List, None, Option, Some, nat_eq, true, ℕ}
 use Rattle.std.specs.List.{list_any}
 use Rattle.std.specs.Option.{option_eq}

@@ -9,14 +9,14 @@ use Rattle.member_counts.specs.declared.log.Run.{Run}
 use Rattle.member_counts.specs.Counts.{delivered_one, dropped_one, failed_one, no_members_one, plus}
 use Rattle.member_counts.specs.Key.{group_key, member_key, same_key}
 
--- the runs in their order, how many there is room for, and whether the last packet that was counted was delivered and its send has not
--- failed
+-- the runs in their order, the number of runs for which there is room, and whether the last packet that was counted was delivered
+-- and its send has not failed
 pub record Log : Type 0 where
   pub entries : List Run
   pub room : ℕ
   pub sent : Bool
 
--- counts are added to the last run, if it has the key, and else they are a new run
+-- counts are added to the last run, if it has the key; otherwise they are a new run
 abbrev pub with_run : CountKey → Counts → List Run → List Run
 with_run key counts [] = record { key = key; counts = counts } ∷ []
 with_run key counts (last ∷ []) =
@@ -37,13 +37,27 @@ with_verdict (verdict.Deliver group member to bytes) log = with_counts (member_k
 abbrev pub with_no_members : Endpoint → Log → Log
 with_no_members group log = with_counts (group_key group) no_members_one false log
 
+-- the last run has the key
+abbrev pub last_has : CountKey → List Run → Bool
+last_has key [] = false
+last_has key (last ∷ []) = same_key last.key key
+last_has key (first ∷ (next ∷ rest)) = last_has key (next ∷ rest)
+
+-- a verdict names no member, or the last run's
+abbrev pub begins_no_run : Verdict → List Run → Bool
+begins_no_run verdict.Malformed runs = true
+begins_no_run verdict.NoGroup runs = true
+begins_no_run verdict.NoMembers runs = true
+begins_no_run (verdict.Dropped group member) runs = last_has (member_key group member) runs
+begins_no_run (verdict.Deliver group member to bytes) runs = last_has (member_key group member) runs
+
 -- one failed send more in the last run
 abbrev pub last_failed : List Run → List Run
 last_failed [] = []
 last_failed (last ∷ []) = record last { counts = plus last.counts failed_one } ∷ []
 last_failed (first ∷ (next ∷ rest)) = first ∷ last_failed (next ∷ rest)
 
--- only what is delivered has a send that fails, and it fails once
+-- only a delivered packet has a send that fails, and it fails once
 abbrev pub marked_failed : Log → Log
 marked_failed log = if log.sent then record log { entries = last_failed log.entries; sent = false } else log
 

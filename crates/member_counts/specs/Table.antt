@@ -16,12 +16,12 @@ use Rattle.member_counts.specs.Counts.{capped, group_part, member_part, no_count
 use Rattle.member_counts.specs.Key.{has, member_key, same_group, same_key}
 use Rattle.member_counts.specs.Log.{is_for}
 
--- the keys that are kept, with what was counted at each, and the sum of what is gone
+-- the keys that are kept, with the counts of each, and the sum of the counts that are gone
 pub record Table : Type 0 where
   pub entries : List (CountKey × Counts)
   pub gone : Counts
 
--- what was counted at a key, if it is kept
+-- the counts at a key, if it is kept
 abbrev pub kept_at : CountKey → Table → Option Counts
 kept_at key table = lookup (same_key key) table.entries
 
@@ -43,12 +43,12 @@ sum_of entries = record {
 abbrev pub group_counts : Endpoint → Table → GroupCounts
 group_counts group table = group_part (sum_of (filter (λ entry. same_group entry.0.group group) table.entries))
 
--- what is kept at a key, if anything, and more
+-- the counts that are kept at a key, if any, and more
 abbrev pub joined : Option Counts → Counts → Counts
 joined None more = more
 joined (Some counts) more = plus counts more
 
--- what is kept at a key after runs of that key, each added in turn
+-- the counts that are kept at a key after runs of that key, each added in turn
 abbrev pub kept_after : Option Counts → List Run → Option Counts
 kept_after kept entries = fold (λ sum entry. Some (joined sum entry.counts)) kept entries
 
@@ -66,8 +66,8 @@ pub data IsSplit {X : Type 0} : List X → List X → List X → Type 0 where
   one_added : (all added lost : List X) (x : X) → IsSplit all added lost → IsSplit (all ++ x ∷ []) (added ++ x ∷ []) lost
   one_lost : (all added lost : List X) (x : X) → IsSplit all added lost → IsSplit (all ++ x ∷ []) added (lost ++ x ∷ [])
 
--- Of the runs of a log some are added at their keys, and the others to what is gone. A key that was kept loses none, and a key of
--- which no run is added stays as it was.
+-- Some runs of a log are added at their keys, and the others to the counts that are gone. A key that was kept loses none, and a
+-- key to which no run is added stays as it was.
 pub record CountsLog (old : Table) (log : List Run) (new : Table) : Type 0 where
   pub added : List Run
   pub lost : List Run
@@ -76,15 +76,15 @@ pub record CountsLog (old : Table) (log : List Run) (new : Table) : Type 0 where
   pub gone : new.gone ≡ plus_all old.gone lost
   pub kept_loses_none : All (λ entry. (key : CountKey) → is_for key entry ≡ true → kept_at key old ≡ None) lost
 
--- what is counted of one kind in all, kept or gone
+-- the total of one kind, kept or gone
 abbrev pub total : (Counts → ℕ) → Table → ℕ
 total kind table = sum_by (λ entry. kind entry.1) table.entries + kind table.gone
 
--- a total grows by so much, as long as it stays below 2^64
+-- a total grows by this much, as long as it stays below 2^64
 abbrev pub GrowsBy : ℕ → ℕ → ℕ → Type 0
 GrowsBy before more after = before + more < 2 ^ 64 → after ≡ before + more
 
--- the totals grow by what the runs count, and by nothing else
+-- the totals grow by the counts of the runs, and by nothing else
 pub record Conserves (old : Table) (entries : List Run) (new : Table) : Type 0 where
   pub delivered : GrowsBy (total (λ c. c.delivered) old) (sum_by (λ entry. entry.counts.delivered) entries) (total (λ c. c.delivered) new)
   pub dropped : GrowsBy (total (λ c. c.dropped) old) (sum_by (λ entry. entry.counts.dropped) entries) (total (λ c. c.dropped) new)
@@ -92,7 +92,7 @@ pub record Conserves (old : Table) (entries : List Run) (new : Table) : Type 0 w
   pub send_failed : GrowsBy (total (λ c. c.send_failed) old) (sum_by (λ entry. entry.counts.send_failed) entries) (total (λ c. c.send_failed) new)
   pub bytes : GrowsBy (total (λ c. c.bytes) old) (sum_by (λ entry. entry.counts.bytes) entries) (total (λ c. c.bytes) new)
 
--- the keys that a configuration lacks are gone, and their counts are added in turn to what is gone
+-- the keys that a configuration lacks are gone, and their counts are added in turn to the counts that are gone
 abbrev pub without_lacking : List (GroupOf ProgramValue) → Table → Table
 without_lacking config table = record {
   entries = filter (λ entry. has config entry.0) table.entries;

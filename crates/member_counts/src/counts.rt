@@ -1,11 +1,11 @@
-//! What is counted of verdicts, and the texts of these counts (docs/SWITCH.md, "Counters by member").
+//! The counts of verdicts, and the texts of these counts (docs/SWITCH.md, "Counters by member").
 
-ghost use Rattle.std.specs.Prelude.{◌≡◌, Some};
-ghost use Rattle.member_counts.specs.Counts.{group_part, group_text, member_part, member_text, no_counts, plus};
+ghost use Rattle.std.specs.Prelude.{◌+◌, ◌-◌, ◌≡◌, ◌^◌, Some};
+ghost use Rattle.member_counts.specs.Counts.{capped, group_part, group_text, member_part, member_text, no_counts, plus};
 
 use std::fmt;
 
-/// All that is counted at one key, or at all keys that are gone. A count stays at 2^64 - 1 once it is there.
+/// The counts of one key, or of all keys that are gone. A count stays at 2^64 - 1 once it is there.
 #[derive(Clone, Copy, Debug, PartialEq, Eq)]
 pub struct Counts {
     /// Packets that were delivered.
@@ -38,6 +38,26 @@ pub struct GroupCounts {
     pub send_failed: u64,
 }
 
+// The sum is stored before the test, so that it is added in memory by one instruction.
+#[inline(always)]
+fn add_capped(count: &mut u64, more: u64)
+    ensures { count.new ≡ capped (count.old + more) }
+{
+    let (sum, is_over) = count.overflowing_add(more);
+    *count = sum;
+    if is_over {
+        cap(count);
+    }
+}
+
+#[cold]
+#[inline(never)]
+fn cap(count: &mut u64)
+    ensures { count.new ≡ 2 ^ 64 - 1 }
+{
+    *count = u64::MAX;
+}
+
 impl Counts {
     /// Returns the counts of nothing.
     pub fn none() -> Counts
@@ -63,6 +83,18 @@ impl Counts {
             send_failed: self.send_failed.saturating_add(other.send_failed),
             bytes: self.bytes.saturating_add(other.bytes),
         }
+    }
+
+    // Adds counts, each to at most 2^64 - 1. It is inlined always, so that no zero is added.
+    #[inline(always)]
+    pub(crate) fn add(&mut self, more: Counts)
+        ensures { self.new ≡ plus self.old more }
+    {
+        add_capped(&mut self.delivered, more.delivered);
+        add_capped(&mut self.dropped, more.dropped);
+        add_capped(&mut self.no_members, more.no_members);
+        add_capped(&mut self.send_failed, more.send_failed);
+        add_capped(&mut self.bytes, more.bytes);
     }
 
     /// Returns the counts that a member has.

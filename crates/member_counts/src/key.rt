@@ -1,4 +1,4 @@
-//! By which keys outcomes are counted (docs/SWITCH.md, "Counters by member").
+//! The keys by which outcomes are counted (docs/SWITCH.md, "Counters by member").
 
 ghost use Rattle.std.specs.Prelude.{◌≡◌};
 ghost use Rattle.std.specs.List.{list_any};

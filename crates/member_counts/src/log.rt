@@ -1,7 +1,10 @@
-//! What a worker counted and has not added to the table (docs/SWITCH.md, "Counters by member").
+//! The counts of a worker that are not yet in the table (docs/SWITCH.md, "Counters by member").
 
-ghost use Rattle.std.specs.Prelude.{◌≡◌, ◌<◌, ◌≤◌, ◌↔◌, ◌++◌, ◌∷◌, IfOk, IsSome, IsTrue, None, [], false, length};
-ghost use Rattle.member_counts.specs.Log.{earlier_runs, last_run, marked_failed, with_counts, with_no_members, with_verdict};
+ghost use Rattle.std.specs.Prelude.{◌≡◌, ◌<◌, ◌≤◌, ◌↔◌, ◌++◌, ◌∷◌, IfOk, IsSome, IsTrue, None, [], false, length, true};
+ghost use Rattle.member_counts.specs.Counts.{delivered_one, dropped_one};
+ghost use Rattle.member_counts.specs.Key.{member_key};
+ghost use Rattle.member_counts.specs.Log.{begins_no_run, earlier_runs, last_has, last_run, marked_failed, with_counts, with_no_members, with_verdict};
+ghost use Rattle.member_counts.specs.body.Runs.{number_of};
 
 use crate::counts::Counts;
 use crate::key::CountKey;
@@ -10,7 +13,7 @@ use packet_verdict::Verdict;
 use std::alloc::{AllocError, Global};
 use std::marker::Model;
 
-/// What was counted of packets that came one after another and have one key.
+/// The counts of consecutive packets with one key.
 #[derive(Clone, Copy, Debug, PartialEq, Eq)]
 pub struct Run {
     pub key: CountKey,
@@ -18,7 +21,7 @@ pub struct Run {
 }
 
 impl Run {
-    // What lies where there is no run: its key is no member's.
+    // The value of `last` if there is no run: its key is not a member's.
     fn nothing() -> Run
         ensures { result.key.member ≡ None }
     {
@@ -34,18 +37,55 @@ impl Run {
     }
 }
 
-/// The runs that a worker has not added to the table, and for how many there is room.
+// The number of no member. A member's number has 32 bits.
+const NO_MEMBER: u64 = 1 << 32;
+
+// The member's number, in one comparison with another one.
+fn number_of(member: Option<u32>) -> u64
+    ensures { result ≡ number_of member }
+{
+    match member {
+        None => NO_MEMBER,
+        Some(number) => number as u64,
+    }
+}
+
+// The counts of one delivered packet. They are inlined always, so that no zero is added.
+#[inline(always)]
+fn one_delivered(bytes: usize) -> Counts
+    ensures { result ≡ delivered_one bytes }
+{
+    Counts {
+        delivered: 1,
+        bytes: bytes as u64,
+        ..Counts::none()
+    }
+}
+
+#[inline(always)]
+fn one_dropped() -> Counts
+    ensures { result ≡ dropped_one }
+{
+    Counts {
+        dropped: 1,
+        ..Counts::none()
+    }
+}
+
+/// The runs that a worker has not added to the table, and the number of runs for which there is room.
 /// The reason: docs/INTERNALS.md, "A log adds up runs".
 #[derive(Drop)]
 pub struct VerdictLog {
     // The runs before the last one.
     earlier: Vec<Run>,
-    // The last run, if there is one. It lies beside the others, since nearly each packet is counted in it.
+    // The last run, if there is one. It is beside the others, since nearly every packet is counted in it.
     last: Run,
     has_last: bool,
+    // The number of the last run's member, so that a packet's member is compared with it at once.
+    member: u64,
     // The last packet that was counted was delivered, and its send has not failed.
     sent: bool,
-    // How many more runs there is room for.
+    // The number of further runs for which there is room.
     left: usize,
     room: usize,
 }
@@ -53,7 +93,7 @@ pub struct VerdictLog {
 impl Model for VerdictLog {
     ghost use Rattle.std.specs.Prelude.{◌≡◌, ◌+◌, ◌≤◌, None, false, length, vec_capacity};
     ghost use Rattle.member_counts.specs.Log.{Log};
-    ghost use Rattle.member_counts.specs.body.Runs.{runs};
+    ghost use Rattle.member_counts.specs.body.Runs.{number_of, runs};
 
     ghost Value = { Log };
 
@@ -61,7 +101,8 @@ impl Model for VerdictLog {
 
     ghost invariant = { λ log. (length (runs log.earlier.items log.has_last log.last) + log.left ≡ log.room)
         × (log.room ≤ vec_capacity log.earlier)
-        × (log.has_last ≡ false → (length log.earlier.items ≡ 0) × (log.sent ≡ false) × (log.last.key.member ≡ None)) };
+        × (log.has_last ≡ false → (length log.earlier.items ≡ 0) × (log.sent ≡ false) × (log.last.key.member ≡ None))
+        × (log.member ≡ number_of log.last.key.member) };
 }
 
 impl VerdictLog {
@@ -73,6 +114,7 @@ impl VerdictLog {
             earlier: Vec::with_capacity(alloc, room)?,
             last: Run::nothing(),
             has_last: false,
+            member: NO_MEMBER,
             sent: false,
             left: room,
             room,
@@ -122,11 +164,13 @@ impl VerdictLog {
         }
         self.last = run;
         self.has_last = true;
+        self.member = number_of(run.key.member);
         self.sent = sent;
         self.left -= 1;
     }
 
-    // Adds counts to the last run, if it has the key, or else begins a run. Both are inlined always, so that no zero is added.
+    // Adds counts to the last run, if it has the key; otherwise begins a run. Both are inlined always, so that no zero
+    // is added.
     #[inline(always)]
     fn add(&mut self, key: CountKey, counts: Counts, sent: bool)
         requires { length self.old.entries < self.old.room }
@@ -153,8 +197,72 @@ impl VerdictLog {
         self.begin(Run { key, counts }, sent);
     }
 
+    // Tests whether the last run has the member's key.
+    #[inline(always)]
+    fn is_last(&self, group: &Endpoint, member: u32) -> bool
+        ensures { result ≡ last_has (member_key group.now member) self.now.entries }
+    {
+        self.member == member as u64 && self.last.key.group == *group
+    }
+
+    // Adds counts to the last run, if it has the member's key. Returns whether it has.
+    #[inline(always)]
+    fn add_again(&mut self, group: &Endpoint, member: u32, counts: Counts, sent: bool) -> bool
+        ensures has_key { result ≡ last_has (member_key group.now member) self.old.entries }
+        ensures counted { IsTrue result → self.new ≡ with_counts (member_key group.now member) counts sent self.old }
+        ensures unchanged { result ≡ false → self.new ≡ self.old }
+    {
+        if !self.is_last(group, member) {
+            return false;
+        }
+        self.last.counts.add(counts);
+        self.sent = sent;
+        true
+    }
+
+    // The same as `judged_again`. It is not inlined, so that `judged_again` is short, and takes the verdict by value, so
+    // that the caller need not have it in memory.
+    #[inline(never)]
+    fn any_judged_again(&mut self, verdict: Verdict) -> bool
+        ensures needs_no_room { result ≡ begins_no_run verdict self.old.entries }
+        ensures counted { IsTrue result → self.new ≡ with_verdict verdict self.old }
+        ensures unchanged { result ≡ false → self.new ≡ self.old }
+    {
+        match verdict {
+            Verdict::Malformed | Verdict::NoGroup | Verdict::NoMembers => true,
+            Verdict::Dropped { group, member } => {
+                self.add_again(&group, member, one_dropped(), false)
+            }
+            Verdict::Deliver {
+                group,
+                member,
+                to: _,
+                bytes,
+            } => self.add_again(&group, member, one_delivered(bytes), true),
+        }
+    }
+
+    /// Counts a verdict if no run is begun for it: it names no member, or the member of the last run. Returns whether
+    /// it is counted. It needs no room; if it returns false, make room and call `judged`.
+    #[inline(always)]
+    pub fn judged_again(&mut self, verdict: &Verdict) -> bool
+        ensures needs_no_room { result ≡ begins_no_run verdict.now self.old.entries }
+        ensures counted { IsTrue result → self.new ≡ with_verdict verdict.now self.old }
+        ensures unchanged { result ≡ false → self.new ≡ self.old }
+    {
+        if let Verdict::Deliver {
+            group,
+            member,
+            to: _,
+            bytes,
+        } = verdict
+        {
+            return self.add_again(group, *member, one_delivered(*bytes), true);
+        }
+        self.any_judged_again(*verdict)
+    }
+
     /// Counts a verdict if it names a member.
-    #[inline]
     pub fn judged(&mut self, verdict: &Verdict)
         requires { length self.old.entries < self.old.room }
         ensures { self.new ≡ with_verdict verdict.now self.old }
@@ -166,11 +274,7 @@ impl VerdictLog {
                     group,
                     member: Some(member),
                 };
-                let counts = Counts {
-                    dropped: 1,
-                    ..Counts::none()
-                };
-                self.add_to_last(key, counts, false);
+                self.add_to_last(key, one_dropped(), false);
             }
             Verdict::Deliver {
                 group,
@@ -182,12 +286,7 @@ impl VerdictLog {
                     group,
                     member: Some(member),
                 };
-                let counts = Counts {
-                    delivered: 1,
-                    bytes: bytes as u64,
-                    ..Counts::none()
-                };
-                self.add_to_last(key, counts, true);
+                self.add_to_last(key, one_delivered(bytes), true);
             }
         }
     }
@@ -230,6 +329,7 @@ impl VerdictLog {
         self.earlier.clear();
         self.last = Run::nothing();
         self.has_last = false;
+        self.member = NO_MEMBER;
         self.sent = false;
         self.left = self.room;
     }

@@ -19,7 +19,7 @@ use std::alloc::Global;
 use std::collections::BTreeMap;
 use std::marker::Model;
 
-/// What was counted at each key that is kept, and the sum of what is gone.
+/// The counts of each kept key, and the sum of the counts that are gone.
 #[derive(Drop)]
 pub struct MemberTable {
     entries: BTreeMap<CountKey, Counts>,
@@ -49,7 +49,7 @@ impl MemberTable {
         }
     }
 
-    /// Tells how many keys are kept. No key is kept twice.
+    /// Returns the number of keys that are kept. No key is kept twice.
     pub fn len(&self) -> usize
         ensures len { result ≡ length self.now.entries }
         ensures room { result ≤ ROOM_LIMIT }
@@ -119,7 +119,7 @@ impl MemberTable {
         self.remove_lacking(config.groups());
     }
 
-    /// Returns what was counted of a member, zeros if its key is not kept.
+    /// Returns the counts of a member, zeros if its key is not kept.
     pub fn member(&self, group: Endpoint, member: u32) -> MemberCounts
         ensures { result ≡ member_counts group member self.now }
     {
@@ -133,7 +133,7 @@ impl MemberTable {
         }
     }
 
-    /// Returns what was counted of a group: the sum over its kept keys, also those of members that left.
+    /// Returns the counts of a group: the sum over its kept keys, also those of members that left.
     pub fn group(&self, group: Endpoint) -> GroupCounts
         ensures { result ≡ group_counts group self.now }
     {
@@ -146,7 +146,7 @@ impl MemberTable {
         sum.group_part()
     }
 
-    /// Returns the sum of what is gone.
+    /// Returns the sum of the counts that are gone.
     pub fn gone(&self) -> Counts
         ensures { result ≡ self.now.gone }
     {

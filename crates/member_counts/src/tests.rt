@@ -1,4 +1,4 @@
-//! What the counts print, and what becomes of keys that the configuration lacks.
+//! The printed counts, and the keys that the configuration lacks.
 
 use crate::{Counts, KEPT_LIMIT, MemberTable, VerdictLog};
 use bpf_verify::Program;
@@ -19,7 +19,7 @@ const OTHER: Endpoint = Endpoint {
     port: 53,
 };
 
-// What is given to a log: a verdict, and whether its send failed; or the key of a group without members.
+// An entry for a log: a verdict, and whether its send failed; or the key of a group without members.
 #[derive(Clone, Copy)]
 enum Given {
     Verdict(Verdict, bool),
@@ -93,6 +93,34 @@ fn counts_are_printed(rt: HostRuntime) -> Result<(), Fail> {
     assert!(rt; group.as_str() == "delivered 3 dropped 1 nomembers 0 sendfailed 1");
     let other = format!(in rt.alloc(); "{}", table.group(OTHER))?;
     assert!(rt; other.as_str() == "delivered 1 dropped 0 nomembers 2 sendfailed 0");
+    Ok(())
+}
+
+#[test]
+fn counts_again_without_room(rt: HostRuntime) -> Result<(), Fail> {
+    let mut table = MemberTable::new(rt.alloc());
+    let mut log = VerdictLog::new(rt.alloc(), 1)?;
+    let dropped = Verdict::Dropped {
+        group: GROUP,
+        member: 1,
+    };
+    assert!(rt; !log.judged_again(&delivered(GROUP, 0, 28)));
+    assert!(rt; log.judged_again(&Verdict::NoMembers));
+    assert!(rt; log.is_empty());
+    if log.is_full() {
+        return Ok(());
+    }
+    log.judged(&delivered(GROUP, 1, 28));
+    assert!(rt; log.is_full());
+    assert!(rt; log.judged_again(&delivered(GROUP, 1, usize::MAX)));
+    assert!(rt; log.judged_again(&dropped));
+    assert!(rt; !log.judged_again(&delivered(GROUP, 0, 28)));
+    assert!(rt; !log.judged_again(&delivered(GROUP, 2, 28)));
+    assert!(rt; !log.judged_again(&delivered(OTHER, 1, 28)));
+    table.count(&log);
+    let first = format!(in rt.alloc(); "{}", table.member(GROUP, 1))?;
+    assert!(rt; first.as_str() == "delivered 2 dropped 1 sendfailed 0 bytes 18446744073709551615");
+    assert!(rt; table.len() == 1);
     Ok(())
 }
 

@@ -6,8 +6,8 @@ use Rattle.serve_devices.specs.Ingress.{IsEnded, Receive}
 use Rattle.serve_devices.specs.declared.member_outbox.TheConstants.{LOG_ROOM}
 use Rattle.serve_devices.specs.declared.worker_source.TheConstants.{RECEIVE_LIMIT}
 
--- the source of a worker: how often it failed, how many receives it still gives at most, its room for a datagram, and the receives to come, if
--- they are known
+-- the source of a worker: how often it failed, the most receives that it still gives, its room for a datagram, and the receives
+-- to come, if they are known
 pub record WorkerSourceValue : Type 0 where
   pub failures : ℕ
   pub left : ℕ
@@ -18,8 +18,8 @@ pub record WorkerSourceValue : Type 0 where
 abbrev pub new_source : ℕ → Option (List Receive) → WorkerSourceValue
 new_source room coming = record { failures = 0; left = RECEIVE_LIMIT; room = room; coming = coming }
 
--- the receive that was given is no longer to come: a datagram, cut to the buffer with these bytes, or a failure. At the end none is to come, and
--- none was, but for those above the limit
+-- the receive that was given is no longer to come: a datagram, cut to the buffer with these bytes, or a failure. At the end none
+-- is to come, and none was, except those above the limit
 abbrev pub GivesNext : {E : Type 0} → List ℕ → Result (Option ℕ) E → WorkerSourceValue → WorkerSourceValue → Type 0
 GivesNext bytes (Ok (Some size)) before after =
     (whole : List ℕ) × (before.coming ≡ option_map (λ (later : List Receive). Some whole ∷ later) after.coming)
@@ -27,7 +27,7 @@ GivesNext bytes (Ok (Some size)) before after =
 GivesNext bytes (Ok None) before after = (after.coming ≡ Some []) × ((before.left ≡ 0) ⊎ IsEnded before.coming)
 GivesNext bytes (Err fault) before after = before.coming ≡ option_map (λ (later : List Receive). None ∷ later) after.coming
 
--- the datagrams of the first so many receives
+-- the datagrams of this many first receives
 abbrev pub datagrams_of : ℕ → List Receive → List (List ℕ)
 datagrams_of left receives = filter_map (λ (receive : Receive). receive) (take left receives)
 
@@ -45,7 +45,7 @@ CountsReceive (Err fault) before after = before ≡ suc after
 abbrev pub MOST_FAILURES : ℕ
 MOST_FAILURES = 2 ^ 64 - 1
 
--- an outbox that failed so often. Once it cannot count another failure, it no longer tells what was sent
+-- an outbox that failed this often. Once it cannot count another failure, it no longer shows what was sent
 abbrev pub outbox_with : ℕ → Option (List Sent) → OutboxValue
 outbox_with failures taken = record { failures = failures; taken = if failures == MOST_FAILURES then None else taken }
 
@@ -65,7 +65,7 @@ abbrev pub after_send : {A E : Type 0} → Result A E → Log → Log
 after_send (Ok done) log = log
 after_send (Err fault) log = marked_failed log
 
--- a full log was handed on, and another one stays as it was
+-- the log stays as it was; or it was full, and was handed on
 abbrev pub MakesRoom : Log → Log → Type 0
 MakesRoom log log' = (log' ≡ log) ⊎ ((LOG_ROOM ≤ length log.entries) × (log' ≡ empty_log))
 

@@ -1,4 +1,4 @@
--- What contracts see of where datagrams come in: the receives that are still to come.
+-- What contracts see of a device that receives datagrams: the receives that are still to come.
 use Rattle.std.specs.Prelude.{◌≡◌, ◌∷◌, Err, List, None, Ok, Option, Result, Some, [], length, map, option_map, take, ℕ}
 
 -- a receive: a datagram, or a failure

@@ -1,7 +1,7 @@
 -- What contracts see of the queues of all workers.
 use Rattle.std.specs.Prelude.{◌%◌, ◌+◌, ℕ}
 
--- how many workers there are, and whose turn it is, counted from 0
+-- the number of workers, and the worker whose turn it is, counted from 0
 pub record QueuesValue : Type 0 where
   pub workers : ℕ
   pub turn : ℕ

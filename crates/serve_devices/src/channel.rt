@@ -18,7 +18,7 @@ impl Split<()> for Ends {
     ghost right = { λ _. tt };
 }
 
-/// Where values are put into a channel.
+/// The end of a channel into which values are put.
 #[derive(Drop)]
 pub struct ChannelSender<T: Drop> {
     end: RuledSender<T, (), Free, Global>,
@@ -26,7 +26,7 @@ pub struct ChannelSender<T: Drop> {
     ghost seat: { IsSeatAt (sends_on end) pass },
 }
 
-/// Where they are taken out, in the order in which they were put in.
+/// The end from which values are taken, in the order in which they were put in.
 #[derive(Drop)]
 pub struct ChannelReceiver<T: Drop> {
     end: RuledReceiver<T, (), Free, Global>,
@@ -34,7 +34,7 @@ pub struct ChannelReceiver<T: Drop> {
     ghost seat: { IsSeatAt (receives_on end) pass },
 }
 
-/// Opens a channel that holds so many values at most. Takes its memory from the allocator.
+/// Opens a channel for at most `places` values. Takes its memory from the allocator.
 pub fn open_channel<T: Drop>(
     alloc: Global,
     places: usize,
@@ -54,21 +54,21 @@ pub fn open_channel<T: Drop>(
 }
 
 impl<T: Drop> ChannelSender<T> {
-    /// Puts a value in, and waits for a place. False where the other end is gone; the value is dropped then.
+    /// Puts a value in, and waits for a place. False if the other end is gone; then the value is dropped.
     pub fn put<R: Wait>(&mut self, rt: &R, value: T) -> bool {
         self.end
             .send_as::<Free, R>(rt, &mut self.pass, value)
             .is_ok()
     }
 
-    /// Puts a value in where there is a place for it, and else drops it.
+    /// Puts a value in if there is a place for it, and otherwise drops it.
     pub fn offer<R: Wait>(&mut self, rt: &R, value: T) {
         let _ = self.end.try_send_as::<Free, R>(rt, &mut self.pass, value);
     }
 }
 
 impl<T: Drop> ChannelReceiver<T> {
-    /// Takes the next value, and waits for it. `None` where there is none and the other end is gone.
+    /// Takes the next value, and waits for it. `None` if there is none and the other end is gone.
     pub fn take<R: Wait>(&mut self, rt: &R) -> Option<T> {
         self.end.recv_as::<Free, R>(rt, &mut self.pass).ok()
     }

@@ -1,4 +1,4 @@
-//! Where datagrams go out (docs/SWITCH.md, "Devices of a server").
+//! Sending datagrams (docs/SWITCH.md, "Devices of a server").
 
 ghost use Rattle.std.specs.Prelude.{◌≡◌, List, Option};
 ghost use Rattle.dispatch.specs.Device.{Sent, Takes, taken_by};
@@ -12,10 +12,10 @@ use std::sync::Wait;
 use std::sync::atomic::{AtomicBool, Ordering};
 use std::time::Duration;
 
-// How long a send waits before the flag is read again, in milliseconds.
+// The time that a send waits before the flag is read again, in milliseconds.
 const SEND_TURN: u64 = 50;
 
-/// Where datagrams go out. Contracts see what was sent, if it is known, without the sends that failed.
+/// A device that sends datagrams. Contracts see what was sent, if it is known, without the sends that failed.
 pub trait Egress {
     ghost taken: { Self → Option (List Sent) };
 
@@ -24,10 +24,11 @@ pub trait Egress {
         ensures sent_once { Takes (taken self.old) (taken self.new) (taken_by result to bytes.now) };
 }
 
-/// A UDP socket to send by. What it took is not known.
+/// A UDP socket to send by. The datagrams that it took are not known.
 ///
-/// A send fails if the socket refuses it, or takes fewer bytes than there are. It waits for room in the socket's buffer until a flag is set; from
-/// then on a send that would wait fails. A member on the same link that is down fills the buffer for seconds at a time.
+/// A send fails if the socket refuses it, or takes fewer bytes than there are. It waits for room in the socket's buffer
+/// until a flag is set; from then on a send that would wait fails. A member on the same link that is down fills the
+/// buffer for seconds at a time.
 #[derive(Drop)]
 pub struct SocketEgress<'a, R: Wait> {
     rt: &'a R,
@@ -50,7 +51,7 @@ impl<'a, R: Wait> SocketEgress<'a, R> {
         })
     }
 
-    // Tests whether a send that had to wait is to be given up. The later ones do not wait at all then.
+    // Tests whether a send that had to wait is to be given up. If so, later sends do not wait at all.
     fn gives_up(&self) -> bool {
         if !self.stopped.load(Ordering::SeqCst) {
             return false;

@@ -1,11 +1,12 @@
-//! Where datagrams come in (docs/SWITCH.md, "Devices of a server").
+//! Receiving datagrams (docs/SWITCH.md, "Devices of a server").
 
 ghost use Rattle.std.specs.Prelude.{◌≡◌, ◌≤◌, IfOk, IfSome, List, None, Option, length, ℕ};
 ghost use Rattle.serve_devices.specs.Ingress.{GivesReceive, IsEnded};
 
 use dispatch::Failed;
 
-/// Where datagrams come in. Contracts see the receives that are still to come, if they are known: each a datagram, or a failure.
+/// A device that receives datagrams. Contracts see the receives that are still to come, if they are known: each a
+/// datagram, or a failure.
 pub trait Ingress {
     ghost coming: { Self → Option (List (Option (List ℕ))) };
 

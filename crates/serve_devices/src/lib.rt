@@ -1,10 +1,12 @@
 //! Devices of worker threads that serve (docs/SWITCH.md, "Devices of a server"): each worker receives through a queue or from a socket
 //! at the front, and sends by a socket.
 //!
-//! `open_queue` makes the end of a worker's queue and the queue that fills it; `WorkerQueues` hands receives to the workers in turn.
-//! `WorkerSource` is the source over such an end, or over a `SocketIngress`. `MemberOutbox` counts by member. No call takes memory but
-//! `open_channel`, `open_queue`, `MemberOutbox::new`, `Receives::push`, `Received::fill` and, by it, `WorkerQueues::arrive`; and the table takes
-//! memory for new members when a log is handed on.
+//! `open_queue` makes the end of a worker's queue and the queue that fills it; `WorkerQueues` hands receives to the
+//! workers in turn. `WorkerSource` is the source over such an end, or over a `SocketIngress`. `MemberOutbox` counts by
+//! member.
+//!
+//! Only these calls take memory: `open_channel`, `open_queue`, `MemberOutbox::new`, `Receives::push`, `Received::fill`
+//! and, by it, `WorkerQueues::arrive`. The table also takes memory, for new members, when a log is handed on.
 #![tactic(auto)]
 
 mod channel;

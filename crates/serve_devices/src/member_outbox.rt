@@ -18,7 +18,7 @@ use std::alloc::{AllocError, Global};
 use std::marker::Model;
 use std::sync::{Mutex, Wait};
 
-/// How many runs a worker logs at most before it adds them to the table.
+/// The most runs that a worker logs before it adds them to the table.
 pub const LOG_ROOM: usize = 64;
 
 /// The table that all workers count in.
@@ -26,8 +26,9 @@ pub type SharedCounts = Mutex<MemberTable>;
 
 /// An outbox over an egress, which counts by member.
 ///
-/// It logs the verdicts of a batch in its own log. It takes the lock of the table when the log is handed on, and never while a
-/// packet is judged. Contracts see how often a send failed, what was sent, if the egress tells it, and what is in the log.
+/// It logs the verdicts of a batch in its own log. It takes the lock of the table when the log is handed on, and never
+/// while a packet is judged. Contracts see how often a send failed, what was sent (if the egress shows it), and what is
+/// in the log.
 #[derive(Drop)]
 pub struct MemberOutbox<'a, E: Egress + Drop, R: Wait> {
     rt: &'a R,
@@ -98,6 +99,16 @@ impl<'a, E: Egress + Drop, R: Wait> MemberOutbox<'a, E, R> {
             self.empty_log();
         }
     }
+
+    // Logs a verdict that may need room. It is not inlined, as packets that come one after another seldom need it.
+    #[inline(never)]
+    fn begin_run(&mut self, verdict: Verdict)
+        ensures unchanged { self.new.outbox ≡ self.old.outbox }
+        ensures logged { Logs (with_verdict verdict) self.old.log self.new.log }
+    {
+        self.make_room();
+        self.log.judged(&verdict);
+    }
 }
 
 impl<'a, E: Egress + Drop, R: Wait> Outbox for MemberOutbox<'a, E, R> {
@@ -119,8 +130,9 @@ impl<'a, E: Egress + Drop, R: Wait> Outbox for MemberOutbox<'a, E, R> {
         ensures unchanged { self.new.outbox ≡ self.old.outbox }
         ensures logged { Logs (with_verdict verdict.now) self.old.log self.new.log }
     {
-        self.make_room();
-        self.log.judged(verdict);
+        if !self.log.judged_again(verdict) {
+            self.begin_run(*verdict);
+        }
     }
 
     fn no_members(&mut self, group: Endpoint)

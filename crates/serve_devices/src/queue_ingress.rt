@@ -1,4 +1,5 @@
-//! The end of a worker's queue: what another thread receives, through a channel (docs/SWITCH.md, "Devices of a server").
+//! The end of a worker's queue, to which another thread sends its receives through a channel
+//! (docs/SWITCH.md, "Devices of a server").
 
 ghost use Rattle.std.specs.Prelude.{◌≡◌, ◌↔◌, ◌++◌, IfOk, IfSome, IsErr, None, OnErr, drop, length, min, take};
 
@@ -8,12 +9,13 @@ use crate::received::Received;
 use dispatch::Failed;
 use std::sync::Wait;
 
-/// The end of a queue. No more come once nothing is in it and the other side is gone. What comes is not known.
+/// The end of a queue. No more receives come once it is empty and the other side is gone. The receives to come are not
+/// known.
 #[derive(Drop)]
 pub struct QueueIngress<'a, R: Wait> {
     rt: &'a R,
     arriving: ChannelReceiver<Received>,
-    // Where receives go that were opened, so that their memory is used again.
+    // Takes back the receives that were opened, so that their memory is used again.
     opened: ChannelSender<Received>,
 }
 
@@ -31,7 +33,7 @@ impl<'a, R: Wait> QueueIngress<'a, R> {
         }
     }
 
-    // Opens a receive into the buffer, and gives it back.
+    // Opens a receive into the buffer, and sends it back.
     fn open(&mut self, received: Received, buf: &mut [u8]) -> Result<usize, Failed>
         ensures failed { IsErr result ↔ (received ≡ None) }
         ensures size { IfOk result (λ size. IfSome received (λ datagram. size ≡ min (length datagram) (length buf.old))) }

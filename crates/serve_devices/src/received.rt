@@ -6,7 +6,7 @@ use dispatch::Failed;
 use std::alloc::{AllocError, Global};
 use std::marker::Model;
 
-/// One receive: a datagram, or none where it failed. Contracts see the datagram's bytes.
+/// One receive: a datagram, or none if it failed. Contracts see the datagram's bytes.
 ///
 /// It keeps its memory from one datagram to the next.
 #[derive(Drop)]
@@ -24,7 +24,7 @@ impl Model for Received {
 }
 
 impl Received {
-    /// A receive that failed. Takes no memory.
+    /// Returns a receive that failed. Takes no memory.
     pub fn new(alloc: Global) -> Received
         ensures failed { result ≡ None }
     {
@@ -34,7 +34,7 @@ impl Received {
         }
     }
 
-    /// Makes it the receive of this datagram; where memory for it is refused, one that failed.
+    /// Makes it the receive of this datagram or, if memory for it is refused, a receive that failed.
     pub fn fill(&mut self, datagram: &[u8]) -> Result<(), AllocError>
         ensures filled { OnOk result (self.new ≡ Some datagram.now) }
         ensures failed { OnErr result (self.new ≡ None) }
@@ -52,7 +52,7 @@ impl Received {
         self.failed = true;
     }
 
-    /// Copies the datagram into the front of the buffer, cut to it, and tells how many bytes were copied.
+    /// Copies the datagram into the front of the buffer, cut to it, and returns the number of copied bytes.
     pub fn open(&self, buf: &mut [u8]) -> Result<usize, Failed>
         ensures failed { IsErr result ↔ (self.now ≡ None) }
         ensures size { IfOk result (λ size. IfSome self.now (λ datagram. size ≡ min (length datagram) (length buf.old))) }

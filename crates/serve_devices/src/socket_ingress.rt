@@ -1,4 +1,4 @@
-//! A worker's own socket at the front, and how all such sockets are ended (docs/SWITCH.md, "Devices of a server").
+//! A worker's own socket at the front, and the end of all such sockets (docs/SWITCH.md, "Devices of a server").
 
 ghost use Rattle.std.specs.Prelude.{◌≡◌, ◌≤◌, IfOk, IfSome, length};
 
@@ -11,9 +11,11 @@ use std::os::fd::AsRawFd;
 use std::sync::Wait;
 use std::sync::atomic::{AtomicBool, Ordering};
 
-/// A UDP socket that waits in its receives. No more come once the flag is set. What comes is not known.
+/// A UDP socket that waits in its receives. No more datagrams come once the flag is set. The receives to come are not
+/// known.
 ///
-/// Whoever sets the flag then has to shut the socket down, as `StopReceiving` does: this ends a receive that waits, and it stays so.
+/// The code that sets the flag then has to shut the socket down, as `StopReceiving` does. This ends a receive that
+/// waits, now and later.
 #[derive(Drop)]
 pub struct SocketIngress<'a, R: Wait> {
     rt: &'a R,
@@ -54,7 +56,8 @@ impl<'a, R: Wait> Ingress for SocketIngress<'a, R> {
 
     ghost coming = { λ _. None };
 
-    // Once the socket is shut down and empty, a receive that waits ends as if an empty datagram had come. So the flag is read again then.
+    // Once the socket is shut down and empty, a receive that waits ends as if an empty datagram had come, so the flag
+    // is read again.
     fn receive(&mut self, buf: &mut [u8]) -> Option<Result<usize, Failed>> {
         for _ in self.rt.forever() {
             if self.is_stopped() {
@@ -81,6 +84,7 @@ impl<'a, R: Wait> Ingress for SocketIngress<'a, R> {
 /// Ends the sockets of all workers when it is dropped: it sets the flag, then shuts each socket down.
 ///
 /// shutdown(2) of a UDP socket without a peer fails with ENOTCONN, but wakes what waits in a receive of it, now and later (Linux).
+/// The reason: docs/INTERNALS.md, "Shutdown ends a receive that waits".
 pub struct StopReceiving<'a> {
     pub stopped: &'a AtomicBool,
     pub sockets: &'a [UdpSocket],

@@ -8,10 +8,10 @@ use dispatch::{Failed, Outbox};
 use ipv4_fields::Endpoint;
 use std::marker::Model;
 
-/// An outbox over an egress, as a socket is one. A send fails if the egress fails.
+/// An outbox over an egress, such as a socket. A send fails if the egress fails.
 ///
-/// Contracts see how often it failed, and what was sent, if the egress tells it. After 2^64 - 1 failures it sends no more, returns as if all
-/// were sent, and no longer tells what was sent.
+/// Contracts see how often it failed, and what was sent, if the egress shows it. After 2^64 - 1 failures it sends no
+/// more, returns as if all were sent, and no longer shows what was sent.
 #[derive(Drop)]
 pub struct SocketOutbox<E: Egress + Drop> {
     egress: E,

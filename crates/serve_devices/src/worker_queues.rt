@@ -1,4 +1,4 @@
-//! Where the thread that receives hands over what came: to each worker in turn.
+//! The queues by which the thread that receives hands its receives to each worker in turn.
 
 ghost use Rattle.std.specs.Prelude.{◌≡◌, ◌<◌, IfOk, vec_len};
 ghost use Rattle.std.specs.Option.{option_map};
@@ -14,7 +14,7 @@ use std::alloc::{AllocError, Global};
 use std::marker::Model;
 use std::sync::Wait;
 
-/// How many receives wait for a worker at most, and how many that were opened wait to be used again.
+/// The most receives that wait for a worker, and the most opened receives that wait to be used again.
 pub const QUEUE_PLACES: usize = 64;
 
 /// Law: the limits, as numbers. It runs nothing.
@@ -24,7 +24,7 @@ pub fn limits_as_numbers()
     ensures log_room { LOG_ROOM ≡ 64 }
 {}
 
-/// The way to one worker, and the way back of what that has opened.
+/// The channel to one worker, and the channel back for the receives that it has opened.
 #[derive(Drop)]
 pub struct WorkerQueue {
     arriving: ChannelSender<Received>,
@@ -105,7 +105,7 @@ impl Model for WorkerQueues {
 }
 
 impl WorkerQueues {
-    /// It is the first worker's turn. The allocator is that of the receives.
+    /// Returns the queues; it is the first worker's turn. The allocator is that of the receives.
     pub fn new(alloc: Global, queues: Vec<WorkerQueue>) -> WorkerQueues
         requires some { 0 < vec_len queues }
         ensures first { result ≡ record { workers = vec_len queues; turn = 0 } }
@@ -119,7 +119,8 @@ impl WorkerQueues {
 
     /// Hands a datagram, or none for a receive that failed, to the worker whose turn it is, and waits for a place.
     ///
-    /// What comes for a worker that ended is let go, and so is a datagram for which memory was refused; each takes a turn.
+    /// A receive for a worker that ended is dropped, and so is a datagram for which memory was refused; each takes a
+    /// turn.
     pub fn arrive<R: Wait>(&mut self, rt: &R, datagram: Option<&[u8]>)
         ensures turn { self.new ≡ next_turn self.old }
     {

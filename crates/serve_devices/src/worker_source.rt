@@ -1,4 +1,4 @@
-//! The source of a worker: what comes in, with one receive ahead (docs/SWITCH.md, "Devices of a server").
+//! The source of a worker: its receives, with one receive ahead (docs/SWITCH.md, "Devices of a server").
 
 ghost use Rattle.std.specs.Prelude.{◌≡◌, ◌≢◌, ◌≤◌, IfOk, IfSome, None, Some, [], false, length, option_map, take};
 ghost use Rattle.dispatch.specs.Device.{CountsFailure, Gives, IsAtEnd, given_in};
@@ -10,7 +10,9 @@ use crate::ingress::Ingress;
 use dispatch::{COUNT_LIMIT, Failed, Source};
 use std::marker::Model;
 
-/// How many receives a source gives at most. A batch counts each at most twice, so a counter that began at 0 never gets full.
+/// The most receives that a source gives. A batch counts each at most twice, so a counter that began at 0 never gets
+/// full.
+/// The reason: docs/DECISIONS.md, "A source ends itself".
 pub const RECEIVE_LIMIT: u64 = COUNT_LIMIT / 2 - 1;
 
 /// A source over an ingress. It ends when the ingress does, and after `RECEIVE_LIMIT` receives; then it drops the ingress.
@@ -21,7 +23,7 @@ pub const RECEIVE_LIMIT: u64 = COUNT_LIMIT / 2 - 1;
 pub struct WorkerSource<I: Ingress + Drop> {
     // None at the end.
     ingress: Option<I>,
-    // What was received ahead, if something was; the datagram is in the front of `room`.
+    // The receive ahead, if there is one; its datagram is in the front of `room`.
     ahead: Option<Result<usize, Failed>>,
     room: Vec<u8>,
     left: u64,
@@ -57,7 +59,7 @@ fn copy_into(bytes: &[u8], buf: &mut [u8]) -> usize
     size
 }
 
-// Takes what was received ahead, or waits for what comes next.
+// Takes the receive ahead, or waits for the next one.
 fn take_next<I: Ingress>(
     ingress: &mut Option<I>,
     ahead: &mut Option<Result<usize, Failed>>,
@@ -81,6 +83,7 @@ fn take_next<I: Ingress>(
 }
 
 // Receives ahead, if something has come and nothing was received ahead already.
+// The reason: docs/INTERNALS.md, "A receive ahead instead of a look".
 fn look_ahead<I: Ingress>(
     ingress: &mut Option<I>,
     ahead: &mut Option<Result<usize, Failed>>,

@@ -1,0 +1,19 @@
+use Rattle.std.proofs.Common.{◌&&◌, ◌∙◌, ap, sym}
+use Rattle.member_counts.specs.Key.{member_key, same_group}
+use Rattle.member_counts.specs.Log.{Log, last_has}
+use Rattle.member_counts.proofs.LogLemmas.{is-other, is-same, last_has-number}
+use Rattle.member_counts.proofs.log.VerdictLog.is_last.Goals as goal
+
+pub returns-then-self-member : goal.returns-then-self-member
+returns-then-self-member c =
+    c.eq.ensures ∙ ap (λ b. b && same_group c.self.inside.last.key.group c.args.group.now) (sym (is-same c.self.inside.member c.args.member c.if-self-member.true))
+    ∙ last_has-number c.self.inside.earlier.items c.self.inside.has_last c.self.inside.last c.args.group.now c.args.member c.self.inside.member
+    (λ none. ((c.self.invariant.2 none).0, (c.self.invariant.2 none).2)) c.self.invariant.3 c.ranges.member.fits
+    ∙ ap (λ (log : Log). last_has (member_key c.args.group.now c.args.member) log.entries) c.self.view_is
+
+pub returns-else-self-member : goal.returns-else-self-member
+returns-else-self-member c =
+    is-other c.self.inside.member c.args.member c.if-self-member.false ∙ ap (λ b. b && same_group c.self.inside.last.key.group c.args.group.now) (sym (is-other c.self.inside.member c.args.member c.if-self-member.false))
+    ∙ last_has-number c.self.inside.earlier.items c.self.inside.has_last c.self.inside.last c.args.group.now c.args.member c.self.inside.member
+    (λ none. ((c.self.invariant.2 none).0, (c.self.invariant.2 none).2)) c.self.invariant.3 c.ranges.member.fits
+    ∙ ap (λ (log : Log). last_has (member_key c.args.group.now c.args.member) log.entries) c.self.view_is
