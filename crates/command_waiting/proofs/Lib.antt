@@ -1,6 +1,2 @@
-mod ShowingLemmas
-mod MeasuringLemmas
-mod TellingLemmas
-mod OpeningLemmas
-mod ReportLemmas
+mod FailureLemmas
 mod ServeLemmas

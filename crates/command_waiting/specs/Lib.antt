@@ -1,12 +1,5 @@
-pub mod Draining
-pub mod Measured
-pub mod Opening
-pub mod RefusalLines
-pub mod Reported
-pub mod Showing
-pub mod Telling
+pub mod Serving
 pub mod Waiting
-pub mod body
 pub use Rattle.command_line.specs.ControlAddress
 pub use Rattle.control_client.specs.Carried
 pub use Rattle.control_client.specs.Exchange
@@ -25,7 +18,6 @@ pub use Rattle.command_flood.specs.Failing
 pub use Rattle.command_flood.specs.Flood
 pub use Rattle.command_flood.specs.FloodVersions
 pub use Rattle.command_flood.specs.Traffic
-pub mod Serving
 pub use Rattle.control_counters.specs.Frame
 pub use Rattle.control_counters.specs.Counts
 pub use Rattle.control_counters.specs.Reading
@@ -34,3 +26,10 @@ pub use Rattle.counter_text.specs.Growth
 pub use Rattle.counter_text.specs.Metrics
 pub use Rattle.counter_text.specs.Screen
 pub use Rattle.counter_text.specs.Sockets
+pub use Rattle.command_operating.specs.Draining
+pub use Rattle.command_operating.specs.Measured
+pub use Rattle.command_operating.specs.Opening
+pub use Rattle.command_operating.specs.Reported
+pub use Rattle.command_operating.specs.Showing
+pub use Rattle.command_operating.specs.Telling
+pub use Rattle.command_operating.specs.RefusalLines

@@ -1,4 +1,4 @@
--- How `serve` fails: what it wrote, and what it tells people (docs/COMMANDS.md, "serve").
+-- How `serve` fails: what it wrote, and what it reports to people (docs/COMMANDS.md, "serve").
 use Rattle.std.specs.Prelude.{◌≡◌, ◌≢◌, ◌++◌, List, Option, [], codes, ℕ}
 use Rattle.command_line.specs.Ending.{AppendsBeginning, line_of}
 use Rattle.command_line.specs.declared.ending.Failure.{Failure}
@@ -18,7 +18,7 @@ socket_name OutOfMemory = []
 abbrev pub IsBindLine : BindFault → List ℕ → Type 0
 IsBindLine fault line = (rest : List ℕ) × (line ≡ codes "cannot bind " ++ (socket_name fault ++ rest))
 
--- the line of a failure was appended; if a socket was not bound, why may come first. Where a write fails, a beginning of either
+-- the line of a failure was appended; if a socket was not bound, why may come first. If a write fails, a beginning of either
 pub data IsServeTold (failure : Failure) (before after : Option (List ℕ)) : Type 0 where
   told_alone : AppendsBeginning before after (line_of failure) → IsServeTold failure before after
   told_after_why : failure ≡ BindFailed → (fault : BindFault) (line : List ℕ) → IsBindLine fault line → (between : Option (List ℕ)) →

@@ -1,4 +1,4 @@
--- What the commands that may wait write (docs/COMMANDS.md, "flood", "serve", "tell", "rules", "load", "drain", "metrics", "top").
+-- The output of the commands that may wait (docs/COMMANDS.md, "flood", "serve", "tell", "rules", "load", "drain", "metrics", "top").
 use Rattle.std.specs.Prelude.{◌≡◌, ◌≢◌, ◌⊎◌, Bool, List, None, Option, Some, codes, false, true, ℕ}
 use Rattle.std.specs.Io.KnownBytes.{Appends}
 use Rattle.clap.specs.Words.{Text}
@@ -13,12 +13,12 @@ use Rattle.ipv4_fields.specs.declared.endpoint.Endpoint.{Endpoint}
 use Rattle.serve_udp.specs.Service.{WritesReadyOrNothing, WritesServedFrom}
 use Rattle.command_flood.specs.Failing.{EndsInFloodFailure}
 use Rattle.command_flood.specs.Flood.{WritesFlood}
-use Rattle.command_waiting.specs.Draining.{RefusesDrain, WritesDrain}
-use Rattle.command_waiting.specs.Measured.{EndsInTopFailure, IsNoFront, WritesMetrics, WritesTop}
-use Rattle.command_waiting.specs.Opening.{IsOpening, RefusesRules}
+use Rattle.command_operating.specs.Draining.{RefusesDrain, WritesDrain}
+use Rattle.command_operating.specs.Measured.{EndsInTopFailure, IsNoFront, WritesMetrics, WritesTop}
+use Rattle.command_operating.specs.Opening.{IsOpening, RefusesRules}
 use Rattle.command_waiting.specs.Serving.{IsServeTold}
-use Rattle.command_waiting.specs.Showing.{EndsInRulesFailure, RefusesLoad, WritesLoad, WritesRules}
-use Rattle.command_waiting.specs.Telling.{EndsInTellFailure, WritesReplies}
+use Rattle.command_operating.specs.Showing.{EndsInRulesFailure, RefusesLoad, WritesLoad, WritesRules}
+use Rattle.command_operating.specs.Telling.{EndsInTellFailure, IsToldRefusal, WritesReplies}
 
 -- the text is an endpoint's, or none's
 abbrev pub IsAddress : Text → Type 0
@@ -39,7 +39,7 @@ pub record WritesService (front control : Text) (workers : ℕ) (file : Option T
   pub opening : IsOpening file config
   pub served : WritesServedFrom config workers before after
 
--- what the command writes was written
+-- the output of the command was written
 abbrev pub WritesFor : (terminal : Bool) → WaitingRequest → (input before after told_before told_after : Option (List ℕ)) → Type 0
 WritesFor terminal (flood workers datagrams) input before after told_before told_after = WritesFlood workers datagrams before after
 WritesFor terminal (serve front control workers file logs receive buffer) input before after told_before told_after = WritesService front control workers file before after
@@ -50,12 +50,6 @@ WritesFor terminal (drain control timeout key member) input before after told_be
 WritesFor terminal (metrics control front timeout) input before after told_before told_after = WritesMetrics control front before after
 WritesFor terminal (top control interval count timeout) input before after told_before told_after = WritesTop control terminal count before after
 
--- `tell` is given a text that is no address, and the refusal of that was written; or a reply is a refusal, all replies were written, and
--- those that are refusals were shown on standard error
-pub data IsToldRefusal (control : Text) (all : Bool) (words : List Text) (input before after told_before told_after : Option (List ℕ)) : Type 0 where
-  no_switch : IsNoControlAddress control → Appends before after (codes "refused C1\n") → IsToldRefusal control all words input before after told_before told_after
-  line_refused : WritesReplies control all words input before after told_before told_after true → IsToldRefusal control all words input before after told_before told_after
-
 -- `serve` is given a text for a socket that is no address, or a rules file that is refused, and the refusal was written
 pub data RefusesService (front control : Text) (file : Option Text) (before after : Option (List ℕ)) : Type 0 where
   no_address : IsNoAddress front ⊎ IsNoControlAddress control → Appends before after (codes "refused C1\n") →
@@ -63,7 +57,7 @@ pub data RefusesService (front control : Text) (file : Option Text) (before afte
   no_rules : (name : Text) → file ≡ Some name → IsAddress front → IsControl control → RefusesRules None before after →
       RefusesService front control file before after
 
--- a refusal of the command is not shown on standard error: it has no rules file, and no line was told
+-- a refusal of the command is not shown on standard error: it has no rules file, and no line was sent
 abbrev pub ShowsNoRefusal : WaitingRequest → Type 0
 ShowsNoRefusal (flood workers datagrams) = Unit {0}
 ShowsNoRefusal (serve front control workers file logs receive buffer) = file ≡ None
@@ -74,7 +68,7 @@ ShowsNoRefusal (drain control timeout key member) = Unit {0}
 ShowsNoRefusal (metrics control front timeout) = Unit {0}
 ShowsNoRefusal (top control interval count timeout) = Unit {0}
 
--- what was refused is written
+-- the refusal is written
 abbrev pub WritesRefusal : WaitingRequest → (input before after told_before told_after : Option (List ℕ)) → Type 0
 WritesRefusal (flood workers datagrams) input before after told_before told_after = ⊥
 WritesRefusal (serve front control workers file logs receive buffer) input before after told_before told_after = RefusesService front control file before after

@@ -1,74 +1,36 @@
 //! The commands that run worker threads or await replies, so that they may wait (docs/COMMANDS.md, "flood", "serve", "tell",
 //! "rules", "load", "drain", "metrics", "top").
 //!
-//! `run_waiting` runs one: `flood` of command_flood, `serve` of serve_udp, `tell` of control_client, `rules`, `load` or `drain` of
-//! control_rules, or `metrics` or `top` of control_counters.
+//! `run_waiting` runs one: `flood` of command_flood, `serve` of serve_udp, or one of command_operating.
 #![tactic(auto)]
 
-ghost use Rattle.std.specs.Prelude.{◌≡◌, ◌⊎◌, None, OnOk, codes, option_map};
-ghost use Rattle.std.specs.Io.KnownBytes.{Appends};
+ghost use Rattle.std.specs.Prelude.{◌≡◌, ◌⊎◌};
 ghost use Rattle.command_line.specs.CommandLine.{waiting_of};
-ghost use Rattle.command_line.specs.Ending.{AppendsBeginning, line_of};
-ghost use Rattle.command_line.specs.declared.ending.Failure.TheVariants as failure;
 ghost use Rattle.command_waiting.specs.Waiting.{EndsInWaitingFailure, ShowsNoRefusal, WritesFor, WritesRefusal};
 
-mod draining;
-mod loading;
 mod logging;
-mod measuring;
-mod printing;
-mod refused;
-mod reporting;
-mod rules_file;
 mod serving;
-mod showing;
-mod telling;
-mod watching;
 
 use command_flood::run_flood;
 pub use command_flood::{DATAGRAMS, flood};
-use command_line::{Failure, Status, Waiting};
-use draining::{Draining, run_drain};
-use loading::{Loading, run_load};
+use command_line::{Status, Waiting};
+use command_operating::{
+    Draining, Loading, Watching, run_drain, run_load, run_metrics, run_rules, run_tell, run_top,
+};
 use logging::ServeLog;
-use measuring::run_metrics;
 pub use serve_udp::{serve, serve_direct, serve_with};
 use serving::run_serve;
-use showing::run_rules;
 use std::alloc::Global;
 use std::fs::Files;
-use std::io;
 use std::io::{Read, Write};
 use std::net::Net;
 use std::sync::Wait;
 use std::thread::Threads;
 use std::time::Clock;
-use telling::run_tell;
-use watching::{Watching, run_top};
 
-fn write_refusal<W: Write>(out: &mut W) -> io::Result<()>
-    ensures { OnOk result (Appends (W.contents out.old) (W.contents out.new) (codes "refused C1\n")) }
-{
-    out.write_all(b"refused C1\n".as_slice())?;
-    out.flush()
-}
-
-// A text is no address.
-fn refuse_address<W: Write, E: Write>(out: &mut W, errs: &mut E) -> Status
-    ensures refused { result ≡ Status.Refused → Appends (W.contents out.old) (W.contents out.new) (codes "refused C1\n") }
-    ensures no_errors { result ≡ Status.Refused → errs.new ≡ errs.old }
-    ensures never_done { result ≡ Status.Done → ⊥ }
-    ensures never_misused { result ≡ Status.Misused → ⊥ }
-    ensures failed { result ≡ Status.Failed → AppendsBeginning (E.contents errs.old) (E.contents errs.new) (line_of failure.WriteFailed) }
-{
-    match write_refusal(out) {
-        Ok(()) => Status::Refused,
-        Err(_) => Failure::WriteFailed.report(errs),
-    }
-}
-
-/// Runs a command that may wait, and returns its exit status. `tell` without lines reads its lines from the input. `serve --log` gives
-/// the lines of its log to `log`, which is standard error. `top` clears the screen if `terminal` says that results go to one.
+/// Runs a command that may wait, and returns its exit status. `tell` without lines reads its lines from the input. `serve --log`
+/// writes the lines of its log to `log`, which is standard error. `top` clears the screen if `terminal` says that results go to
+/// one.
 pub fn run_waiting<
     R: Threads + Wait + Net + Clock + Files + Sync,
     I: Read + Drop,

@@ -9,7 +9,7 @@ use std::io::Write;
 // The descriptor of standard error.
 const STANDARD_ERROR: i32 = 2;
 
-/// Where the lines of the log go.
+/// The destination of the log's lines.
 #[derive(Drop)]
 pub(crate) enum ServeLog<L: Write> {
     /// There is no log.
@@ -19,7 +19,7 @@ pub(crate) enum ServeLog<L: Write> {
 }
 
 impl<L: Write> ServeLog<L> {
-    /// A log on standard error, or none.
+    /// Makes a log on standard error, or none.
     pub(crate) fn new(is_on: bool, out: L) -> ServeLog<L>
     where
         L: Drop,

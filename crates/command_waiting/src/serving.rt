@@ -10,11 +10,10 @@ ghost use Rattle.command_waiting.specs.Serving.{FailsServing, IsBindLine, socket
 ghost use Rattle.command_waiting.specs.Waiting.{EndsInServeFailure, RefusesService, WritesService};
 
 use crate::logging::ServeLog;
-use crate::refuse_address;
-use crate::rules_file::opening;
 use command_line::{
     ControlAddress, Failure, ReceiveBuffer, ReceiveWay, Status, Workers, write_whole,
 };
+use command_operating::{opening, refuse_address};
 use dispatch::OpenGate;
 use ipv4_fields::Endpoint;
 use member_group::Config;
@@ -151,9 +150,9 @@ fn serve_at<R: Threads + Wait + Net + Files + Sync, W: Write, E: Write, L: Write
     }
 }
 
-#[tactic(auto, using(crate::proofs::OpeningLemmas::fails_unread, crate::proofs::OpeningLemmas::fails_serving, crate::proofs::OpeningLemmas::named, crate::proofs::OpeningLemmas::is_given))]
-/// Runs `serve` with the texts of both addresses, how the front receives, the name of a rules file if there is one, and where the lines of the
-/// log go.
+#[tactic(auto, using(crate::proofs::FailureLemmas::fails_unread, crate::proofs::FailureLemmas::fails_serving, crate::proofs::FailureLemmas::named, crate::proofs::FailureLemmas::is_given))]
+/// Runs `serve` with the texts of both addresses, how the front receives, the name of a rules file if there is one, and the
+/// destination of the log's lines.
 pub(crate) fn run_serve<
     R: Threads + Wait + Net + Files + Sync,
     W: Write,

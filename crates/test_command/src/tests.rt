@@ -1,14 +1,9 @@
-//! The program's commands over streams in memory: what no session on the built program shows.
+//! The program's commands over streams in memory: the cases that no session on the built program shows.
 
-mod counters;
 mod failures;
-mod file_faults;
 mod flood;
-mod memory_wire;
-mod refused;
 mod replay;
 mod streams;
-mod telling;
 mod words;
 
 use command_line::{Subcommand, read_words};
@@ -32,7 +27,7 @@ const SAMPLE_PACKET: &str = "4500001d00000000401100000a0000010a00000213880035000
 
 const FIRST: &str = "version 0 value 65535 steps 3 kept 29\nversion 1 value 0 steps 1 kept 0\n";
 
-/// What a command ended with, and what it wrote.
+/// The status of a command, and its output.
 #[derive(Drop)]
 struct Outcome {
     status: Option<u8>,
@@ -63,7 +58,7 @@ fn owned(alloc: Global, words: &[&str]) -> Result<Vec<String>, AllocError> {
     Ok(owned)
 }
 
-/// Runs the words on an input and these outputs, with the status.
+/// Runs the words on an input and these outputs, and returns the status.
 fn run_into<R: Read + Drop>(
     alloc: Global,
     words: &[&str],
@@ -75,14 +70,14 @@ fn run_into<R: Read + Drop>(
     Ok(tool(alloc, words.as_slice(), input, out, errs))
 }
 
-/// Runs the words on an input, with what the command wrote.
+/// Runs the words on an input, and returns the status and the output.
 fn run_on<R: Read + Drop>(alloc: Global, words: &[&str], input: R) -> Result<Outcome, AllocError> {
     let mut told = Outcome::open(alloc);
     told.status = run_into(alloc, words, input, &mut told.out, &mut told.errs)?;
     Ok(told)
 }
 
-/// Runs the words on an input of bytes, with what the command wrote.
+/// Runs the words on an input of bytes, and returns the status and the output.
 fn told(alloc: Global, words: &[&str], input: &[u8]) -> Result<Outcome, AllocError> {
     run_on(alloc, words, input)
 }
@@ -117,7 +112,8 @@ fn wait_for<R: Threads + Wait + Net + Clock + Files + Sync + Abort>(
     }
 }
 
-/// Runs words that are left to `main`, as it does, with what the command wrote. Before they are left nothing is written.
+/// Runs words that are left to `main`, as it does, and returns the status and the output. Before they are left nothing
+/// is written.
 fn run_as_main<R: Threads + Wait + Net + Clock + Files + Sync + Abort>(
     rt: &R,
     alloc: Global,

@@ -1,4 +1,4 @@
-//! Tests of what serves: its devices, its answers to control datagrams, and the switch over sockets of the loopback.
+//! Tests of serving: the switch over sockets of the loopback.
 #![tactic(auto)]
 
 #[cfg(test)]

@@ -21,14 +21,14 @@ const CAPTURE: &[u8] = b"\xd4\xc3\xb2\xa1\x02\0\x04\0\0\0\0\0\0\0\0\0\xff\xff\0\
 
 // One that is cut in its first record.
 const CUT_CAPTURE: &[u8] = b"\xd4\xc3\xb2\xa1\x02\0\x04\0\0\0\0\0\0\0\0\0\xff\xff\0\0e\0\0\0\0";
-// One of link type 105, which is not read.
+// One of link type 105, which is not supported.
 const WIRELESS: &[u8] = b"\xd4\xc3\xb2\xa1\x02\0\x04\0\0\0\0\0\0\0\0\0\xff\xff\0\0i\0\0\0";
 
 // One of raw IP with a datagram to port 53, whose payload is one byte.
 const DATAGRAM: &[u8] = b"\xd4\xc3\xb2\xa1\x02\0\x04\0\0\0\0\0\0\0\0\0\xff\xff\0\0e\0\0\0\
 \0\0\0\0\0\0\0\0\x1d\0\0\0\x1d\0\0\0E\0\0\x1d\0\0\0\0@\x11\0\0\n\0\0\x01\n\0\0\x02\x13\x88\05\0\t\0\0a";
 
-// Of each command a result, and of each that refuses a refusal.
+// For each command a result, and for each that refuses a refusal.
 const COMMANDS: [(&[&str], &[u8]); 21] = [
     (&["first"], b""),
     (&["--help"], b""),
@@ -64,7 +64,7 @@ const COMMANDS: [(&[&str], &[u8]); 21] = [
     (&["packets"], b"no capture at all, but a text"),
 ];
 
-// The command fails and tells this line.
+// The command fails and reports this line.
 fn expect_failure<R: Read + Drop>(
     rt: &impl Abort,
     alloc: Global,
@@ -85,7 +85,7 @@ fn expect_failure<R: Read + Drop>(
     Ok(())
 }
 
-// The write after so many fails.
+// The write after this many fails.
 fn expect_failed_write(
     rt: &impl Abort,
     alloc: Global,
@@ -134,7 +134,7 @@ fn failed_write_is_e2(rt: HostRuntime) -> Result<(), Fail> {
     Ok(())
 }
 
-// The command reads the whole program and prints this text. Gives how many reads it made.
+// The command reads the whole program and prints this text. Returns the number of its reads.
 fn whole_reads(rt: &impl Abort, alloc: Global, words: &[&str], text: &str) -> Result<usize, Fail> {
     let mut input = Source::open(PROGRAM, 7);
     let told = run_on(alloc, words, &mut input)?;
@@ -146,7 +146,7 @@ fn whole_reads(rt: &impl Abort, alloc: Global, words: &[&str], text: &str) -> Re
     Ok(input.reads)
 }
 
-// The read after so many fails, which is told, and nothing else.
+// The read after this many fails; that is reported, and nothing else.
 fn expect_failed_read(
     rt: &impl Abort,
     alloc: Global,
@@ -191,7 +191,7 @@ fn read_without_memory_is_e3(rt: HostRuntime) -> Result<(), Fail> {
     expect_failure(&rt, rt.alloc(), &["check"], input, &mut out, "failed E3\n")
 }
 
-// What commands that read no input print, after their status.
+// The output of commands that read no input, after their status.
 const UNREAD: [(&[&str], u8, &str); 6] = [
     (&["first"], 0, FIRST),
     (&["--version"], 0, "dswitch 0.3.0\n"),
@@ -235,7 +235,7 @@ fn assert_bad_packet(rt: &impl Abort, alloc: Global, packet: &str, line: &str) -
     assert_unread(rt, alloc, &words, 1, line)
 }
 
-// So many times the digit 4, and the last one.
+// The digit 4, repeated, and the last one.
 fn put_digits(text: &mut String, fours: usize, last: char) -> Result<(), AllocError> {
     for _ in 0..fours {
         text.push('4')?;
@@ -266,7 +266,7 @@ const STATUSES: [(&[&str], usize, u8); 6] = [
     (&["check"], 0, 3),
 ];
 
-// The status where so many writes of results are taken, and so many of errors.
+// The status if this many writes of results are taken, and this many of errors.
 fn limited_status(
     alloc: Global,
     words: &[&str],

@@ -1,4 +1,4 @@
-//! `flood`: that its workers start together, its totals where it has no datagram, and what it does as `main` runs it.
+//! `flood`: that its workers start together, its totals if it has no datagram, and its run by `main`.
 
 use super::streams::{Sink, Source};
 use super::{assert_wrote, run_as_main};
@@ -33,7 +33,7 @@ fn flood_of_few_datagrams(rt: HostRuntime) {
     assert_eq!(rt; (result, out.text()), (Ok(()), Some(NONE)));
 }
 
-// Two first batches that wait for each other, each for so many turns at most.
+// Two first batches that wait for each other, each for this many turns at most.
 #[derive(Drop)]
 struct Meeting {
     came: AtomicU64,
@@ -85,7 +85,7 @@ fn two_flood_workers_start_together(rt: HostRuntime) -> Result<(), Fail> {
     Ok(())
 }
 
-// Past so many writes the next one fails, or the flush does.
+// After this many writes the next one fails, or the flush does.
 fn assert_unwritten<R: Threads + Wait + Sync + Abort>(
     rt: &R,
     alloc: Global,

@@ -56,7 +56,7 @@ fn put_shows(script: &mut String, count: usize) -> Result<(), AllocError> {
     Ok(())
 }
 
-// Of these replies, of 38 bytes each, 107 fit a write.
+// 107 of these replies, of 38 bytes each, fit a write.
 #[test]
 fn writes_have_whole_lines(rt: HostRuntime) -> Result<(), Fail> {
     let mut script = String::new(rt.alloc());
@@ -72,7 +72,7 @@ fn writes_have_whole_lines(rt: HostRuntime) -> Result<(), Fail> {
 
 const SHORT_SCRIPT: &[u8] = b"add 10.0.0.2:53\nshow\nsweep";
 
-// How many reads of six bytes are made, and the replies.
+// The number of reads of six bytes that are made, and the replies.
 const FAILED_READS: [(usize, &str); 5] = [
     (0, ""),
     (1, ""),
@@ -103,7 +103,7 @@ fn both(alloc: Global) -> Result<String, AllocError> {
     Ok(text)
 }
 
-// So many writes are taken, of the two that give all.
+// This many writes are taken, of the two that give all.
 fn assert_limited(rt: &impl Abort, alloc: Global, limit: usize, all: &str) -> Result<(), Fail> {
     let mut out = Sink::new(alloc, limit, true);
     let mut errs = Sink::open(alloc);
@@ -119,7 +119,7 @@ fn assert_limited(rt: &impl Abort, alloc: Global, limit: usize, all: &str) -> Re
     Ok(())
 }
 
-// Of the replies and the summary what was taken before the write that fails stands there. Each of the two is one write.
+// The output has the replies and the summary up to the write that fails. Each of the two is one write.
 #[test]
 fn summary_that_cannot_be_written(rt: HostRuntime) -> Result<(), Fail> {
     let all = both(rt.alloc())?;
@@ -136,7 +136,7 @@ const UNSUMMED: [(&[&str], &str); 3] = [
     (&["replay", "--quiet"], ""),
 ];
 
-// Behind a failed read there is no summary, and with `--quiet` nothing.
+// After a failed read there is no summary, and with `--quiet` nothing.
 #[test]
 fn failed_read_has_no_summary(rt: HostRuntime) -> Result<(), Fail> {
     for (words, replies) in &UNSUMMED {

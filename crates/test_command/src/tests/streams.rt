@@ -1,10 +1,10 @@
-//! Streams in memory that fail where a test wants it.
+//! Streams in memory that fail when a test wants it.
 
 use std::alloc::Global;
 use std::io;
 use std::io::{ErrorKind, Read, Write};
 
-/// Keeps what it is given, in so many writes at most, and how long the longest of them was, and whether each ended with LF.
+/// Keeps the bytes of at most `limit` writes, the length of the longest write, and whether each ended with LF.
 #[derive(Drop)]
 pub struct Sink {
     kept: Vec<u8>,
@@ -56,7 +56,7 @@ impl Write for Sink {
     }
 }
 
-/// Gives its bytes in pieces, in so many reads at most. The read after them fails.
+/// Gives its bytes in pieces, in a limited number of reads. The read after these fails.
 #[derive(Drop)]
 pub struct Source<'a> {
     rest: &'a [u8],

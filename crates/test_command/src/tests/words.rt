@@ -17,7 +17,7 @@ const SERVED: [(&str, &str, &str); 3] = [
     ("x", "", "+4"),
 ];
 
-// Its addresses are looked at where it runs.
+// Its addresses are read when it runs.
 #[test]
 fn serve_is_left_to_main(rt: HostRuntime) -> Result<(), Fail> {
     for (front, control, workers) in &SERVED {

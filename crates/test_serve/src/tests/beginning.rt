@@ -34,7 +34,7 @@ fn one_group(alloc: Global) -> Option<Config>
     Some(config)
 }
 
-// `None` where memory was refused.
+// `None` if memory was refused.
 fn serve_one_group<R: Threads + Wait + Net + Sync, W: Write>(
     rt: &R,
     alloc: Global,

@@ -12,7 +12,7 @@ use std::sync::Arc;
 use std::sync::atomic::{AtomicU64, Ordering};
 use std::{io, thread};
 
-// How many datagrams a batch adds to the flood: more than it judges at most.
+// The number of datagrams that a batch adds to the flood: more than it judges at most.
 const ADDED: u32 = 128;
 
 // Each batch sends the front more datagrams than it judges, until the flood is ended, so that the front is never empty.
@@ -55,7 +55,7 @@ fn begin(client: &Client, flood: &Flood) -> io::Result<()> {
     Ok(())
 }
 
-// How often `show` is answered of 20 times.
+// The number of times that `show` is answered, of 20.
 fn times_answered(client: &Client) -> u32 {
     let mut answered = 0u32;
     for _ in 0..20u32 {
@@ -66,7 +66,7 @@ fn times_answered(client: &Client) -> u32 {
     answered
 }
 
-// How often `show` was answered while the flood lasts, and whether `stop` was then.
+// The number of times that `show` was answered while the flood lasts, and whether `stop` was then.
 fn ask_beside<N: Net>(net: &N, ports: &Ports, flood: &Flood) -> io::Result<(u32, bool)> {
     let client = new_client(net, ports)?;
     answers_beside(&client, flood)

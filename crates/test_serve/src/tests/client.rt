@@ -1,4 +1,4 @@
-//! A client of the switch over the loopback, and what the switch writes.
+//! A client of the switch over the loopback, and the output of the switch.
 
 use command_line::{Failure, ReceiveWay, Workers};
 use dispatch::Gate;
@@ -30,10 +30,11 @@ pub fn at(port: u16) -> Endpoint {
     }
 }
 
-/// How often a test looks at most whether something has come.
+/// The most times that a test looks whether something has come.
 pub const TURNS: u32 = 10_000_000;
 
-/// What `serve` writes, and the ports in its ready line: the front's times 65,536, and control's. Before that line it is 0.
+/// The output of `serve`, and the ports in its ready line: the front's times 65,536, and control's. Before that line it
+/// is 0.
 #[derive(Drop)]
 pub struct Output {
     pub bytes: Vec<u8>,
@@ -139,7 +140,7 @@ impl Client {
         Ok(&buf[..size] == reply)
     }
 
-    /// Whether this text is sent nothing back: what comes next is the reply to the case after it.
+    /// Whether this text gets no reply: the next reply is that to the case after it.
     pub fn is_ignored(&self, text: &[u8], after: &Case) -> io::Result<bool> {
         self.socket.send_to(text, self.control)?;
         self.is_answered(after.0, after.1)

@@ -56,11 +56,11 @@ const STOP: [Case; 1] = [(b"stop", b"ok stop")];
 const ALL: &[u8] =
     b"malformed 1 nogroup 1 nomembers 0 dropped 0 delivered 2 sendfailed 0 receivefailed 0";
 
-// What the client of `serve_over_loopback` found.
+// The results of the client of `serve_over_loopback`.
 #[derive(Clone, Copy, Debug, PartialEq, Eq)]
 struct Found {
     wrong_rule: Option<usize>,
-    // Of each datagram that a member got, whether it is the packet; and whether they came from two ports.
+    // For each datagram that a member got, whether it is the packet; and whether they came from two ports.
     packets: (bool, bool),
     two_ports: bool,
     all_counted: bool,
@@ -118,7 +118,7 @@ fn find<N: Net>(net: &N, ports: &Ports, member: &UdpSocket, gate: &Meeting) -> i
     found_by(&client, member, gate)
 }
 
-// A socket of a member, where a receive waits for 5 seconds at most.
+// A socket of a member, whose receives wait for 5 seconds at most.
 fn new_member<N: Net>(net: &N, address: &str) -> io::Result<UdpSocket> {
     let member = UdpSocket::bind(net, address)?;
     member.set_read_timeout(Some(Duration::from_secs(5)))?;
@@ -199,7 +199,7 @@ fn first_answered(client: &Client) -> io::Result<Option<usize>> {
     Ok(None)
 }
 
-// That, and whether `ok` alone and then `stop` are answered.
+// The first answered reply, and whether `ok` alone and then `stop` are answered.
 fn answered_of(client: &Client) -> io::Result<(Option<usize>, bool, bool)> {
     let replied = first_answered(client)?;
     let alone = client.is_answered(b"ok", b"refused C1")?;
@@ -265,7 +265,7 @@ fn longest_packet(rt: &impl Abort, alloc: Global) -> Vec<u8> {
     packet
 }
 
-// What the longest datagrams carry, and a buffer that holds each.
+// The longest datagrams' contents, and a buffer that has room for each.
 #[derive(Drop)]
 struct Longest {
     packet: Vec<u8>,

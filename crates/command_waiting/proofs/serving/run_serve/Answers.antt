@@ -1,6 +1,6 @@
 use Rattle.std.proofs.Common.{Bor, List, rules, sym, ◌∙◌, ℕ}
 use Rattle.command_waiting.specs.Waiting.{no_rules}
-use Rattle.command_waiting.proofs.OpeningLemmas.{fails_unwritten, named}
+use Rattle.command_waiting.proofs.FailureLemmas.{fails_unwritten, named}
 use Rattle.command_waiting.proofs.serving.run_serve.Goals as goal
 
 pub returns-in_default-clause-failed : goal.returns-in_default-clause-failed

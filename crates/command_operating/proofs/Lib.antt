@@ -1,0 +1,5 @@
+mod ShowingLemmas
+mod MeasuringLemmas
+mod TellingLemmas
+mod OpeningLemmas
+mod ReportLemmas

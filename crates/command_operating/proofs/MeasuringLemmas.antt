@@ -1,0 +1,141 @@
+-- What the counters that were read make of `metrics` and `top`.
+use Rattle.std.proofs.Common.{◌≡◌, ◌∙◌, ◌<◌, ◌+◌, ◌++◌, Bool, List, None, Option, Some, [], ap, append-nil, append_assoc, inr, refl, subst, sym, ℕ}
+use Rattle.std.specs.Prelude.{Err, IfErr, IsErrAnd, Ok, OnOk, Result}
+use Rattle.std.specs.Borrow.{Bor}
+use Rattle.std.specs.Io.KnownBytes.{Appends}
+use Rattle.clap.specs.Words.{Text}
+use Rattle.ipv4_fields.specs.Endpoint.{IsEndpoint, endpoint_text}
+use Rattle.ipv4_fields.specs.declared.endpoint.Endpoint.{Endpoint}
+use Rattle.command_line.specs.ControlAddress.{SpellsControlAddress}
+use Rattle.command_line.specs.Ending.{AppendsBeginning, line_of}
+use Rattle.command_line.specs.declared.control_address.ControlAddress.{ControlAddress}
+use Rattle.command_line.specs.declared.ending.Failure.TheVariants.{WriteFailed}
+use Rattle.control_client.specs.Exchange.{AreExchanged, Exchange}
+use Rattle.control_client.specs.Wire.{peer_of}
+use Rattle.control_client.specs.declared.device.Peer.{Peer}
+use Rattle.control_rules.specs.History.{ClientValue, History}
+use Rattle.control_counters.specs.Frame.{IsFrameOf}
+use Rattle.control_counters.specs.Reading.{AreCountersOf}
+use Rattle.control_counters.specs.Watching.{Watches}
+use Rattle.counter_text.specs.Screen.{screen_text}
+use Rattle.counter_text.specs.declared.counters.Counters.{Counters}
+use Rattle.counter_text.specs.declared.counters.FrontDrops.{FrontDrops}
+use Rattle.command_operating.specs.Measured.{AreFrontDrops, AreScreens, EndsInTopFailure, WatchesOf, WritesMetrics, WritesScreens, clear_text, first_reading, one_more}
+use Rattle.command_operating.specs.Reported.{told_alone}
+use Rattle.control_counters.proofs.WatchLemmas.{watches_then, watches_weaker}
+use Rattle.command_operating.specs.body.Front.{IsFrontOf, IsGivenFront, PrintsMetrics}
+use Rattle.command_operating.specs.body.Screens.{Shows, ShowsFewer, ShowsMore}
+
+pub watched : (before after : ClientValue) (switch : Peer) (Holds : History → List Exchange → Type 0) → before.switch ≡ switch → Watches before after Holds → WatchesOf switch Holds
+watched before after switch Holds is watches = record {
+  told = watches.told;
+  events = watches.events;
+  are_exchanged = subst (λ (s : Peer). AreExchanged s watches.told watches.events) is watches.are_exchanged;
+  holds = watches.holds;
+}
+
+-- the drops of the front that is given
+pub drops_given : (front : Option Text) (endpoint : Option Endpoint) (drops : Option FrontDrops) → IsGivenFront front endpoint → IsFrontOf endpoint drops → AreFrontDrops front drops
+drops_given None None None given of = tt
+drops_given None None (Some it) given of = of
+drops_given None (Some e) drops given of = absurd given
+drops_given (Some text) None drops given of = absurd given
+drops_given (Some text) (Some e) None given of = of
+drops_given (Some text) (Some e) (Some it) given of = (
+  subst (λ (front : Endpoint). IsEndpoint front) (sym of.0) given.0,
+  given.1 ∙ ap endpoint_text (sym of.0),
+  of.1,
+)
+
+-- ---- screens
+
+-- the last reading is one of the switch
+pub last_known : (history : History) (clears : Bool) (count : ℕ) (told : List Exchange) (last : Counters) (text : List ℕ) → AreScreens history clears count told last text →
+    IsFrameOf (history last.version) last
+last_known history clears _ told last _ (first_reading _ _ are) = are.frame
+last_known history clears _ _ last _ (one_more _ _ _ _ _ _ _ screens are long) = are.frame
+
+-- one more part of a text
+pub appended : (start mid end : Option (List ℕ)) (front next : List ℕ) → Appends start mid front → Appends mid end next → Appends start end (front ++ next)
+appended None mid end front next first then = tt
+appended (Some a) None end front next first then = absurd first
+appended (Some a) (Some b) None front next first then = absurd then
+appended (Some a) (Some b) (Some c) front next first then = then ∙ ap (λ it. it ++ next) first ∙ append_assoc a front next
+
+pub nothing_more : (start end : Option (List ℕ)) → end ≡ start → Appends start end []
+nothing_more None end same = tt
+nothing_more (Some a) None same = absurd (cc)
+nothing_more (Some a) (Some b) same = let it : b ≡ a = cc in it ∙ sym (append-nil a)
+
+module _ (clears : Bool) (start : ClientValue) (out : Option (List ℕ)) where
+  -- so many screens up to here
+  pub record AreShown (count : ℕ) (then : ClientValue) (out' : Option (List ℕ)) (last : Counters) : Type 0 where
+    pub text : List ℕ
+    pub watches : Watches start then (λ history told. AreScreens history clears count told last text)
+    pub written : Appends out out' text
+
+  pub none_shown : (then : ClientValue) (first : Counters) → Watches start then (λ history told. AreCountersOf history told first) → AreShown 0 then out first
+  none_shown then first watches = record {
+    text = [];
+    watches = watches_weaker start then _ _ (λ history told are it. first_reading told first it) watches;
+    written = nothing_more out out refl;
+  }
+
+  pub one_shown : (count : ℕ) (mid then : ClientValue) (out' out'' : Option (List ℕ)) (last : Bor Counters) (later : Counters) → AreShown count mid out' last.now →
+      ShowsMore clears last mid then out' out'' later → AreShown (count + 1) then out'' later
+  one_shown count mid then out' out'' last later shown more = record {
+    text = shown.text ++ (clear_text clears ++ screen_text last.now later more.millis);
+    watches = watches_weaker start then _ _
+        (λ history told are it.
+        subst (λ told. AreScreens history clears (count + 1) told later (shown.text ++ (clear_text clears ++ screen_text last.now later more.millis))) (sym it.whole)
+        (one_more count it.one it.more last.now later shown.text more.millis it.first (it.next (last_known history clears count it.one last.now shown.text it.first)) more.long))
+        (watches_then start mid then _ _ shown.watches more.watches);
+    written = appended out out' out'' shown.text (clear_text clears ++ screen_text last.now later more.millis) shown.written more.written;
+  }
+
+  pub shows : (count : ℕ) (then : ClientValue) (out' : Option (List ℕ)) (last : Counters) → AreShown count then out' last → Shows clears count start then out out'
+  shows count then out' last it = record { text = it.text; last = last; watches = it.watches; written = it.written }
+
+  pub shows_fewer : (all count : ℕ) (then : ClientValue) (out' : Option (List ℕ)) (last : Counters) → count < all → AreShown count then out' last →
+      ShowsFewer clears all start.switch out out'
+  shows_fewer all count then out' last fewer it =
+      inr (count, fewer, record { text = it.text; last = last; are_screens = watched start then start.switch _ refl it.watches; written = it.written })
+
+-- ---- how a command ended
+
+pub if_err : {A E : Type 0} (result : Result A E) (fault : E) (P : E → Type 0) → IsErrAnd result (λ told. told ≡ fault) → P fault → IfErr result P
+if_err (Ok done) fault P told is = tt
+if_err (Err given) fault P told is = subst P (sym told) is
+
+pub on_ok_all : {A E : Type 0} {P Q : Type 0} (result : Result A E) → (P → Q) → OnOk result P → OnOk result Q
+on_ok_all (Ok done) weaker holds = weaker holds
+on_ok_all (Err why) weaker holds = tt
+
+pub writes_screens : (before after : ClientValue) (switch : Peer) (clears : Bool) (count : ℕ) (out out' : Option (List ℕ)) → before.switch ≡ switch →
+    Shows clears count before after out out' → WritesScreens switch clears count out out'
+writes_screens before after switch clears count out out' is shows = record {
+  text = shows.text;
+  last = shows.last;
+  are_screens = watched before after switch _ is shows.watches;
+  written = shows.written;
+}
+
+pub writes_metrics : (control : Text) (address : ControlAddress) (front : Option Text) (endpoint : Option Endpoint) (before after : Option (List ℕ)) →
+    SpellsControlAddress control address → IsGivenFront front endpoint → PrintsMetrics (peer_of address) endpoint before after → WritesMetrics control front before after
+writes_metrics control address front endpoint before after spells given prints = record {
+  address = address;
+  is_address = spells;
+  counters = prints.counters;
+  drops = prints.drops;
+  are_counters = prints.are_counters;
+  are_drops = drops_given front endpoint prints.drops given prints.are_drops;
+  written = prints.written;
+}
+
+pub top_unwritten : (control : Text) (clears : Bool) (count : ℕ) (before after told_before told_after : Option (List ℕ)) →
+    AppendsBeginning told_before told_after (line_of WriteFailed) → EndsInTopFailure control clears count before after told_before told_after
+top_unwritten control clears count before after told_before told_after told = record {
+  failure = WriteFailed;
+  written = λ other. absurd (other refl);
+  told = told_alone told;
+}

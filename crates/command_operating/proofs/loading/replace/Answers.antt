@@ -1,0 +1,17 @@
+use Rattle.command_operating.proofs.ShowingLemmas.{ended_failed, ended_replaced, nothing_told, told_from}
+use Rattle.command_operating.proofs.loading.replace.Goals as goal
+
+pub returns-clause-printed : goal.returns-clause-printed
+returns-clause-printed g c =
+    ended_replaced _ _ _ _ _ c.print_replaced-ended.result c.reported.result c.reported.ensures.status c.reported.ensures.failed c.print_replaced-ended.ensures.printed
+
+pub returns-clause-no_errors : goal.returns-clause-no_errors
+returns-clause-no_errors g c =
+    nothing_told c.args.errs.now c.print_replaced-ended.new.errs c.reported.new.errs c.print_replaced-ended.result c.reported.result c.reported.ensures.status
+    c.reported.ensures.untold c.reported.ensures.failed c.print_replaced-ended.ensures.no_errors
+
+pub returns-clause-failed : goal.returns-clause-failed
+returns-clause-failed g c =
+    ended_failed _ g.W.Write.contents c.args.out.now c.print_replaced-ended.new.out _ _ c.print_replaced-ended.result c.reported.result c.reported.ensures.status
+    c.print_replaced-ended.ensures.done_or_refused c.print_replaced-ended.ensures.unwritten
+    (told_from _ g.E.Write.contents c.args.errs.now c.print_replaced-ended.new.errs _ c.print_replaced-ended.result c.print_replaced-ended.ensures.unshown c.reported.ensures.told)

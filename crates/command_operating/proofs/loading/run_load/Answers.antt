@@ -1,0 +1,51 @@
+use Rattle.control_client.specs.Wire.{peer_of}
+use Rattle.command_operating.specs.Showing.{file_refused}
+use Rattle.command_operating.proofs.ShowingLemmas.{checks, fails_asked, fails_unread, fails_writing, is_switch, refuses_change, refuses_switch, replaces, shows}
+use Rattle.command_operating.proofs.loading.run_load.Goals as goal
+
+pub returns-then-loading-clause-done : goal.returns-then-loading-clause-done
+returns-then-loading-clause-done g c = λ is. checks _ _ _ _ _ c.if-loading.true (c.check_file.ensures.done is)
+
+pub returns-then-loading-clause-refused : goal.returns-then-loading-clause-refused
+returns-then-loading-clause-refused g c = λ is. file_refused _ _ (c.check_file.ensures.refused is)
+
+pub returns-in_default-clause-refused : goal.returns-in_default-clause-refused
+returns-in_default-clause-refused g c = λ is. refuses_switch _ _ _ _ _ c.if-loading.false c.in_default.ensures (c.refuse_address.ensures.refused is)
+
+pub returns-in_default-clause-failed : goal.returns-in_default-clause-failed
+returns-in_default-clause-failed g c = λ is. fails_writing _ _ _ _ _ (c.refuse_address.ensures.failed is)
+
+pub returns-in-Err-clause-refused : goal.returns-in-Err-clause-refused
+returns-in-Err-clause-refused g c = λ is. file_refused _ _ (c.in-Err.ensures.refused is)
+
+pub returns-then-loading-2-clause-done : goal.returns-then-loading-2-clause-done
+returns-then-loading-2-clause-done g c =
+    let done = rw c.in-Ok.ensures.unwritten at c.show_changes.ensures.done in
+    λ is. shows _ _ _ _ _ c.if-loading.false (peer_of c.in-Some.address) (is_switch _ _ c.in-Some.address c.in-Some.ensures) c.in-Ok.file.text.items c.in-Ok.file.config c.in-Ok.ensures.of_text c.if-loading-2.true (done is)
+
+pub returns-clause-done : goal.returns-clause-done
+returns-clause-done g c =
+    let printed = rw c.in-Ok.ensures.unwritten at c.replace.ensures.printed in
+    replaces _ _ _ _ _ c.if-loading.false (peer_of c.in-Some.address) (is_switch _ _ c.in-Some.address c.in-Some.ensures) c.in-Ok.file.text.items c.in-Ok.file.config c.in-Ok.ensures.of_text c.if-loading-2.false
+    c.replace.result printed
+
+pub returns-clause-refused : goal.returns-clause-refused
+returns-clause-refused g c =
+    let printed = rw c.in-Ok.ensures.unwritten at c.replace.ensures.printed in
+    refuses_change _ _ _ _ _ c.if-loading.false (peer_of c.in-Some.address) (is_switch _ _ c.in-Some.address c.in-Some.ensures) c.in-Ok.file.text.items c.in-Ok.file.config c.in-Ok.ensures.of_text c.if-loading-2.false
+    c.replace.result printed
+
+pub returns-in-Err-clause-failed : goal.returns-in-Err-clause-failed
+returns-in-Err-clause-failed g c = λ is. fails_unread _ _ _ _ _ (c.in-Err.ensures.failed is)
+
+pub returns-then-loading-2-clause-failed : goal.returns-then-loading-2-clause-failed
+returns-then-loading-2-clause-failed g c =
+    let failed = rw c.in-Ok.ensures.unwritten at c.show_changes.ensures.failed in
+    let told = rw c.in-Ok.ensures.no_errors at failed in
+    λ is. fails_asked _ c.in-Some.control.now c.in-Some.address _ _ _ _ c.in-Some.ensures (told is)
+
+pub returns-clause-failed : goal.returns-clause-failed
+returns-clause-failed g c =
+    let failed = rw c.in-Ok.ensures.unwritten at c.replace.ensures.failed in
+    let told = rw c.in-Ok.ensures.no_errors at failed in
+    λ is. fails_asked _ c.in-Some.control.now c.in-Some.address _ _ _ _ c.in-Some.ensures (told is)

@@ -1,0 +1,13 @@
+use Rattle.command_operating.proofs.MeasuringLemmas.{writes_metrics}
+use Rattle.command_operating.proofs.ShowingLemmas.{fails_writing}
+use Rattle.command_operating.proofs.measuring.run_metrics.Goals as goal
+
+pub returns-in_default-clause-failed : goal.returns-in_default-clause-failed
+returns-in_default-clause-failed g c = λ is. fails_writing _ _ _ _ _ (c.refuse_address.ensures.failed is)
+
+pub returns-in_default-front_of-clause-failed : goal.returns-in_default-front_of-clause-failed
+returns-in_default-front_of-clause-failed g c = λ is. fails_writing _ _ _ _ _ (c.refuse_address-in_default-front_of.ensures.failed is)
+
+pub returns-in-Ok-print_metrics-clause-done : goal.returns-in-Ok-print_metrics-clause-done
+returns-in-Ok-print_metrics-clause-done g c = λ is.
+    writes_metrics c.args.addresses.0.now c.in-Some.address _ c.in-Ok.front _ _ c.in-Some.ensures c.in-Ok.ensures c.in-Ok-print_metrics.ensures.printed

@@ -1,0 +1,6 @@
+use Rattle.command_operating.proofs.MeasuringLemmas.{AreShown}
+use Rattle.command_operating.proofs.watching.print_screens.Given as goal
+
+abbrev pub invariant-loop-screen : goal.invariant-loop-screen
+invariant-loop-screen g l =
+    AreShown l.watching.clears l.fn.client (g.W.Write.contents l.fn.out) l._screen l.client (g.W.Write.contents l.out) l.earlier.counters

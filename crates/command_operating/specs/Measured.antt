@@ -1,0 +1,86 @@
+-- The output of the commands `metrics` and `top`, by the counters of a switch (docs/COMMANDS.md, "metrics", "top").
+use Rattle.std.specs.Prelude.{◌≡◌, ◌≢◌, ◌≤◌, ◌<◌, ◌+◌, ◌⊎◌, ◌++◌, ◌∷◌, Bool, List, None, Option, Some, [], false, true, ℕ}
+use Rattle.std.specs.Io.KnownBytes.{Appends}
+use Rattle.std.specs.List.{All}
+use Rattle.clap.specs.Words.{Text}
+use Rattle.ipv4_fields.specs.Endpoint.{IsEndpoint, endpoint_text}
+use Rattle.ipv4_fields.specs.declared.endpoint.Endpoint.{Endpoint}
+use Rattle.command_line.specs.ControlAddress.{SpellsControlAddress}
+use Rattle.command_line.specs.declared.control_address.ControlAddress.{ControlAddress}
+use Rattle.command_line.specs.declared.ending.Failure.{Failure}
+use Rattle.command_line.specs.declared.ending.Failure.TheVariants.{WriteFailed}
+use Rattle.control_client.specs.Exchange.{AreExchanged, Exchange}
+use Rattle.control_client.specs.Wire.{Event, peer_of}
+use Rattle.control_client.specs.declared.device.Peer.{Peer}
+use Rattle.control_rules.specs.History.{AreConfigs, History, IsTrueTo}
+use Rattle.control_counters.specs.Reading.{AreCountersOf}
+use Rattle.counter_text.specs.Metrics.{metrics_text}
+use Rattle.counter_text.specs.Screen.{screen_text}
+use Rattle.counter_text.specs.Sockets.{AreDropsAt}
+use Rattle.counter_text.specs.declared.counters.Counters.{Counters}
+use Rattle.counter_text.specs.declared.counters.FrontDrops.{FrontDrops}
+use Rattle.command_operating.specs.Reported.{IsTold}
+
+-- lines were exchanged with a switch, and this is so of them and of each switch of which all their replies are true
+pub record WatchesOf (switch : Peer) (Holds : History → List Exchange → Type 0) : Type 0 where
+  pub told : List Exchange
+  pub events : List Event
+  pub are_exchanged : AreExchanged switch told events
+  pub holds : (history : History) → AreConfigs history → All (IsTrueTo history) told → Holds history told
+
+-- ---- `metrics`
+
+-- the drops at the front that is given, by a table of sockets; none if no front is given
+abbrev pub AreFrontDrops : Option Text → Option FrontDrops → Type 0
+AreFrontDrops None None = Unit {0}
+AreFrontDrops None (Some it) = ⊥
+AreFrontDrops (Some front) None = ⊥
+AreFrontDrops (Some front) (Some it) = IsEndpoint it.front × (front ≡ endpoint_text it.front) × ((table : List ℕ) × AreDropsAt it.front table it.drops)
+
+-- the counters of the switch at the address were read, and written with the drops at the front
+pub record WritesMetrics (control : Text) (front : Option Text) (before after : Option (List ℕ)) : Type 0 where
+  pub address : ControlAddress
+  pub is_address : SpellsControlAddress control address
+  pub counters : Counters
+  pub drops : Option FrontDrops
+  pub are_counters : WatchesOf (peer_of address) (λ history told. AreCountersOf history told counters)
+  pub are_drops : AreFrontDrops front drops
+  pub written : Appends before after (metrics_text counters drops)
+
+-- a front is given, and is no endpoint
+abbrev pub IsNoFront : Option Text → Type 0
+IsNoFront None = ⊥
+IsNoFront (Some front) = (endpoint : Endpoint) → IsEndpoint endpoint → front ≢ endpoint_text endpoint
+
+-- ---- `top`
+
+-- the prefix of a screen on a terminal: the cursor goes to the first place, and all from there on is cleared
+abbrev pub clear_text : Bool → List ℕ
+clear_text true = 27 ∷ 91 ∷ 72 ∷ 27 ∷ 91 ∷ 74 ∷ []
+clear_text false = []
+
+-- so many screens, each of two readings one after the other, and the last of these readings
+pub data AreScreens (history : History) (clears : Bool) : ℕ → List Exchange → Counters → List ℕ → Type 0 where
+  first_reading : (told : List Exchange) (first : Counters) → AreCountersOf history told first → AreScreens history clears 0 told first []
+  one_more : (count : ℕ) (told more : List Exchange) (earlier later : Counters) (text : List ℕ) (millis : ℕ) →
+      AreScreens history clears count told earlier text → AreCountersOf history more later → 1000 ≤ millis →
+      AreScreens history clears (count + 1) (told ++ more) later (text ++ (clear_text clears ++ screen_text earlier later millis))
+
+-- so many screens of the switch were written
+pub record WritesScreens (switch : Peer) (clears : Bool) (count : ℕ) (before after : Option (List ℕ)) : Type 0 where
+  pub text : List ℕ
+  pub last : Counters
+  pub are_screens : WatchesOf switch (λ history told. AreScreens history clears count told last text)
+  pub written : Appends before after text
+
+pub record WritesTop (control : Text) (clears : Bool) (count : ℕ) (before after : Option (List ℕ)) : Type 0 where
+  pub address : ControlAddress
+  pub is_address : SpellsControlAddress control address
+  pub written : WritesScreens (peer_of address) clears count before after
+
+-- it failed; but for writes whole screens were written, and fewer than were wanted, or nothing
+pub record EndsInTopFailure (control : Text) (clears : Bool) (count : ℕ) (before after told_before told_after : Option (List ℕ)) : Type 0 where
+  pub failure : Failure
+  pub written : failure ≢ WriteFailed
+      → (after ≡ before) ⊎ ((switch : Peer) × (shown : ℕ) × (shown < count) × WritesScreens switch clears shown before after)
+  pub told : IsTold (Some control) failure told_before told_after

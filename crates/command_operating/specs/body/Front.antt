@@ -1,0 +1,34 @@
+-- The front of `metrics`.
+use Rattle.std.specs.Prelude.{◌≡◌, List, None, Option, Some, ℕ}
+use Rattle.std.specs.Io.KnownBytes.{Appends}
+use Rattle.clap.specs.Words.{Text}
+use Rattle.ipv4_fields.specs.Endpoint.{IsEndpoint, endpoint_text}
+use Rattle.ipv4_fields.specs.declared.endpoint.Endpoint.{Endpoint}
+use Rattle.control_client.specs.declared.device.Peer.{Peer}
+use Rattle.control_counters.specs.Reading.{AreCountersOf}
+use Rattle.counter_text.specs.Metrics.{metrics_text}
+use Rattle.counter_text.specs.Sockets.{AreDropsAt}
+use Rattle.counter_text.specs.declared.counters.Counters.{Counters}
+use Rattle.counter_text.specs.declared.counters.FrontDrops.{FrontDrops}
+use Rattle.command_operating.specs.Measured.{WatchesOf}
+
+-- the endpoint of the text, if one is given
+abbrev pub IsGivenFront : Option Text → Option Endpoint → Type 0
+IsGivenFront None None = Unit {0}
+IsGivenFront None (Some endpoint) = ⊥
+IsGivenFront (Some text) None = ⊥
+IsGivenFront (Some text) (Some endpoint) = IsEndpoint endpoint × (text ≡ endpoint_text endpoint)
+
+-- the drops at an endpoint, if there is one
+abbrev pub IsFrontOf : Option Endpoint → Option FrontDrops → Type 0
+IsFrontOf None None = Unit {0}
+IsFrontOf None (Some it) = ⊥
+IsFrontOf (Some front) None = ⊥
+IsFrontOf (Some front) (Some it) = (it.front ≡ front) × ((table : List ℕ) × AreDropsAt it.front table it.drops)
+
+pub record PrintsMetrics (switch : Peer) (front : Option Endpoint) (before after : Option (List ℕ)) : Type 0 where
+  pub counters : Counters
+  pub drops : Option FrontDrops
+  pub are_counters : WatchesOf switch (λ history told. AreCountersOf history told counters)
+  pub are_drops : IsFrontOf front drops
+  pub written : Appends before after (metrics_text counters drops)

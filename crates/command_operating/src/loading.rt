@@ -1,0 +1,304 @@
+//! The command `load`: the rules of a file for a running switch (docs/COMMANDS.md, "load").
+
+ghost use Rattle.std.specs.Prelude.{◌≡◌, ◌≢◌, ◌≤◌, ◌⊎◌, ◌++◌, IfErr, IfOk, List, MatchOption, None, OnErr, OnOk, Some, codes, length, option_map, ℕ};
+ghost use Rattle.std.specs.Io.KnownBytes.{Appends};
+ghost use Rattle.config_image.specs.Image.{Group};
+ghost use Rattle.control_client.specs.Wire.{peer_of};
+ghost use Rattle.control_line.specs.Rules.{IsConfigOf};
+ghost use Rattle.command_explain.specs.Meaning.{file_line};
+ghost use Rattle.command_line.specs.ControlAddress.{SpellsControlAddress};
+ghost use Rattle.command_line.specs.Ending.{AppendsBeginning};
+ghost use Rattle.command_line.specs.declared.ending.Failure.TheVariants as failure;
+ghost use Rattle.command_operating.specs.Opening.{RefusesRules};
+ghost use Rattle.command_operating.specs.Showing.{AreChangesTo, EndsInRulesFailure, IsNoSwitch, LoadsInto, RefusesLoad, ShowsFileRefusal, WritesLoad, loaded_line, loaded_status, measures_line, version_line};
+ghost use Rattle.command_operating.specs.body.Asked.{IsAsked};
+
+use crate::printing::{print_line, print_text};
+use crate::refuse_address;
+use crate::refused::write_flushed;
+use crate::reporting::reported;
+use crate::rules_file::{RulesFile, open_file};
+use command_explain::{file_fault_text, shown_code};
+use command_line::{ControlAddress, Failure, Status};
+use control_client::{Reach, SocketWire};
+use control_line::Reply;
+use control_rules::{Client, Loaded, differences, load};
+use member_group::Config;
+use std::alloc::Global;
+use std::cell::Cell;
+use std::fs::Files;
+use std::io::Write;
+use std::net::Net;
+use std::time::Clock;
+
+/// The arguments of `load`.
+#[derive(Clone, Copy)]
+pub struct Loading<'a> {
+    /// The text of the switch's address.
+    pub control: Option<&'a str>,
+    /// The seconds for a reply.
+    pub timeout: u64,
+    pub file: &'a str,
+    pub check: bool,
+    pub diff: bool,
+}
+
+// The text of a switch's address, and the address.
+fn switch_of<'a>(control: Option<&'a str>) -> Option<(&'a str, ControlAddress<'a>)>
+    ensures { MatchOption result (IsNoSwitch (option_map (λ address. address.now) control.entry))
+        (λ asked. IsAsked (option_map (λ address. address.now) control.entry) asked.0.now asked.1) }
+{
+    let control = control?;
+    Some((control, ControlAddress::from_text(control)?))
+}
+
+fn measures(config: &Config) -> Reply
+    ensures { result ≡ measures_line config.now }
+{
+    let mut line = Reply::empty();
+    line.push("groups ");
+    line.push_number(config.groups().len() as u64);
+    line.push(" members ");
+    line.push_number(config.members() as u64);
+    line.push(" charge ");
+    line.push_number(config.charge());
+    line
+}
+
+pub(crate) fn version_line(version: u64, rest: &str) -> Reply
+    requires { length rest.now ≤ 16 }
+    ensures { result ≡ version_line version rest.now }
+{
+    let mut line = Reply::empty();
+    line.push("version ");
+    line.push_number(version);
+    line.push(rest);
+    line
+}
+
+// Prints the lines that lead from the rules of a switch to a configuration.
+fn print_changes<R: Net + Clock, W: Write>(
+    rt: &R,
+    alloc: Global,
+    reach: Reach<'_>,
+    config: &Config,
+    out: &mut W,
+) -> Result<Status, Failure>
+    ensures done { IfOk result (λ status. status ≡ Status.Done) }
+    ensures shown { OnOk result ((changes : List ℕ) × AreChangesTo (peer_of reach.entry.address) config.now changes
+        × Appends (W.contents out.old) (W.contents out.new) changes) }
+    ensures unwritten { IfErr result (λ failure. failure ≢ Failure.WriteFailed → out.new ≡ out.old) }
+{
+    let wire = SocketWire::open(rt, alloc, reach)?;
+    let mut client = Client::new(alloc, wire, reach.peer())?;
+    let Some(changes) = differences(&mut client, config)? else {
+        return Err(Failure::RulesChanged);
+    };
+    print_text(&changes, out)?;
+    Ok(Status::Done)
+}
+
+fn show_changes<R: Net + Clock, W: Write, E: Write>(
+    rt: &R,
+    alloc: Global,
+    asked: (&str, Reach<'_>),
+    config: &Config,
+    out: &mut W,
+    errs: &mut E,
+) -> Status
+    requires { SpellsControlAddress asked.0.now asked.1.address }
+    ensures done { result ≡ Status.Done → (changes : List ℕ) × AreChangesTo (peer_of asked.entry.1.address) config.now changes
+        × Appends (W.contents out.old) (W.contents out.new) changes }
+    ensures done_or_failed { (result ≡ Status.Done) ⊎ (result ≡ Status.Failed) }
+    ensures no_errors { result ≡ Status.Done → errs.new ≡ errs.old }
+    ensures failed { result ≡ Status.Failed
+        → EndsInRulesFailure (Some asked.entry.0.now) (W.contents out.old) (W.contents out.new) (E.contents errs.old) (E.contents errs.new) }
+{
+    let (control, reach) = asked;
+    let ended = print_changes(rt, alloc, reach, config, out);
+    reported(alloc, ended, control, reach, errs)
+}
+
+// Prints how the replacing of the rules ended.
+fn print_loaded<W: Write>(loaded: &Loaded, out: &mut W) -> Result<Status, Failure>
+    ensures status { IfOk result (λ status. status ≡ loaded_status loaded.now) }
+    ensures done_or_refused { IfOk result (λ status. (status ≡ Status.Done) ⊎ (status ≡ Status.Refused)) }
+    ensures printed { OnOk result (Appends (W.contents out.old) (W.contents out.new) (loaded_line loaded.now ++ codes "\n")) }
+    ensures unwritten { IfErr result (λ failure. failure ≢ Failure.WriteFailed → out.new ≡ out.old) }
+{
+    match loaded {
+        Loaded::Unchanged { version } => {
+            print_line(version_line(*version, " unchanged").bytes(), out)?;
+            Ok(Status::Done)
+        }
+        Loaded::Published { version } => {
+            print_line(version_line(*version, "").bytes(), out)?;
+            Ok(Status::Done)
+        }
+        Loaded::Refused(reply) => {
+            print_line(reply, out)?;
+            Ok(Status::Refused)
+        }
+        Loaded::Changed => Err(Failure::RulesChanged),
+    }
+}
+
+// Makes the rules of a switch those of the file.
+fn replaced<R: Net + Clock>(
+    rt: &R,
+    alloc: Global,
+    reach: Reach<'_>,
+    file: &RulesFile,
+) -> Result<Loaded, Failure>
+    requires { IsConfigOf file.now.text.items file.now.config }
+    ensures loaded { IfOk result (LoadsInto (peer_of reach.entry.address) file.now.text.items file.now.config) }
+{
+    let wire = SocketWire::open(rt, alloc, reach)?;
+    let mut client = Client::new(alloc, wire, reach.peer())?;
+    load(rt, &mut client, &file.text, &file.config)
+}
+
+// Writes what a code means for a file of this name.
+fn write_meaning<E: Write>(
+    alloc: Global,
+    name: &str,
+    code: &str,
+    errs: &mut E,
+) -> Result<(), Failure>
+    ensures written { OnOk result (Appends (E.contents errs.old) (E.contents errs.new) (file_line name.now code.now)) }
+    ensures beginning { AppendsBeginning (E.contents errs.old) (E.contents errs.new) (file_line name.now code.now) }
+{
+    let text = file_fault_text(alloc, name, code)?;
+    write_flushed(&text, errs)
+}
+
+// Shows people why a switch refuses the rules of a file of this name. If memory or a write fails, that is left out.
+fn show_refusal<E: Write>(alloc: Global, name: &str, reply: &[u8], errs: &mut E)
+    ensures { ShowsFileRefusal name.now reply.now (E.contents errs.old) (E.contents errs.new) }
+{
+    match shown_code(reply) {
+        Some(shown) => {
+            let _ = write_meaning(alloc, name, shown.code, errs);
+        }
+        None => {}
+    }
+}
+
+// Makes the rules of a switch those of the file of this name, and prints how that ended.
+fn print_replaced<R: Net + Clock, W: Write, E: Write>(
+    rt: &R,
+    alloc: Global,
+    reach: Reach<'_>,
+    named: (&str, &RulesFile),
+    out: &mut W,
+    errs: &mut E,
+) -> Result<Status, Failure>
+    requires { IsConfigOf named.1.now.text.items named.1.now.config }
+    ensures printed { IfOk result (λ status. (loaded : Loaded) × (status ≡ loaded_status loaded)
+        × LoadsInto (peer_of reach.entry.address) named.entry.1.now.text.items named.entry.1.now.config loaded
+        × Appends (W.contents out.old) (W.contents out.new) (loaded_line loaded ++ codes "\n")) }
+    ensures done_or_refused { IfOk result (λ status. (status ≡ Status.Done) ⊎ (status ≡ Status.Refused)) }
+    ensures no_errors { IfOk result (λ status. status ≡ Status.Done → errs.new ≡ errs.old) }
+    ensures unshown { OnErr result (errs.new ≡ errs.old) }
+    ensures unwritten { IfErr result (λ failure. failure ≢ Failure.WriteFailed → out.new ≡ out.old) }
+{
+    let (name, file) = named;
+    let loaded = replaced(rt, alloc, reach, file)?;
+    let status = print_loaded(&loaded, out)?;
+    match loaded {
+        Loaded::Refused(reply) => {
+            show_refusal(alloc, name, &reply, errs);
+            Ok(status)
+        }
+        _ => Ok(status),
+    }
+}
+
+fn replace<R: Net + Clock, W: Write, E: Write>(
+    rt: &R,
+    alloc: Global,
+    asked: (&str, Reach<'_>),
+    named: (&str, &RulesFile),
+    out: &mut W,
+    errs: &mut E,
+) -> Status
+    requires config { IsConfigOf named.1.now.text.items named.1.now.config }
+    requires address { SpellsControlAddress asked.0.now asked.1.address }
+    ensures printed { (result ≡ Status.Failed → ⊥) → (loaded : Loaded) × (result ≡ loaded_status loaded)
+        × LoadsInto (peer_of asked.entry.1.address) named.entry.1.now.text.items named.entry.1.now.config loaded
+        × Appends (W.contents out.old) (W.contents out.new) (loaded_line loaded ++ codes "\n") }
+    ensures no_errors { result ≡ Status.Done → errs.new ≡ errs.old }
+    ensures never_misused { result ≡ Status.Misused → ⊥ }
+    ensures failed { result ≡ Status.Failed
+        → EndsInRulesFailure (Some asked.entry.0.now) (W.contents out.old) (W.contents out.new) (E.contents errs.old) (E.contents errs.new) }
+{
+    let (control, reach) = asked;
+    let ended = print_replaced(rt, alloc, reach, named, out, errs);
+    reported(alloc, ended, control, reach, errs)
+}
+
+// Prints the measures of a file, and asks no switch.
+fn check_file<R: Files, W: Write, E: Write>(
+    rt: &R,
+    alloc: Global,
+    name: &str,
+    out: &mut W,
+    errs: &mut E,
+) -> Status
+    ensures done { result ≡ Status.Done → (text : List ℕ) × (config : List Group) × IsConfigOf text config
+        × Appends (W.contents out.old) (W.contents out.new) (measures_line config ++ codes "\n") }
+    ensures refused { result ≡ Status.Refused → RefusesRules None (W.contents out.old) (W.contents out.new) }
+    ensures no_errors { result ≡ Status.Done → errs.new ≡ errs.old }
+    ensures never_misused { result ≡ Status.Misused → ⊥ }
+    ensures failed { result ≡ Status.Failed
+        → EndsInRulesFailure None (W.contents out.old) (W.contents out.new) (E.contents errs.old) (E.contents errs.new) }
+{
+    let file = match open_file(rt, alloc, name, out, errs) {
+        Ok(file) => file,
+        Err(status) => return status,
+    };
+    match print_line(measures(&file.config).bytes(), out) {
+        Ok(()) => Status::Done,
+        Err(failure) => failure.report(errs),
+    }
+}
+
+/// Runs `load`.
+pub fn run_load<R: Net + Clock + Files, W: Write, E: Write>(
+    rt: &R,
+    alloc: Global,
+    loading: Loading<'_>,
+    out: &mut W,
+    errs: &mut E,
+) -> Status
+    ensures done { result ≡ Status.Done → WritesLoad (option_map (λ address. address.now) loading.entry.control)
+        (W.contents out.old) (W.contents out.new) loading.entry.check loading.entry.diff }
+    ensures refused { result ≡ Status.Refused → RefusesLoad (option_map (λ address. address.now) loading.entry.control)
+        (W.contents out.old) (W.contents out.new) loading.entry.check loading.entry.diff }
+    ensures no_errors { result ≡ Status.Done → errs.new ≡ errs.old }
+    ensures never_misused { result ≡ Status.Misused → ⊥ }
+    ensures failed { result ≡ Status.Failed
+        → EndsInRulesFailure (option_map (λ address. address.now) loading.entry.control) (W.contents out.old) (W.contents out.new) (E.contents errs.old) (E.contents errs.new) }
+{
+    if loading.check {
+        return check_file(rt, alloc, loading.file, out, errs);
+    }
+    let Some((control, address)) = switch_of(loading.control) else {
+        return refuse_address(out, errs);
+    };
+    let trouble = Cell::new(None);
+    let reach = Reach {
+        address,
+        seconds: loading.timeout,
+        trouble: &trouble,
+    };
+    let file = match open_file(rt, alloc, loading.file, out, errs) {
+        Ok(file) => file,
+        Err(status) => return status,
+    };
+    if loading.diff {
+        return show_changes(rt, alloc, (control, reach), &file.config, out, errs);
+    }
+    let named = (loading.file, &file);
+    replace(rt, alloc, (control, reach), named, out, errs)
+}

@@ -1,0 +1,141 @@
+//! The command `metrics`: the counters of a running switch, for Prometheus (docs/COMMANDS.md, "metrics").
+
+ghost use Rattle.std.specs.Prelude.{◌≡◌, ◌≢◌, ◌⊎◌, IfErr, IfOk, MatchResult, OnOk, Some, codes, option_map};
+ghost use Rattle.std.specs.Io.KnownBytes.{Appends};
+ghost use Rattle.command_line.specs.ControlAddress.{IsNoControlAddress};
+ghost use Rattle.control_client.specs.Wire.{peer_of};
+ghost use Rattle.control_counters.specs.Reading.{AreCountersOf};
+ghost use Rattle.counter_text.specs.Sockets.{AreDropsAt};
+ghost use Rattle.command_operating.specs.Measured.{AreFrontDrops, IsNoFront, WatchesOf, WritesMetrics};
+ghost use Rattle.command_operating.specs.Showing.{EndsInRulesFailure};
+ghost use Rattle.command_operating.specs.body.Front.{IsFrontOf, IsGivenFront, PrintsMetrics};
+
+use crate::printing::print_text;
+use crate::refuse_address;
+use crate::reporting::report;
+use crate::rules_file::open_failure;
+use command_line::{ControlAddress, Failure, Status, read_whole};
+use control_client::{Reach, SocketWire};
+use control_counters::read_counters;
+use control_rules::Client;
+use counter_text::{Counters, FrontDrops, drops_at, metrics_text};
+use ipv4_fields::Endpoint;
+use std::alloc::Global;
+use std::cell::Cell;
+use std::fs::{File, Files};
+use std::io::Write;
+use std::net::Net;
+use std::time::Clock;
+
+// The kernel's table of UDP sockets.
+const SOCKETS: &str = "/proc/net/udp";
+
+// The counters of a switch.
+fn counters_of<R: Net + Clock>(rt: &R, alloc: Global, reach: Reach<'_>) -> Result<Counters, Failure>
+    ensures { IfOk result (λ counters. WatchesOf (peer_of reach.entry.address) (λ history told. AreCountersOf history told counters)) }
+{
+    let wire = SocketWire::open(rt, alloc, reach)?;
+    let mut client = Client::new(alloc, wire, reach.peer())?;
+    match read_counters(rt, &mut client, None)? {
+        Some(reading) => Ok(reading.counters),
+        None => Err(Failure::RulesChanged),
+    }
+}
+
+// How many datagrams the kernel dropped at a front.
+fn drops_of<R: Files>(rt: &R, alloc: Global, front: Endpoint) -> Result<FrontDrops, Failure>
+    ensures front { IfOk result (λ it. it.front ≡ front) }
+    ensures drops { IfOk result (λ it. (table : _) × AreDropsAt it.front table it.drops) }
+{
+    let input = match File::open(rt, SOCKETS) {
+        Ok(input) => input,
+        Err(error) => return Err(open_failure(&error)),
+    };
+    let table = read_whole(alloc, input)?;
+    match drops_at(alloc, &table, front)? {
+        Some(drops) => Ok(FrontDrops { front, drops }),
+        None => Err(Failure::ReadFailed),
+    }
+}
+
+// The same, if a front is given.
+fn front_drops<R: Files>(
+    rt: &R,
+    alloc: Global,
+    front: Option<Endpoint>,
+) -> Result<Option<FrontDrops>, Failure>
+    ensures { IfOk result (IsFrontOf front) }
+{
+    match front {
+        None => Ok(None),
+        Some(front) => Ok(Some(drops_of(rt, alloc, front)?)),
+    }
+}
+
+// The front of this text, if there is one. `Err` if the text is no endpoint.
+fn front_of(front: Option<&str>) -> Result<Option<Endpoint>, ()>
+    ensures { MatchResult result (IsGivenFront (option_map (λ text. text.now) front.entry)) (λ _. IsNoFront (option_map (λ text. text.now) front.entry)) }
+{
+    match front {
+        None => Ok(None),
+        Some(text) => match Endpoint::from_text(text.as_bytes()) {
+            Some(endpoint) => Ok(Some(endpoint)),
+            None => Err(()),
+        },
+    }
+}
+
+// Reads everything, and writes it.
+fn print_metrics<R: Net + Clock + Files, W: Write>(
+    rt: &R,
+    alloc: Global,
+    reach: Reach<'_>,
+    front: Option<Endpoint>,
+    out: &mut W,
+) -> Result<(), Failure>
+    ensures printed { OnOk result (PrintsMetrics (peer_of reach.entry.address) front (W.contents out.old) (W.contents out.new)) }
+    ensures unwritten { IfErr result (λ failure. failure ≢ Failure.WriteFailed → out.new ≡ out.old) }
+{
+    let counters = counters_of(rt, alloc, reach)?;
+    let drops = front_drops(rt, alloc, front)?;
+    let text = metrics_text(alloc, &counters, drops)?;
+    print_text(text.as_bytes(), out)
+}
+
+/// Runs `metrics` with the text of the switch's address, that of a front or none, and the seconds for a reply.
+pub fn run_metrics<R: Net + Clock + Files, W: Write, E: Write>(
+    rt: &R,
+    alloc: Global,
+    addresses: (&str, Option<&str>),
+    seconds: u64,
+    out: &mut W,
+    errs: &mut E,
+) -> Status
+    ensures done { result ≡ Status.Done
+        → WritesMetrics addresses.entry.0.now (option_map (λ text. text.now) addresses.entry.1) (W.contents out.old) (W.contents out.new) }
+    ensures refused { result ≡ Status.Refused
+        → (IsNoControlAddress addresses.entry.0.now ⊎ IsNoFront (option_map (λ text. text.now) addresses.entry.1))
+        × Appends (W.contents out.old) (W.contents out.new) (codes "refused C1\n") }
+    ensures no_errors { (result ≡ Status.Done) ⊎ (result ≡ Status.Refused) → errs.new ≡ errs.old }
+    ensures never_misused { result ≡ Status.Misused → ⊥ }
+    ensures failed { result ≡ Status.Failed
+        → EndsInRulesFailure (Some addresses.entry.0.now) (W.contents out.old) (W.contents out.new) (E.contents errs.old) (E.contents errs.new) }
+{
+    let (control, front) = addresses;
+    let Some(address) = ControlAddress::from_text(control) else {
+        return refuse_address(out, errs);
+    };
+    let Ok(front) = front_of(front) else {
+        return refuse_address(out, errs);
+    };
+    let trouble = Cell::new(None);
+    let reach = Reach {
+        address,
+        seconds,
+        trouble: &trouble,
+    };
+    match print_metrics(rt, alloc, reach, front, out) {
+        Ok(()) => Status::Done,
+        Err(failure) => report(alloc, failure, control, reach, errs),
+    }
+}

@@ -1,0 +1,68 @@
+//! The command `rules`: the rules of a running switch (docs/COMMANDS.md, "rules").
+
+ghost use Rattle.std.specs.Prelude.{◌≡◌, ◌⊎◌, IfOk, Some, codes};
+ghost use Rattle.std.specs.Io.KnownBytes.{Appends};
+ghost use Rattle.command_line.specs.ControlAddress.{IsNoControlAddress};
+ghost use Rattle.command_operating.specs.Showing.{EndsInRulesFailure, IsRulesOf, WritesRules};
+ghost use Rattle.control_client.specs.Wire.{peer_of};
+
+use crate::printing::print_text;
+use crate::refuse_address;
+use crate::reporting::report;
+use command_line::{ControlAddress, Failure, Status};
+use control_client::{Reach, SocketWire};
+use control_rules::{Client, read_rules};
+use std::alloc::Global;
+use std::cell::Cell;
+use std::io::Write;
+use std::net::Net;
+use std::time::Clock;
+
+// The rules of a switch, as a rules file.
+#[tactic(auto, using(crate::proofs::ShowingLemmas::rules_learned))]
+fn rules_of<R: Net + Clock>(rt: &R, alloc: Global, reach: Reach<'_>) -> Result<Vec<u8>, Failure>
+    ensures { IfOk result (λ text. IsRulesOf (peer_of reach.entry.address) text.items) }
+{
+    let wire = SocketWire::open(rt, alloc, reach)?;
+    let mut client = Client::new(alloc, wire, reach.peer())?;
+    match read_rules(&mut client)? {
+        Some(rules) => Ok(rules.text),
+        None => Err(Failure::RulesChanged),
+    }
+}
+
+/// Runs `rules` with the text of the switch's address, and the seconds for a reply.
+pub fn run_rules<R: Net + Clock, W: Write, E: Write>(
+    rt: &R,
+    alloc: Global,
+    control: &str,
+    seconds: u64,
+    out: &mut W,
+    errs: &mut E,
+) -> Status
+    ensures done { result ≡ Status.Done → WritesRules control.now (W.contents out.old) (W.contents out.new) }
+    ensures refused { result ≡ Status.Refused
+        → IsNoControlAddress control.now × Appends (W.contents out.old) (W.contents out.new) (codes "refused C1\n") }
+    ensures no_errors { (result ≡ Status.Done) ⊎ (result ≡ Status.Refused) → errs.new ≡ errs.old }
+    ensures never_misused { result ≡ Status.Misused → ⊥ }
+    ensures failed { result ≡ Status.Failed
+        → EndsInRulesFailure (Some control.now) (W.contents out.old) (W.contents out.new) (E.contents errs.old) (E.contents errs.new) }
+{
+    let Some(address) = ControlAddress::from_text(control) else {
+        return refuse_address(out, errs);
+    };
+    let trouble = Cell::new(None);
+    let reach = Reach {
+        address,
+        seconds,
+        trouble: &trouble,
+    };
+    let text = match rules_of(rt, alloc, reach) {
+        Ok(text) => text,
+        Err(failure) => return report(alloc, failure, control, reach, errs),
+    };
+    match print_text(&text, out) {
+        Ok(()) => Status::Done,
+        Err(failure) => report(alloc, failure, control, reach, errs),
+    }
+}

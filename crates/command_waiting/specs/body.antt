@@ -1,5 +1,0 @@
--- Models of the code: what the contracts of private functions cite. No public clause stands on them.
-pub mod Reading
-pub mod Asked
-pub mod Front
-pub mod Screens

@@ -1,0 +1,6 @@
+//! Queues, outboxes and sockets of workers, and control datagrams, without a switch.
+
+mod control_datagrams;
+mod device_sockets;
+mod devices;
+mod worker_order;
